@@ -1,0 +1,48 @@
+//! The sizes that the profile fixes, in octets unless a name says otherwise. Code and definitions
+//! both read them here, so a limit is changed in one line.
+
+/// The header of a redundancy PDU: length (2), reserve (2), sequence number (4).
+pub const RED_HEADER: usize = 8;
+
+/// The header of a safety PDU: length (2), type (2), receiver, sender, sequence number, confirmed
+/// sequence number, timestamp and confirmed timestamp (4 each).
+pub const SAFE_HEADER: usize = 28;
+
+/// The longest safety code, all of an MD4 digest.
+pub const CODE_MAX: usize = 16;
+
+/// The protocol type (1), the message type (2) and the two names (20 each) of a telegram, so the
+/// shortest message: a telegram with no payload.
+pub const MESSAGE_MIN: usize = 43;
+
+/// The longest payload of a telegram.
+pub const PAYLOAD_MAX: usize = 357;
+
+/// The longest message: a telegram with the longest payload.
+pub const MESSAGE_MAX: usize = MESSAGE_MIN + PAYLOAD_MAX;
+
+/// The length that stands in front of each message of a unit.
+pub const MESSAGE_LENGTH: usize = 2;
+
+/// How many messages a unit carries at most.
+pub const UNIT_MESSAGES: usize = 3;
+
+/// The shortest unit: one shortest message.
+pub const UNIT_MIN: usize = MESSAGE_LENGTH + MESSAGE_MIN;
+
+/// The longest unit: as many longest messages as it may carry.
+pub const UNIT_MAX: usize = UNIT_MESSAGES * (MESSAGE_LENGTH + MESSAGE_MAX);
+
+/// The longest safety PDU without its code: the header and a longest unit.
+pub const SAFE_FRONT_MAX: usize = SAFE_HEADER + UNIT_MAX;
+
+/// The longest safety PDU, with the longest code. It is the longest upper part of a redundancy PDU.
+pub const SAFE_PDU_MAX: usize = SAFE_FRONT_MAX + CODE_MAX;
+
+/// The longest redundancy PDU.
+pub const RED_PDU_MAX: usize = RED_HEADER + SAFE_PDU_MAX;
+
+const _: () = prove!(MESSAGE_MAX == 400);
+const _: () = prove!(UNIT_MAX == 1_206);
+const _: () = prove!(SAFE_PDU_MAX == 1_250);
+const _: () = prove!(RED_PDU_MAX == 1_258);

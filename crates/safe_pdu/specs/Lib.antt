@@ -1,0 +1,3 @@
+pub mod Pdu
+pub mod SafeText
+pub mod Places

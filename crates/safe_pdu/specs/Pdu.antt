@@ -1,0 +1,41 @@
+-- A safety PDU as its fields, whatever code and whatever place in memory it has
+-- (safety and retransmission layer of DIN VDE V 0831-200:2015).
+use Rattle.std.specs.Prelude.{ℕ, List}
+use Rattle.safe_pdu.specs.declared.Kind.{Kind}
+use Rattle.safe_pdu.specs.declared.Kind.TheVariants.{ConnReq, ConnResp, RetrReq, RetrResp, DiscReq, Heartbeat, Data, RetrData}
+use Rattle.safe_pdu.specs.declared.SafePdu.{SafePdu}
+
+pub record Pdu : Type 0 where
+  pub kind : Kind
+  pub receiver : ℕ
+  pub sender : ℕ
+  pub sn : ℕ
+  pub cs : ℕ
+  pub ts : ℕ
+  pub cts : ℕ
+  pub body : List ℕ
+
+-- the fields of a decoded PDU
+abbrev pub pdu_of : SafePdu → Pdu
+pdu_of p =
+    record {
+      kind = p.kind;
+      receiver = p.receiver;
+      sender = p.sender;
+      sn = p.sn;
+      cs = p.cs;
+      ts = p.ts;
+      cts = p.cts;
+      body = p.body.now;
+    }
+
+-- the number of a type
+abbrev pub kind_number : Kind → ℕ
+kind_number ConnReq = 6200
+kind_number ConnResp = 6201
+kind_number RetrReq = 6212
+kind_number RetrResp = 6213
+kind_number DiscReq = 6216
+kind_number Heartbeat = 6220
+kind_number Data = 6240
+kind_number RetrData = 6241

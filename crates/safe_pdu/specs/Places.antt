@@ -1,0 +1,109 @@
+-- What the places of a safety PDU say, and the first fault of octets that are none.
+use Rattle.std.specs.Prelude.{◌≡◌, ◌≢◌, ◌==◌, ◌⊎◌, ◌<◌, ◌≤◌, ℕ, ◌+◌, ◌-◌, Bool, false, List, length, take, drop, nat_lt, if◌then◌else◌, Option, Some, None, Result, Ok, Err}
+use Rattle.std.specs.Str.{bytes_eq}
+use Rattle.byteorder.specs.Endian.{little_number}
+use Rattle.octets.specs.declared.limits.TheConstants.{SAFE_HEADER, SAFE_FRONT_MAX}
+use Rattle.safe_pdu.specs.declared.Kind.{Kind}
+use Rattle.safe_pdu.specs.declared.Kind.TheVariants.{ConnReq, ConnResp, RetrReq, RetrResp, DiscReq, Heartbeat, Data, RetrData}
+use Rattle.safe_pdu.specs.declared.CodeRule.{CodeRule}
+use Rattle.safe_pdu.specs.declared.SafeFault.{SafeFault}
+use Rattle.safe_pdu.specs.declared.SafeFault.TheVariants.{Short, Length, Code, BadType, Body}
+use Rattle.safe_pdu.specs.declared.SafePdu.{SafePdu}
+use Rattle.safe_pdu.specs.Pdu.{Pdu, pdu_of, kind_number}
+use Rattle.safe_pdu.specs.SafeText.{code_octets, code_over, IsBody}
+
+abbrev pub length_field : List ℕ → ℕ
+length_field octets = little_number 2 octets
+
+abbrev pub type_field : List ℕ → ℕ
+type_field octets = little_number 2 (drop 2 octets)
+
+-- the number of four octets at a place
+abbrev pub field : ℕ → List ℕ → ℕ
+field place octets = little_number 4 (drop place octets)
+
+-- where the code begins, all before it, and the code
+abbrev pub front_size : CodeRule → List ℕ → ℕ
+front_size rule octets = length octets - code_octets rule.length
+
+abbrev pub front_of : CodeRule → List ℕ → List ℕ
+front_of rule octets = take (front_size rule octets) octets
+
+abbrev pub code_of : CodeRule → List ℕ → List ℕ
+code_of rule octets = drop (front_size rule octets) octets
+
+abbrev pub body_of : CodeRule → List ℕ → List ℕ
+body_of rule octets = drop SAFE_HEADER (front_of rule octets)
+
+-- the header and the code are there, and the length field says how many octets there are
+pub record IsSized (rule : CodeRule) (octets : List ℕ) : Type 0 where
+  pub long : SAFE_HEADER + code_octets rule.length ≤ length octets
+  pub said : length_field octets ≡ length octets
+  pub most : length octets ≤ SAFE_FRONT_MAX + code_octets rule.length
+
+-- the code is the one over all before it
+abbrev pub HasCode : CodeRule → List ℕ → Type 0
+HasCode rule octets = code_of rule octets ≡ code_over rule (front_of rule octets)
+
+-- the type of a number: those that are read
+abbrev pub kind_of : ℕ → Option Kind
+kind_of number =
+    if number == 6212 then Some RetrReq
+    else if number == 6213 then Some RetrResp
+    else if number == 6220 then Some Heartbeat
+    else None
+
+-- the fault is the first one that these octets have
+abbrev pub FirstFault : CodeRule → List ℕ → SafeFault → Type 0
+FirstFault rule octets Short = length octets < SAFE_HEADER + code_octets rule.length
+FirstFault rule octets Length =
+    (SAFE_HEADER + code_octets rule.length ≤ length octets)
+    × ((length_field octets ≢ length octets) ⊎ (SAFE_FRONT_MAX + code_octets rule.length < length octets))
+FirstFault rule octets Code = IsSized rule octets × (¬ HasCode rule octets)
+FirstFault rule octets BadType = IsSized rule octets × HasCode rule octets × (kind_of (type_field octets) ≡ None)
+FirstFault rule octets Body =
+    IsSized rule octets × HasCode rule octets
+    × ((kind : Kind) × (kind_of (type_field octets) ≡ Some kind) × (¬ IsBody kind (body_of rule octets)))
+
+-- the test of a code
+abbrev pub has_code : CodeRule → List ℕ → Bool
+has_code rule octets = bytes_eq (code_of rule octets) (code_over rule (front_of rule octets))
+
+-- the test of a body
+abbrev pub is_body : Kind → List ℕ → Bool
+is_body RetrReq body = length body == 0
+is_body RetrResp body = length body == 0
+is_body Heartbeat body = length body == 0
+is_body _ body = false
+
+-- the fields of a type, by places
+abbrev pub read_of : Kind → CodeRule → List ℕ → Pdu
+read_of kind rule octets =
+    record {
+      kind = kind;
+      receiver = field 4 octets;
+      sender = field 8 octets;
+      sn = field 12 octets;
+      cs = field 16 octets;
+      ts = field 20 octets;
+      cts = field 24 octets;
+      body = body_of rule octets;
+    }
+
+abbrev pub read_kind : Option Kind → CodeRule → List ℕ → Result Pdu SafeFault
+read_kind None rule octets = Err BadType
+read_kind (Some kind) rule octets = if is_body kind (body_of rule octets) then Ok (read_of kind rule octets) else Err Body
+
+-- what is read by places: the fields, or the first fault
+abbrev pub safe_seen : CodeRule → List ℕ → Result Pdu SafeFault
+safe_seen rule octets =
+    if nat_lt (length octets) (SAFE_HEADER + code_octets rule.length) then Err Short
+    else if nat_lt (SAFE_FRONT_MAX + code_octets rule.length) (length octets) then Err Length
+    else if length_field octets == length octets then
+      (if has_code rule octets then read_kind (kind_of (type_field octets)) rule octets else Err Code)
+    else Err Length
+
+-- an answer of the decoder, without where it lies in memory
+abbrev pub seen_of : Result SafePdu SafeFault → Result Pdu SafeFault
+seen_of (Ok pdu) = Ok (pdu_of pdu)
+seen_of (Err fault) = Err fault

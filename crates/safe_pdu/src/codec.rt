@@ -1,0 +1,112 @@
+//! Reading and writing a safety PDU.
+
+ghost use Rattle.std.specs.Prelude.{◌≡◌, ℕ, ◌+◌, ◌≤◌, List, length, take, drop, IfOk, IfErr, IsOkAnd};
+ghost use Rattle.safe_pdu.specs.Pdu.{Pdu, pdu_of};
+ghost use Rattle.safe_pdu.specs.SafeText.{SafeText, HasNumbers, IsBody, code_octets, header};
+ghost use Rattle.safe_pdu.specs.Places.{FirstFault, safe_seen, seen_of};
+
+use super::bodies::{fits_body, kind_at};
+use super::{CodeRule, SafeFault, SafePdu};
+use octets::limits::{SAFE_FRONT_MAX, SAFE_HEADER};
+use octets::places::{put_octets, put_u16, put_u32, u16_at, u32_at};
+
+/// Reads the upper part of a redundancy PDU, of any octets, under a rule of the code. It copies no
+/// octet: the answer is a view.
+///
+/// Refused, and the first that holds is named: `Short`, `Length`, `Code`, `BadType`, `Body`.
+pub fn decode<'a>(octets: &'a [u8], rule: &CodeRule) -> Result<SafePdu<'a>, SafeFault>
+    // What is read is spelled so.
+    ensures found { IfOk result (λ pdu. SafeText (pdu_of pdu) rule.now octets.now) }
+
+    // What is spelled so is read.
+    ensures only { (p : Pdu) → SafeText p rule.now octets.now → IsOkAnd result (λ pdu. pdu_of pdu ≡ p) }
+
+    // Which fault it is.
+    ensures fault { IfErr result (FirstFault rule.now octets.now) }
+
+    // What it is, by places.
+    ensures exact { seen_of result ≡ safe_seen rule.now octets.now }
+{
+    let code_size = rule.length.octets();
+    if octets.len() < SAFE_HEADER + code_size {
+        return Err(SafeFault::Short);
+    }
+    let length = u16_at(octets, 0);
+    if length as usize != octets.len() || octets.len() > SAFE_FRONT_MAX + code_size {
+        return Err(SafeFault::Length);
+    }
+    let (front, code) = octets.split_at(octets.len() - code_size);
+    if !rule.confirms(front, code) {
+        return Err(SafeFault::Code);
+    }
+    let number = u16_at(octets, 2);
+    let Some(kind) = kind_at(number) else {
+        return Err(SafeFault::BadType);
+    };
+    let (_, body) = front.split_at(SAFE_HEADER);
+    if !fits_body(kind, body) {
+        return Err(SafeFault::Body);
+    }
+    let receiver = u32_at(octets, 4);
+    let sender = u32_at(octets, 8);
+    let sn = u32_at(octets, 12);
+    let cs = u32_at(octets, 16);
+    let ts = u32_at(octets, 20);
+    let cts = u32_at(octets, 24);
+    Ok(SafePdu { kind, receiver, sender, sn, cs, ts, cts, body })
+}
+
+/// Writes the eight fields of a header in front of the buffer, and leaves the rest.
+fn put_header(pdu: &SafePdu<'_>, size: u16, buffer: &mut [u8])
+    requires { SAFE_HEADER ≤ length buffer.old }
+    ensures numbers { HasNumbers (pdu_of pdu.now) }
+    ensures front { take SAFE_HEADER buffer.new ≡ header size (pdu_of pdu.now) }
+    ensures rest { drop SAFE_HEADER buffer.new ≡ drop SAFE_HEADER buffer.old }
+{
+    put_u16(buffer, 0, size);
+    put_u16(buffer, 2, pdu.kind.number());
+    put_u32(buffer, 4, pdu.receiver);
+    put_u32(buffer, 8, pdu.sender);
+    put_u32(buffer, 12, pdu.sn);
+    put_u32(buffer, 16, pdu.cs);
+    put_u32(buffer, 20, pdu.ts);
+    put_u32(buffer, 24, pdu.cts);
+}
+
+/// Writes a safety PDU with its code in front of the buffer, leaves the rest of it, and answers how
+/// many octets were written. The caller keeps a body that fits the type, and room for 28 octets
+/// more than the body and the code.
+pub fn encode(pdu: &SafePdu<'_>, rule: &CodeRule, buffer: &mut [u8]) -> usize
+    requires body { IsBody pdu.now.kind pdu.now.body.now }
+    requires room { SAFE_HEADER + length pdu.now.body.now + code_octets rule.now.length ≤ length buffer.old }
+    ensures size { result ≡ SAFE_HEADER + length pdu.now.body.now + code_octets rule.now.length }
+    ensures written { SafeText (pdu_of pdu.now) rule.now (take result buffer.new) }
+    ensures rest { drop result buffer.new ≡ drop result buffer.old }
+{
+    let front = SAFE_HEADER + pdu.body.len();
+    let size = front + rule.length.octets();
+    put_header(pdu, size as u16, buffer);
+    put_octets(buffer, SAFE_HEADER, pdu.body);
+    rule.put_code(buffer, front);
+    size
+}
+
+/// Writes a safety PDU and reads it again under the same rule: what was written is what is read.
+pub fn read_back<'a>(pdu: &SafePdu<'_>, rule: &CodeRule, buffer: &'a mut [u8]) -> Result<SafePdu<'a>, SafeFault>
+    requires body { IsBody pdu.now.kind pdu.now.body.now }
+    requires room { SAFE_HEADER + length pdu.now.body.now + code_octets rule.now.length ≤ length buffer.old }
+    ensures { IsOkAnd result (λ again. pdu_of again ≡ pdu_of pdu.now) }
+{
+    let size = encode(pdu, rule, buffer);
+    decode(&buffer[..size], rule)
+}
+
+/// A law, which does nothing when it is called: an accepted text has one value, and a value one
+/// text under a rule, so encoding what was decoded gives the same octets.
+pub fn one_spelling()
+    ensures value { (p q : Pdu) (rule : CodeRule) (octets : List ℕ) → SafeText p rule octets
+        → SafeText q rule octets → p ≡ q }
+    ensures text { (p : Pdu) (rule : CodeRule) (octets again : List ℕ) → SafeText p rule octets
+        → SafeText p rule again → octets ≡ again }
+{
+}

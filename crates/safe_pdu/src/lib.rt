@@ -1,0 +1,150 @@
+//! The safety PDU: eight header fields, a body that fits the type, and a safety code over both.
+//! Layout in octets, least significant first: length of the whole PDU (2), type (2), receiver,
+//! sender, sequence number, confirmed sequence number, timestamp, confirmed timestamp (4 each),
+//! body, code (0, 8 or 16).
+//!
+//! The safety and retransmission layer of DIN VDE V 0831-200:2015, in this project's profile. So
+//! far PDUs without a code, of the three types without a body, are read and written.
+#![tactic(auto)]
+
+ghost use Rattle.std.specs.Prelude.{◌≡◌, ◌↔◌, ◌+◌, ◌≤◌, ◌++◌, length, take, drop, IsTrue};
+ghost use Rattle.std.specs.Str.{bytes_eq};
+ghost use Rattle.safe_pdu.specs.Pdu.{kind_number};
+ghost use Rattle.safe_pdu.specs.SafeText.{code_octets, code_over};
+
+use octets::places::put_octets;
+
+mod bodies;
+mod codec;
+
+pub use codec::{decode, encode, one_spelling, read_back};
+
+/// The eight types of safety PDU, by the standard's names.
+#[derive(Clone, Copy, Debug, PartialEq, Eq)]
+pub enum Kind {
+    /// ConnReq, 6200: the client asks for a connection.
+    ConnReq,
+    /// ConnResp, 6201: the server grants it.
+    ConnResp,
+    /// RetrReq, 6212: asks that all from a gap on be sent again.
+    RetrReq,
+    /// RetrResp, 6213: what was asked for follows.
+    RetrResp,
+    /// DiscReq, 6216: the sender has left the connection.
+    DiscReq,
+    /// HB, 6220: a heartbeat.
+    Heartbeat,
+    /// Data, 6240: a unit, for the first time.
+    Data,
+    /// RetrData, 6241: a unit, again.
+    RetrData,
+}
+
+impl Kind {
+    /// The type's number in a PDU.
+    pub fn number(self) -> u16
+        ensures { result ≡ kind_number self }
+    {
+        match self {
+            Kind::ConnReq => 6200,
+            Kind::ConnResp => 6201,
+            Kind::RetrReq => 6212,
+            Kind::RetrResp => 6213,
+            Kind::DiscReq => 6216,
+            Kind::Heartbeat => 6220,
+            Kind::Data => 6240,
+            Kind::RetrData => 6241,
+        }
+    }
+}
+
+/// The four initial words of MD4 (RFC 1320, section 3.3).
+pub const RFC_INITIAL_VALUE: [u32; 4] = [0x6745_2301, 0xefcd_ab89, 0x98ba_dcfe, 0x1032_5476];
+
+/// How many octets of code a PDU ends with.
+#[derive(Clone, Copy, Debug, PartialEq, Eq)]
+pub enum CodeLength {
+    /// None, for reading captured datagrams.
+    Zero,
+}
+
+impl CodeLength {
+    /// The number of octets.
+    pub fn octets(self) -> usize
+        ensures { result ≡ code_octets self }
+    {
+        match self {
+            CodeLength::Zero => 0,
+        }
+    }
+}
+
+/// The rule of the safety code.
+#[derive(Clone, Copy, Debug, PartialEq, Eq)]
+pub struct CodeRule {
+    /// How many octets of code there are.
+    pub length: CodeLength,
+    /// The initial value of the digest that the code is the beginning of.
+    pub initial_value: [u32; 4],
+}
+
+impl CodeRule {
+    /// Whether a code is the one over what stands before it.
+    pub(crate) fn confirms(&self, front: &[u8], code: &[u8]) -> bool
+        ensures is_code { IsTrue result ↔ (code.now ≡ code_over self.now front.now) }
+        ensures test { result ≡ bytes_eq code.now (code_over self.now front.now) }
+    {
+        match self.length {
+            CodeLength::Zero => code.is_empty(),
+        }
+    }
+
+    /// Writes the code over the first `size` octets of the buffer behind them, and leaves the rest.
+    pub(crate) fn put_code(&self, buffer: &mut [u8], size: usize)
+        requires { size + code_octets self.now.length ≤ length buffer.old }
+        ensures front { take (size + code_octets self.now.length) buffer.new
+            ≡ take size buffer.old ++ code_over self.now (take size buffer.old) }
+        ensures rest { drop (size + code_octets self.now.length) buffer.new
+            ≡ drop (size + code_octets self.now.length) buffer.old }
+    {
+        match self.length {
+            CodeLength::Zero => put_octets(buffer, size, &[]),
+        }
+    }
+}
+
+/// Why octets are no safety PDU. Where several hold, the decoder names the first of this list.
+#[derive(Clone, Copy, Debug, PartialEq, Eq)]
+pub enum SafeFault {
+    /// Fewer than the 28 octets of a header and those of the code.
+    Short,
+    /// The length field differs from the number of octets, or there are more than 1,234 and the code.
+    Length,
+    /// The code is not the one over all that stands before it.
+    Code,
+    /// The type is none of those that are read.
+    BadType,
+    /// The body does not fit the type.
+    Body,
+}
+
+/// A safety PDU as a view of the datagram that it was read from.
+#[derive(Clone, Copy, Debug, PartialEq, Eq)]
+pub struct SafePdu<'a> {
+    /// The type.
+    pub kind: Kind,
+    /// The identifier of the end that it is for.
+    pub receiver: u32,
+    /// The identifier of the end that made it.
+    pub sender: u32,
+    /// The sequence number.
+    pub sn: u32,
+    /// The confirmed sequence number.
+    pub cs: u32,
+    /// The timestamp: the low 32 bits of the sender's time in milliseconds.
+    pub ts: u32,
+    /// The confirmed timestamp: that of the PDU whose sequence number is confirmed.
+    pub cts: u32,
+    /// The body, as the type has it.
+    pub body: &'a [u8],
+}
