@@ -68,7 +68,7 @@ pub front_is : (k n : ℕ) (header body xs : List ℕ) → xs ≡ header ++ drop
 front_is k n header body xs parts long cut body-is =
     let at : n ≡ length header + length body = omega arith in
     let inside : take (length body) (drop k xs) ≡ body =
-          sym (drop-take k (length body) xs) ∙ ap (λ (m : ℕ). drop k (take m xs)) (sym cut) ∙ sym body-is
+    sym (drop-take k (length body) xs) ∙ ap (λ (m : ℕ). drop k (take m xs)) (sym cut) ∙ sym body-is
     in
     ap (take n) parts ∙ ap (λ (m : ℕ). take m (header ++ drop k xs)) at
     ∙ take-append-add header (drop k xs) (length body)

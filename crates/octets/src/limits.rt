@@ -43,6 +43,9 @@ pub const SAFE_PDU_MAX: usize = SAFE_FRONT_MAX + CODE_MAX;
 pub const RED_PDU_MAX: usize = RED_HEADER + SAFE_PDU_MAX;
 
 const _: () = prove!(MESSAGE_MAX == 400);
+
 const _: () = prove!(UNIT_MAX == 1_206);
+
 const _: () = prove!(SAFE_PDU_MAX == 1_250);
+
 const _: () = prove!(RED_PDU_MAX == 1_258);

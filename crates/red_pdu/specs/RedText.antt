@@ -42,7 +42,7 @@ red_seen octets =
     if nat_lt (length octets) RED_HEADER then Err Short
     else if nat_lt RED_PDU_MAX (length octets) then Err Length
     else if length_field octets == length octets then
-      (if reserve_field octets == 0 then Ok (seq_field octets, drop RED_HEADER octets) else Err Reserve)
+    (if reserve_field octets == 0 then Ok (seq_field octets, drop RED_HEADER octets) else Err Reserve)
     else Err Length
 
 -- an answer of the decoder, without where it lies in memory

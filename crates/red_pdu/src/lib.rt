@@ -99,5 +99,4 @@ pub fn one_spelling()
         → RedText other rest octets → (seq ≡ other) × (upper ≡ rest) }
     ensures text { (seq : ℕ) (upper octets again : List ℕ) → RedText seq upper octets
         → RedText seq upper again → octets ≡ again }
-{
-}
+{}

@@ -61,7 +61,7 @@ safe_spelled p rule octets fits sized coded reads body-is admitted =
     let long = sized.long in
     let said = sized.said in
     let cut : n ≡ SAFE_HEADER + length p.body =
-          rw body-is (omega (arith, length-drop SAFE_HEADER (take n octets), length-take-le n octets (omega arith)))
+    rw body-is (omega (arith, length-drop SAFE_HEADER (take n octets), length-take-le n octets (omega arith)))
     in
     let whole : size ≡ length_field octets = omega arith in
     let parts = header_at p size octets fits (omega arith) whole reads in
@@ -118,7 +118,7 @@ text_body p rule octets text =
     let many : length octets ≡ SAFE_HEADER + length p.body + code_octets rule.length = ap length text.spelled ∙ length-text p rule in
     let cut : front_size rule octets ≡ length front = omega arith in
     let front-is : front_of rule octets ≡ front =
-          ap (λ (n : ℕ). take n octets) cut ∙ ap (take (length front)) text.spelled ∙ take-append_seam front (code_over rule front)
+    ap (λ (n : ℕ). take n octets) cut ∙ ap (take (length front)) text.spelled ∙ take-append_seam front (code_over rule front)
     in
     sym (ap (drop SAFE_HEADER) front-is ∙ drop-append_seam (header size p) p.body)
 
@@ -186,14 +186,14 @@ pub safe_written : (p : Pdu) (rule : CodeRule) (headed bodied coded : List ℕ) 
     → take SAFE_HEADER headed ≡ header (SAFE_HEADER + length p.body + code_octets rule.length) p
     → take (SAFE_HEADER + length p.body) bodied ≡ take SAFE_HEADER headed ++ p.body
     → take (SAFE_HEADER + length p.body + code_octets rule.length) coded
-        ≡ take (SAFE_HEADER + length p.body) bodied ++ code_over rule (take (SAFE_HEADER + length p.body) bodied)
+    ≡ take (SAFE_HEADER + length p.body) bodied ++ code_over rule (take (SAFE_HEADER + length p.body) bodied)
     → SafeText p rule (take (SAFE_HEADER + length p.body + code_octets rule.length) coded)
 safe_written p rule headed bodied coded fits admitted header-is body-is code-is =
     let front : take (SAFE_HEADER + length p.body) bodied ≡ front_text rule p =
-          body-is ∙ ap (λ (h : List ℕ). h ++ p.body) header-is
+    body-is ∙ ap (λ (h : List ℕ). h ++ p.body) header-is
     in
     let spelled : take (SAFE_HEADER + length p.body + code_octets rule.length) coded ≡ safe_text rule p =
-          code-is ∙ ap (λ (f : List ℕ). f ++ code_over rule f) front
+    code-is ∙ ap (λ (f : List ℕ). f ++ code_over rule f) front
     in
     let many = ap length spelled ∙ length-text p rule in
     let short = length-body p.kind p.body admitted in

@@ -100,7 +100,7 @@ safe_seen rule octets =
     if nat_lt (length octets) (SAFE_HEADER + code_octets rule.length) then Err Short
     else if nat_lt (SAFE_FRONT_MAX + code_octets rule.length) (length octets) then Err Length
     else if length_field octets == length octets then
-      (if has_code rule octets then read_kind (kind_of (type_field octets)) rule octets else Err Code)
+    (if has_code rule octets then read_kind (kind_of (type_field octets)) rule octets else Err Code)
     else Err Length
 
 -- an answer of the decoder, without where it lies in memory

@@ -53,7 +53,16 @@ pub fn decode<'a>(octets: &'a [u8], rule: &CodeRule) -> Result<SafePdu<'a>, Safe
     let cs = u32_at(octets, 16);
     let ts = u32_at(octets, 20);
     let cts = u32_at(octets, 24);
-    Ok(SafePdu { kind, receiver, sender, sn, cs, ts, cts, body })
+    Ok(SafePdu {
+        kind,
+        receiver,
+        sender,
+        sn,
+        cs,
+        ts,
+        cts,
+        body,
+    })
 }
 
 /// Writes the eight fields of a header in front of the buffer, and leaves the rest.
@@ -92,7 +101,11 @@ pub fn encode(pdu: &SafePdu<'_>, rule: &CodeRule, buffer: &mut [u8]) -> usize
 }
 
 /// Writes a safety PDU and reads it again under the same rule: what was written is what is read.
-pub fn read_back<'a>(pdu: &SafePdu<'_>, rule: &CodeRule, buffer: &'a mut [u8]) -> Result<SafePdu<'a>, SafeFault>
+pub fn read_back<'a>(
+    pdu: &SafePdu<'_>,
+    rule: &CodeRule,
+    buffer: &'a mut [u8],
+) -> Result<SafePdu<'a>, SafeFault>
     requires body { IsBody pdu.now.kind pdu.now.body.now }
     requires room { SAFE_HEADER + length pdu.now.body.now + code_octets rule.now.length ≤ length buffer.old }
     ensures { IsOkAnd result (λ again. pdu_of again ≡ pdu_of pdu.now) }
@@ -108,5 +121,4 @@ pub fn one_spelling()
         → SafeText q rule octets → p ≡ q }
     ensures text { (p : Pdu) (rule : CodeRule) (octets again : List ℕ) → SafeText p rule octets
         → SafeText p rule again → octets ≡ again }
-{
-}
+{}

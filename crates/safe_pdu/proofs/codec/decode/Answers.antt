@@ -13,15 +13,15 @@ returns-clause-found c =
     let admitted : IsBody c.in-Some.kind c.split_at-2.result.1.now = search rules in
     safe_spelled _ c.args.rule.now c.args.octets.now c.type_inv.octets sized coded
     (
-      record {
-        kind = c.in-Some.ensures.named ∙ c.u16_at-number.ensures;
-        receiver = c.u32_at-receiver.ensures;
-        sender = c.u32_at-sender.ensures;
-        sn = c.u32_at-sn.ensures;
-        cs = c.u32_at-cs.ensures;
-        ts = c.u32_at-ts.ensures;
-        cts = c.u32_at-cts.ensures;
-      }
+    record {
+      kind = c.in-Some.ensures.named ∙ c.u16_at-number.ensures;
+      receiver = c.u32_at-receiver.ensures;
+      sender = c.u32_at-sender.ensures;
+      sn = c.u32_at-sn.ensures;
+      cs = c.u32_at-cs.ensures;
+      ts = c.u32_at-ts.ensures;
+      cts = c.u32_at-cts.ensures;
+    }
     )
     body admitted
 
@@ -30,14 +30,14 @@ returns-clause-only c = λ p text.
     let body : c.split_at-2.result.1.now ≡ body_of c.args.rule.now c.args.octets.now = search rules in
     safe_only _ p c.args.rule.now c.args.octets.now text
     (
-      record {
-        kind = c.in-Some.ensures.named ∙ c.u16_at-number.ensures;
-        receiver = c.u32_at-receiver.ensures;
-        sender = c.u32_at-sender.ensures;
-        sn = c.u32_at-sn.ensures;
-        cs = c.u32_at-cs.ensures;
-        ts = c.u32_at-ts.ensures;
-        cts = c.u32_at-cts.ensures;
-      }
+    record {
+      kind = c.in-Some.ensures.named ∙ c.u16_at-number.ensures;
+      receiver = c.u32_at-receiver.ensures;
+      sender = c.u32_at-sender.ensures;
+      sn = c.u32_at-sn.ensures;
+      cs = c.u32_at-cs.ensures;
+      ts = c.u32_at-ts.ensures;
+      cts = c.u32_at-cts.ensures;
+    }
     )
     body

@@ -1,0 +1,5 @@
+use Rattle.rasta_cli.proofs.show.show_upper.Goals as goal
+
+pub returns-in_ok-write_fault-in-Err-clause-written : goal.returns-in_ok-write_fault-in-Err-clause-written
+returns-in_ok-write_fault-in-Err-clause-written g c =
+    rw (← c.in-Err.ensures.exact) (rw (c.number_of_safe.ensures, c.name_of_safe.ensures) at c.in_ok-write_fault-in-Err.ensures)

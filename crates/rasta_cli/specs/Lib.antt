@@ -1,0 +1,4 @@
+pub mod ShowText
+pub mod Shown
+pub mod CommandLine
+pub mod Status

@@ -1,0 +1,90 @@
+-- The text that `show` prints for the octets of a datagram.
+use Rattle.std.specs.Prelude.{ℕ, Bool, true, false, List, [], ◌∷◌, ◌++◌, length, codes, Result, Ok, Err}
+use Rattle.std.specs.Fmt.{decimal}
+use Rattle.red_pdu.specs.declared.RedFault.{RedFault}
+use Rattle.red_pdu.specs.declared.RedFault.TheVariants as red
+use Rattle.red_pdu.specs.RedText.{red_seen}
+use Rattle.safe_pdu.specs.declared.CodeRule.{CodeRule}
+use Rattle.safe_pdu.specs.declared.Kind.{Kind}
+use Rattle.safe_pdu.specs.declared.Kind.TheVariants.{ConnReq, ConnResp, RetrReq, RetrResp, DiscReq, Heartbeat, Data, RetrData}
+use Rattle.safe_pdu.specs.declared.SafeFault.{SafeFault}
+use Rattle.safe_pdu.specs.declared.SafeFault.TheVariants as safe
+use Rattle.safe_pdu.specs.Pdu.{Pdu}
+use Rattle.safe_pdu.specs.Places.{safe_seen}
+
+-- the pieces, one after the other
+abbrev pub joined : List (List ℕ) → List ℕ
+joined [] = []
+joined (piece ∷ pieces) = piece ++ joined pieces
+
+-- a fault's number is its place among the faults of its layer, from 1
+abbrev pub red_number : RedFault → ℕ
+red_number red.Short = 1
+red_number red.Length = 2
+red_number red.Reserve = 3
+
+abbrev pub red_name : RedFault → List ℕ
+red_name red.Short = codes "Short"
+red_name red.Length = codes "Length"
+red_name red.Reserve = codes "Reserve"
+
+abbrev pub safe_number : SafeFault → ℕ
+safe_number safe.Short = 1
+safe_number safe.Length = 2
+safe_number safe.Code = 3
+safe_number safe.BadType = 4
+safe_number safe.Body = 5
+
+abbrev pub safe_name : SafeFault → List ℕ
+safe_name safe.Short = codes "Short"
+safe_name safe.Length = codes "Length"
+safe_name safe.Code = codes "Code"
+safe_name safe.BadType = codes "Type"
+safe_name safe.Body = codes "Body"
+
+abbrev pub kind_name : Kind → List ℕ
+kind_name ConnReq = codes "ConnReq"
+kind_name ConnResp = codes "ConnResp"
+kind_name RetrReq = codes "RetrReq"
+kind_name RetrResp = codes "RetrResp"
+kind_name DiscReq = codes "DiscReq"
+kind_name Heartbeat = codes "HB"
+kind_name Data = codes "Data"
+kind_name RetrData = codes "RetrData"
+
+-- LAYER fault NUMBER NAME
+abbrev pub fault_line : List ℕ → ℕ → List ℕ → List ℕ
+fault_line layer number name = joined (layer ∷ codes " fault " ∷ decimal number ∷ codes " " ∷ name ∷ codes "\n" ∷ [])
+
+abbrev pub red_line : ℕ → ℕ → List ℕ
+red_line size seq = joined (codes "red length " ∷ decimal size ∷ codes " seq " ∷ decimal seq ∷ codes "\n" ∷ [])
+
+abbrev pub safe_line : Pdu → List ℕ
+safe_line p =
+    joined
+    (kind_name p.kind ∷ codes " receiver " ∷ decimal p.receiver ∷ codes " sender " ∷ decimal p.sender ∷ codes " sn " ∷ decimal p.sn
+    ∷ codes " cs " ∷ decimal p.cs ∷ codes " ts " ∷ decimal p.ts ∷ codes " cts " ∷ decimal p.cts ∷ codes "\n" ∷ [])
+
+-- the lines of an upper part
+abbrev pub upper_text : Result Pdu SafeFault → List ℕ
+upper_text (Ok p) = safe_line p
+upper_text (Err f) = fault_line (codes "safe") (safe_number f) (safe_name f)
+
+abbrev pub datagram_text : CodeRule → ℕ → Result (ℕ × List ℕ) RedFault → List ℕ
+datagram_text rule size (Ok p) = red_line size p.0 ++ upper_text (safe_seen rule p.1)
+datagram_text rule size (Err f) = fault_line (codes "red") (red_number f) (red_name f)
+
+abbrev pub show_text : CodeRule → List ℕ → List ℕ
+show_text rule octets = datagram_text rule (length octets) (red_seen octets)
+
+-- whether no line of the text names a fault
+abbrev pub is_clean_upper : Result Pdu SafeFault → Bool
+is_clean_upper (Ok p) = true
+is_clean_upper (Err f) = false
+
+abbrev pub is_clean_datagram : CodeRule → Result (ℕ × List ℕ) RedFault → Bool
+is_clean_datagram rule (Ok p) = is_clean_upper (safe_seen rule p.1)
+is_clean_datagram rule (Err f) = false
+
+abbrev pub is_clean : CodeRule → List ℕ → Bool
+is_clean rule octets = is_clean_datagram rule (red_seen octets)

@@ -1,0 +1,119 @@
+//! The command that the words of a command line ask for.
+
+ghost use Rattle.std.specs.Prelude.{◌≡◌, Some, IfOk, IfSome, false, map};
+ghost use Rattle.clap.specs.declared.Command.TheViews.{out-Command};
+ghost use Rattle.clap.specs.Words.{app_of, first_of, found_of, rows_of, subcommand_of, subcommand_rows_of};
+ghost use Rattle.rasta_cli.specs.CommandLine.{Asks, HasEntries, IsFound, code_word, rasta_app, show_app};
+
+use clap::{Arg, ArgMatches, Command};
+use safe_pdu::CodeLength;
+use std::alloc::{AllocError, Global};
+use std::convert::AsStr;
+use thiserror::Error;
+
+/// A command of the program.
+#[derive(Clone, Copy, Debug, PartialEq, Eq)]
+pub enum Request<'a> {
+    /// `show --code N HEX`: the text of a datagram.
+    Show {
+        /// How many octets of safety code a PDU has.
+        code: CodeLength,
+        /// The datagram as hex digits.
+        hex: &'a str,
+    },
+}
+
+/// Why words are no command. The text is for standard error, but that of a call for help.
+#[derive(Debug, Drop, Error)]
+pub enum WordsFault {
+    /// What clap found wrong, or the help that was asked for.
+    #[error("{0}")]
+    Words(clap::Error),
+    /// A length of code that the program does not read yet.
+    #[error("error: the code has 0 octets: --code 0\n\nFor more information, try 'rasta show --help'.")]
+    BadCode,
+    /// Memory was refused.
+    #[error("fault: memory")]
+    Memory(#[from(alloc)] AllocError),
+}
+
+/// Finds the command that words ask for; the first word is the program's name.
+pub fn command<'a, S: AsStr>(alloc: Global, words: &'a [S]) -> Result<Request<'a>, WordsFault>
+    ensures { IfOk result (Asks (map S.text words.entry.now)) }
+{
+    let matches = matched(alloc, words)?;
+    asked(&matches).ok_or(WordsFault::BadCode)
+}
+
+fn asked<'a>(matches: &ArgMatches<'a>) -> Option<Request<'a>>
+    ensures { IfSome result (IsFound (subcommand_rows_of matches.now)) }
+{
+    let (name, entries) = matches.subcommand()?;
+    asked_by(name, entries)
+}
+
+fn asked_by<'a>(name: &str, entries: &ArgMatches<'a>) -> Option<Request<'a>>
+    ensures { IfSome result (λ request. HasEntries request name.now (rows_of (found_of entries.now))) }
+{
+    match name {
+        "show" => {
+            let code = code_length(entry(entries, "code")?)?;
+            let hex = entry(entries, "hex")?;
+            Some(Request::Show { code, hex })
+        }
+        _ => None,
+    }
+}
+
+/// The value of an argument that was given once.
+fn entry<'a>(entries: &ArgMatches<'a>, id: &str) -> Option<&'a str>
+    ensures { IfSome result (λ text. first_of id.now (rows_of (found_of entries.now)) ≡ Some text.now) }
+{
+    entries.get_str(id)
+}
+
+fn code_length(word: &str) -> Option<CodeLength>
+    ensures { IfSome result (λ code. word.now ≡ code_word code) }
+{
+    match word {
+        "0" => Some(CodeLength::Zero),
+        _ => None,
+    }
+}
+
+fn matched<'a, S: AsStr>(alloc: Global, words: &'a [S]) -> Result<ArgMatches<'a>, WordsFault>
+    ensures { IfOk result (λ matches. subcommand_rows_of matches ≡ subcommand_of rasta_app (map S.text words.entry.now)) }
+{
+    let command = rasta_command(alloc)?;
+    command
+        .try_get_matches_from(words)
+        .map_err(WordsFault::Words)
+}
+
+fn rasta_command<'a>(alloc: Global) -> Result<Command<'a>, AllocError>
+    ensures app { IfOk result (λ command. app_of command ≡ rasta_app) }
+    ensures local { IfOk result (λ command. (out-Command command).has_globals ≡ false) }
+{
+    Command::new(alloc, "rasta")
+        .about("A proved RaSTA stack: its command line.")
+        .after_help("Exit status: 0 done, 1 refused input, 2 wrong words, 3 where output fails.")
+        .subcommand_required(true)
+        .subcommand(show_command(alloc)?)
+}
+
+fn show_command<'a>(alloc: Global) -> Result<Command<'a>, AllocError>
+    ensures app { IfOk result (λ command. app_of command ≡ show_app) }
+    ensures local { IfOk result (λ command. (out-Command command).has_globals ≡ false) }
+{
+    let code = Arg::new(alloc, "code")
+        .long("code")
+        .required(true)
+        .help("Octets of safety code at the end of a safety PDU: 0");
+    let hex = Arg::new(alloc, "hex").required(true).help(
+        "The datagram as hex digits, two for each octet, in either case",
+    );
+    Command::new(alloc, "show")
+        .about("Prints the fields of a captured datagram, or the first fault of each layer")
+        .arg(code)?
+        .arg(hex)
+}

@@ -1,0 +1,63 @@
+//! The program `rasta`.
+#![tactic(auto)]
+
+mod command_line;
+mod runs;
+mod show;
+mod status;
+
+use command_line::{Request, WordsFault, command};
+use runs::{report, run_show};
+use status::{Fault, Status};
+use std::env;
+use std::io::Write;
+use std::process::ExitCode;
+use std::rt::Env;
+
+/// Prints why the words are no command, or the help that they ask for.
+fn refuse<O: Write, E: Write>(fault: &WordsFault, out: &mut O, err: &mut E) -> Status {
+    match fault {
+        WordsFault::Memory(_) => report(err, Fault::Memory),
+        WordsFault::BadCode => {
+            let _ = writeln!(err, "{fault}");
+            Status::WrongWords
+        }
+        WordsFault::Words(error) if error.use_stderr() => {
+            let _ = write!(err, "{error}");
+            Status::WrongWords
+        }
+        WordsFault::Words(error) => match write!(out, "{error}") {
+            Ok(()) => Status::Done,
+            Err(_) => report(err, Fault::Output),
+        },
+    }
+}
+
+fn run_words(rt: &HostRuntime) -> Status {
+    let mut out = rt.stdout();
+    let mut err = rt.stderr();
+    let Ok(args) = env::args(rt) else {
+        return report(&mut err, Fault::Memory);
+    };
+    let Ok(words) = args.collect::<Vec<String>>(rt.alloc()) else {
+        return report(&mut err, Fault::Memory);
+    };
+    match command(rt.alloc(), words.as_slice()) {
+        Ok(Request::Show { code, hex }) => run_show(
+            rt.alloc(),
+            code,
+            None,
+            hex,
+            &mut out,
+            &mut err,
+        ),
+        Err(fault) => refuse(&fault, &mut out, &mut err),
+    }
+}
+
+fn main(rt: HostRuntime) -> ExitCode {
+    ExitCode::from(run_words(&rt).code())
+}
+
+#[cfg(test)]
+mod tests;

@@ -1,0 +1,59 @@
+//! How the program ends, and the faults that it names on standard error.
+
+ghost use Rattle.std.specs.Prelude.{◌≡◌};
+ghost use Rattle.rasta_cli.specs.Status.{status_code, status_of};
+
+use thiserror::Error;
+
+/// How the program ends.
+#[derive(Clone, Copy, Debug, PartialEq, Eq)]
+pub enum Status {
+    /// All was done, and no fault was found.
+    Done,
+    /// The input was refused or has a fault, or memory was refused.
+    Refused,
+    /// The words are no command.
+    WrongWords,
+    /// An output failed.
+    Failed,
+}
+
+impl Status {
+    /// The exit status.
+    pub fn code(self) -> u8
+        ensures { result ≡ status_code self }
+    {
+        match self {
+            Status::Done => 0,
+            Status::Refused => 1,
+            Status::WrongWords => 2,
+            Status::Failed => 3,
+        }
+    }
+}
+
+/// What the program names on standard error.
+#[derive(Clone, Copy, Debug, PartialEq, Eq, Error)]
+pub enum Fault {
+    /// A text that should be hex digits is none.
+    #[error("fault: hex")]
+    Hex,
+    /// Memory was refused.
+    #[error("fault: memory")]
+    Memory,
+    /// Standard output failed.
+    #[error("fault: output")]
+    Output,
+}
+
+impl Fault {
+    /// How the program ends with it.
+    pub fn status(self) -> Status
+        ensures { result ≡ status_of self }
+    {
+        match self {
+            Fault::Hex | Fault::Memory => Status::Refused,
+            Fault::Output => Status::Failed,
+        }
+    }
+}
