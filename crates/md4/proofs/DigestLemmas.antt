@@ -1,7 +1,7 @@
 -- What callers know of a digest without looking into it, and digests of RFC 1320, A.5, so that a wrong table or
 -- padding in the definition does not check.
-use Rattle.std.proofs.Common.{◌≡◌, ◌+◌, ◌*◌, ◌/◌, ◌%◌, ◌-◌, ◌^◌, ℕ, List, [], ◌∷◌, ◌++◌, length, codes, refl, arith, length-append, replicate}
-use Rattle.md4.specs.Digest.{four_steps, after_round, after_block, digest, padded, filling}
+use Rattle.std.proofs.Common.{◌≡◌, ℕ, List, [], ◌∷◌, length, codes, refl}
+use Rattle.md4.specs.Digest.{four_steps, after_round, after_block, digest}
 
 -- a digest has 16 octets
 pub length-digest : (iv octets : List ℕ) → length (digest iv octets) ≡ 16

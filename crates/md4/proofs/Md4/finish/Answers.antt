@@ -1,4 +1,4 @@
-use Rattle.std.proofs.Common.{◌≡◌, ℕ, List, ◌*◌, ◌%◌, ◌^◌, length, arith, ap, ◌∙◌}
+use Rattle.std.proofs.Common.{◌≡◌, ◌*◌, ◌%◌, ◌^◌, length, arith, ◌∙◌}
 use Rattle.md4.proofs.Feeding.{StandsFor-total, digest-padded}
 use Rattle.md4.proofs.Md4.finish.Goals as goal
 

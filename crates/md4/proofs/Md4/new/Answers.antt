@@ -1,4 +1,4 @@
-use Rattle.std.proofs.Common.{rules, refl, [], length}
+use Rattle.std.proofs.Common.{refl, []}
 use Rattle.md4.proofs.Feeding.{StandsFor-from}
 use Rattle.md4.proofs.Md4.new.Goals as goal
 

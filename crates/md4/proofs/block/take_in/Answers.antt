@@ -1,4 +1,4 @@
-use Rattle.std.proofs.Common.{refl, ap, sym, arith}
+use Rattle.std.proofs.Common.{refl, arith}
 use Rattle.md4.specs.Digest.{after_block}
 use Rattle.md4.proofs.Blocks.{words_are}
 use Rattle.md4.proofs.block.take_in.Goals as goal
