@@ -1,0 +1,8 @@
+use Rattle.std.proofs.Common.{◌≡◌, ◌-◌, ◌%◌, arith}
+use Rattle.md4.proofs.Feeding.{take-filling}
+use Rattle.md4.proofs.padding.filling.Goals as goal
+
+pub returns : goal.returns
+returns c =
+    let used : c.args.used % 64 ≡ c.args.used = omega arith in
+    rw used (take-filling 0x80 0 ((119 - c.args.used) % 64) (omega arith))

@@ -1,0 +1,138 @@
+// The three rounds over a block of 64 octets, and the octets of a digest (RFC 1320, sections 3.4
+// and 3.5).
+
+ghost use Rattle.std.specs.Prelude.{◌≡◌, [], ◌∷◌, length};
+ghost use Rattle.md4.specs.Digest.{conditional, majority, parity, stepped, first_round, second_round, third_round, four_steps, after_round, after_block, spelled};
+
+use byteorder::{ByteOrder, LittleEndian};
+use octets::places::put_u32;
+
+const SECOND_ADDED: u32 = 0x5a82_7999;
+
+const THIRD_ADDED: u32 = 0x6ed9_eba1;
+
+#[inline(always)]
+fn conditional(x: u32, y: u32, z: u32) -> u32
+    ensures { result ≡ conditional x y z }
+{
+    (x & y) | (!x & z)
+}
+
+#[inline(always)]
+fn majority(x: u32, y: u32, z: u32) -> u32
+    ensures { result ≡ majority x y z }
+{
+    (x & y) | (x & z) | (y & z)
+}
+
+#[inline(always)]
+fn parity(x: u32, y: u32, z: u32) -> u32
+    ensures { result ≡ parity x y z }
+{
+    x ^ y ^ z
+}
+
+#[inline(always)]
+fn stepped(a: u32, mixed: u32, word: u32, added: u32, shift: u32) -> u32
+    ensures { result ≡ stepped a mixed word added shift }
+{
+    // `mixed` hangs on the step before, so it is added last.
+    a.wrapping_add(word)
+        .wrapping_add(added)
+        .wrapping_add(mixed)
+        .rotate_left(shift)
+}
+
+#[inline(always)]
+fn first_four(v: [u32; 4], row: [u32; 4]) -> [u32; 4]
+    ensures { result ≡ four_steps first_round v row }
+{
+    let [a, b, c, d] = v;
+    let a = stepped(a, conditional(b, c, d), row[0], 0, 3);
+    let d = stepped(d, conditional(a, b, c), row[1], 0, 7);
+    let c = stepped(c, conditional(d, a, b), row[2], 0, 11);
+    let b = stepped(b, conditional(c, d, a), row[3], 0, 19);
+    [a, b, c, d]
+}
+
+#[inline(always)]
+fn second_four(v: [u32; 4], row: [u32; 4]) -> [u32; 4]
+    ensures { result ≡ four_steps second_round v row }
+{
+    let [a, b, c, d] = v;
+    let a = stepped(a, majority(b, c, d), row[0], SECOND_ADDED, 3);
+    let d = stepped(d, majority(a, b, c), row[1], SECOND_ADDED, 5);
+    let c = stepped(c, majority(d, a, b), row[2], SECOND_ADDED, 9);
+    let b = stepped(b, majority(c, d, a), row[3], SECOND_ADDED, 13);
+    [a, b, c, d]
+}
+
+#[inline(always)]
+fn third_four(v: [u32; 4], row: [u32; 4]) -> [u32; 4]
+    ensures { result ≡ four_steps third_round v row }
+{
+    let [a, b, c, d] = v;
+    let a = stepped(a, parity(b, c, d), row[0], THIRD_ADDED, 3);
+    let d = stepped(d, parity(a, b, c), row[1], THIRD_ADDED, 9);
+    let c = stepped(c, parity(d, a, b), row[2], THIRD_ADDED, 11);
+    let b = stepped(b, parity(c, d, a), row[3], THIRD_ADDED, 15);
+    [a, b, c, d]
+}
+
+#[inline(always)]
+fn after_first(w: &[u32; 16], v: [u32; 4]) -> [u32; 4]
+    ensures { result ≡ after_round first_round w.now v }
+{
+    let v = first_four(v, [w[0], w[1], w[2], w[3]]);
+    let v = first_four(v, [w[4], w[5], w[6], w[7]]);
+    let v = first_four(v, [w[8], w[9], w[10], w[11]]);
+    first_four(v, [w[12], w[13], w[14], w[15]])
+}
+
+#[inline(always)]
+fn after_second(w: &[u32; 16], v: [u32; 4]) -> [u32; 4]
+    ensures { result ≡ after_round second_round w.now v }
+{
+    let v = second_four(v, [w[0], w[4], w[8], w[12]]);
+    let v = second_four(v, [w[1], w[5], w[9], w[13]]);
+    let v = second_four(v, [w[2], w[6], w[10], w[14]]);
+    second_four(v, [w[3], w[7], w[11], w[15]])
+}
+
+#[inline(always)]
+fn after_third(w: &[u32; 16], v: [u32; 4]) -> [u32; 4]
+    ensures { result ≡ after_round third_round w.now v }
+{
+    let v = third_four(v, [w[0], w[8], w[4], w[12]]);
+    let v = third_four(v, [w[2], w[10], w[6], w[14]]);
+    let v = third_four(v, [w[1], w[9], w[5], w[13]]);
+    third_four(v, [w[3], w[11], w[7], w[15]])
+}
+
+/// Takes a block of 64 octets into the four words.
+pub fn take_in(words: &mut [u32; 4], block: &[u8])
+    requires { length block.now ≡ 64 }
+    ensures { words.new ≡ after_block words.old block.now }
+{
+    let mut w = [0u32; 16];
+    LittleEndian::read_u32_into(block, &mut w);
+    let v = after_third(&w, after_second(&w, after_first(&w, *words)));
+    *words = [
+        words[0].wrapping_add(v[0]),
+        words[1].wrapping_add(v[1]),
+        words[2].wrapping_add(v[2]),
+        words[3].wrapping_add(v[3]),
+    ];
+}
+
+/// The four words as octets.
+pub fn spelled(words: [u32; 4]) -> [u8; 16]
+    ensures { result ≡ spelled words }
+{
+    let mut octets = [0; 16];
+    put_u32(&mut octets, 0, words[0]);
+    put_u32(&mut octets, 4, words[1]);
+    put_u32(&mut octets, 8, words[2]);
+    put_u32(&mut octets, 12, words[3]);
+    octets
+}
