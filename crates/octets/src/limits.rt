@@ -33,6 +33,15 @@ pub const UNIT_MIN: usize = MESSAGE_LENGTH + MESSAGE_MIN;
 /// The longest unit: as many longest messages as it may carry.
 pub const UNIT_MAX: usize = UNIT_MESSAGES * (MESSAGE_LENGTH + MESSAGE_MAX);
 
+/// The body of a ConnReq or ConnResp: version (4), N_sendmax (2), reserve (8).
+pub const OPENING_BODY: usize = 14;
+
+/// The body of a DiscReq: detail (2), reason (2).
+pub const LEAVING_BODY: usize = 4;
+
+/// The greatest N_sendmax: how many units may be unconfirmed at most.
+pub const WINDOW_MAX: usize = 32;
+
 /// The longest safety PDU without its code: the header and a longest unit.
 pub const SAFE_FRONT_MAX: usize = SAFE_HEADER + UNIT_MAX;
 

@@ -1,3 +1,4 @@
+pub mod HexText
 pub mod ShowText
 pub mod Shown
 pub mod CommandLine

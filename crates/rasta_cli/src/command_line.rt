@@ -1,9 +1,10 @@
 //! The command that the words of a command line ask for.
 
 ghost use Rattle.std.specs.Prelude.{◌≡◌, Some, IfOk, IfSome, false, map};
+ghost use Rattle.std.specs.Option.{option_copied};
 ghost use Rattle.clap.specs.declared.Command.TheViews.{out-Command};
 ghost use Rattle.clap.specs.Words.{app_of, first_of, found_of, rows_of, subcommand_of, subcommand_rows_of};
-ghost use Rattle.rasta_cli.specs.CommandLine.{Asks, HasEntries, IsFound, code_word, rasta_app, show_app};
+ghost use Rattle.rasta_cli.specs.CommandLine.{Asks, HasEntries, IsFound, code_word, coded_app, md4_app, rasta_app, show_app};
 
 use clap::{Arg, ArgMatches, Command};
 use safe_pdu::CodeLength;
@@ -14,10 +15,17 @@ use thiserror::Error;
 /// A command of the program.
 #[derive(Clone, Copy, Debug, PartialEq, Eq)]
 pub enum Request<'a> {
-    /// `show --code N HEX`: the text of a datagram.
+    /// `md4 HEX`: the digest of a message.
+    Digest {
+        /// The message as hex digits, or the word `empty`.
+        hex: &'a str,
+    },
+    /// `show --code N [--iv HEX] HEX`: the text of a datagram.
     Show {
         /// How many octets of safety code a PDU has.
         code: CodeLength,
+        /// The initial value of the code as hex digits, or that of RFC 1320.
+        iv: Option<&'a str>,
         /// The datagram as hex digits.
         hex: &'a str,
     },
@@ -29,8 +37,8 @@ pub enum WordsFault {
     /// What clap found wrong, or the help that was asked for.
     #[error("{0}")]
     Words(clap::Error),
-    /// A length of code that the program does not read yet.
-    #[error("error: the code has 0 octets: --code 0\n\nFor more information, try 'rasta show --help'.")]
+    /// A length of code that is none.
+    #[error("error: a code has 0, 8 or 16 octets: --code 0, --code 8 or --code 16\n\nFor more information, try 'rasta show --help'.")]
     BadCode,
     /// Memory was refused.
     #[error("fault: memory")]
@@ -56,10 +64,15 @@ fn asked_by<'a>(name: &str, entries: &ArgMatches<'a>) -> Option<Request<'a>>
     ensures { IfSome result (λ request. HasEntries request name.now (rows_of (found_of entries.now))) }
 {
     match name {
+        "md4" => {
+            let hex = entry(entries, "hex")?;
+            Some(Request::Digest { hex })
+        }
         "show" => {
             let code = code_length(entry(entries, "code")?)?;
+            let iv = entry(entries, "iv");
             let hex = entry(entries, "hex")?;
-            Some(Request::Show { code, hex })
+            Some(Request::Show { code, iv, hex })
         }
         _ => None,
     }
@@ -67,7 +80,7 @@ fn asked_by<'a>(name: &str, entries: &ArgMatches<'a>) -> Option<Request<'a>>
 
 /// The value of an argument that was given once.
 fn entry<'a>(entries: &ArgMatches<'a>, id: &str) -> Option<&'a str>
-    ensures { IfSome result (λ text. first_of id.now (rows_of (found_of entries.now)) ≡ Some text.now) }
+    ensures { option_copied result ≡ first_of id.now (rows_of (found_of entries.now)) }
 {
     entries.get_str(id)
 }
@@ -77,6 +90,8 @@ fn code_length(word: &str) -> Option<CodeLength>
 {
     match word {
         "0" => Some(CodeLength::Zero),
+        "8" => Some(CodeLength::Eight),
+        "16" => Some(CodeLength::Sixteen),
         _ => None,
     }
 }
@@ -98,6 +113,7 @@ fn rasta_command<'a>(alloc: Global) -> Result<Command<'a>, AllocError>
         .about("A proved RaSTA stack: its command line.")
         .after_help("Exit status: 0 done, 1 refused input, 2 wrong words, 3 where output fails.")
         .subcommand_required(true)
+        .subcommand(md4_command(alloc)?)?
         .subcommand(show_command(alloc)?)
 }
 
@@ -105,15 +121,38 @@ fn show_command<'a>(alloc: Global) -> Result<Command<'a>, AllocError>
     ensures app { IfOk result (λ command. app_of command ≡ show_app) }
     ensures local { IfOk result (λ command. (out-Command command).has_globals ≡ false) }
 {
-    let code = Arg::new(alloc, "code")
-        .long("code")
-        .required(true)
-        .help("Octets of safety code at the end of a safety PDU: 0");
+    let command = coded_command(alloc)?;
     let hex = Arg::new(alloc, "hex").required(true).help(
         "The datagram as hex digits, two for each octet, in either case",
+    );
+    command.arg(hex)
+}
+
+/// The command `show` with what it takes of the safety code.
+fn coded_command<'a>(alloc: Global) -> Result<Command<'a>, AllocError>
+    ensures app { IfOk result (λ command. app_of command ≡ coded_app) }
+    ensures local { IfOk result (λ command. (out-Command command).has_globals ≡ false) }
+{
+    let code = Arg::new(alloc, "code").long("code").required(true).help(
+        "Octets of safety code at the end of a safety PDU: 0, 8 or 16",
+    );
+    let iv = Arg::new(alloc, "iv").long("iv").help(
+        "Initial value of the code as 32 hex digits; without it that of RFC 1320",
     );
     Command::new(alloc, "show")
         .about("Prints the fields of a captured datagram, or the first fault of each layer")
         .arg(code)?
+        .arg(iv)
+}
+
+fn md4_command<'a>(alloc: Global) -> Result<Command<'a>, AllocError>
+    ensures app { IfOk result (λ command. app_of command ≡ md4_app) }
+    ensures local { IfOk result (λ command. (out-Command command).has_globals ≡ false) }
+{
+    let hex = Arg::new(alloc, "hex").required(true).help(
+        "The message as hex digits, or the word `empty` for no octets",
+    );
+    Command::new(alloc, "md4")
+        .about("Prints the MD4 digest of a message")
         .arg(hex)
 }

@@ -2,12 +2,13 @@
 #![tactic(auto)]
 
 mod command_line;
+mod hex_text;
 mod runs;
 mod show;
 mod status;
 
 use command_line::{Request, WordsFault, command};
-use runs::{report, run_show};
+use runs::{report, run_md4, run_show};
 use status::{Fault, Status};
 use std::env;
 use std::io::Write;
@@ -43,14 +44,10 @@ fn run_words(rt: &HostRuntime) -> Status {
         return report(&mut err, Fault::Memory);
     };
     match command(rt.alloc(), words.as_slice()) {
-        Ok(Request::Show { code, hex }) => run_show(
-            rt.alloc(),
-            code,
-            None,
-            hex,
-            &mut out,
-            &mut err,
-        ),
+        Ok(Request::Digest { hex }) => run_md4(rt.alloc(), hex, &mut out, &mut err),
+        Ok(Request::Show { code, iv, hex }) => {
+            run_show(rt.alloc(), code, iv, hex, &mut out, &mut err)
+        }
         Err(fault) => refuse(&fault, &mut out, &mut err),
     }
 }

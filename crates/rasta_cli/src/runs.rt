@@ -1,16 +1,18 @@
 //! The program's words, each over the writers that it is given.
 
-ghost use Rattle.std.specs.Prelude.{◌≡◌, ◌≢◌, ◌⊎◌, true, false, None, Some, Err, IfOk, IfSome, IsErr, OnErr, is_some};
+ghost use Rattle.std.specs.Prelude.{◌≡◌, ◌≢◌, ◌⊎◌, true, false, None, Some, Err, IfOk, OnOk};
+ghost use Rattle.std.specs.Io.KnownBytes.{Appends};
 ghost use Rattle.std.specs.Option.{option_copied};
-ghost use Rattle.rasta_cli.specs.Shown.{HasShown, initial_value_of, octets_of};
+ghost use Rattle.rasta_cli.specs.HexText.{initial_value_of, message_of, octets_of};
+ghost use Rattle.rasta_cli.specs.Shown.{HasDigested, HasShown, digest_line};
 ghost use Rattle.rasta_cli.specs.Status.{status_of};
 
+use crate::hex_text::{hex_octets, initial_value, write_hex};
 use crate::show::show;
 use crate::status::{Fault, Status};
-use hex::FromHexError;
-use octets::places::u32_at;
-use safe_pdu::{CodeLength, CodeRule, RFC_INITIAL_VALUE};
+use safe_pdu::{CodeLength, CodeRule};
 use std::alloc::Global;
+use std::io;
 use std::io::Write;
 
 /// Runs `show`: writes the text of the datagram that `hex` spells, read with a code of this length
@@ -39,6 +41,56 @@ pub fn run_show<O: Write, E: Write>(
         Ok(false) => Status::Refused,
         Err(fault) => report(err, fault),
     }
+}
+
+/// Runs `md4`: writes the MD4 digest (RFC 1320) of the octets that `hex` spells, as 32 hex digits; the
+/// word `empty` stands for no octets. A text that is no hex text, an empty one included, is `fault: hex`.
+pub fn run_md4<O: Write, E: Write>(alloc: Global, hex: &str, out: &mut O, err: &mut E) -> Status
+    ensures done { result ≡ Status.Done → HasDigested hex.now (O.contents out.old) (O.contents out.new) }
+    ensures refused { result ≡ Status.Refused → out.new ≡ out.old }
+    ensures no_octets { message_of hex.now ≡ None → result ≡ Status.Refused }
+    ensures words { result ≢ Status.WrongWords }
+{
+    match digested(alloc, hex, out) {
+        Ok(()) => Status::Done,
+        Err(fault) => report(err, fault),
+    }
+}
+
+/// Writes the digest of the octets that a text names.
+fn digested<O: Write>(alloc: Global, hex: &str, out: &mut O) -> Result<(), Fault>
+    ensures ok { OnOk result (HasDigested hex.now (O.contents out.old) (O.contents out.new)) }
+    ensures untouched { (result ≡ Err Fault.Hex) ⊎ (result ≡ Err Fault.Memory) → out.new ≡ out.old }
+    ensures no_octets { message_of hex.now ≡ None → (result ≡ Err Fault.Hex) ⊎ (result ≡ Err Fault.Memory) }
+{
+    let octets = match message_octets(alloc, hex) {
+        Ok(octets) => octets,
+        Err(fault) => return Err(fault),
+    };
+    match write_digest(out, octets.as_slice()) {
+        Ok(()) => Ok(()),
+        Err(_) => Err(Fault::Output),
+    }
+}
+
+/// The octets that a text names: those of its hex digits, or none for the word `empty`.
+fn message_octets(alloc: Global, text: &str) -> Result<Vec<u8>, Fault>
+    ensures ok { IfOk result (λ octets. message_of text.now ≡ Some octets.items) }
+    ensures none { message_of text.now ≡ None → (result ≡ Err Fault.Hex) ⊎ (result ≡ Err Fault.Memory) }
+{
+    if text == "empty" {
+        return Ok(Vec::new(alloc));
+    }
+    hex_octets(alloc, text)
+}
+
+/// Writes the line of the digest of a message.
+fn write_digest<O: Write>(out: &mut O, octets: &[u8]) -> io::Result<()>
+    ensures { OnOk result (Appends (O.contents out.old) (O.contents out.new) (digest_line octets.now)) }
+{
+    let digest = md4::digest(md4::INITIAL_VALUE, octets);
+    write_hex(out, &digest)?;
+    out.write_all(b"\n")
 }
 
 /// Names a fault on standard error, and answers how the program ends. Where that output fails too,
@@ -77,40 +129,5 @@ fn shown<O: Write>(
     match show(octets.as_slice(), &rule, out) {
         Ok(clean) => Ok(clean),
         Err(_) => Err(Fault::Output),
-    }
-}
-
-/// The initial value that 32 hex digits name, least significant octet of each word first.
-fn initial_value(iv: Option<&str>) -> Option<[u32; 4]>
-    ensures { result ≡ initial_value_of (option_copied iv.entry) }
-{
-    let Some(text) = iv else {
-        return Some(RFC_INITIAL_VALUE);
-    };
-    let mut octets = [0u8; 16];
-    match hex::decode_to_slice(text, &mut octets) {
-        Ok(()) => Some([
-            u32_at(&octets, 0),
-            u32_at(&octets, 4),
-            u32_at(&octets, 8),
-            u32_at(&octets, 12),
-        ]),
-        Err(_) => None,
-    }
-}
-
-/// The octets that a text of hex digits spells.
-fn hex_octets(alloc: Global, text: &str) -> Result<Vec<u8>, Fault>
-    ensures ok { IfOk result (λ octets. octets_of text.now ≡ Some octets.items) }
-    ensures none { octets_of text.now ≡ None → (result ≡ Err Fault.Hex) ⊎ (result ≡ Err Fault.Memory) }
-    ensures kinds { IsErr result → (result ≡ Err Fault.Hex) ⊎ (result ≡ Err Fault.Memory) }
-{
-    if text.is_empty() {
-        return Err(Fault::Hex);
-    }
-    match hex::decode(alloc, text) {
-        Ok(octets) => Ok(octets),
-        Err(FromHexError::OutOfMemory) => Err(Fault::Memory),
-        Err(_) => Err(Fault::Hex),
     }
 }

@@ -1,13 +1,15 @@
 use crate::command_line::{Request, WordsFault, command};
-use crate::runs::run_show;
+use crate::runs::{run_md4, run_show};
 use crate::show::show;
 use crate::status::Status;
-use safe_pdu::{CodeLength, CodeRule, RFC_INITIAL_VALUE};
+use safe_pdu::{CodeLength, CodeRule};
 use std::io;
 use std::io::{ErrorKind, Write};
 use std::test::Fail;
 
 const HEARTBEAT: &str = "24000000000000001c004c18020000000100000065000000f40100000a00000005000000";
+
+const OWN_VALUE: &str = "01000000020000000300000004000000";
 
 // What `show --code 0` prints for a text, and how it ends.
 #[test]
@@ -102,29 +104,61 @@ fn tests_the_initial_value(rt: HostRuntime) -> Result<(), Fail> {
 
 #[test]
 fn accepts_the_words_of_show(rt: HostRuntime) -> Result<(), Fail> {
-    let words = ["rasta", "show", "--code", "0", HEARTBEAT];
-    let found = command(rt.alloc(), &words).map_err(|_| "refused")?;
-    assert_eq!(rt;
-        found,
-        Request::Show {
-            code: CodeLength::Zero,
-            hex: HEARTBEAT
-        }
-    );
+    let lengths = [
+        ("0", CodeLength::Zero),
+        ("8", CodeLength::Eight),
+        ("16", CodeLength::Sixteen),
+    ];
+    for (word, code) in lengths {
+        let words = ["rasta", "show", "--code", word, HEARTBEAT];
+        let found = command(rt.alloc(), &words).map_err(|_| "refused")?;
+        assert_eq!(rt;
+            found,
+            Request::Show {
+                code,
+                iv: None,
+                hex: HEARTBEAT
+            }
+        );
+        let words = [
+            "rasta", "show", "--code", word, "--iv", OWN_VALUE, HEARTBEAT,
+        ];
+        let found = command(rt.alloc(), &words).map_err(|_| "refused")?;
+        assert_eq!(rt;
+            found,
+            Request::Show {
+                code,
+                iv: Some(OWN_VALUE),
+                hex: HEARTBEAT
+            }
+        );
+    }
+    Ok(())
+}
+
+#[test]
+fn accepts_the_words_of_md4(rt: HostRuntime) -> Result<(), Fail> {
+    for hex in ["empty", "616263"] {
+        let words = ["rasta", "md4", hex];
+        let found = command(rt.alloc(), &words).map_err(|_| "refused")?;
+        assert_eq!(rt; found, Request::Digest { hex });
+    }
     Ok(())
 }
 
 // Words that are no command, or that ask for help, are refused by a fault of their own.
 #[test]
 fn refuses_other_words(rt: HostRuntime) -> Result<(), Fail> {
-    let eight = ["rasta", "show", "--code", "8", "00"];
-    assert!(rt; matches!(command(rt.alloc(), &eight), Err(WordsFault::BadCode)));
-    let lists: [&[&str]; 5] = [
+    let nine = ["rasta", "show", "--code", "9", "00"];
+    assert!(rt; matches!(command(rt.alloc(), &nine), Err(WordsFault::BadCode)));
+    let lists: [&[&str]; 7] = [
         &["rasta"],
         &["rasta", "shew"],
         &["rasta", "show", "00"],
-        &["rasta", "show", "--code", "0", "--iv", "00", "00"],
+        &["rasta", "show", "--code", "0", "--vi", "00", "00"],
         &["rasta", "show", "--code", "0"],
+        &["rasta", "md4"],
+        &["rasta", "md4", "00", "00"],
     ];
     for words in lists {
         let refused =
@@ -135,6 +169,44 @@ fn refuses_other_words(rt: HostRuntime) -> Result<(), Fail> {
     let shown =
         matches!(command(rt.alloc(), &help), Err(WordsFault::Words(error)) if !error.use_stderr());
     assert!(rt; shown);
+    Ok(())
+}
+
+// What `md4` prints for a word, and how it ends (digests of RFC 1320, A.5).
+#[test]
+fn prints_the_digests(rt: HostRuntime) -> Result<(), Fail> {
+    let cases = [
+        (
+            "empty",
+            Status::Done,
+            "31d6cfe0d16ae931b73c59d7e0c089c0\n",
+            "",
+        ),
+        ("61", Status::Done, "bde52cb31de33e46245e05fbdbd6fb24\n", ""),
+        (
+            "616263",
+            Status::Done,
+            "a448017aaf21d8525fc10ae87aa6729d\n",
+            "",
+        ),
+        (
+            "6D65737361676520646967657374",
+            Status::Done,
+            "d9130a8164549fe818874806e1c7014b\n",
+            "",
+        ),
+        ("", Status::Refused, "", "fault: hex\n"),
+        ("6", Status::Refused, "", "fault: hex\n"),
+        ("Empty", Status::Refused, "", "fault: hex\n"),
+    ];
+    for (hex, status, text, fault) in cases {
+        let mut out = Vec::new(rt.alloc());
+        let mut err = Vec::new(rt.alloc());
+        let ended = run_md4(rt.alloc(), hex, &mut out, &mut err);
+        assert_eq!(rt; ended, status, "at {hex}");
+        assert_eq!(rt; out.as_slice(), text.as_bytes(), "at {hex}");
+        assert_eq!(rt; err.as_slice(), fault.as_bytes(), "at {hex}");
+    }
     Ok(())
 }
 
@@ -165,7 +237,7 @@ impl Write for Failing {
 fn answers_each_failed_write(rt: HostRuntime) -> Result<(), Fail> {
     let rule = CodeRule {
         length: CodeLength::Zero,
-        initial_value: RFC_INITIAL_VALUE,
+        initial_value: md4::INITIAL_VALUE,
     };
     let octets = hex::decode(rt.alloc(), HEARTBEAT).map_err(|_| "no hex")?;
     let text =

@@ -1,18 +1,24 @@
 -- What was read by places is spelled so, and what is spelled so is read by places.
-use Rattle.std.proofs.Common.{◌≡◌, ◌==◌, ◌<◌, ◌≤◌, if◌then◌else◌, ℕ, ◌+◌, ◌-◌, ◌^◌, List, ◌++◌, length, take, drop, refl, sym, ap, ◌∙◌, arith, append_assoc}
+use Rattle.std.proofs.Common.{◌≡◌, ◌==◌, ◌<◌, ◌≤◌, if◌then◌else◌, ℕ, ◌+◌, ◌-◌, ◌^◌, List, ◌++◌, length, take, drop, refl, sym, ap, ◌∙◌, arith, append_assoc, Some, Bool, true, false, IsTrue, ◌&&◌, nat_le}
+use Rattle.std.proofs.lemmas.Bool.Decides.{Decides-eqb, Decides-ltb, Decides-and, Decides-like, nat_tests}
+use Rattle.std.specs.Bool.{Decides}
+use Rattle.std.proofs.lemmas.Slice.Eq.{bytes_eq-Decides}
 use Rattle.std.proofs.Math.Seq.{take-append_seam, drop-append_seam}
 use Rattle.std.proofs.lemmas.List.{length-append, length-drop, length-take-le, take-append-drop}
 use Rattle.byteorder.specs.Endian.{little_bytes, little_number}
 use Rattle.octets.proofs.Fields.{AreOctets, Splits, Splits-then, field_at, field_below, field_reads, front_is}
-use Rattle.octets.specs.declared.limits.TheConstants.{SAFE_HEADER, SAFE_FRONT_MAX, UNIT_MAX}
+use Rattle.octets.specs.declared.limits.TheConstants.{SAFE_HEADER, SAFE_FRONT_MAX, UNIT_MIN, UNIT_MAX, OPENING_BODY, LEAVING_BODY}
 use Rattle.safe_pdu.specs.declared.Kind.{Kind}
 use Rattle.safe_pdu.specs.declared.Kind.TheVariants.{ConnReq, ConnResp, RetrReq, RetrResp, DiscReq, Heartbeat, Data, RetrData}
 use Rattle.safe_pdu.specs.declared.CodeLength.{CodeLength}
-use Rattle.safe_pdu.specs.declared.CodeLength.TheVariants.{Zero}
+use Rattle.safe_pdu.specs.declared.CodeLength.TheVariants.{Zero, Eight, Sixteen}
 use Rattle.safe_pdu.specs.declared.CodeRule.{CodeRule}
 use Rattle.safe_pdu.specs.Pdu.{Pdu, kind_number}
-use Rattle.safe_pdu.specs.SafeText.{SafeText, HasNumbers, IsBody, code_octets, code_by, code_over, header, front_text, safe_text}
-use Rattle.safe_pdu.specs.Places.{IsSized, HasCode, length_field, type_field, field, front_size, front_of, code_of, body_of}
+use Rattle.safe_pdu.specs.SafeText.{SafeText, HasNumbers, code_octets, code_over, header, front_text, safe_text, has_numbers, is_text}
+use Rattle.safe_pdu.specs.Bodies.{IsBody, is_body, is_opening, is_unit_sized}
+use Rattle.md4.specs.Digest.{digest}
+use Rattle.md4.proofs.DigestLemmas.{length-digest}
+use Rattle.safe_pdu.specs.Places.{IsSized, IsAsked, HasCode, length_field, type_field, field, front_size, front_of, code_of, body_of, kind_of}
 
 -- type and numbers are those that stand at their places
 pub record Reads (p : Pdu) (octets : List ℕ) : Type 0 where
@@ -24,9 +30,17 @@ pub record Reads (p : Pdu) (octets : List ℕ) : Type 0 where
   pub ts : p.ts ≡ field 20 octets
   pub cts : p.cts ≡ field 24 octets
 
+code_octets-le : (n : CodeLength) → code_octets n ≤ 16
+code_octets-le Zero = omega arith
+code_octets-le Eight = omega arith
+code_octets-le Sixteen = omega arith
+
 -- the code has the length that its rule says
-pub length-code_by : (n : CodeLength) (front : List ℕ) → length (code_by n front) ≡ code_octets n
-length-code_by Zero front = refl
+pub length-code_over : (rule : CodeRule) (front : List ℕ) → length (code_over rule front) ≡ code_octets rule.length
+length-code_over rule front =
+    let whole = length-digest rule.initial_value front in
+    let most = code_octets-le rule.length in
+    length-take-le (code_octets rule.length) (digest rule.initial_value front) (omega arith)
 
 -- the header as it was read, and what follows it
 header_at : (p : Pdu) (size : ℕ) (octets : List ℕ) → AreOctets octets → SAFE_HEADER ≤ length octets → size ≡ length_field octets → Reads p octets
@@ -42,8 +56,8 @@ header_at p size octets fits long said reads =
     Splits-then g (field_at 4 24 p.cts octets fits (omega arith) reads.cts)
 
 -- each number is in the range of its field
-has_numbers : (p : Pdu) (octets : List ℕ) → AreOctets octets → Reads p octets → HasNumbers p
-has_numbers p octets fits reads =
+numbers_read : (p : Pdu) (octets : List ℕ) → AreOctets octets → Reads p octets → HasNumbers p
+numbers_read p octets fits reads =
     record {
       receiver = field_below 4 4 p.receiver octets fits reads.receiver;
       sender = field_below 4 8 p.sender octets fits reads.sender;
@@ -67,7 +81,7 @@ safe_spelled p rule octets fits sized coded reads body-is admitted =
     let parts = header_at p size octets fits (omega arith) whole reads in
     let front : front_of rule octets ≡ front_text rule p = front_is SAFE_HEADER n (header size p) p.body octets parts.parts refl cut body-is in
     record {
-      numbers = has_numbers p octets fits reads;
+      numbers = numbers_read p octets fits reads;
       body = admitted;
       size = sized.most;
       spelled =
@@ -107,47 +121,62 @@ length-text p rule =
     let size : ℕ = SAFE_HEADER + length p.body + code_octets rule.length in
     length-append front (code_over rule front)
     ∙ ap (λ (n : ℕ). n + length (code_over rule front)) (length-append (header size p) p.body)
-    ∙ ap (λ (n : ℕ). SAFE_HEADER + length p.body + n) (length-code_by rule.length front)
+    ∙ ap (λ (n : ℕ). SAFE_HEADER + length p.body + n) (length-code_over rule front)
+
+-- a text is as long as its length field says
+pub text_sized : (p : Pdu) (rule : CodeRule) (octets : List ℕ) → SafeText p rule octets → IsSized rule octets
+text_sized p rule octets text =
+    let t : List ℕ = safe_text rule p in
+    let size : ℕ = SAFE_HEADER + length p.body + code_octets rule.length in
+    let many : length octets ≡ size = ap length text.spelled ∙ length-text p rule in
+    let short = text.size in
+    let most-code = code_octets-le rule.length in
+    let small : size < 256 ^ 2 = omega arith in
+    record { long = omega arith; said = field_reads 2 size octets (drop 2 t) small text.spelled ∙ sym many; most = short }
+
+-- a text's front and code
+text_front : (p : Pdu) (rule : CodeRule) (octets : List ℕ) → SafeText p rule octets
+    → (front_size rule octets ≡ length (front_text rule p)) × (front_of rule octets ≡ front_text rule p)
+text_front p rule octets text =
+    let front : List ℕ = front_text rule p in
+    let size : ℕ = SAFE_HEADER + length p.body + code_octets rule.length in
+    let length-front : length front ≡ SAFE_HEADER + length p.body = length-append (header size p) p.body in
+    let many : length octets ≡ size = ap length text.spelled ∙ length-text p rule in
+    let cut : front_size rule octets ≡ length front = omega arith in (
+      cut,
+      ap (λ (n : ℕ). take n octets) cut ∙ ap (take (length front)) text.spelled ∙ take-append_seam front (code_over rule front),
+    )
 
 -- a text's body stands at its place
 pub text_body : (p : Pdu) (rule : CodeRule) (octets : List ℕ) → SafeText p rule octets → p.body ≡ body_of rule octets
 text_body p rule octets text =
-    let front : List ℕ = front_text rule p in
     let size : ℕ = SAFE_HEADER + length p.body + code_octets rule.length in
-    let length-front : length front ≡ SAFE_HEADER + length p.body = length-append (header size p) p.body in
-    let many : length octets ≡ SAFE_HEADER + length p.body + code_octets rule.length = ap length text.spelled ∙ length-text p rule in
-    let cut : front_size rule octets ≡ length front = omega arith in
-    let front-is : front_of rule octets ≡ front =
-    ap (λ (n : ℕ). take n octets) cut ∙ ap (take (length front)) text.spelled ∙ take-append_seam front (code_over rule front)
-    in
-    sym (ap (drop SAFE_HEADER) front-is ∙ drop-append_seam (header size p) p.body)
+    sym (ap (drop SAFE_HEADER) (text_front p rule octets text).1 ∙ drop-append_seam (header size p) p.body)
 
--- the type of a number, the last for any other
-number_kind : ℕ → Kind
-number_kind n =
-    if n == 6200 then ConnReq
-    else if n == 6201 then ConnResp
-    else if n == 6212 then RetrReq
-    else if n == 6213 then RetrResp
-    else if n == 6216 then DiscReq
-    else if n == 6220 then Heartbeat
-    else if n == 6240 then Data
-    else RetrData
+-- a text has its code
+pub text_coded : (p : Pdu) (rule : CodeRule) (octets : List ℕ) → SafeText p rule octets → HasCode rule octets
+text_coded p rule octets text =
+    let front : List ℕ = front_text rule p in
+    let at = text_front p rule octets text in
+    ap (λ (n : ℕ). drop n octets) at.0 ∙ ap (drop (length front)) text.spelled ∙ drop-append_seam front (code_over rule front)
+    ∙ ap (code_over rule) (sym at.1)
 
-number_kind-number : (k : Kind) → number_kind (kind_number k) ≡ k
-unfolding number_kind
-number_kind-number ConnReq = refl
-number_kind-number ConnResp = refl
-number_kind-number RetrReq = refl
-number_kind-number RetrResp = refl
-number_kind-number DiscReq = refl
-number_kind-number Heartbeat = refl
-number_kind-number Data = refl
-number_kind-number RetrData = refl
+-- a type's number leads back to it
+pub kind_of-number : (k : Kind) → kind_of (kind_number k) ≡ Some k
+kind_of-number ConnReq = refl
+kind_of-number ConnResp = refl
+kind_of-number RetrReq = refl
+kind_of-number RetrResp = refl
+kind_of-number DiscReq = refl
+kind_of-number Heartbeat = refl
+kind_of-number Data = refl
+kind_of-number RetrData = refl
 
 -- two types with one number are one
 same_kind : (k l : Kind) → kind_number k ≡ kind_number l → k ≡ l
-same_kind k l e = sym (number_kind-number k) ∙ ap number_kind e ∙ number_kind-number l
+same_kind k l e =
+    let found : Some k ≡ Some l = sym (kind_of-number k) ∙ ap kind_of e ∙ kind_of-number l in
+    cc
 
 made_of : Kind → ℕ → ℕ → ℕ → ℕ → ℕ → ℕ → List ℕ → Pdu
 made_of kind receiver sender sn cs ts cts body =
@@ -170,16 +199,33 @@ pub safe_only : (p q : Pdu) (rule : CodeRule) (octets : List ℕ) → SafeText q
 safe_only p q rule octets text reads body-is =
     one_reading p q octets reads (text_reads q rule octets text) (body-is ∙ sym (text_body q rule octets text))
 
+-- both tests of a pair hold
+pub and_both : (a b : Bool) → IsTrue (a && b) → IsTrue a × IsTrue b
+and_both true b h = (refl, h)
+and_both false b h = cc
+
+le_by_test : (a b : ℕ) → nat_le a b ≡ true → a ≤ b
+le_by_test a b h = grind (arith, nat_tests)
+
+no_octets : (body : List ℕ) → IsTrue (length body == 0) → length body ≤ UNIT_MAX
+no_octets body h = let none = (Decides-eqb (length body) 0).0 h in omega arith
+
+opening : (body : List ℕ) → IsTrue (is_opening body) → length body ≤ UNIT_MAX
+opening body h = let whole = (Decides-eqb (length body) OPENING_BODY).0 (and_both (length body == OPENING_BODY) _ h).0 in omega arith
+
+unit_sized : (body : List ℕ) → IsTrue (is_unit_sized body) → length body ≤ UNIT_MAX
+unit_sized body h = le_by_test (length body) UNIT_MAX (and_both (nat_le UNIT_MIN (length body)) _ h).1
+
 -- no body is longer than the longest unit
 pub length-body : (k : Kind) (body : List ℕ) → IsBody k body → length body ≤ UNIT_MAX
-length-body RetrReq body empty = rw empty (omega arith)
-length-body RetrResp body empty = rw empty (omega arith)
-length-body Heartbeat body empty = rw empty (omega arith)
-length-body ConnReq body none = absurd none
-length-body ConnResp body none = absurd none
-length-body DiscReq body none = absurd none
-length-body Data body none = absurd none
-length-body RetrData body none = absurd none
+length-body ConnReq body fits = opening body fits
+length-body ConnResp body fits = opening body fits
+length-body RetrReq body fits = no_octets body fits
+length-body RetrResp body fits = no_octets body fits
+length-body DiscReq body fits = let whole = (Decides-eqb (length body) LEAVING_BODY).0 fits in omega arith
+length-body Heartbeat body fits = no_octets body fits
+length-body Data body fits = unit_sized body fits
+length-body RetrData body fits = unit_sized body fits
 
 -- header, body and code, written one after the other, are the text
 pub safe_written : (p : Pdu) (rule : CodeRule) (headed bodied coded : List ℕ) → HasNumbers p → IsBody p.kind p.body
@@ -198,3 +244,40 @@ safe_written p rule headed bodied coded fits admitted header-is body-is code-is 
     let many = ap length spelled ∙ length-text p rule in
     let short = length-body p.kind p.body admitted in
     record { numbers = fits; body = admitted; size = omega arith; spelled = spelled }
+
+-- octets that are texts under two rules of one length of code are of one PDU
+pub by_place : (p q : Pdu) (r s : CodeRule) (octets : List ℕ) → SafeText p r octets → SafeText q s octets → r.length ≡ s.length → p ≡ q
+by_place p q r s octets a b same =
+    let cut : front_size r octets ≡ front_size s octets = ap (λ (n : CodeLength). length octets - code_octets n) same in
+    one_reading p q octets (text_reads p r octets a) (text_reads q s octets b)
+    (text_body p r octets a ∙ ap (λ (n : ℕ). drop SAFE_HEADER (take n octets)) cut ∙ sym (text_body q s octets b))
+
+-- a text that bears an end's identifiers is one that the end is asked about
+pub is_asked : (p : Pdu) (rule : CodeRule) (own peer : ℕ) (octets : List ℕ) → SafeText p rule octets → p.receiver ≡ own → p.sender ≡ peer
+    → IsAsked rule own peer octets
+is_asked p rule own peer octets text for_own of_peer =
+    let reads = text_reads p rule octets text in
+    record {
+      long = (text_sized p rule octets text).long;
+      receiver = sym reads.receiver ∙ for_own;
+      sender = sym reads.sender ∙ of_peer;
+      coded = text_coded p rule octets text;
+    }
+
+has_numbers-Decides : (p : Pdu) → Decides (has_numbers p) (HasNumbers p)
+has_numbers-Decides p =
+    Decides-like (has_numbers p) (λ h. record { receiver = h.0; sender = h.1.0; sn = h.1.1.0; cs = h.1.1.1.0; ts = h.1.1.1.1.0; cts = h.1.1.1.1.1 })
+    (λ n. (n.receiver, (n.sender, (n.sn, (n.cs, (n.ts, n.cts))))))
+    (Decides-and _ _ (Decides-ltb p.receiver (256 ^ 4)) (Decides-and _ _ (Decides-ltb p.sender (256 ^ 4)) (Decides-and _ _ (Decides-ltb p.sn (256 ^ 4))
+    (Decides-and _ _ (Decides-ltb p.cs (256 ^ 4)) (Decides-and _ _ (Decides-ltb p.ts (256 ^ 4)) (Decides-ltb p.cts (256 ^ 4)))))))
+
+Decides-nat_le : (a b : ℕ) → Decides (nat_le a b) (a ≤ b)
+Decides-nat_le a b = (le_by_test a b, λ le. grind (arith, nat_tests))
+
+-- the test of a text tells exactly the texts
+pub is_text-Decides : (p : Pdu) (rule : CodeRule) (octets : List ℕ) → Decides (is_text p rule octets) (SafeText p rule octets)
+is_text-Decides p rule octets =
+    Decides-like (is_text p rule octets) (λ h. record { numbers = h.0; body = h.1.0; size = h.1.1.0; spelled = h.1.1.1 })
+    (λ text. (text.numbers, (text.body, (text.size, text.spelled))))
+    (Decides-and _ _ (has_numbers-Decides p) (Decides-and _ _ (λ h. h, λ h. h)
+    (Decides-and _ _ (Decides-nat_le (length octets) (SAFE_FRONT_MAX + code_octets rule.length)) (bytes_eq-Decides octets (safe_text rule p)))))

@@ -1,3 +1,4 @@
 pub mod Pdu
+pub mod Bodies
 pub mod SafeText
 pub mod Places

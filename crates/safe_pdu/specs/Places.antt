@@ -10,7 +10,8 @@ use Rattle.safe_pdu.specs.declared.SafeFault.{SafeFault}
 use Rattle.safe_pdu.specs.declared.SafeFault.TheVariants.{Short, Length, Code, BadType, Body}
 use Rattle.safe_pdu.specs.declared.SafePdu.{SafePdu}
 use Rattle.safe_pdu.specs.Pdu.{Pdu, pdu_of, kind_number}
-use Rattle.safe_pdu.specs.SafeText.{code_octets, code_over, IsBody}
+use Rattle.safe_pdu.specs.Bodies.{IsBody, is_body}
+use Rattle.safe_pdu.specs.SafeText.{code_octets, code_over}
 
 abbrev pub length_field : List ℕ → ℕ
 length_field octets = little_number 2 octets
@@ -45,12 +46,17 @@ pub record IsSized (rule : CodeRule) (octets : List ℕ) : Type 0 where
 abbrev pub HasCode : CodeRule → List ℕ → Type 0
 HasCode rule octets = code_of rule octets ≡ code_over rule (front_of rule octets)
 
--- the type of a number: those that are read
+-- the type of a number
 abbrev pub kind_of : ℕ → Option Kind
 kind_of number =
-    if number == 6212 then Some RetrReq
+    if number == 6200 then Some ConnReq
+    else if number == 6201 then Some ConnResp
+    else if number == 6212 then Some RetrReq
     else if number == 6213 then Some RetrResp
+    else if number == 6216 then Some DiscReq
     else if number == 6220 then Some Heartbeat
+    else if number == 6240 then Some Data
+    else if number == 6241 then Some RetrData
     else None
 
 -- the fault is the first one that these octets have
@@ -60,25 +66,18 @@ FirstFault rule octets Length =
     (SAFE_HEADER + code_octets rule.length ≤ length octets)
     × ((length_field octets ≢ length octets) ⊎ (SAFE_FRONT_MAX + code_octets rule.length < length octets))
 FirstFault rule octets Code = IsSized rule octets × (¬ HasCode rule octets)
-FirstFault rule octets BadType = IsSized rule octets × HasCode rule octets × (kind_of (type_field octets) ≡ None)
+FirstFault rule octets BadType = IsSized rule octets × HasCode rule octets × ((kind : Kind) → kind_number kind ≢ type_field octets)
 FirstFault rule octets Body =
     IsSized rule octets × HasCode rule octets
-    × ((kind : Kind) × (kind_of (type_field octets) ≡ Some kind) × (¬ IsBody kind (body_of rule octets)))
+    × ((kind : Kind) × (kind_number kind ≡ type_field octets) × (¬ IsBody kind (body_of rule octets)))
 
 -- the test of a code
 abbrev pub has_code : CodeRule → List ℕ → Bool
 has_code rule octets = bytes_eq (code_of rule octets) (code_over rule (front_of rule octets))
 
--- the test of a body
-abbrev pub is_body : Kind → List ℕ → Bool
-is_body RetrReq body = length body == 0
-is_body RetrResp body = length body == 0
-is_body Heartbeat body = length body == 0
-is_body _ body = false
-
--- the fields of a type, by places
-abbrev pub read_of : Kind → CodeRule → List ℕ → Pdu
-read_of kind rule octets =
+-- the fields of a type and a body, by the places of the header
+abbrev pub read_as : Kind → List ℕ → List ℕ → Pdu
+read_as kind octets body =
     record {
       kind = kind;
       receiver = field 4 octets;
@@ -87,8 +86,11 @@ read_of kind rule octets =
       cs = field 16 octets;
       ts = field 20 octets;
       cts = field 24 octets;
-      body = body_of rule octets;
+      body = body;
     }
+
+abbrev pub read_of : Kind → CodeRule → List ℕ → Pdu
+read_of kind rule octets = read_as kind octets (body_of rule octets)
 
 abbrev pub read_kind : Option Kind → CodeRule → List ℕ → Result Pdu SafeFault
 read_kind None rule octets = Err BadType
@@ -107,3 +109,11 @@ safe_seen rule octets =
 abbrev pub seen_of : Result SafePdu SafeFault → Result Pdu SafeFault
 seen_of (Ok pdu) = Ok (pdu_of pdu)
 seen_of (Err fault) = Err fault
+
+-- Octets that an end is asked about: long enough, with its own and its peer's identifier at their places, and with a valid
+-- code at their end, whatever else they say.
+pub record IsAsked (rule : CodeRule) (own peer : ℕ) (octets : List ℕ) : Type 0 where
+  pub long : SAFE_HEADER + code_octets rule.length ≤ length octets
+  pub receiver : field 4 octets ≡ own
+  pub sender : field 8 octets ≡ peer
+  pub coded : HasCode rule octets

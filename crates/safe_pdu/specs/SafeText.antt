@@ -1,31 +1,24 @@
 -- The grammar of a safety PDU: header, a body that fits the type, code.
-use Rattle.std.specs.Prelude.{◌≡◌, ◌<◌, ◌≤◌, ◌^◌, ℕ, ◌+◌, List, [], ◌++◌, length, ⊤}
+use Rattle.std.specs.Prelude.{◌≡◌, ◌<◌, ◌≤◌, ◌^◌, ◌&&◌, ℕ, ◌+◌, nat_lt, nat_le, Bool, List, ◌++◌, length, take}
+use Rattle.std.specs.Str.{bytes_eq}
 use Rattle.byteorder.specs.Endian.{little_bytes}
 use Rattle.octets.specs.declared.limits.TheConstants.{SAFE_HEADER, SAFE_FRONT_MAX}
-use Rattle.safe_pdu.specs.declared.Kind.{Kind}
-use Rattle.safe_pdu.specs.declared.Kind.TheVariants.{RetrReq, RetrResp, Heartbeat}
+use Rattle.md4.specs.Digest.{digest}
 use Rattle.safe_pdu.specs.declared.CodeLength.{CodeLength}
-use Rattle.safe_pdu.specs.declared.CodeLength.TheVariants.{Zero}
+use Rattle.safe_pdu.specs.declared.CodeLength.TheVariants.{Zero, Eight, Sixteen}
 use Rattle.safe_pdu.specs.declared.CodeRule.{CodeRule}
 use Rattle.safe_pdu.specs.Pdu.{Pdu, kind_number}
+use Rattle.safe_pdu.specs.Bodies.{IsBody, is_body}
 
 -- how many octets of code there are
 abbrev pub code_octets : CodeLength → ℕ
 code_octets Zero = 0
+code_octets Eight = 8
+code_octets Sixteen = 16
 
--- the code over all that stands before it
-abbrev pub code_by : CodeLength → List ℕ → List ℕ
-code_by Zero front = []
-
+-- the code over all that stands before it: the first octets of its digest
 abbrev pub code_over : CodeRule → List ℕ → List ℕ
-code_over rule front = code_by rule.length front
-
--- the body fits its type; the types that are not named have none that fits yet
-abbrev pub IsBody : Kind → List ℕ → Type 0
-IsBody RetrReq body = body ≡ []
-IsBody RetrResp body = body ≡ []
-IsBody Heartbeat body = body ≡ []
-IsBody _ body = ⊥
+code_over rule front = take (code_octets rule.length) (digest rule.initial_value front)
 
 -- each number is in the range of its field
 pub record HasNumbers (p : Pdu) : Type 0 where
@@ -55,3 +48,14 @@ pub record SafeText (p : Pdu) (rule : CodeRule) (octets : List ℕ) : Type 0 whe
   pub body : IsBody p.kind p.body
   pub size : length octets ≤ SAFE_FRONT_MAX + code_octets rule.length
   pub spelled : octets ≡ safe_text rule p
+
+-- the test of it
+abbrev pub has_numbers : Pdu → Bool
+has_numbers p =
+    nat_lt p.receiver (256 ^ 4) && (nat_lt p.sender (256 ^ 4) && (nat_lt p.sn (256 ^ 4)
+    && (nat_lt p.cs (256 ^ 4) && (nat_lt p.ts (256 ^ 4) && nat_lt p.cts (256 ^ 4)))))
+
+abbrev pub is_text : Pdu → CodeRule → List ℕ → Bool
+is_text p rule octets =
+    has_numbers p && (is_body p.kind p.body && (nat_le (length octets) (SAFE_FRONT_MAX + code_octets rule.length)
+    && bytes_eq octets (safe_text rule p)))

@@ -1,32 +1,67 @@
-//! Which types are read, and which bodies fit them.
+//! The types of the numbers, and the bodies that fit them.
 
-ghost use Rattle.std.specs.Prelude.{◌≡◌, ◌↔◌, IfSome, IsTrue};
-ghost use Rattle.safe_pdu.specs.Pdu.{kind_number};
-ghost use Rattle.safe_pdu.specs.SafeText.{IsBody};
-ghost use Rattle.safe_pdu.specs.Places.{kind_of, is_body};
+ghost use Rattle.std.specs.Prelude.{◌≡◌};
+ghost use Rattle.std.specs.List.{list_all};
+ghost use Rattle.safe_pdu.specs.Bodies.{is_body, is_digit, is_opening, is_zero};
+ghost use Rattle.safe_pdu.specs.Places.{kind_of};
 
 use super::Kind;
+use octets::limits::{LEAVING_BODY, OPENING_BODY, UNIT_MAX, UNIT_MIN, WINDOW_MAX};
+use octets::places::u16_at;
 
-/// The type with a number, among those that are read.
+/// The type with a number.
 pub(crate) fn kind_at(number: u16) -> Option<Kind>
-    ensures named { IfSome result (λ kind. kind_number kind ≡ number) }
-    ensures test { result ≡ kind_of number }
+    ensures { result ≡ kind_of number }
 {
     match number {
+        6200 => Some(Kind::ConnReq),
+        6201 => Some(Kind::ConnResp),
         6212 => Some(Kind::RetrReq),
         6213 => Some(Kind::RetrResp),
+        6216 => Some(Kind::DiscReq),
         6220 => Some(Kind::Heartbeat),
+        6240 => Some(Kind::Data),
+        6241 => Some(Kind::RetrData),
         _ => None,
     }
 }
 
 /// Whether a body fits a type.
 pub(crate) fn fits_body(kind: Kind, body: &[u8]) -> bool
-    ensures fits { IsTrue result ↔ IsBody kind body.now }
-    ensures test { result ≡ is_body kind body.now }
+    ensures { result ≡ is_body kind body.now }
 {
     match kind {
+        Kind::ConnReq | Kind::ConnResp => fits_opening(body),
         Kind::RetrReq | Kind::RetrResp | Kind::Heartbeat => body.is_empty(),
-        _ => false,
+        Kind::DiscReq => body.len() == LEAVING_BODY,
+        Kind::Data | Kind::RetrData => UNIT_MIN <= body.len() && body.len() <= UNIT_MAX,
     }
+}
+
+/// Whether a body is a version of four digits, an N_sendmax from 1 to 32, and eight zero octets.
+fn fits_opening(body: &[u8]) -> bool
+    ensures { result ≡ is_opening body.now }
+{
+    if body.len() != OPENING_BODY {
+        return false;
+    }
+    let window = u16_at(body, 4) as usize;
+    if window < 1 || window > WINDOW_MAX {
+        return false;
+    }
+    let (version, _) = body.split_at(4);
+    let (_, reserve) = body.split_at(6);
+    are_digits(version) && are_zeros(reserve)
+}
+
+fn are_digits(octets: &[u8]) -> bool
+    ensures { result ≡ list_all is_digit octets.now }
+{
+    octets.iter().all(|c| 48 <= *c && *c <= 57)
+}
+
+fn are_zeros(octets: &[u8]) -> bool
+    ensures { result ≡ list_all is_zero octets.now }
+{
+    octets.iter().all(|o| *o == 0)
 }

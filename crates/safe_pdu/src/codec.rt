@@ -1,12 +1,13 @@
 //! Reading and writing a safety PDU.
 
-ghost use Rattle.std.specs.Prelude.{◌≡◌, ℕ, ◌+◌, ◌≤◌, List, length, take, drop, IfOk, IfErr, IsOkAnd};
+ghost use Rattle.std.specs.Prelude.{◌≡◌, ℕ, ◌+◌, ◌≤◌, List, length, take, drop, ◌↔◌, Ok, IsTrue, IfOk, IfErr, IsOkAnd};
 ghost use Rattle.safe_pdu.specs.Pdu.{Pdu, pdu_of};
-ghost use Rattle.safe_pdu.specs.SafeText.{SafeText, HasNumbers, IsBody, code_octets, header};
-ghost use Rattle.safe_pdu.specs.Places.{FirstFault, safe_seen, seen_of};
+ghost use Rattle.safe_pdu.specs.Bodies.{IsBody};
+ghost use Rattle.safe_pdu.specs.SafeText.{SafeText, HasNumbers, code_octets, header, is_text};
+ghost use Rattle.safe_pdu.specs.Places.{FirstFault, IsAsked, read_as, safe_seen, seen_of};
 
 use super::bodies::{fits_body, kind_at};
-use super::{CodeRule, SafeFault, SafePdu};
+use super::{CodeRule, Kind, SafeFault, SafePdu};
 use octets::limits::{SAFE_FRONT_MAX, SAFE_HEADER};
 use octets::places::{put_octets, put_u16, put_u32, u16_at, u32_at};
 
@@ -26,6 +27,13 @@ pub fn decode<'a>(octets: &'a [u8], rule: &CodeRule) -> Result<SafePdu<'a>, Safe
 
     // What it is, by places.
     ensures exact { seen_of result ≡ safe_seen rule.now octets.now }
+{
+    read_places(octets, rule)
+}
+
+/// Reads a safety PDU by the places of its fields.
+fn read_places<'a>(octets: &'a [u8], rule: &CodeRule) -> Result<SafePdu<'a>, SafeFault>
+    ensures { seen_of result ≡ safe_seen rule.now octets.now }
 {
     let code_size = rule.length.octets();
     if octets.len() < SAFE_HEADER + code_size {
@@ -47,22 +55,24 @@ pub fn decode<'a>(octets: &'a [u8], rule: &CodeRule) -> Result<SafePdu<'a>, Safe
     if !fits_body(kind, body) {
         return Err(SafeFault::Body);
     }
-    let receiver = u32_at(octets, 4);
-    let sender = u32_at(octets, 8);
-    let sn = u32_at(octets, 12);
-    let cs = u32_at(octets, 16);
-    let ts = u32_at(octets, 20);
-    let cts = u32_at(octets, 24);
-    Ok(SafePdu {
+    Ok(view_of(kind, octets, body))
+}
+
+/// The fields of a header of at least 28 octets, with a type and a body.
+fn view_of<'a>(kind: Kind, octets: &[u8], body: &'a [u8]) -> SafePdu<'a>
+    requires { SAFE_HEADER ≤ length octets.now }
+    ensures { pdu_of result ≡ read_as kind octets.now body.entry.now }
+{
+    SafePdu {
         kind,
-        receiver,
-        sender,
-        sn,
-        cs,
-        ts,
-        cts,
+        receiver: u32_at(octets, 4),
+        sender: u32_at(octets, 8),
+        sn: u32_at(octets, 12),
+        cs: u32_at(octets, 16),
+        ts: u32_at(octets, 20),
+        cts: u32_at(octets, 24),
         body,
-    })
+    }
 }
 
 /// Writes the eight fields of a header in front of the buffer, and leaves the rest.
@@ -114,11 +124,25 @@ pub fn read_back<'a>(
     decode(&buffer[..size], rule)
 }
 
-/// A law, which does nothing when it is called: an accepted text has one value, and a value one
-/// text under a rule, so encoding what was decoded gives the same octets.
-pub fn one_spelling()
-    ensures value { (p q : Pdu) (rule : CodeRule) (octets : List ℕ) → SafeText p rule octets
-        → SafeText q rule octets → p ≡ q }
-    ensures text { (p : Pdu) (rule : CodeRule) (octets again : List ℕ) → SafeText p rule octets
+/// A law of the texts, which does nothing when it is called.
+pub fn text_law()
+    // Fields are read by place: octets that are texts under two rules of one length of code are of
+    // one PDU, whatever the two initial values. So a text has one value.
+    ensures by_place { (p q : Pdu) (r s : CodeRule) (octets : List ℕ) → SafeText p r octets
+        → SafeText q s octets → r.length ≡ s.length → p ≡ q }
+
+    // A value has one text under a rule, so encoding what was decoded gives the same octets.
+    ensures one_text { (p : Pdu) (rule : CodeRule) (octets again : List ℕ) → SafeText p rule octets
         → SafeText p rule again → octets ≡ again }
+
+    // A text that bears an end's own and its peer's identifier is one that the end is asked about.
+    ensures is_asked { (p : Pdu) (rule : CodeRule) (own peer : ℕ) (octets : List ℕ) → SafeText p rule octets
+        → p.receiver ≡ own → p.sender ≡ peer → IsAsked rule own peer octets }
+
+    // A text under a rule is read as its PDU under that rule.
+    ensures complete { (p : Pdu) (rule : CodeRule) (octets : List ℕ) → SafeText p rule octets
+        → safe_seen rule octets ≡ Ok p }
+
+    // The test of a text tells exactly the texts.
+    ensures test { (p : Pdu) (rule : CodeRule) (octets : List ℕ) → IsTrue (is_text p rule octets) ↔ SafeText p rule octets }
 {}

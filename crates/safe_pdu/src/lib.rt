@@ -3,8 +3,7 @@
 //! sender, sequence number, confirmed sequence number, timestamp, confirmed timestamp (4 each),
 //! body, code (0, 8 or 16).
 //!
-//! The safety and retransmission layer of DIN VDE V 0831-200:2015, in this project's profile. So
-//! far PDUs without a code, of the three types without a body, are read and written.
+//! The safety and retransmission layer of DIN VDE V 0831-200:2015, in this project's profile.
 #![tactic(auto)]
 
 ghost use Rattle.std.specs.Prelude.{◌≡◌, ◌↔◌, ◌+◌, ◌≤◌, ◌++◌, length, take, drop, IsTrue};
@@ -17,7 +16,7 @@ use octets::places::put_octets;
 mod bodies;
 mod codec;
 
-pub use codec::{decode, encode, one_spelling, read_back};
+pub use codec::{decode, encode, read_back, text_law};
 
 /// The eight types of safety PDU, by the standard's names.
 #[derive(Clone, Copy, Debug, PartialEq, Eq)]
@@ -58,14 +57,15 @@ impl Kind {
     }
 }
 
-/// The four initial words of MD4 (RFC 1320, section 3.3).
-pub const RFC_INITIAL_VALUE: [u32; 4] = [0x6745_2301, 0xefcd_ab89, 0x98ba_dcfe, 0x1032_5476];
-
 /// How many octets of code a PDU ends with.
 #[derive(Clone, Copy, Debug, PartialEq, Eq)]
 pub enum CodeLength {
-    /// None, for reading captured datagrams.
+    /// None, for reading captured datagrams; no end uses it.
     Zero,
+    /// Eight, the first half of the digest.
+    Eight,
+    /// Sixteen, all of the digest.
+    Sixteen,
 }
 
 impl CodeLength {
@@ -75,6 +75,8 @@ impl CodeLength {
     {
         match self {
             CodeLength::Zero => 0,
+            CodeLength::Eight => 8,
+            CodeLength::Sixteen => 16,
         }
     }
 }
@@ -91,12 +93,11 @@ pub struct CodeRule {
 impl CodeRule {
     /// Whether a code is the one over what stands before it.
     pub(crate) fn confirms(&self, front: &[u8], code: &[u8]) -> bool
-        ensures is_code { IsTrue result ↔ (code.now ≡ code_over self.now front.now) }
-        ensures test { result ≡ bytes_eq code.now (code_over self.now front.now) }
+        ensures { result ≡ bytes_eq code.now (code_over self.now front.now) }
     {
-        match self.length {
-            CodeLength::Zero => code.is_empty(),
-        }
+        let digest = md4::digest(self.initial_value, front);
+        let (expected, _) = digest.split_at(self.length.octets());
+        code == expected
     }
 
     /// Writes the code over the first `size` octets of the buffer behind them, and leaves the rest.
@@ -107,9 +108,9 @@ impl CodeRule {
         ensures rest { drop (size + code_octets self.now.length) buffer.new
             ≡ drop (size + code_octets self.now.length) buffer.old }
     {
-        match self.length {
-            CodeLength::Zero => put_octets(buffer, size, &[]),
-        }
+        let digest = md4::digest(self.initial_value, &buffer[..size]);
+        let (code, _) = digest.split_at(self.length.octets());
+        put_octets(buffer, size, code);
     }
 }
 
@@ -122,7 +123,7 @@ pub enum SafeFault {
     Length,
     /// The code is not the one over all that stands before it.
     Code,
-    /// The type is none of those that are read.
+    /// The type is none of the eight.
     BadType,
     /// The body does not fit the type.
     Body,
@@ -148,3 +149,6 @@ pub struct SafePdu<'a> {
     /// The body, as the type has it.
     pub body: &'a [u8],
 }
+
+#[cfg(test)]
+mod tests;
