@@ -1,0 +1,4 @@
+pub mod Names
+pub mod Tele
+pub mod TeleText
+pub mod Places

@@ -1,0 +1,60 @@
+//! Making and reading a name.
+
+ghost use Rattle.std.specs.Prelude.{◌≡◌, IfOk, IfErr, IsOkAnd};
+ghost use Rattle.std.specs.List.{list_all};
+ghost use Rattle.sci_telegram.specs.Names.{IsName, FirstNameFault, is_character, name_read};
+ghost use Rattle.sci_telegram.specs.Tele.{characters_of, name_of};
+
+use super::{FILLING, NAME_LENGTH, Name, NameFault};
+
+/// Whether an octet may stand in a name.
+fn fits_name(octet: u8) -> bool
+    ensures { result ≡ is_character octet }
+{
+    0x21 <= octet && octet <= 0x7e && octet != FILLING
+}
+
+/// Whether all octets may stand in a name.
+fn fit_name(octets: &[u8]) -> bool
+    ensures { result ≡ list_all is_character octets.now }
+{
+    octets.iter().all(|octet| fits_name(*octet))
+}
+
+impl<'a> Name<'a> {
+    /// The name that a text spells. It is a view: no octet is copied.
+    ///
+    /// Refused, and the first that holds is named: `Empty`, `Long` (counted in octets), `Character`.
+    pub fn new(text: &'a str) -> Result<Self, NameFault>
+        // What is made is that text, and a name.
+        ensures found { IfOk result (λ name. (characters_of name ≡ text.now) × IsName text.now) }
+
+        // What is a name is made.
+        ensures only { IsName text.now → IsOkAnd result (λ name. characters_of name ≡ text.now) }
+
+        // Which fault it is.
+        ensures fault { IfErr result (FirstNameFault text.now) }
+
+        // What it is, as a function of the text.
+        ensures exact { name_of result ≡ name_read text.now }
+    {
+        if text.is_empty() {
+            return Err(NameFault::Empty);
+        }
+        if text.len() > NAME_LENGTH {
+            return Err(NameFault::Long);
+        }
+        if !fit_name(text.as_bytes()) {
+            return Err(NameFault::Character);
+        }
+        Ok(Name { characters: text })
+    }
+
+    /// The characters, without the filling.
+    pub fn as_str(self) -> &'a str
+        ensures characters { result.now ≡ characters_of self.entry }
+        ensures well_formed { IsName result.now }
+    {
+        self.characters
+    }
+}
