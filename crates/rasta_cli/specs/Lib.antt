@@ -1,3 +1,5 @@
+pub mod Lines
+pub mod MessageText
 pub mod HexText
 pub mod ShowText
 pub mod Shown

@@ -10,12 +10,10 @@ use Rattle.safe_pdu.specs.declared.Kind.TheVariants.{ConnReq, ConnResp, RetrReq,
 use Rattle.safe_pdu.specs.declared.SafeFault.{SafeFault}
 use Rattle.safe_pdu.specs.declared.SafeFault.TheVariants as safe
 use Rattle.safe_pdu.specs.Pdu.{Pdu}
+use Rattle.safe_pdu.specs.Bodies.{version_of, window_of, detail_of, reason_of}
 use Rattle.safe_pdu.specs.Places.{safe_seen}
-
--- the pieces, one after the other
-abbrev pub joined : List (List ℕ) → List ℕ
-joined [] = []
-joined (piece ∷ pieces) = piece ++ joined pieces
+use Rattle.rasta_cli.specs.Lines.{joined, fault_line}
+use Rattle.rasta_cli.specs.MessageText.{unit_lines, is_clean_body}
 
 -- a fault's number is its place among the faults of its layer, from 1
 abbrev pub red_number : RedFault → ℕ
@@ -52,22 +50,35 @@ kind_name Heartbeat = codes "HB"
 kind_name Data = codes "Data"
 kind_name RetrData = codes "RetrData"
 
--- LAYER fault NUMBER NAME
-abbrev pub fault_line : List ℕ → ℕ → List ℕ → List ℕ
-fault_line layer number name = joined (layer ∷ codes " fault " ∷ decimal number ∷ codes " " ∷ name ∷ codes "\n" ∷ [])
-
 abbrev pub red_line : ℕ → ℕ → List ℕ
 red_line size seq = joined (codes "red length " ∷ decimal size ∷ codes " seq " ∷ decimal seq ∷ codes "\n" ∷ [])
 
-abbrev pub safe_line : Pdu → List ℕ
-safe_line p =
+-- type and header fields
+abbrev pub fields_text : Pdu → List ℕ
+fields_text p =
     joined
-    (kind_name p.kind ∷ codes " receiver " ∷ decimal p.receiver ∷ codes " sender " ∷ decimal p.sender ∷ codes " sn " ∷ decimal p.sn
-    ∷ codes " cs " ∷ decimal p.cs ∷ codes " ts " ∷ decimal p.ts ∷ codes " cts " ∷ decimal p.cts ∷ codes "\n" ∷ [])
+      (kind_name p.kind ∷ codes " receiver " ∷ decimal p.receiver ∷ codes " sender " ∷ decimal p.sender ∷ codes " sn " ∷ decimal p.sn
+      ∷ codes " cs " ∷ decimal p.cs ∷ codes " ts " ∷ decimal p.ts ∷ codes " cts " ∷ decimal p.cts ∷ [])
+
+-- what the bodies of an opening and of a leaving say
+abbrev pub opening_text : List ℕ → List ℕ
+opening_text body = joined (codes " version " ∷ version_of body ∷ codes " nsendmax " ∷ decimal (window_of body) ∷ [])
+
+abbrev pub leaving_text : List ℕ → List ℕ
+leaving_text body = joined (codes " detail " ∷ decimal (detail_of body) ∷ codes " reason " ∷ decimal (reason_of body) ∷ [])
+
+abbrev pub body_text : Kind → List ℕ → List ℕ
+body_text ConnReq body = opening_text body
+body_text ConnResp body = opening_text body
+body_text DiscReq body = leaving_text body
+body_text _ body = []
+
+abbrev pub safe_line : Pdu → List ℕ
+safe_line p = joined (fields_text p ∷ body_text p.kind p.body ∷ codes "\n" ∷ [])
 
 -- the lines of an upper part
 abbrev pub upper_text : Result Pdu SafeFault → List ℕ
-upper_text (Ok p) = safe_line p
+upper_text (Ok p) = safe_line p ++ unit_lines p.kind p.body
 upper_text (Err f) = fault_line (codes "safe") (safe_number f) (safe_name f)
 
 abbrev pub datagram_text : CodeRule → ℕ → Result (ℕ × List ℕ) RedFault → List ℕ
@@ -79,7 +90,7 @@ show_text rule octets = datagram_text rule (length octets) (red_seen octets)
 
 -- whether no line of the text names a fault
 abbrev pub is_clean_upper : Result Pdu SafeFault → Bool
-is_clean_upper (Ok p) = true
+is_clean_upper (Ok p) = is_clean_body p.kind p.body
 is_clean_upper (Err f) = false
 
 abbrev pub is_clean_datagram : CodeRule → Result (ℕ × List ℕ) RedFault → Bool

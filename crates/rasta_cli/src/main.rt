@@ -3,6 +3,9 @@
 
 mod command_line;
 mod hex_text;
+mod lines;
+mod messages;
+mod names;
 mod runs;
 mod show;
 mod status;

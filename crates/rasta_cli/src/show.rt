@@ -1,14 +1,18 @@
 //! The text of a datagram, line by line.
 
-ghost use Rattle.std.specs.Prelude.{◌≡◌, OnOk, IfOk};
+ghost use Rattle.std.specs.Prelude.{◌≡◌, [], ◌∷◌, codes, OnOk, IfOk};
+ghost use Rattle.std.specs.Fmt.{decimal};
 ghost use Rattle.std.specs.Io.KnownBytes.{Appends};
-ghost use Rattle.red_pdu.specs.RedText.{red_seen};
+ghost use Rattle.safe_pdu.specs.Bodies.{IsBody};
 ghost use Rattle.safe_pdu.specs.Pdu.{pdu_of};
 ghost use Rattle.safe_pdu.specs.Places.{safe_seen};
-ghost use Rattle.rasta_cli.specs.ShowText.{fault_line, is_clean, is_clean_upper, kind_name, red_line, red_name, red_number, safe_line, safe_name, safe_number, show_text, upper_text};
+ghost use Rattle.rasta_cli.specs.Lines.{joined};
+ghost use Rattle.rasta_cli.specs.ShowText.{body_text, fields_text, is_clean, is_clean_upper, red_line, safe_line, show_text, upper_text};
 
-use red_pdu::RedFault;
-use safe_pdu::{CodeRule, Kind, SafeFault, SafePdu};
+use crate::lines::{write_fault, write_text};
+use crate::messages::show_body;
+use crate::names::{name_of_kind, name_of_red, name_of_safe, number_of_red, number_of_safe};
+use safe_pdu::{CodeRule, Kind, Leaving, Opening, SafePdu, read_leaving, read_opening};
 use std::io;
 use std::io::Write;
 
@@ -40,7 +44,8 @@ fn show_upper<W: Write>(upper: &[u8], rule: &CodeRule, writer: &mut W) -> io::Re
     match safe_pdu::decode(upper, rule) {
         Ok(pdu) => {
             write_safe(writer, &pdu)?;
-            Ok(true)
+            let clean = show_body(writer, pdu.kind, pdu.body)?;
+            Ok(clean)
         }
         Err(fault) => {
             write_fault(writer, "safe", number_of_safe(fault), name_of_safe(fault))?;
@@ -55,87 +60,45 @@ fn write_red<W: Write>(writer: &mut W, size: usize, seq: u32) -> io::Result<()>
     writeln!(writer, "red length {size} seq {seq}")
 }
 
+/// Writes the line of a safety PDU.
 fn write_safe<W: Write>(writer: &mut W, pdu: &SafePdu<'_>) -> io::Result<()>
+    requires { IsBody pdu.now.kind pdu.now.body.now }
     ensures { OnOk result (Appends (W.contents writer.old) (W.contents writer.new) (safe_line (pdu_of pdu.now))) }
 {
-    let SafePdu {
-        kind,
-        receiver,
-        sender,
-        sn,
-        cs,
-        ts,
-        cts,
-        body: _,
-    } = *pdu;
+    write_fields(writer, pdu)?;
+    write_body(writer, pdu.kind, pdu.body)?;
+    write_text(writer, "\n")
+}
+
+fn write_fields<W: Write>(writer: &mut W, pdu: &SafePdu<'_>) -> io::Result<()>
+    ensures { OnOk result (Appends (W.contents writer.old) (W.contents writer.new) (fields_text (pdu_of pdu.now))) }
+{
+    let SafePdu { kind, receiver, sender, sn, cs, ts, cts, body: _ } = *pdu;
     let name = name_of_kind(kind);
-    writeln!(
-        writer,
-        "{name} receiver {receiver} sender {sender} sn {sn} cs {cs} ts {ts} cts {cts}"
-    )
+    write!(writer, "{name} receiver {receiver} sender {sender} sn {sn} cs {cs} ts {ts} cts {cts}")
 }
 
-fn write_fault<W: Write>(writer: &mut W, layer: &str, number: u8, name: &str) -> io::Result<()>
-    ensures { OnOk result (Appends (W.contents writer.old) (W.contents writer.new) (fault_line layer.now number name.now)) }
-{
-    writeln!(writer, "{layer} fault {number} {name}")
-}
-
-fn number_of_red(fault: RedFault) -> u8
-    ensures { result ≡ red_number fault }
-{
-    match fault {
-        RedFault::Short => 1,
-        RedFault::Length => 2,
-        RedFault::Reserve => 3,
-    }
-}
-
-fn name_of_red(fault: RedFault) -> &'static str
-    ensures { result.now ≡ red_name fault }
-{
-    match fault {
-        RedFault::Short => "Short",
-        RedFault::Length => "Length",
-        RedFault::Reserve => "Reserve",
-    }
-}
-
-fn number_of_safe(fault: SafeFault) -> u8
-    ensures { result ≡ safe_number fault }
-{
-    match fault {
-        SafeFault::Short => 1,
-        SafeFault::Length => 2,
-        SafeFault::Code => 3,
-        SafeFault::BadType => 4,
-        SafeFault::Body => 5,
-    }
-}
-
-fn name_of_safe(fault: SafeFault) -> &'static str
-    ensures { result.now ≡ safe_name fault }
-{
-    match fault {
-        SafeFault::Short => "Short",
-        SafeFault::Length => "Length",
-        SafeFault::Code => "Code",
-        SafeFault::BadType => "Type",
-        SafeFault::Body => "Body",
-    }
-}
-
-fn name_of_kind(kind: Kind) -> &'static str
-    ensures { result.now ≡ kind_name kind }
+/// Writes what a body says on the line of its PDU.
+fn write_body<W: Write>(writer: &mut W, kind: Kind, body: &[u8]) -> io::Result<()>
+    requires { IsBody kind body.now }
+    ensures { OnOk result (Appends (W.contents writer.old) (W.contents writer.new) (body_text kind body.now)) }
 {
     match kind {
-        Kind::ConnReq => "ConnReq",
-        Kind::ConnResp => "ConnResp",
-        Kind::RetrReq => "RetrReq",
-        Kind::RetrResp => "RetrResp",
-        Kind::DiscReq => "DiscReq",
-        Kind::Heartbeat => "HB",
-        Kind::Data => "Data",
-        Kind::RetrData => "RetrData",
+        Kind::ConnReq | Kind::ConnResp => write_opening(writer, &read_opening(body)),
+        Kind::DiscReq => {
+            let Leaving { detail, reason } = read_leaving(body);
+            write!(writer, " detail {detail} reason {reason}")
+        }
+        Kind::RetrReq | Kind::RetrResp | Kind::Heartbeat | Kind::Data | Kind::RetrData => Ok(()),
     }
+}
+
+fn write_opening<W: Write>(writer: &mut W, opening: &Opening<'_>) -> io::Result<()>
+    ensures { OnOk result (Appends (W.contents writer.old) (W.contents writer.new)
+        (joined (codes " version " ∷ opening.now.version.now ∷ codes " nsendmax " ∷ decimal opening.now.n_sendmax ∷ []))) }
+{
+    write_text(writer, " version ")?;
+    writer.write_all(opening.version)?;
+    let n_sendmax = opening.n_sendmax;
+    write!(writer, " nsendmax {n_sendmax}")
 }

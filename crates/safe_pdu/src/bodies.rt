@@ -2,10 +2,10 @@
 
 ghost use Rattle.std.specs.Prelude.{◌≡◌};
 ghost use Rattle.std.specs.List.{list_all};
-ghost use Rattle.safe_pdu.specs.Bodies.{is_body, is_digit, is_opening, is_zero};
+ghost use Rattle.safe_pdu.specs.Bodies.{IsBody, detail_of, reason_of, version_of, window_of, is_body, is_digit, is_opening, is_zero};
 ghost use Rattle.safe_pdu.specs.Places.{kind_of};
 
-use super::Kind;
+use super::{Kind, Leaving, Opening};
 use octets::limits::{LEAVING_BODY, OPENING_BODY, UNIT_MAX, UNIT_MIN, WINDOW_MAX};
 use octets::places::u16_at;
 
@@ -64,4 +64,26 @@ fn are_zeros(octets: &[u8]) -> bool
     ensures { result ≡ list_all is_zero octets.now }
 {
     octets.iter().all(|o| *o == 0)
+}
+
+/// What the body of a ConnReq or ConnResp says.
+pub fn read_opening(body: &[u8]) -> Opening<'_>
+    requires { IsBody Kind.ConnReq body.now }
+    ensures version { result.version.now ≡ version_of body.now }
+    ensures window { result.n_sendmax ≡ window_of body.now }
+{
+    let (version, _) = body.split_at(4);
+    let n_sendmax = u16_at(body, 4);
+    Opening { version, n_sendmax }
+}
+
+/// What the body of a DiscReq says.
+pub fn read_leaving(body: &[u8]) -> Leaving
+    requires { IsBody Kind.DiscReq body.now }
+    ensures detail { result.detail ≡ detail_of body.now }
+    ensures reason { result.reason ≡ reason_of body.now }
+{
+    let detail = u16_at(body, 0);
+    let reason = u16_at(body, 2);
+    Leaving { detail, reason }
 }

@@ -16,6 +16,7 @@ use octets::places::put_octets;
 mod bodies;
 mod codec;
 
+pub use bodies::{read_leaving, read_opening};
 pub use codec::{decode, encode, read_back, text_law};
 
 /// The eight types of safety PDU, by the standard's names.
@@ -148,6 +149,24 @@ pub struct SafePdu<'a> {
     pub cts: u32,
     /// The body, as the type has it.
     pub body: &'a [u8],
+}
+
+/// What the body of a ConnReq or ConnResp says, as a view of it.
+#[derive(Clone, Copy, Debug, PartialEq, Eq)]
+pub struct Opening<'a> {
+    /// The version: four ASCII digits.
+    pub version: &'a [u8],
+    /// N_sendmax, 1 to 32: how many units the sender may have unconfirmed.
+    pub n_sendmax: u16,
+}
+
+/// What the body of a DiscReq says.
+#[derive(Clone, Copy, Debug, PartialEq, Eq)]
+pub struct Leaving {
+    /// The detail of the reason.
+    pub detail: u16,
+    /// Why the sender left.
+    pub reason: u16,
 }
 
 #[cfg(test)]
