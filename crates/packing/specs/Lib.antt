@@ -1,0 +1,2 @@
+pub mod UnitText
+pub mod Places

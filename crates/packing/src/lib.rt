@@ -1,0 +1,43 @@
+//! Units and the messages that wait for one. A unit is what one Data PDU carries: one to three
+//! messages of 43 to 400 octets, each behind its length (2, least significant octet first).
+//!
+//! Between the session layer and the safety and retransmission layer of DIN VDE V 0831-200:2015, in
+//! this project's profile.
+#![tactic(auto)]
+
+use arrayvec::ArrayVec;
+use octets::limits::{MESSAGE_MAX, UNIT_MAX, UNIT_MESSAGES};
+
+mod unit;
+mod waiting;
+
+pub use unit::{one_spelling, unpack};
+pub use waiting::Waiting;
+
+/// How many messages wait at most.
+pub const WAITING_MAX: usize = 64;
+
+/// The octets of a unit, in storage of the longest one.
+pub type Unit = ArrayVec<u8, UNIT_MAX>;
+
+/// The octets of a message, in storage of the longest one.
+pub type Message = ArrayVec<u8, MESSAGE_MAX>;
+
+/// The messages of a unit, in order, as views of it.
+pub type Messages<'a> = ArrayVec<&'a [u8], UNIT_MESSAGES>;
+
+/// Why octets are no unit.
+#[derive(Clone, Copy, Debug, PartialEq, Eq)]
+pub enum PackFault {
+    /// There are no octets.
+    Empty,
+    /// A length is outside 43 to 400, fewer octets follow than it says, or one octet alone stands
+    /// where a length must.
+    Length,
+    /// Three messages were read and octets remain.
+    TooMany,
+}
+
+/// As many messages wait as there is room for.
+#[derive(Clone, Copy, Debug, PartialEq, Eq)]
+pub struct Full;
