@@ -46,11 +46,17 @@ abbrev pub payload_text : List ℕ → List ℕ
 payload_text [] = codes "-"
 payload_text (octet ∷ octets) = encode_lower (octet ∷ octets)
 
+-- a label and octets in hex digits
+abbrev pub hex_field : List ℕ → List ℕ → List ℕ
+hex_field label octets = label ++ encode_lower octets
+
+abbrev pub telegram_head : ℕ → Tele → List ℕ
+telegram_head number t =
+    joined (message_label number ∷ hex_field (codes " protocol ") (t.protocol ∷ []) ∷ hex_field (codes " type ") (to_be_bytes w16 t.kind) ∷ [])
+
 abbrev pub telegram_line : ℕ → Tele → List ℕ
 telegram_line number t =
-    joined
-      (message_label number ∷ codes " protocol " ∷ encode_lower (t.protocol ∷ []) ∷ codes " type " ∷ encode_lower (to_be_bytes w16 t.kind)
-      ∷ names_text t.sender t.receiver ∷ payload_text t.payload ∷ codes "\n" ∷ [])
+    joined (telegram_head number t ∷ names_text t.sender t.receiver ∷ payload_text t.payload ∷ codes "\n" ∷ [])
 
 -- the line of a message, the number-th of its unit from 1, by what is read of it
 abbrev pub message_line : ℕ → Result Tele TeleFault → List ℕ

@@ -57,8 +57,8 @@ red_line size seq = joined (codes "red length " ∷ decimal size ∷ codes " seq
 abbrev pub fields_text : Pdu → List ℕ
 fields_text p =
     joined
-      (kind_name p.kind ∷ codes " receiver " ∷ decimal p.receiver ∷ codes " sender " ∷ decimal p.sender ∷ codes " sn " ∷ decimal p.sn
-      ∷ codes " cs " ∷ decimal p.cs ∷ codes " ts " ∷ decimal p.ts ∷ codes " cts " ∷ decimal p.cts ∷ [])
+    (kind_name p.kind ∷ codes " receiver " ∷ decimal p.receiver ∷ codes " sender " ∷ decimal p.sender ∷ codes " sn " ∷ decimal p.sn
+    ∷ codes " cs " ∷ decimal p.cs ∷ codes " ts " ∷ decimal p.ts ∷ codes " cts " ∷ decimal p.cts ∷ [])
 
 -- what the bodies of an opening and of a leaving say
 abbrev pub opening_text : List ℕ → List ℕ

@@ -6,7 +6,7 @@ ghost use Rattle.octets.specs.declared.limits.TheConstants.{PAYLOAD_MAX};
 ghost use Rattle.sci_telegram.specs.Places.{tele_seen};
 ghost use Rattle.sci_telegram.specs.Tele.{tele_of};
 ghost use Rattle.rasta_cli.specs.Lines.{fault_line, joined};
-ghost use Rattle.rasta_cli.specs.MessageText.{are_telegrams, is_clean_body, is_telegram, message_label, message_line, message_lines, names_text, payload_text, telegram_line, unit_lines, unit_text, is_clean_unit};
+ghost use Rattle.rasta_cli.specs.MessageText.{are_telegrams, hex_field, telegram_head, is_clean_body, is_telegram, message_label, message_line, message_lines, names_text, payload_text, telegram_line, unit_lines, unit_text, is_clean_unit};
 ghost use Rattle.packing.specs.Places.{unit_seen};
 
 use crate::hex_text::write_hex;
@@ -72,31 +72,58 @@ fn write_message<W: Write>(writer: &mut W, number: usize, message: &[u8]) -> io:
             Ok(true)
         }
         Err(fault) => {
-            write_message_fault(writer, number, number_of_telegram(fault), name_of_telegram(fault))?;
+            write_message_fault(
+                writer,
+                number,
+                number_of_telegram(fault),
+                name_of_telegram(fault),
+            )?;
             Ok(false)
         }
     }
 }
 
-fn write_message_fault<W: Write>(writer: &mut W, number: usize, fault: u8, name: &str) -> io::Result<()>
+fn write_message_fault<W: Write>(
+    writer: &mut W,
+    number: usize,
+    fault: u8,
+    name: &str,
+) -> io::Result<()>
     ensures { OnOk result (Appends (W.contents writer.old) (W.contents writer.new) (fault_line (message_label number) fault name.now)) }
 {
     writeln!(writer, "message {number} fault {fault} {name}")
 }
 
 /// Writes the line of a telegram.
-fn write_telegram<W: Write>(writer: &mut W, number: usize, telegram: &Telegram<'_>) -> io::Result<()>
+fn write_telegram<W: Write>(
+    writer: &mut W,
+    number: usize,
+    telegram: &Telegram<'_>,
+) -> io::Result<()>
     requires { length telegram.now.payload.now ≤ PAYLOAD_MAX }
     ensures { OnOk result (Appends (W.contents writer.old) (W.contents writer.new) (telegram_line number (tele_of telegram.now))) }
 {
-    write_label(writer, number)?;
-    write_text(writer, " protocol ")?;
-    write_hex(writer, &[telegram.protocol])?;
-    write_text(writer, " type ")?;
-    write_hex(writer, &telegram.kind.to_be_bytes())?;
+    write_head(writer, number, telegram)?;
     write_names(writer, telegram.sender.as_str(), telegram.receiver.as_str())?;
     write_payload(writer, telegram.payload)?;
     write_text(writer, "\n")
+}
+
+fn write_head<W: Write>(writer: &mut W, number: usize, telegram: &Telegram<'_>) -> io::Result<()>
+    ensures { OnOk result (Appends (W.contents writer.old) (W.contents writer.new) (telegram_head number (tele_of telegram.now))) }
+{
+    write_label(writer, number)?;
+    write_hex_field(writer, " protocol ", &[telegram.protocol])?;
+    write_hex_field(writer, " type ", &telegram.kind.to_be_bytes())
+}
+
+/// Writes a label and octets, at most 357, in hex digits.
+fn write_hex_field<W: Write>(writer: &mut W, label: &str, octets: &[u8]) -> io::Result<()>
+    requires { length octets.now ≤ PAYLOAD_MAX }
+    ensures { OnOk result (Appends (W.contents writer.old) (W.contents writer.new) (hex_field label.now octets.now)) }
+{
+    write_text(writer, label)?;
+    write_hex(writer, octets)
 }
 
 fn write_label<W: Write>(writer: &mut W, number: usize) -> io::Result<()>

@@ -73,9 +73,21 @@ fn write_safe<W: Write>(writer: &mut W, pdu: &SafePdu<'_>) -> io::Result<()>
 fn write_fields<W: Write>(writer: &mut W, pdu: &SafePdu<'_>) -> io::Result<()>
     ensures { OnOk result (Appends (W.contents writer.old) (W.contents writer.new) (fields_text (pdu_of pdu.now))) }
 {
-    let SafePdu { kind, receiver, sender, sn, cs, ts, cts, body: _ } = *pdu;
+    let SafePdu {
+        kind,
+        receiver,
+        sender,
+        sn,
+        cs,
+        ts,
+        cts,
+        body: _,
+    } = *pdu;
     let name = name_of_kind(kind);
-    write!(writer, "{name} receiver {receiver} sender {sender} sn {sn} cs {cs} ts {ts} cts {cts}")
+    write!(
+        writer,
+        "{name} receiver {receiver} sender {sender} sn {sn} cs {cs} ts {ts} cts {cts}"
+    )
 }
 
 /// Writes what a body says on the line of its PDU.
