@@ -22,7 +22,8 @@ fn conditional(x: u32, y: u32, z: u32) -> u32
 fn majority(x: u32, y: u32, z: u32) -> u32
     ensures { result ≡ majority x y z }
 {
-    (x & y) | (x & z) | (y & z)
+    // Only the second part waits for `x`, which the step before makes.
+    (y & z).wrapping_add(x & (y ^ z))
 }
 
 #[inline(always)]
