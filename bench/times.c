@@ -36,9 +36,9 @@ int main(void) {
     printf("%8s %12s %12s %12s %12s %8s\n", "octets", "md4 ns", "MB/s", "libcrypto ns", "MB/s", "ratio");
     for (size_t k = 0; k < sizeof sizes / sizeof *sizes; k++) {
         size_t size = sizes[k];
-        long calls = (long)(20000000 / (size + 100));
+        long calls = (long)(2000000 / (size + 100));
         double a = 1e18, b = 1e18;
-        for (int run = 0; run < 21; run++) {
+        for (int run = 0; run < 301; run++) {
             double x = once(ours, octets, size, calls), y = once(theirs, octets, size, calls);
             if (x < a) a = x;
             if (y < b) b = y;

@@ -1,10 +1,12 @@
 -- The words of a block and the steps over them, as the code goes through them.
-use Rattle.std.proofs.Common.{◌≡◌, ℕ, zero, suc, ◌+◌, ◌*◌, ◌<◌, List, [], ◌∷◌, ◌++◌, length, take, drop, slice_index, get_or, refl, sym, ap, ◌∙◌, arith}
+use Rattle.std.proofs.Common.{◌≡◌, ℕ, zero, suc, ◌+◌, ◌*◌, ◌%◌, ◌^◌, ◌<◌, List, [], ◌∷◌, ◌++◌, length, take, drop, slice_index, get_or, refl, sym, ap, ◌∙◌, arith}
 use Rattle.std.proofs.Math.Nat.{mul-suc}
 use Rattle.std.proofs.lemmas.List.{same_lists, get_or_default, get_or-map, drop-drop}
+use Rattle.std.specs.Int.{w32, rotate_left}
 use Rattle.std.specs.Simd.{first_chunks}
 use Rattle.byteorder.specs.Endian.{little_number, little_bytes, IsRead}
 use Rattle.byteorder.specs.Numbers.{little_from-take}
+use Rattle.md4.specs.Rows.{HasAdded}
 use Rattle.md4.specs.Digest.{Round, stepped, four_steps, words_of, spelled}
 
 -- four steps, from what each step read
@@ -20,6 +22,37 @@ pub four_steps_are : (round : Round) (v row : List ℕ) {fa a fd d fc c fb b : �
     → a ∷ b ∷ c ∷ d ∷ [] ≡ four_steps round v row
 unfolding four_steps
 four_steps_are round v row efa ea efd ed efc ec efb eb = rw (eb, efb, ec, efc, ed, efd, ea, efa) refl
+
+-- a step with the constant added to the word beforehand
+stepped-added : (a mixed word added sum shift : ℕ) → sum ≡ (word + added) % 2 ^ 32 → stepped a mixed sum 0 shift ≡ stepped a mixed word added shift
+stepped-added a mixed word added sum shift e =
+    let same : (a + mixed + sum + 0) % 2 ^ 32 ≡ (a + mixed + word + added) % 2 ^ 32 = omega arith in
+    ap (λ (n : ℕ). rotate_left w32 n shift) same
+
+-- four steps on words to which the constant was added beforehand
+pub added_steps_are : (round : Round) (v words row : List ℕ) {fa a fd d fc c fb b : ℕ} → HasAdded round words row
+    → fa ≡ round.mixed (slice_index v 1) (slice_index v 2) (slice_index v 3)
+    → a ≡ stepped (slice_index v 0) fa (slice_index row 0) 0 (slice_index round.shifts 0)
+    → fd ≡ round.mixed a (slice_index v 1) (slice_index v 2)
+    → d ≡ stepped (slice_index v 3) fd (slice_index row 1) 0 (slice_index round.shifts 1)
+    → fc ≡ round.mixed d a (slice_index v 1)
+    → c ≡ stepped (slice_index v 2) fc (slice_index row 2) 0 (slice_index round.shifts 2)
+    → fb ≡ round.mixed c d a
+    → b ≡ stepped (slice_index v 1) fb (slice_index row 3) 0 (slice_index round.shifts 3)
+    → a ∷ b ∷ c ∷ d ∷ [] ≡ four_steps round v words
+added_steps_are round v words row {fa} {a} {fd} {d} {fc} {c} {fb} {b} sums efa ea efd ed efc ec efb eb =
+    four_steps_are round v words
+    efa (ea ∙ stepped-added (slice_index v 0) fa (slice_index words 0) round.added (slice_index row 0) (slice_index round.shifts 0) sums.first)
+    efd (ed ∙ stepped-added (slice_index v 3) fd (slice_index words 1) round.added (slice_index row 1) (slice_index round.shifts 1) sums.second)
+    efc (ec ∙ stepped-added (slice_index v 2) fc (slice_index words 2) round.added (slice_index row 2) (slice_index round.shifts 2) sums.third)
+    efb (eb ∙ stepped-added (slice_index v 1) fb (slice_index words 3) round.added (slice_index row 3) (slice_index round.shifts 3) sums.fourth)
+
+-- four of the words with the constant added
+pub row_of : (round : Round) (words sums : List ℕ) → ((k : ℕ) → k < 16 → slice_index sums k ≡ (slice_index words k + round.added) % 2 ^ 32)
+    → (i j k l : ℕ) → i < 16 → j < 16 → k < 16 → l < 16
+    → HasAdded round (slice_index words i ∷ slice_index words j ∷ slice_index words k ∷ slice_index words l ∷ [])
+    (slice_index sums i ∷ slice_index sums j ∷ slice_index sums k ∷ slice_index sums l ∷ [])
+row_of round words sums each i j k l li lj lk ll = record { first = each i li; second = each j lj; third = each k lk; fourth = each l ll }
 
 length-first_chunks : {X : Type 0} (n k : ℕ) (xs : List X) → length (first_chunks n k xs) ≡ k
 length-first_chunks n zero xs = refl

@@ -1,2 +1,3 @@
 pub mod Digest
 pub mod Md4
+pub mod Rows

@@ -1,8 +1,9 @@
 // The three rounds over a block of 64 octets, and the octets of a digest (RFC 1320, sections 3.4
 // and 3.5).
 
-ghost use Rattle.std.specs.Prelude.{◌≡◌, [], ◌∷◌, length};
+ghost use Rattle.std.specs.Prelude.{◌≡◌, ℕ, ◌+◌, ◌%◌, ◌^◌, ◌<◌, List, [], ◌∷◌, length, slice_index};
 ghost use Rattle.md4.specs.Digest.{conditional, majority, parity, stepped, first_round, second_round, third_round, four_steps, after_round, after_block, spelled};
+ghost use Rattle.md4.specs.Rows.{HasAdded};
 
 use byteorder::{ByteOrder, LittleEndian};
 use octets::places::put_u32;
@@ -22,7 +23,8 @@ fn conditional(x: u32, y: u32, z: u32) -> u32
 fn majority(x: u32, y: u32, z: u32) -> u32
     ensures { result ≡ majority x y z }
 {
-    (x & y) | (x & z) | (y & z)
+    // Only the second part waits for `x`, which the step before makes.
+    (y & z).wrapping_add(x & (y ^ z))
 }
 
 #[inline(always)]
@@ -33,14 +35,11 @@ fn parity(x: u32, y: u32, z: u32) -> u32
 }
 
 #[inline(always)]
-fn stepped(a: u32, mixed: u32, word: u32, added: u32, shift: u32) -> u32
-    ensures { result ≡ stepped a mixed word added shift }
+fn stepped(a: u32, mixed: u32, word: u32, shift: u32) -> u32
+    ensures { result ≡ stepped a mixed word 0 shift }
 {
     // `mixed` hangs on the step before, so it is added last.
-    a.wrapping_add(word)
-        .wrapping_add(added)
-        .wrapping_add(mixed)
-        .rotate_left(shift)
+    a.wrapping_add(word).wrapping_add(mixed).rotate_left(shift)
 }
 
 #[inline(always)]
@@ -48,35 +47,48 @@ fn first_four(v: [u32; 4], row: [u32; 4]) -> [u32; 4]
     ensures { result ≡ four_steps first_round v row }
 {
     let [a, b, c, d] = v;
-    let a = stepped(a, conditional(b, c, d), row[0], 0, 3);
-    let d = stepped(d, conditional(a, b, c), row[1], 0, 7);
-    let c = stepped(c, conditional(d, a, b), row[2], 0, 11);
-    let b = stepped(b, conditional(c, d, a), row[3], 0, 19);
+    let a = stepped(a, conditional(b, c, d), row[0], 3);
+    let d = stepped(d, conditional(a, b, c), row[1], 7);
+    let c = stepped(c, conditional(d, a, b), row[2], 11);
+    let b = stepped(b, conditional(c, d, a), row[3], 19);
     [a, b, c, d]
 }
 
 #[inline(always)]
 fn second_four(v: [u32; 4], row: [u32; 4]) -> [u32; 4]
-    ensures { result ≡ four_steps second_round v row }
+    ensures { (words : List ℕ) → HasAdded second_round words row → result ≡ four_steps second_round v words }
 {
     let [a, b, c, d] = v;
-    let a = stepped(a, majority(b, c, d), row[0], SECOND_ADDED, 3);
-    let d = stepped(d, majority(a, b, c), row[1], SECOND_ADDED, 5);
-    let c = stepped(c, majority(d, a, b), row[2], SECOND_ADDED, 9);
-    let b = stepped(b, majority(c, d, a), row[3], SECOND_ADDED, 13);
+    let a = stepped(a, majority(b, c, d), row[0], 3);
+    let d = stepped(d, majority(a, b, c), row[1], 5);
+    let c = stepped(c, majority(d, a, b), row[2], 9);
+    let b = stepped(b, majority(c, d, a), row[3], 13);
     [a, b, c, d]
 }
 
 #[inline(always)]
 fn third_four(v: [u32; 4], row: [u32; 4]) -> [u32; 4]
-    ensures { result ≡ four_steps third_round v row }
+    ensures { (words : List ℕ) → HasAdded third_round words row → result ≡ four_steps third_round v words }
 {
     let [a, b, c, d] = v;
-    let a = stepped(a, parity(b, c, d), row[0], THIRD_ADDED, 3);
-    let d = stepped(d, parity(a, b, c), row[1], THIRD_ADDED, 9);
-    let c = stepped(c, parity(d, a, b), row[2], THIRD_ADDED, 11);
-    let b = stepped(b, parity(c, d, a), row[3], THIRD_ADDED, 15);
+    let a = stepped(a, parity(b, c, d), row[0], 3);
+    let d = stepped(d, parity(a, b, c), row[1], 9);
+    let c = stepped(c, parity(d, a, b), row[2], 11);
+    let b = stepped(b, parity(c, d, a), row[3], 15);
     [a, b, c, d]
+}
+
+// The words of a block with the constant of a round added. Were it inlined, the compiler would add
+// the constant last in each step, where the next step waits for it.
+#[inline(never)]
+fn with_added(w: &[u32; 16], added: u32) -> [u32; 16]
+    ensures { (k : ℕ) → k < 16 → slice_index result k ≡ (slice_index w.now k + added) % 2 ^ 32 }
+{
+    let mut sums = [0u32; 16];
+    'words: for i in 0..16 {
+        sums[i] = w[i].wrapping_add(added);
+    }
+    sums
 }
 
 #[inline(always)]
@@ -93,6 +105,7 @@ fn after_first(w: &[u32; 16], v: [u32; 4]) -> [u32; 4]
 fn after_second(w: &[u32; 16], v: [u32; 4]) -> [u32; 4]
     ensures { result ≡ after_round second_round w.now v }
 {
+    let w = with_added(w, SECOND_ADDED);
     let v = second_four(v, [w[0], w[4], w[8], w[12]]);
     let v = second_four(v, [w[1], w[5], w[9], w[13]]);
     let v = second_four(v, [w[2], w[6], w[10], w[14]]);
@@ -103,6 +116,7 @@ fn after_second(w: &[u32; 16], v: [u32; 4]) -> [u32; 4]
 fn after_third(w: &[u32; 16], v: [u32; 4]) -> [u32; 4]
     ensures { result ≡ after_round third_round w.now v }
 {
+    let w = with_added(w, THIRD_ADDED);
     let v = third_four(v, [w[0], w[8], w[4], w[12]]);
     let v = third_four(v, [w[2], w[10], w[6], w[14]]);
     let v = third_four(v, [w[1], w[9], w[5], w[13]]);

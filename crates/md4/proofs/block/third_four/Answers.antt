@@ -1,8 +1,8 @@
 use Rattle.md4.specs.Digest.{third_round}
-use Rattle.md4.proofs.Blocks.{four_steps_are}
+use Rattle.md4.proofs.Blocks.{added_steps_are}
 use Rattle.md4.proofs.block.third_four.Goals as goal
 
 pub returns : goal.returns
-returns c =
-    four_steps_are third_round c.args.v c.args.row c.parity.ensures c.stepped-a.ensures c.parity-2.ensures c.stepped-d.ensures
-    c.parity-3.ensures c.stepped-c.ensures c.parity-4.ensures c.stepped-b.ensures
+returns c = λ words sums.
+    added_steps_are third_round c.args.v words c.args.row sums c.parity.ensures c.stepped-a.ensures c.parity-2.ensures
+    c.stepped-d.ensures c.parity-3.ensures c.stepped-c.ensures c.parity-4.ensures c.stepped-b.ensures
