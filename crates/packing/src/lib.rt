@@ -12,7 +12,7 @@ mod unit;
 mod waiting;
 
 pub use unit::{one_spelling, unpack};
-pub use waiting::Waiting;
+pub use waiting::{Waiting, pack, read_back};
 
 /// How many messages wait at most.
 pub const WAITING_MAX: usize = 64;
