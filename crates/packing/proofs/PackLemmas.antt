@@ -1,5 +1,5 @@
 -- Packing: one more message goes from those that wait into the unit, until all that were asked for are there.
-use Rattle.std.proofs.Common.{◌≡◌, ◌≢◌, ◌≤◌, ◌<◌, ℕ, zero, suc, ◌+◌, ◌-◌, List, [], ◌∷◌, ◌++◌, length, take, drop, min, refl, sym, ap, ◌∙◌, inl, inr, arith, append_assoc}
+use Rattle.std.proofs.Common.{◌≡◌, ◌≢◌, ◌≤◌, ◌<◌, ℕ, zero, suc, ◌+◌, ◌-◌, List, ◌∷◌, ◌++◌, length, take, drop, min, refl, sym, ap, ◌∙◌, inl, inr, arith, append_assoc}
 use Rattle.std.proofs.lemmas.Bool.{cases_lt}
 use Rattle.std.proofs.lemmas.List.{append-nil, drop_all, length-append, length-take, take_min}
 use Rattle.std.proofs.lemmas.List.Elements.{All-take}
@@ -25,7 +25,7 @@ one_left (suc left) message waiting rest some first = let less : suc left - 1 �
 drop_min : (n : ℕ) (xs : List (List ℕ)) → drop (min n (length xs)) xs ≡ drop n xs
 drop_min n xs =
     elim (cases_lt n (length xs)) [
-      inl below ↦ let is : min n (length xs) ≡ n = omega arith in rw is refl
+      | inl below ↦ let is : min n (length xs) ≡ n = omega arith in rw is refl
       | inr above ↦ let is : min n (length xs) ≡ length xs = omega arith in rw is (drop_all (length xs) xs (omega arith) ∙ sym (drop_all n xs above))
     ]
 

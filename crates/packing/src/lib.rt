@@ -41,3 +41,6 @@ pub enum PackFault {
 /// As many messages wait as there is room for.
 #[derive(Clone, Copy, Debug, PartialEq, Eq)]
 pub struct Full;
+
+#[cfg(test)]
+mod tests;

@@ -1,5 +1,4 @@
-use Rattle.std.proofs.Common.{◌≡◌, ◌<◌, ◌+◌, ◌-◌, ◌∙◌, List, ap, arith, length, min, rules, ℕ}
-use Rattle.packing.specs.UnitText.{unit_text}
+use Rattle.std.proofs.Common.{◌≡◌, ◌<◌, ◌+◌, ◌-◌, ◌∙◌, ap, arith, length, rules}
 use Rattle.packing.proofs.PackLemmas.{all_left, all_written, length-written, one_left, one_written}
 use Rattle.packing.proofs.waiting.pack.Goals as goal
 
@@ -19,19 +18,23 @@ loop-taken-preserved g c =
     let message : length c.deref.result.now ≡ length c.take_first-message.result.items = ap length c.deref.ensures.0 in
     record {
       room =
-        omega
-        (arith, c.loop-taken.invariant.room, c.take_first-message.ensures.sized.1, message,
-        length-written c.loop-taken.unit.items c.deref.result.now c.put_message.new.unit.items put);
+          omega (
+            arith,
+            c.loop-taken.invariant.room,
+            c.take_first-message.ensures.sized.1,
+            message,
+            length-written c.loop-taken.unit.items c.deref.result.now c.put_message.new.unit.items put,
+          );
       some = omega (arith, c.loop-taken.invariant.some, ap length first);
       written =
-        rw less
-        (one_written (c.min-count.result - c.loop-taken._taken) c.loop-taken.unit.items c.deref.result.now c.put_message.new.unit.items c.loop-taken.waiting
-        c.take_first-message.new.self left (rw c.deref.ensures.0 first) put
-        ∙ c.loop-taken.invariant.written);
+          rw less
+          (one_written (c.min-count.result - c.loop-taken._taken) c.loop-taken.unit.items c.deref.result.now c.put_message.new.unit.items c.loop-taken.waiting
+          c.take_first-message.new.self left (rw c.deref.ensures.0 first) put
+          ∙ c.loop-taken.invariant.written);
       rest =
-        rw less
-        (one_left (c.min-count.result - c.loop-taken._taken) c.take_first-message.result.items c.loop-taken.waiting c.take_first-message.new.self left first
-        ∙ c.loop-taken.invariant.rest);
+          rw less
+          (one_left (c.min-count.result - c.loop-taken._taken) c.take_first-message.result.items c.loop-taken.waiting c.take_first-message.new.self left first
+          ∙ c.loop-taken.invariant.rest);
     }
 
 pub returns-clause-packed : goal.returns-clause-packed
