@@ -6,7 +6,7 @@
 #![tactic(auto)]
 
 use arrayvec::ArrayVec;
-use octets::limits::{MESSAGE_MAX, UNIT_MAX, UNIT_MESSAGES};
+use octets::limits::{UNIT_MAX, UNIT_MESSAGES};
 
 mod unit;
 mod waiting;
@@ -19,9 +19,6 @@ pub const WAITING_MAX: usize = 64;
 
 /// The octets of a unit, in storage of the longest one.
 pub type Unit = ArrayVec<u8, UNIT_MAX>;
-
-/// The octets of a message, in storage of the longest one.
-pub type Message = ArrayVec<u8, MESSAGE_MAX>;
 
 /// The messages of a unit, in order, as views of it.
 pub type Messages<'a> = ArrayVec<&'a [u8], UNIT_MESSAGES>;

@@ -5,11 +5,15 @@ ghost use Rattle.std.specs.Option.{option_map};
 ghost use Rattle.packing.specs.UnitText.{AreMessages, IsMessage, UnitText, messages_of};
 
 use super::unit::{put_message, unpack};
-use super::{Full, Message, Messages, PackFault, Unit, WAITING_MAX};
+use super::{Full, Messages, PackFault, Unit, WAITING_MAX};
+use arrayvec::ArrayVec;
 use circular_buffer::HeapCircularBuffer;
-use octets::limits::UNIT_MESSAGES;
+use octets::limits::{MESSAGE_MAX, UNIT_MESSAGES};
 use std::alloc::{AllocError, Allocator, Global};
 use std::marker::Model;
+
+/// The octets of a message, in storage of the longest one.
+type Message = ArrayVec<u8, MESSAGE_MAX>;
 
 /// The messages that wait to be sent, the first that came first, at most 64. All its room is made
 /// by `new`; no other call takes memory.
