@@ -1,1 +1,2 @@
+pub mod PackLemmas
 pub mod UnitLemmas

@@ -1,11 +1,11 @@
 -- Units: what is read from the left is spelled so, what is spelled so is read, and which fault it is.
-use Rattle.std.proofs.Common.{◌≡◌, ◌≢◌, ◌==◌, ◌≤◌, ◌<◌, ℕ, zero, suc, ◌+◌, ◌-◌, Bool, true, false, ◌&&◌, nat_le, List, [], ◌∷◌, ◌++◌, length, take, drop, map, Result, Ok, Err, IfOk, IfErr, IsOkAnd, Bor, refl, sym, ap, ◌∙◌, inl, inr, arith, append_assoc}
-use Rattle.std.proofs.lemmas.Bool.{and_parts, cases_Bool, eqb-true, eqb-false, leb-true, le-leb, ne_eqb, eq-eqb}
+use Rattle.std.proofs.Common.{◌≡◌, ◌==◌, ◌≤◌, ◌<◌, ℕ, zero, suc, ◌+◌, ◌-◌, true, false, ◌&&◌, nat_le, List, [], ◌∷◌, ◌++◌, length, drop, Result, Ok, Err, IfOk, IfErr, IsOkAnd, Bor, refl, sym, ap, ◌∙◌, inl, inr, arith, append_assoc}
+use Rattle.std.proofs.lemmas.Bool.{and_parts, cases_Bool, eqb-true, eqb-false, leb-true, le-leb, ne_eqb}
 use Rattle.std.proofs.lemmas.List.{append-nil, get_or-drop, nil_from_length, length-append, length-take, length-drop, take-append-drop, drop-drop}
 use Rattle.std.proofs.lemmas.List.Elements.{All-nil, All-cons, All-head, All-tail}
 use Rattle.std.proofs.Math.Seq.{take-append_seam, drop-append_seam}
 use Rattle.arrayvec.specs.ArrayVec.{ArrayVec}
-use Rattle.byteorder.specs.Endian.{little_bytes, little_number}
+use Rattle.byteorder.specs.Endian.{little_bytes}
 use Rattle.octets.proofs.Fields.{AreOctets, Splits, Splits-then, field_at, field_reads}
 use Rattle.octets.specs.declared.limits.TheConstants.{MESSAGE_LENGTH, MESSAGE_MIN, MESSAGE_MAX, UNIT_MESSAGES}
 use Rattle.packing.specs.declared.PackFault.{PackFault}
@@ -69,11 +69,13 @@ seen_sized : (message behind octets : List ℕ) → IsMessage message → length
 seen_sized message behind octets sized said body long =
     record {
       test =
-        rw
-        (le-leb MESSAGE_LENGTH (length octets) (omega arith), le-leb MESSAGE_MIN (length_field octets) (omega (arith, sized.0)),
-        le-leb (length_field octets) MESSAGE_MAX (omega (arith, sized.1)),
-        le-leb (MESSAGE_LENGTH + length_field octets) (length octets) (omega arith))
-        refl;
+          rw (
+            le-leb MESSAGE_LENGTH (length octets) (omega arith),
+            le-leb MESSAGE_MIN (length_field octets) (omega (arith, sized.0)),
+            le-leb (length_field octets) MESSAGE_MAX (omega (arith, sized.1)),
+            le-leb (MESSAGE_LENGTH + length_field octets) (length octets) (omega arith),
+          )
+          refl;
       message_is = rw (said, body) (take-append_seam message behind);
       behind_is = sym (drop-drop (length_field octets) MESSAGE_LENGTH octets) ∙ rw (said, body) (drop-append_seam message behind);
     }
@@ -153,19 +155,19 @@ pieces_found : (room : ℕ) (octets : List ℕ) (messages : List (List ℕ)) →
     → Found room messages octets
 pieces_found zero octets messages fits seen =
     elim (cases_Bool (length octets == 0)) [
-      inl none ↦ let end = at_end zero octets none in found_none zero messages octets (nil_from_length octets (eqb-true (length octets) 0 none)) cc
+      | inl none ↦ let end = at_end zero octets none in found_none zero messages octets (nil_from_length octets (eqb-true (length octets) 0 none)) cc
       | inr some ↦ let fault = full octets some in absurd cc
     ]
 pieces_found (suc room) octets messages fits seen =
     elim (cases_Bool (length octets == 0)) [
-      inl none ↦ let end = at_end (suc room) octets none in found_none (suc room) messages octets (nil_from_length octets (eqb-true (length octets) 0 none)) cc
+      | inl none ↦ let end = at_end (suc room) octets none in found_none (suc room) messages octets (nil_from_length octets (eqb-true (length octets) 0 none)) cc
       | inr some ↦ elim (cases_Bool (is_piece octets)) [
-        inr test ↦ let fault = broken room octets some test in absurd cc
+        | inr test ↦ let fault = broken room octets some test in absurd cc
         | inl test ↦
-          let ends = after_ok (first_message octets ∷ []) (pieces_seen room (behind_first octets)) messages (sym (one_more room octets some test) ∙ seen) in
-          rw ends.whole
-          (found_more room (first_message octets) ends.rest (behind_first octets) octets (first_sized octets test) (first_cut octets fits test)
-          (pieces_found room (behind_first octets) ends.rest (fits_behind octets fits) ends.answer))
+            let ends = after_ok (first_message octets ∷ []) (pieces_seen room (behind_first octets)) messages (sym (one_more room octets some test) ∙ seen) in
+            rw ends.whole
+            (found_more room (first_message octets) ends.rest (behind_first octets) octets (first_sized octets test) (first_cut octets fits test)
+            (pieces_found room (behind_first octets) ends.rest (fits_behind octets fits) ends.answer))
       ]
     ]
 
@@ -213,21 +215,21 @@ fault_more TooMany room message behind octets sized e (messages, rest, most, goe
 pieces_fault : (room : ℕ) (octets : List ℕ) (f : PackFault) → AreOctets octets → pieces_seen room octets ≡ Err f → FaultAt room octets f
 pieces_fault zero octets f fits seen =
     elim (cases_Bool (length octets == 0)) [
-      inl none ↦ let end = at_end zero octets none in absurd cc
+      | inl none ↦ let end = at_end zero octets none in absurd cc
       | inr some ↦ let fault = full octets some in let is : f ≡ TooMany = cc in rw is ([], octets, refl, goes_none octets some)
     ]
 pieces_fault (suc room) octets f fits seen =
     elim (cases_Bool (length octets == 0)) [
-      inl none ↦ let end = at_end (suc room) octets none in absurd cc
+      | inl none ↦ let end = at_end (suc room) octets none in absurd cc
       | inr some ↦ elim (cases_Bool (is_piece octets)) [
-        inr test ↦
-          let fault = broken room octets some test in
-          let is : f ≡ Length = cc in
-          rw is ([], octets, omega arith, goes_none octets some, no_piece octets test)
+        | inr test ↦
+            let fault = broken room octets some test in
+            let is : f ≡ Length = cc in
+            rw is ([], octets, omega arith, goes_none octets some, no_piece octets test)
         | inl test ↦
-          let inner = after_err (first_message octets ∷ []) (pieces_seen room (behind_first octets)) f (sym (one_more room octets some test) ∙ seen) in
-          fault_more f room (first_message octets) (behind_first octets) octets (first_sized octets test) (first_cut octets fits test)
-          (pieces_fault room (behind_first octets) f (fits_behind octets fits) inner)
+            let inner = after_err (first_message octets ∷ []) (pieces_seen room (behind_first octets)) f (sym (one_more room octets some test) ∙ seen) in
+            fault_more f room (first_message octets) (behind_first octets) octets (first_sized octets test) (first_cut octets fits test)
+            (pieces_fault room (behind_first octets) f (fits_behind octets fits) inner)
       ]
     ]
 
@@ -244,7 +246,7 @@ pub unit_only : (messages : List (List ℕ)) (octets : List ℕ) → UnitText me
 unit_only messages octets text =
     let seen = pieces_only UNIT_MESSAGES messages octets text.most text.sized text.spelled in
     elim (cases_Bool (length octets == 0)) [
-      inl none ↦ let end = at_end UNIT_MESSAGES octets none in let some = text.some in let is : [] ≡ messages = cc in absurd (omega (arith, some, ap length is))
+      | inl none ↦ let end = at_end UNIT_MESSAGES octets none in let some = text.some in let is : [] ≡ messages = cc in absurd (omega (arith, some, ap length is))
       | inr some ↦ unit_some octets some ∙ seen
     ]
 
@@ -255,11 +257,11 @@ carries_some (message ∷ messages) octets e some = omega arith
 pub unit_found : (messages : List (List ℕ)) (octets : List ℕ) → AreOctets octets → Ok messages ≡ unit_seen octets → UnitText messages octets
 unit_found messages octets fits seen =
     elim (cases_Bool (length octets == 0)) [
-      inl none ↦ let empty = unit_none octets none in absurd cc
+      | inl none ↦ let empty = unit_none octets none in absurd cc
       | inr some ↦
-        let is = unit_some octets some in
-        let found = pieces_found UNIT_MESSAGES octets messages fits (sym is ∙ sym seen) in
-        record { some = carries_some messages octets found.spelled some; most = found.most; sized = found.sized; spelled = found.spelled }
+          let is = unit_some octets some in
+          let found = pieces_found UNIT_MESSAGES octets messages fits (sym is ∙ sym seen) in
+          record { some = carries_some messages octets found.spelled some; most = found.most; sized = found.sized; spelled = found.spelled }
     ]
 
 first_fault : (f : PackFault) (octets : List ℕ) → FaultAt UNIT_MESSAGES octets f → FirstFault octets f
@@ -270,13 +272,13 @@ first_fault TooMany octets h = h
 pub unit_fault : (f : PackFault) (octets : List ℕ) → AreOctets octets → Err f ≡ unit_seen octets → FirstFault octets f
 unit_fault f octets fits seen =
     elim (cases_Bool (length octets == 0)) [
-      inl none ↦
-        let empty = unit_none octets none in
-        let is : f ≡ Empty = cc in
-        rw is (nil_from_length octets (eqb-true (length octets) 0 none))
+      | inl none ↦
+          let empty = unit_none octets none in
+          let is : f ≡ Empty = cc in
+          rw is (nil_from_length octets (eqb-true (length octets) 0 none))
       | inr some ↦
-        let is = unit_some octets some in
-        first_fault f octets (pieces_fault UNIT_MESSAGES octets f fits (sym is ∙ sym seen))
+          let is = unit_some octets some in
+          first_fault f octets (pieces_fault UNIT_MESSAGES octets f fits (sym is ∙ sym seen))
     ]
 
 -- an answer that is what is seen is right in all ways

@@ -6,22 +6,19 @@
 #![tactic(auto)]
 
 use arrayvec::ArrayVec;
-use octets::limits::{MESSAGE_MAX, UNIT_MAX, UNIT_MESSAGES};
+use octets::limits::{UNIT_MAX, UNIT_MESSAGES};
 
 mod unit;
 mod waiting;
 
 pub use unit::{one_spelling, unpack};
-pub use waiting::Waiting;
+pub use waiting::{Waiting, pack, read_back};
 
 /// How many messages wait at most.
 pub const WAITING_MAX: usize = 64;
 
 /// The octets of a unit, in storage of the longest one.
 pub type Unit = ArrayVec<u8, UNIT_MAX>;
-
-/// The octets of a message, in storage of the longest one.
-pub type Message = ArrayVec<u8, MESSAGE_MAX>;
 
 /// The messages of a unit, in order, as views of it.
 pub type Messages<'a> = ArrayVec<&'a [u8], UNIT_MESSAGES>;
@@ -41,3 +38,6 @@ pub enum PackFault {
 /// As many messages wait as there is room for.
 #[derive(Clone, Copy, Debug, PartialEq, Eq)]
 pub struct Full;
+
+#[cfg(test)]
+mod tests;

@@ -5,11 +5,15 @@ ghost use Rattle.std.specs.Option.{option_map};
 ghost use Rattle.packing.specs.UnitText.{AreMessages, IsMessage, UnitText, messages_of};
 
 use super::unit::{put_message, unpack};
-use super::{Full, Message, Messages, PackFault, Unit, WAITING_MAX};
+use super::{Full, Messages, PackFault, Unit, WAITING_MAX};
+use arrayvec::ArrayVec;
 use circular_buffer::HeapCircularBuffer;
-use octets::limits::UNIT_MESSAGES;
+use octets::limits::{MESSAGE_MAX, UNIT_MESSAGES};
 use std::alloc::{AllocError, Allocator, Global};
 use std::marker::Model;
+
+/// The octets of a message, in storage of the longest one.
+type Message = ArrayVec<u8, MESSAGE_MAX>;
 
 /// The messages that wait to be sent, the first that came first, at most 64. All its room is made
 /// by `new`; no other call takes memory.
@@ -80,12 +84,49 @@ impl<A: Allocator> Waiting<A> {
         }
     }
 
-    /// Takes the first message out.
-    fn take_first(&mut self) -> Option<Message>
-        ensures value { option_map (λ m. m.items) result ≡ slice_get self.old 0 }
-        ensures rest { self.new ≡ drop 1 self.old }
-        ensures sized { IfSome result (λ m. IsMessage m.items) }
+    /// Takes the first message out. The caller has seen that one waits.
+    fn take_first(&mut self) -> Message
+        requires { 0 < length self.old }
+        ensures first { self.old ≡ result.items ∷ self.new }
+        ensures sized { IsMessage result.items }
     {
-        self.ring.pop_front()
+        self.ring.pop_front().unwrap()
     }
+}
+
+/// Packs the first `max` messages that wait into a unit, or all where fewer wait, and takes them
+/// out. The caller keeps `max` within 1 to 3. The answer is `None` exactly where no message waits.
+pub fn pack<A: Allocator>(waiting: &mut Waiting<A>, max: usize) -> Option<Unit>
+    requires some { 1 ≤ max }
+    requires most { max ≤ UNIT_MESSAGES }
+    ensures packed { IfSome result (λ unit. UnitText (take max waiting.old) unit.items) }
+    ensures none { IsNone result ↔ (waiting.old ≡ []) }
+    ensures left { waiting.new ≡ drop max waiting.old }
+{
+    let count = max.min(waiting.len());
+    if count == 0 {
+        return None;
+    }
+    let mut unit = Unit::new();
+    for _taken in 0..count {
+        let message = waiting.take_first();
+        put_message(&mut unit, &message);
+    }
+    Some(unit)
+}
+
+/// Packs messages and unpacks them again: what comes out is what waited.
+pub fn read_back<'a, A: Allocator>(
+    waiting: &mut Waiting<A>,
+    max: usize,
+    unit: &'a mut Unit,
+) -> Option<Result<Messages<'a>, PackFault>>
+    requires some { 1 ≤ max }
+    requires most { max ≤ UNIT_MESSAGES }
+    ensures read { IfSome result (λ answer. IsOkAnd answer (λ messages. messages_of messages ≡ take max waiting.old)) }
+    ensures none { IsNone result ↔ (waiting.old ≡ []) }
+    ensures left { waiting.new ≡ drop max waiting.old }
+{
+    *unit = pack(waiting, max)?;
+    Some(unpack(unit))
 }

@@ -2,6 +2,7 @@
 use Rattle.std.specs.Prelude.{ℕ, List, Result, Ok, Err}
 use Rattle.sci_telegram.specs.declared.Name.{Name}
 use Rattle.sci_telegram.specs.declared.NameFault.{NameFault}
+use Rattle.sci_telegram.specs.declared.OwnedName.{OwnedName}
 use Rattle.sci_telegram.specs.declared.Telegram.{Telegram}
 
 -- the names are their characters, without the filling
@@ -15,6 +16,10 @@ pub record Tele : Type 0 where
 -- the characters of a name
 abbrev pub characters_of : Name → List ℕ
 characters_of name = name.characters.now
+
+-- the same of one that owns them
+abbrev pub owned_characters : OwnedName → List ℕ
+owned_characters name = name.text.bytes
 
 -- an answer of `Name::new`, without where it lies in memory
 abbrev pub name_of : Result Name NameFault → Result (List ℕ) NameFault

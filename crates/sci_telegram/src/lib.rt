@@ -7,6 +7,7 @@
 
 ghost use Rattle.sci_telegram.specs.Names.{IsName};
 
+use arrayvec::ArrayString;
 use octets::limits::MESSAGE_MIN;
 
 mod codec;
@@ -48,6 +49,13 @@ pub enum NameFault {
 pub struct Name<'a> {
     characters: &'a str,
     ghost well_formed: { IsName characters.now },
+}
+
+/// A name that owns its characters, for settings that outlive the text they were read from.
+#[derive(Clone, Copy, Debug, PartialEq, Eq)]
+pub struct OwnedName {
+    text: ArrayString<NAME_LENGTH>,
+    ghost well_formed: { IsName text.bytes },
 }
 
 /// A telegram as a view of the message that it was read from.

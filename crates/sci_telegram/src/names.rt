@@ -3,9 +3,10 @@
 ghost use Rattle.std.specs.Prelude.{◌≡◌, IfOk, IfErr, IsOkAnd};
 ghost use Rattle.std.specs.List.{list_all};
 ghost use Rattle.sci_telegram.specs.Names.{IsName, FirstNameFault, is_character, name_read};
-ghost use Rattle.sci_telegram.specs.Tele.{characters_of, name_of};
+ghost use Rattle.sci_telegram.specs.Tele.{characters_of, name_of, owned_characters};
 
-use super::{FILLING, NAME_LENGTH, Name, NameFault};
+use super::{FILLING, NAME_LENGTH, Name, NameFault, OwnedName};
+use arrayvec::ArrayString;
 
 /// Whether an octet may stand in a name.
 fn fits_name(octet: u8) -> bool
@@ -56,5 +57,25 @@ impl<'a> Name<'a> {
         ensures well_formed { IsName result.now }
     {
         self.characters
+    }
+}
+
+impl OwnedName {
+    /// A copy of a name.
+    pub fn new(name: Name<'_>) -> Self
+        ensures { owned_characters result ≡ characters_of name.entry }
+    {
+        let mut text = ArrayString::new();
+        text.try_push_str(name.as_str()).unwrap();
+        OwnedName { text }
+    }
+
+    /// The name, as a view.
+    pub fn name(&self) -> Name<'_>
+        ensures { characters_of result ≡ owned_characters self.now }
+    {
+        Name {
+            characters: self.text.as_str(),
+        }
     }
 }

@@ -1,4 +1,4 @@
-use crate::{Name, NameFault, TeleFault, Telegram, decode, encode, read_back};
+use crate::{Name, NameFault, OwnedName, TeleFault, Telegram, decode, encode, read_back};
 use std::test::Fail;
 
 // A version check from IL1 to W12 with the payload 03.
@@ -25,6 +25,15 @@ fn makes_and_refuses_names(rt: HostRuntime) {
         let made = Name::new(text).map(|name| name.as_str());
         assert_eq!(rt; made, want, "at {text}");
     }
+}
+
+#[test]
+fn owns_a_name(rt: HostRuntime) -> Result<(), Fail> {
+    let owned = OwnedName::new(Name::new("IL1")?);
+    assert_eq!(rt; owned.name().as_str(), "IL1");
+    assert!(rt; owned == OwnedName::new(decode(&VERSION_CHECK)?.sender));
+    assert!(rt; owned != OwnedName::new(decode(&VERSION_CHECK)?.receiver));
+    Ok(())
 }
 
 #[test]

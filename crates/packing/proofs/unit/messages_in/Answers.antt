@@ -38,10 +38,12 @@ loop-rest-preserved c =
     ap (map (λ (m : Bor (List ℕ)). m.now)) c.push.ensures.items ∙ map-append (λ (m : Bor (List ℕ)). m.now) c.loop-rest.messages.items (c.in-Some.message ∷ [])
     ∙ ap (λ (m : List ℕ). messages_of c.loop-rest.messages ++ m ∷ []) c.in-Some.ensures.message
     in
-    let less : UNIT_MESSAGES - length c.push.new.self.items ≡ UNIT_MESSAGES - length c.loop-rest.messages.items - 1 = omega (arith, c.push.ensures.len) in
-    (rw (pushed, less, c.in-Some.ensures.behind)
-    (sym (read_more (UNIT_MESSAGES - length c.loop-rest.messages.items) (messages_of c.loop-rest.messages) c.loop-rest.rest.now left some c.in-Some.ensures.none)
-    ∙ c.loop-rest.invariant.0), omega (arith, left, c.push.ensures.len))
+    let less : UNIT_MESSAGES - length c.push.new.self.items ≡ UNIT_MESSAGES - length c.loop-rest.messages.items - 1 = omega (arith, c.push.ensures.len) in (
+      rw (pushed, less, c.in-Some.ensures.behind)
+          (sym (read_more (UNIT_MESSAGES - length c.loop-rest.messages.items) (messages_of c.loop-rest.messages) c.loop-rest.rest.now left some c.in-Some.ensures.none)
+          ∙ c.loop-rest.invariant.0),
+      omega (arith, left, c.push.ensures.len),
+    )
 
 pub returns : goal.returns
 returns c =

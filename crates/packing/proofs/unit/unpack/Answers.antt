@@ -1,4 +1,4 @@
-use Rattle.std.proofs.Common.{◌≡◌, ◌==◌, ◌∙◌, false, length, rules, sym}
+use Rattle.std.proofs.Common.{◌≡◌, ◌∙◌, rules, sym}
 use Rattle.packing.specs.Places.{seen_of, unit_seen}
 use Rattle.packing.proofs.UnitLemmas.{answer_fault, answer_found, answer_only, unit_none, unit_some}
 use Rattle.packing.proofs.unit.unpack.Goals as goal

@@ -1,4 +1,3 @@
-use Rattle.std.proofs.Common.{◌≡◌, drop, map, sym}
 use Rattle.std.proofs.lemmas.List.{drop-map}
 use Rattle.std.proofs.lemmas.List.Elements.{All-drop}
 use Rattle.packing.specs.UnitText.{IsMessage}
