@@ -38,8 +38,11 @@ pub enum WordsFault {
     #[error("{0}")]
     Words(clap::Error),
     /// A length of code that is none.
-    #[error("error: a code has 0, 8 or 16 octets: --code 0, --code 8 or --code 16\n\nFor more information, try 'rasta show --help'.")]
+    #[error("error: a code has 0, 8 or 16 octets\n\nUsage: rasta show [--iv <iv>] --code <0|8|16> <hex>\n\nFor more information, try 'rasta show --help'.")]
     BadCode,
+    /// A word is not UTF-8.
+    #[error("error: a word is no UTF-8 text\n\nUsage: rasta <COMMAND>\n\nFor more information, try 'rasta --help'.")]
+    NotText,
     /// Memory was refused.
     #[error("fault: memory")]
     Memory(#[from(alloc)] AllocError),

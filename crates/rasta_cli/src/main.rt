@@ -10,21 +10,26 @@ mod runs;
 mod show;
 mod status;
 
+use clap::error::ErrorKind;
 use command_line::{Request, WordsFault, command};
 use runs::{report, run_md4, run_show};
 use status::{Fault, Status};
-use std::env;
+use std::alloc::AllocError;
 use std::io::Write;
 use std::process::ExitCode;
 use std::rt::Env;
+use std::{env, io};
 
 /// Prints why the words are no command, or the help that they ask for.
 fn refuse<O: Write, E: Write>(fault: &WordsFault, out: &mut O, err: &mut E) -> Status {
     match fault {
         WordsFault::Memory(_) => report(err, Fault::Memory),
-        WordsFault::BadCode => {
+        WordsFault::BadCode | WordsFault::NotText => {
             let _ = writeln!(err, "{fault}");
             Status::WrongWords
+        }
+        WordsFault::Words(error) if matches!(error.kind(), ErrorKind::OutOfMemory) => {
+            report(err, Fault::Memory)
         }
         WordsFault::Words(error) if error.use_stderr() => {
             let _ = write!(err, "{error}");
@@ -37,11 +42,20 @@ fn refuse<O: Write, E: Write>(fault: &WordsFault, out: &mut O, err: &mut E) -> S
     }
 }
 
+/// Why the system gave no words.
+fn unread(error: &io::Error) -> WordsFault {
+    match error.kind() {
+        io::ErrorKind::OutOfMemory => WordsFault::Memory(AllocError),
+        _ => WordsFault::NotText,
+    }
+}
+
 fn run_words(rt: &HostRuntime) -> Status {
     let mut out = rt.stdout();
     let mut err = rt.stderr();
-    let Ok(args) = env::args(rt) else {
-        return report(&mut err, Fault::Memory);
+    let args = match env::args(rt) {
+        Ok(args) => args,
+        Err(error) => return refuse(&unread(&error), &mut out, &mut err),
     };
     let Ok(words) = args.collect::<Vec<String>>(rt.alloc()) else {
         return report(&mut err, Fault::Memory);
