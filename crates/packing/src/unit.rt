@@ -1,6 +1,6 @@
 //! Reading a unit, and writing one message behind the others.
 
-ghost use Rattle.std.specs.Prelude.{◌≡◌, ◌+◌, ◌≤◌, ℕ, Bool, true, false, List, ◌++◌, length, Ok, IfOk, IfErr, IsOkAnd, MatchOption};
+ghost use Rattle.std.specs.Prelude.{◌≡◌, ◌+◌, ◌≤◌, ℕ, true, false, List, ◌++◌, length, Ok, IfOk, IfErr, IsOkAnd, MatchOption};
 ghost use Rattle.arrayvec.specs.ArrayVec.{array_vec_len};
 ghost use Rattle.packing.specs.UnitText.{IsMessage, UnitText, messages_of, piece};
 ghost use Rattle.packing.specs.Places.{FirstFault, behind_first, first_message, is_piece, pieces_seen, seen_of, unit_seen};

@@ -1,7 +1,6 @@
 //! The messages that wait to be sent, and packing the first of them into a unit.
 
-ghost use Rattle.std.specs.Prelude.{◌≡◌, ◌==◌, ◌<◌, ◌≤◌, ◌↔◌, ℕ, List, [], ◌∷◌, ◌++◌, length, take, drop, slice_get, map, IsOk, IsNone, OnOk, OnErr, IfOk, IfSome, IsOkAnd, MatchOption};
-ghost use Rattle.std.specs.Option.{option_map};
+ghost use Rattle.std.specs.Prelude.{◌≡◌, ◌==◌, ◌<◌, ◌≤◌, ◌↔◌, [], ◌∷◌, ◌++◌, length, take, drop, IsOk, IsNone, OnOk, OnErr, IfOk, IfSome, IsOkAnd};
 ghost use Rattle.packing.specs.UnitText.{AreMessages, IsMessage, UnitText, messages_of};
 
 use super::unit::{put_message, unpack};

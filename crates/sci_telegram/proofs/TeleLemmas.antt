@@ -1,14 +1,15 @@
 -- Telegrams: what is read by places is spelled so, and what is spelled so is read.
-use Rattle.std.proofs.Common.{◌≡◌, ◌<◌, ℕ, ◌+◌, ◌-◌, List, [], ◌∷◌, ◌++◌, length, take, drop, slice_index, Some, refl, sym, ap, ◌∙◌, arith, append_assoc}
+use Rattle.std.proofs.Common.{◌≡◌, ◌≤◌, ◌<◌, ℕ, ◌+◌, ◌-◌, List, [], ◌∷◌, ◌++◌, length, take, drop, slice_index, Some, Ok, refl, sym, ap, ◌∙◌, arith, append_assoc}
 use Rattle.std.proofs.Math.ListN.{replicate}
 use Rattle.std.proofs.Math.Seq.{take-append_seam, drop-append_seam}
-use Rattle.std.proofs.lemmas.List.{length-append, length-drop, length-replicate, drop-drop, take-append-drop}
+use Rattle.std.proofs.lemmas.Bool.{le-ltb}
+use Rattle.std.proofs.lemmas.List.{length-take, length-append, length-drop, length-replicate, drop-drop, take-append-drop}
 use Rattle.byteorder.specs.Endian.{little_number}
 use Rattle.octets.proofs.Fields.{AreOctets, Splits, Splits-then, field_at, field_below, field_reads}
-use Rattle.octets.specs.declared.limits.TheConstants.{MESSAGE_MIN}
+use Rattle.octets.specs.declared.limits.TheConstants.{MESSAGE_MIN, MESSAGE_MAX}
 use Rattle.sci_telegram.specs.declared.TheConstants.{NAME_LENGTH, FILLING, KIND, RECEIVER, SENDER}
 use Rattle.sci_telegram.specs.Names.{IsName, filled}
-use Rattle.sci_telegram.specs.Places.{IsSized, name_seen, receiver_field, sender_field}
+use Rattle.sci_telegram.specs.Places.{IsSized, name_seen, receiver_field, sender_field, tele_seen}
 use Rattle.sci_telegram.specs.Tele.{Tele}
 use Rattle.sci_telegram.specs.TeleText.{TeleText}
 use Rattle.sci_telegram.proofs.NameLemmas.{filled_seen}
@@ -109,3 +110,28 @@ one_value p q octets a b =
     let reads = text_reads p octets a in
     tele_only p q octets b reads.protocol reads.kind (sym (filled_seen p.sender (sender_field octets) a.sender reads.sender))
     (sym (filled_seen p.receiver (receiver_field octets) a.receiver reads.receiver)) reads.payload
+
+-- what is spelled so is seen by places
+pub tele_read : (t : Tele) (octets : List ℕ) → TeleText t octets → tele_seen octets ≡ Ok t
+unfolding tele_seen
+tele_read t octets text =
+    let reads = text_reads t octets text in
+    let sender = filled_seen t.sender (sender_field octets) text.sender reads.sender in
+    let receiver = filled_seen t.receiver (receiver_field octets) text.receiver reads.receiver in
+    let long : MESSAGE_MIN ≤ length octets =
+    omega (arith, ap length reads.receiver, length-take NAME_LENGTH (drop RECEIVER octets), length-drop RECEIVER octets, length-filled t.receiver text.receiver)
+    in
+    let short : length octets ≤ MESSAGE_MAX = omega (arith, long, text.payload, ap length reads.payload, length-drop MESSAGE_MIN octets) in
+    rw (le-ltb (length octets) MESSAGE_MIN long, le-ltb MESSAGE_MAX (length octets) short, sender, receiver)
+    (ap Ok
+    (same_tele
+    (
+    record {
+      protocol = slice_index octets 0;
+      kind = little_number 2 (drop KIND octets);
+      sender = t.sender;
+      receiver = t.receiver;
+      payload = drop MESSAGE_MIN octets;
+    }
+    )
+    t (sym reads.protocol) (sym reads.kind) refl refl (sym reads.payload)))

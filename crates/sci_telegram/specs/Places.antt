@@ -65,7 +65,7 @@ read_named (Some sender) None octets = Err fault.Name
 read_named None receiver octets = Err fault.Name
 
 -- what is read by places: the fields, or the first fault
-abbrev pub tele_seen : List ℕ → Result Tele TeleFault
+unfoldable pub tele_seen : List ℕ → Result Tele TeleFault
 tele_seen octets =
     if nat_lt (length octets) MESSAGE_MIN then Err fault.Short
     else if nat_lt MESSAGE_MAX (length octets) then Err fault.Long

@@ -1,6 +1,6 @@
 //! Reading and writing a telegram.
 
-ghost use Rattle.std.specs.Prelude.{◌≡◌, ◌==◌, ℕ, ◌+◌, ◌≤◌, ◌++◌, List, length, take, drop, IfOk, IfErr, IsOkAnd};
+ghost use Rattle.std.specs.Prelude.{◌≡◌, ◌==◌, ℕ, ◌+◌, ◌≤◌, ◌++◌, List, length, take, drop, Ok, IfOk, IfErr, IsOkAnd};
 ghost use Rattle.std.specs.List.{list_all};
 ghost use Rattle.sci_telegram.specs.Names.{filled};
 ghost use Rattle.sci_telegram.specs.Tele.{Tele, characters_of, tele_of};
@@ -46,6 +46,7 @@ fn name_in(field: &[u8]) -> Option<Name<'_>>
 /// Reads a message, of any octets. It copies none of them: the answer is a view.
 ///
 /// Refused, and the first that holds is named: `Short`, `Long`, `Name`.
+#[tactic(auto, unfolding(crate::specs::Places::tele_seen))]
 pub fn decode(octets: &[u8]) -> Result<Telegram<'_>, TeleFault>
     // What is read is spelled so.
     ensures found { IfOk result (λ telegram. TeleText (tele_of telegram) octets.now) }
@@ -132,4 +133,5 @@ pub fn one_spelling()
         → t ≡ other }
     ensures text { (t : Tele) (octets again : List ℕ) → TeleText t octets → TeleText t again
         → octets ≡ again }
+    ensures read { (t : Tele) (octets : List ℕ) → TeleText t octets → tele_seen octets ≡ Ok t }
 {}
