@@ -147,7 +147,7 @@ impl<A: Allocator> RedLayer<A> {
         ensures passed { FoldsTo U.passes up.old (passed_by (Input.Datagram octets.now now) self.old) up.new }
         ensures ready { U.ready up.new self.new.expected }
     {
-        self.release(now, up);
+        self.tick(now, up);
         match heard(octets) {
             Ok(pdu) => self.judge(pdu.seq, pdu.upper, now, up),
             Err(fault) => RedEvent::Fault(fault),
@@ -163,7 +163,11 @@ impl<A: Allocator> RedLayer<A> {
         ensures passed { FoldsTo U.passes up.old (passed_by (Input.Tick now) self.old) up.new }
         ensures ready { U.ready up.new self.new.expected }
     {
-        self.release(now, up);
+        if let Some(least) = self.waiting.least() {
+            if now >= self.since + self.t_seq {
+                self.follow(u64::from(least), now, up);
+            }
+        }
     }
 
     /// When the waiting ends, exactly while something waits; it may be past.
@@ -176,21 +180,6 @@ impl<A: Allocator> RedLayer<A> {
         match self.waiting.least() {
             Some(_) => Some(self.since + self.t_seq),
             None => None,
-        }
-    }
-
-    /// Tries the deadline.
-    fn release<U: Upward>(&mut self, now: u64, up: &mut U)
-        requires now { now ≤ 2 ^ 62 }
-        requires ready { U.ready up.old self.old.expected }
-        ensures left { self.new ≡ after_release now self.old }
-        ensures passed { FoldsTo U.passes up.old (released now self.old) up.new }
-        ensures ready { U.ready up.new self.new.expected }
-    {
-        if let Some(least) = self.waiting.least() {
-            if now >= self.since + self.t_seq {
-                self.follow(u64::from(least), now, up);
-            }
         }
     }
 

@@ -1,7 +1,7 @@
 use Rattle.std.proofs.Common.{sym, subst}
 use Rattle.deferral.specs.FiniteMap.{Rises}
 use Rattle.red_layer.proofs.Views.{Rises-least}
-use Rattle.red_layer.proofs.RedLayer.release.Goals as goal
+use Rattle.red_layer.proofs.RedLayer.tick.Goals as goal
 
 pub follow-requires-clause-rises : goal.follow-requires-clause-rises
 follow-requires-clause-rises g c =
