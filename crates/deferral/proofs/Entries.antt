@@ -5,14 +5,8 @@ use Rattle.std.proofs.lemmas.Bool.Decides.{nat_tests, leb_tells, eqb_tells}
 use Rattle.std.specs.Option.{IsSome, IsNone, IfSome, IfNone, is_some}
 use Rattle.std.specs.List.{All, HoldsAt}
 use Rattle.std.proofs.lemmas.Bool.{false≢true}
+use Rattle.std.proofs.lemmas.List.Elements.{All-head, All-tail}
 use Rattle.deferral.specs.FiniteMap.{Rises, put_in, take_out, part_under, has_number, least_of, entries_of, IsUnder}
-
--- the head of a list, and the rest
-pub All-head : {X : Type 0} (P : X → Type 0) (x : X) (xs : List X) → All P (x ∷ xs) → P x
-All-head P x xs h = h 0 x (omega arith)
-
-pub All-tail : {X : Type 0} (P : X → Type 0) (x : X) (xs : List X) → All P (x ∷ xs) → All P xs
-All-tail P x xs h k d lt = h (suc k) d (omega arith)
 
 -- what is there after one is put in
 pub has-put_in : {T : Type 0} (n k : ℕ) (x : T) (es : List (ℕ × T)) → has_number n (put_in k x es) ≡ (eqb k n || has_number n es)

@@ -4,3 +4,4 @@ pub mod Deferring
 pub mod Ordered
 pub mod Masked
 pub mod Origins
+pub mod Accepted

@@ -1,9 +1,15 @@
 -- What every list of RedundancyStep steps from the opening promises.
-use Rattle.std.specs.Prelude.{◌≡◌, ℕ, ◌≤◌, List, [], ◌∷◌, ◌++◌, length}
+use Rattle.std.specs.Prelude.{◌≡◌, ℕ, ◌<◌, ◌≤◌, ◌↔◌, List, [], ◌∷◌, ◌++◌, length, All}
+use Rattle.red_pdu.specs.RedText.{RedText}
 use Rattle.red_layer.specs.Parts.{Part}
-use Rattle.red_layer.specs.Redundancy.{Receiver, Input, opened, passed_by, after}
+use Rattle.red_layer.specs.Redundancy.{Receiver, Input, Datagram, opened, passed_by, after}
 use Rattle.red_layer.specs.Service.{Service, AreAmong, arrivals_of, arrivals, moments, passed_along, after_along}
 use Rattle.red_layer.specs.Masking.{IsFirstMissing, first_missing, QNear, no_wait, NoDeadlineFalls, first_parts}
+
+-- what arrives with a datagram is what the grammar of the redundancy PDU spells
+abbrev pub ArrivalLaw : Type 0
+ArrivalLaw = (octets : List ℕ) (now seq : ℕ) (upper : List ℕ) → All (λ b. b < 256) octets
+    → (RedText seq upper octets ↔ (arrivals_of (Datagram octets now) ≡ (seq, upper) ∷ []))
 
 -- strictly rising numbers, each pair among the arrivals up to its own moment
 abbrev pub ServiceLaw : Type 0
