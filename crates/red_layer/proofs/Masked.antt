@@ -4,15 +4,14 @@ use Rattle.std.proofs.lemmas.Bool.{false≢true}
 use Rattle.std.proofs.lemmas.Bool.Decides.{nat_tests, leb_tells, eqb_tells}
 use Rattle.red_pdu.specs.declared.RedFault.{RedFault}
 use Rattle.deferral.specs.FiniteMap.{Rises, put_in, has_number, part_under}
-use Rattle.deferral.proofs.Entries.{Rises-put_in, part-put_in, length-put_in, part-absent}
 use Rattle.red_layer.specs.Parts.{Part, IsBelow, is_nil}
 use Rattle.red_layer.specs.Redundancy.{Receiver, Stepped, Input, Datagram, Tick, run_from, after_run, follow, is_due, released, after_release, arrival, decoded, heard, passed_by, after, opened}
 use Rattle.red_layer.specs.Service.{accepted, arrivals_of, arrivals, passed_along}
 use Rattle.red_layer.specs.Masking.{IsFirstMissing, greatest, missing_from, first_missing, has_above, Wait, began_by, moment_of, wait_after, AreAtMost, IsInTime, QNear, NoDeadlineFalls, no_wait, first_parts}
 use Rattle.red_layer.specs.Laws.{Masking, FirstMissingLaw}
-use Rattle.red_layer.proofs.Runs.{part-below}
 use Rattle.red_layer.proofs.Views.{IsBelow-put_in}
 use Rattle.red_layer.proofs.Ordered.{by_cond, by_test, after_run-rises, IsBelow-weaken}
+use Rattle.deferral.proofs.FiniteMap.{Rises-put_in, has-none, has-some, length-put_in, part-absent, part-below, part-of_has, part-put_in}
 
 -- no number past the greatest has arrived
 pub has-past_greatest : (n : ℕ) (arrived : List Part) → greatest arrived < n → has_number n arrived ≡ false
@@ -43,23 +42,6 @@ IsFirstMissing-unique arrived m n first second =
 pub missing_law : FirstMissingLaw
 missing_law arrived = (missing_is arrived, λ m is. IsFirstMissing-unique arrived m (first_missing arrived) is (missing_is arrived))
 
--- a number is there where a part is under it
-pub has-some : {T : Type 0} (n : ℕ) (x : T) (es : List (ℕ × T)) → part_under n es ≡ Some x → has_number n es ≡ true
-has-some n x [] h = absurd (cc)
-has-some n x (e ∷ es) h =
-    ⊎_elim
-    (λ (same : (eqb e.0 n ≡ true) × (e.0 ≡ n)). rw same.0 refl)
-    (λ (other : (eqb e.0 n ≡ false) × (e.0 ≢ n)). let later : part_under n es ≡ Some x = rw other.0 at h in rw other.0 (has-some n x es later))
-    (eqb_tells e.0 n)
-
-pub part-of_has : {T : Type 0} (n : ℕ) (es : List (ℕ × T)) → has_number n es ≡ true → (x : T) × (part_under n es ≡ Some x)
-part-of_has n [] h = absurd (false≢true h)
-part-of_has n (e ∷ es) h =
-    ⊎_elim
-    (λ (same : (eqb e.0 n ≡ true) × (e.0 ≡ n)). (e.1, rw same.0 refl))
-    (λ (other : (eqb e.0 n ≡ false) × (e.0 ≢ n)). let later : has_number n es ≡ true = rw other.0 at h in let found = part-of_has n es later in (found.0, rw other.0 found.1))
-    (eqb_tells e.0 n)
-
 -- one more arrival
 pub has-last : (n : ℕ) (p : Part) (es : List Part) → has_number n (es ++ p ∷ []) ≡ (has_number n es || eqb p.0 n)
 has-last n p [] = grind (arith, nat_tests)
@@ -76,12 +58,6 @@ part-last_other n p (e ∷ es) ne = grind (arith, nat_tests, part-last_other n p
 pub part-last_new : (p : Part) (es : List Part) → has_number p.0 es ≡ false → part_under p.0 (es ++ p ∷ []) ≡ Some p.1
 part-last_new p [] h = grind (arith, nat_tests)
 part-last_new p (e ∷ es) h = grind (arith, nat_tests, part-last_new p es)
-
-pub has-none : {T : Type 0} (n : ℕ) (es : List (ℕ × T)) → part_under n es ≡ None → has_number n es ≡ false
-has-none n es h = by_test (λ b. b ≡ false) (has_number n es) (λ there. let found = part-of_has n es there in absurd (none_some found.0 (sym h ∙ found.1))) (λ gone. refl)
-  where
-    none_some : {X : Type 0} (x : X) → None ≡ Some x → ⊥
-    none_some x e = cc
 
 -- a number that came before
 pub part-last_known : (n : ℕ) (p : Part) (es : List Part) → has_number p.0 es ≡ true → part_under n (es ++ p ∷ []) ≡ part_under n es

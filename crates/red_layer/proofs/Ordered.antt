@@ -3,11 +3,11 @@ use Rattle.std.proofs.Common.{◌≡◌, ◌≢◌, ℕ, ◌+◌, ◌*◌, ◌�
 use Rattle.std.proofs.lemmas.Bool.Decides.{nat_tests, leb_tells, eqb_tells}
 use Rattle.red_pdu.specs.declared.RedFault.{RedFault}
 use Rattle.deferral.specs.FiniteMap.{Rises, put_in, has_number}
-use Rattle.deferral.proofs.Entries.{Rises-weaken, Rises-put_in}
 use Rattle.red_layer.specs.Parts.{Part, IsBelow, is_nil}
 use Rattle.red_layer.specs.Redundancy.{Receiver, Stepped, Input, Datagram, Tick, run_from, after_run, follow, least_waiting, is_due, released, after_release, arrival, decoded, heard, passed_by, after, opened}
 use Rattle.red_layer.specs.Service.{IsAmong, AreAmong, HaveArrived, accepted, arrivals_of, passed_along, moments}
 use Rattle.red_layer.specs.Laws.{ServiceLaw}
+use Rattle.deferral.proofs.FiniteMap.{Rises-put_in, Rises-weaken}
 
 -- a choice by a test, with what the test tells
 pub by_cond : {A : Type 0} (P : A → Type 0) (b : Bool) (x y : A) → (b ≡ true → P x) → (b ≡ false → P y) → P (cond b x y)

@@ -1,35 +1,10 @@
 -- Laws of the run of consecutive numbers at the front of the waiting parts.
-use Rattle.std.proofs.Common.{◌≡◌, ◌≢◌, ℕ, ◌+◌, ◌<◌, ◌≤◌, true, false, eqb, List, [], ◌∷◌, Some, None, refl, ap, ◌∙◌, ⊎_elim, subst, arith}
+use Rattle.std.proofs.Common.{◌≡◌, ◌≢◌, ℕ, ◌+◌, ◌≤◌, List, [], ◌∷◌, Some, None, refl, ap, ◌∙◌, ⊎_elim, arith}
 use Rattle.std.proofs.lemmas.Bool.Decides.{nat_tests, eqb_tells}
 use Rattle.deferral.specs.FiniteMap.{Rises, part_under, take_out}
 use Rattle.red_layer.specs.Parts.{map_parts, IsBelow}
 use Rattle.red_layer.specs.Redundancy.{run_from, after_run}
-
--- nothing is under a number below all of them
-pub part-below : {T : Type 0} (n low : ℕ) (es : List (ℕ × T)) → n < low → Rises low es → part_under n es ≡ None
-part-below n low [] lt r = refl
-part-below n low (e ∷ es) lt r = let rest : part_under n es ≡ None = part-below n (e.0 + 1) es (omega arith) r.1 in grind (arith, nat_tests)
-
--- a part under the least number that may be there stands in front
-pub front_part : {T : Type 0} (n : ℕ) (es : List (ℕ × T)) (x : T) → Rises n es → part_under n es ≡ Some x → es ≡ (n, x) ∷ take_out n es
-front_part n [] x r h = absurd (cc)
-front_part n (e ∷ es) x r h =
-    ⊎_elim
-    (λ (same : (eqb e.0 n ≡ true) × (e.0 ≡ n)). let here : Some e.1 ≡ Some x = rw same.0 at h in let value : e.1 ≡ x = cc in
-    let entry : e ≡ (n, x) = ap (λ k. (k, e.1)) same.1 ∙ ap (λ v. (n, v)) value in rw same.0 (ap (λ p. p ∷ es) entry))
-    (λ (other : (eqb e.0 n ≡ false) × (e.0 ≢ n)).
-    let nothing : part_under n es ≡ None = part-below n (e.0 + 1) es (omega arith) r.1 in
-    let later : part_under n es ≡ Some x = rw other.0 at h in absurd (cc))
-    (eqb_tells e.0 n)
-
--- and where there is none, the rest stands above it
-pub Rises-none : {T : Type 0} (n : ℕ) (es : List (ℕ × T)) → Rises n es → part_under n es ≡ None → Rises (n + 1) es
-Rises-none n [] r h = tt
-Rises-none n (e ∷ es) r h =
-    ⊎_elim (λ (same : (eqb e.0 n ≡ true) × (e.0 ≡ n)). let w = rw same.0 at h in absurd (cc)) (λ (other : (eqb e.0 n ≡ false) × (e.0 ≢ n)). (omega arith, r.1)) (eqb_tells e.0 n)
-
-pub Rises-first : {T : Type 0} (n : ℕ) (es : List (ℕ × T)) (x : T) → Rises n es → part_under n es ≡ Some x → Rises (n + 1) (take_out n es)
-Rises-first n es x r h = (subst (Rises n) (front_part n es x r h) r).1
+use Rattle.deferral.proofs.FiniteMap.{front_part}
 
 pub IsBelow-take_out : {T : Type 0} (high n : ℕ) (es : List (ℕ × T)) → IsBelow high es → IsBelow high (take_out n es)
 IsBelow-take_out high n [] h = tt
@@ -76,12 +51,3 @@ part-past n high (e ∷ es) le b = let rest : part_under n es ≡ None = part-pa
 pub take_out-past : {T : Type 0} (n high : ℕ) (es : List (ℕ × T)) → high ≤ n → IsBelow high es → take_out n es ≡ es
 take_out-past n high [] le b = refl
 take_out-past n high (e ∷ es) le b = let rest : take_out n es ≡ es = take_out-past n high es le b.1 in let apart : e.0 ≢ n = omega arith in grind (arith, nat_tests)
-
--- taking out what is not there changes nothing
-pub take_out-none : {T : Type 0} (n : ℕ) (es : List (ℕ × T)) → part_under n es ≡ None → take_out n es ≡ es
-take_out-none n [] h = refl
-take_out-none n (e ∷ es) h =
-    ⊎_elim
-    (λ (same : (eqb e.0 n ≡ true) × (e.0 ≡ n)). let here : Some e.1 ≡ None = rw same.0 at h in absurd (cc))
-    (λ (other : (eqb e.0 n ≡ false) × (e.0 ≢ n)). let later : part_under n es ≡ None = rw other.0 at h in rw other.0 (ap (λ ys. e ∷ ys) (take_out-none n es later)))
-    (eqb_tells e.0 n)

@@ -1,8 +1,9 @@
 use Rattle.std.proofs.Common.{◌≡◌, ◌<◌, length, false, None, sym, subst, ◌∙◌, inl, inr, arith, ⊎_elim}
 use Rattle.std.proofs.lemmas.Bool.{false≢true}
 use Rattle.deferral.specs.FiniteMap.{has_number, entries_of, Rises}
-use Rattle.deferral.proofs.Entries.{IsNone-is, entries-set_some, Rises-put_in, length-entries_room, length-entries_full}
 use Rattle.deferral.proofs.put_at.Goals as goal
+use Rattle.deferral.proofs.FiniteMap.{Rises-put_in}
+use Rattle.deferral.proofs.Entries.{IsNone-is, entries-set_some, length-entries_room, length-entries_full}
 
 pub returns-then-is_some-clause-variant : goal.returns-then-is_some-clause-variant
 returns-then-is_some-clause-variant g c = (λ _. inr (cc (c.place_of.ensures.there, c.is_some.ensures, c.if-is_some.true)), λ _. cc)

@@ -1,7 +1,8 @@
 use Rattle.std.proofs.Common.{◌≡◌, None, Some, sym, subst, ◌∙◌, get_or}
 use Rattle.deferral.specs.FiniteMap.{entries_of, Rises}
-use Rattle.deferral.proofs.Entries.{place_entry, entries-set_none, Rises-take_out, part-entries, part-absent, take_out-absent}
 use Rattle.deferral.proofs.take_at.Goals as goal
+use Rattle.deferral.proofs.FiniteMap.{Rises-take_out, part-absent, take_out-absent}
+use Rattle.deferral.proofs.Entries.{place_entry, entries-set_none, part-entries}
 
 pub returns-in-Some-take-clause-rises : goal.returns-in-Some-take-clause-rises
 returns-in-Some-take-clause-rises g c =

@@ -1,7 +1,7 @@
 use Rattle.std.proofs.Common.{◌+◌, subst}
 use Rattle.deferral.specs.FiniteMap.{Rises}
-use Rattle.red_layer.proofs.Runs.{Rises-map_parts}
 use Rattle.red_layer.proofs.RedLayer.judge.Goals as goal
+use Rattle.red_layer.proofs.Runs.{Rises-map_parts}
 
 pub follow-requires-clause-rises : goal.follow-requires-clause-rises
 follow-requires-clause-rises g c =
