@@ -1,0 +1,63 @@
+-- What arrives is what the grammar of the redundancy PDU spells.
+use Rattle.std.proofs.Common.{◌≡◌, ◌<◌, ◌≤◌, ℕ, zero, suc, ◌+◌, eqb, ltb, List, [], ◌∷◌, ◌++◌, length, drop, Result, Ok, Err, refl, sym, ap, ◌∙◌, arith}
+use Rattle.std.specs.List.{All}
+use Rattle.std.proofs.lemmas.List.Elements.{All-tail}
+use Rattle.std.proofs.lemmas.Bool.Decides.{nat_tests}
+use Rattle.byteorder.specs.Endian.{little_bytes}
+use Rattle.octets.proofs.Fields.{AreOctets, field_reads}
+use Rattle.octets.specs.declared.limits.TheConstants.{RED_HEADER, RED_PDU_MAX}
+use Rattle.red_pdu.specs.declared.RedFault.{RedFault}
+use Rattle.red_pdu.specs.RedText.{RedText, red_seen, length_field, reserve_field, seq_field}
+use Rattle.red_pdu.proofs.RedLemmas.{red_spelled}
+use Rattle.red_layer.specs.Parts.{Part}
+use Rattle.red_layer.specs.Redundancy.{decoded}
+use Rattle.red_layer.specs.Service.{accepted}
+use Rattle.red_layer.specs.Laws.{ArrivalLaw}
+use Rattle.red_layer.proofs.Ordered.{by_cond}
+
+octets_are : (xs : List ℕ) → All (λ b. b < 256) xs → AreOctets xs
+octets_are [] h i = omega arith
+octets_are (x ∷ xs) h zero = let below : x < 256 = h 0 0 (omega arith) in omega arith
+octets_are (x ∷ xs) h (suc i) = octets_are xs (All-tail (λ b. b < 256) x xs h) i
+
+-- what is spelled so is read
+read_of : (seq : ℕ) (upper octets : List ℕ) → RedText seq upper octets → red_seen octets ≡ Ok (seq, upper)
+read_of seq upper octets text =
+    let size : length octets ≡ RED_HEADER + length upper = ap length text.spelled ∙ omega arith in
+    let most : length octets ≤ RED_PDU_MAX = text.size in
+    let length_is : length_field octets ≡ RED_HEADER + length upper =
+    field_reads 2 (RED_HEADER + length upper) octets (little_bytes 2 0 ++ little_bytes 4 seq ++ upper) (omega arith) text.spelled in
+    let reserve_is : reserve_field octets ≡ 0 =
+    field_reads 2 0 (drop 2 octets) (little_bytes 4 seq ++ upper) (omega arith) (ap (drop 2) text.spelled) in
+    let seq_is : seq_field octets ≡ seq =
+    field_reads 4 seq (drop 4 octets) upper text.seq_fits (ap (drop 4) text.spelled) in
+    let upper_is : drop RED_HEADER octets ≡ upper = ap (drop RED_HEADER) text.spelled in
+    grind (arith, nat_tests)
+
+-- what is read is spelled so
+text_of : (seq : ℕ) (upper octets : List ℕ) → All (λ b. b < 256) octets → red_seen octets ≡ Ok (seq, upper) → RedText seq upper octets
+text_of seq upper octets bytes =
+    let P : Result Part RedFault → Type 0 = λ said. said ≡ Ok (seq, upper) → RedText seq upper octets in
+    by_cond P (ltb (length octets) RED_HEADER) _ _ (λ short e. absurd (cc)) (λ long.
+    by_cond P (ltb RED_PDU_MAX (length octets)) _ _ (λ more e. absurd (cc)) (λ most.
+    by_cond P (eqb (length_field octets) (length octets)) _ _ (λ sized.
+    by_cond P (eqb (reserve_field octets) 0) _ _ (λ none e.
+    let same : (seq_field octets, drop RED_HEADER octets) ≡ (seq, upper) = cc in
+    red_spelled seq upper octets (octets_are octets bytes) (grind (arith, nat_tests)) (grind (arith, nat_tests)) (grind (arith, nat_tests)) (grind (arith, nat_tests))
+    (sym (ap (λ (p : Part). p.0) same)) (sym (ap (λ (p : Part). p.1) same)))
+    (λ some e. absurd (cc)))
+    (λ other e. absurd (cc))))
+
+one_accepted : (said : Result Part RedFault) (p : Part) → accepted said ≡ p ∷ [] → said ≡ Ok p
+one_accepted (Ok q) p e = let same : q ≡ p = cc in ap (λ x. Ok x) same
+one_accepted (Err fault) p e = absurd (cc)
+
+decoded_is : (octets : List ℕ) → decoded octets ≡ red_seen octets
+unfolding decoded
+decoded_is octets = refl
+
+pub arrival_law : ArrivalLaw
+arrival_law octets now seq upper bytes = (
+  λ text. ap accepted (decoded_is octets ∙ read_of seq upper octets text),
+  λ arrives. text_of seq upper octets bytes (sym (decoded_is octets) ∙ one_accepted (decoded octets) (seq, upper) arrives),
+)

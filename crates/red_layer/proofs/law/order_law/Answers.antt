@@ -1,0 +1,16 @@
+use Rattle.red_layer.proofs.Accepted.{arrival_law}
+use Rattle.red_layer.proofs.Ordered.{service_law}
+use Rattle.red_layer.proofs.Masked.{masking_law, missing_law}
+use Rattle.red_layer.proofs.Origins.{bounded_law, origin_law, one_more_law}
+use Rattle.red_layer.proofs.law.order_law.Goals as goal
+
+pub returns : goal.returns
+returns c = record {
+  arrivals = arrival_law;
+  service = service_law;
+  masking = masking_law;
+  missing = missing_law;
+  bounded = bounded_law;
+  origin = origin_law;
+  one_more = one_more_law;
+}

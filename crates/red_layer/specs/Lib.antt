@@ -1,0 +1,6 @@
+pub mod Parts
+pub mod Sound
+pub mod Redundancy
+pub mod Service
+pub mod Masking
+pub mod Laws

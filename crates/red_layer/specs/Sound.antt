@@ -1,0 +1,15 @@
+-- What every receiving half keeps: what waits lies above the expected number, in the range of sequence numbers.
+use Rattle.std.specs.Prelude.{◌≡◌, ℕ, ◌+◌, ◌^◌, ◌≤◌, List, length}
+use Rattle.deferral.specs.FiniteMap.{Rises}
+use Rattle.red_layer.specs.Parts.{IsBelow}
+use Rattle.red_layer.specs.declared.TheConstants.{Q_MAX, T_SEQ_MAX}
+
+pub record IsSound {T : Type 0} (q room t_seq expected since : ℕ) (waiting : List (ℕ × T)) : Type 0 where
+  pub rises : Rises (expected + 1) waiting
+  pub below : IsBelow (2 ^ 32) waiting
+  pub bounded : length waiting ≤ q
+  pub expected_in_range : expected ≤ 2 ^ 32
+  pub since_in_range : since ≤ 2 ^ 62
+  pub t_seq_in_range : t_seq ≤ T_SEQ_MAX
+  pub q_in_range : q ≤ Q_MAX
+  pub room_is : room ≡ q

@@ -1,0 +1,146 @@
+use crate::{Numbers, OpenFault, RedConfig, RedEvent, RedLayer, Upward};
+use arrayvec::ArrayVec;
+use linked_list_allocator::LocalHeap;
+use red_pdu::RedFault;
+use std::test::Fail;
+
+/// Keeps the numbers that go up.
+#[derive(Drop)]
+struct Seen {
+    numbers: ArrayVec<u32, 64>,
+}
+
+impl Upward for Seen {
+    ghost passes = { λ _ _ _. Unit {0} };
+
+    ghost ready = { λ _ _. Unit {0} };
+
+    fn up(&mut self, seq: u32, _upper: &[u8]) {
+        let _ = self.numbers.try_push(seq);
+    }
+
+    ghost later = { λ _ _ _ _ h. h };
+}
+
+impl Seen {
+    fn new() -> Seen {
+        Seen {
+            numbers: ArrayVec::new(),
+        }
+    }
+}
+
+/// A call of the layer, and what it answers.
+#[derive(Clone, Copy)]
+enum Call {
+    Arrive(u32, u64, RedEvent),
+    Tick(u64),
+    Deadline(Option<u64>),
+}
+
+/// A redundancy PDU with an upper part of one octet.
+fn datagram(seq: u32) -> [u8; 9] {
+    let [a, b, c, d] = seq.to_le_bytes();
+    [9, 0, 0, 0, a, b, c, d, 7]
+}
+
+const CONFIG: RedConfig = RedConfig { q: 4, t_seq: 50 };
+
+// One receiving half with four places and 50 ms, over a whole life: each call, what it answers and
+// what goes up in it.
+#[test]
+fn brings_datagrams_into_order(rt: HostRuntime) -> Result<(), Fail> {
+    let mut layer = RedLayer::open(rt.alloc(), CONFIG)?;
+    for (call, passed) in [
+        (Call::Arrive(1, 0, RedEvent::Wait), [].as_slice()),
+        (Call::Arrive(1, 1, RedEvent::Again), [].as_slice()),
+        (Call::Arrive(3, 2, RedEvent::Wait), [].as_slice()),
+        (Call::Arrive(41, 3, RedEvent::Far), [].as_slice()),
+        (Call::Arrive(40, 3, RedEvent::Wait), [].as_slice()),
+        (Call::Arrive(2, 4, RedEvent::Wait), [].as_slice()),
+        (Call::Arrive(4, 5, RedEvent::Full), [].as_slice()),
+        (
+            Call::Arrive(0, 49, RedEvent::Passed),
+            [0, 1, 2, 3].as_slice(),
+        ),
+        (Call::Deadline(Some(99)), [].as_slice()),
+        (Call::Arrive(0, 50, RedEvent::Old), [].as_slice()),
+        (Call::Tick(98), [].as_slice()),
+        (Call::Tick(99), [40].as_slice()),
+        (Call::Deadline(None), [].as_slice()),
+        (Call::Arrive(40, 99, RedEvent::Old), [].as_slice()),
+        (Call::Arrive(41, 99, RedEvent::Passed), [41].as_slice()),
+    ] {
+        let mut seen = Seen::new();
+        match call {
+            Call::Arrive(seq, now, event) => {
+                let answer = layer.arrive(&datagram(seq), now, &mut seen);
+                assert_eq!(rt; answer, event, "number {seq} at {now}");
+            }
+            Call::Tick(now) => layer.tick(now, &mut seen),
+            Call::Deadline(moment) => assert_eq!(rt; layer.deadline(), moment),
+        }
+        assert_eq!(rt; seen.numbers.as_slice(), passed);
+    }
+    Ok(())
+}
+
+// Where every place is taken, a number that waits already is Again and another one is Full; a
+// datagram that is no PDU still sets the deadline off, once, and the whole run goes up.
+#[test]
+fn any_datagram_tries_the_deadline(rt: HostRuntime) -> Result<(), Fail> {
+    let mut layer = RedLayer::open(rt.alloc(), RedConfig { q: 3, t_seq: 50 })?;
+    let mut seen = Seen::new();
+    for (seq, event) in [
+        (2, RedEvent::Wait),
+        (5, RedEvent::Wait),
+        (3, RedEvent::Wait),
+        (5, RedEvent::Again),
+        (4, RedEvent::Full),
+    ] {
+        assert_eq!(rt; layer.arrive(&datagram(seq), 7, &mut seen), event);
+    }
+    let event = layer.arrive(&[1, 2, 3], 57, &mut seen);
+    assert_eq!(rt; event, RedEvent::Fault(RedFault::Short));
+    assert_eq!(rt; seen.numbers.as_slice(), [2, 3].as_slice());
+    assert_eq!(rt; layer.deadline(), Some(107));
+    let event = layer.arrive(&datagram(4), 107, &mut seen);
+    assert_eq!(rt; event, RedEvent::Old);
+    assert_eq!(rt; seen.numbers.as_slice(), [2, 3, 5].as_slice());
+    Ok(())
+}
+
+// A heap of each size in turn refuses the opening until it holds the places; nothing is taken
+// later.
+#[test]
+fn opening_takes_the_only_memory(rt: HostRuntime) -> Result<(), Fail> {
+    let mut refused = 0;
+    for size in [0, 64, 256, 1_024, 2_048, 3_072, 4_096, 6_144, 8_192] {
+        let heap = LocalHeap::new(rt.alloc(), size)?;
+        match RedLayer::open(&heap, CONFIG) {
+            Ok(mut layer) => {
+                let used = heap.used();
+                let mut seen = Seen::new();
+                for seq in [1, 3, 40, 2, 4, 0] {
+                    layer.arrive(&datagram(seq), 0, &mut seen);
+                }
+                layer.tick(50, &mut seen);
+                assert_eq!(rt; seen.numbers.as_slice(), [0, 1, 2, 3, 40].as_slice());
+                assert_eq!(rt; heap.used(), used);
+            }
+            Err(OpenFault::Memory) => refused = size,
+        }
+    }
+    assert!(rt; refused > 0);
+    assert!(rt; refused < 8_192);
+    Ok(())
+}
+
+#[test]
+fn numbers_count_from_zero(rt: HostRuntime) -> Result<(), Fail> {
+    let mut numbers = Numbers::new();
+    assert_eq!(rt; numbers.next(), 0);
+    assert_eq!(rt; numbers.next(), 1);
+    assert_eq!(rt; numbers.next(), 2);
+    Ok(())
+}
