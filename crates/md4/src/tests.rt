@@ -1,4 +1,4 @@
-use crate::{INITIAL_VALUE, Md4, code8, digest};
+use crate::{INITIAL_VALUE, Md4, code8, digest, digest_of_pieces};
 use std::alloc::AllocError;
 use std::test::Fail;
 
@@ -107,11 +107,10 @@ fn octet_by_octet(rt: HostRuntime) {
         for octet in &octets[..size] {
             md4.update(&[*octet]);
         }
-        assert_eq!(rt;
-            md4.finish(),
-            digest(INITIAL_VALUE, &octets[..size]),
-            "{size} octets"
-        );
+        let whole = digest(INITIAL_VALUE, &octets[..size]);
+        assert_eq!(rt; md4.finish(), whole, "{size} octets");
+        let pieces = digest_of_pieces(INITIAL_VALUE, &[&octets[..9], &[], &octets[9..size]]);
+        assert_eq!(rt; pieces, whole, "{size} octets");
     }
 }
 
