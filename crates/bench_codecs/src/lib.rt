@@ -1,0 +1,61 @@
+//! MD4 and the decoders for C, as `bench/` times and compares them. No part of the stack.
+#![tactic(auto)]
+
+ghost use Rattle.std.specs.Prelude.{◌≡◌, ◌++◌, length};
+ghost use Rattle.md4.specs.Digest.{digest};
+
+use md4::{INITIAL_VALUE, Md4};
+use safe_pdu::{CodeLength, CodeRule};
+
+/// The digest of octets, written to 16 octets. C: `bench_md4(const uint8_t *, size_t, uint8_t *, size_t)`.
+#[unsafe(no_mangle)]
+pub extern "C" fn bench_md4(octets: &[u8], out: &mut [u8])
+    requires { length out.old ≡ 16 }
+    ensures { out.new ≡ digest INITIAL_VALUE octets.now }
+{
+    out.copy_from_slice(&md4::digest(INITIAL_VALUE, octets));
+}
+
+/// The digest of two pieces, one behind the other.
+#[unsafe(no_mangle)]
+pub extern "C" fn bench_md4_pieces(first: &[u8], second: &[u8], out: &mut [u8])
+    requires { length out.old ≡ 16 }
+    ensures { out.new ≡ digest INITIAL_VALUE (first.now ++ second.now) }
+{
+    let mut md4 = Md4::new(INITIAL_VALUE);
+    md4.update(first);
+    md4.update(second);
+    out.copy_from_slice(&md4.finish());
+}
+
+/// Decodes a datagram with a code of 16 octets, or else of 8, over the initial value of RFC 1320:
+/// redundancy PDU, safety PDU, unit and telegrams. It answers how many octets of payload there are,
+/// and 1,000,000 where a decoder refuses. C: `bench_decode(const uint8_t *, size_t, uint32_t)`.
+#[unsafe(no_mangle)]
+pub extern "C" fn bench_decode(datagram: &[u8], code: u32) -> u32 {
+    let length = if code == 16 {
+        CodeLength::Sixteen
+    } else {
+        CodeLength::Eight
+    };
+    payload_octets(
+        datagram,
+        &CodeRule {
+            length,
+            initial_value: INITIAL_VALUE,
+        },
+    )
+    .unwrap_or(1_000_000)
+}
+
+fn payload_octets(datagram: &[u8], rule: &CodeRule) -> Option<u32> {
+    let red = red_pdu::decode(datagram).ok()?;
+    let safe = safe_pdu::decode(red.upper, rule).ok()?;
+    let messages = packing::unpack(safe.body).ok()?;
+    let mut octets = 0u32;
+    for message in messages.as_slice() {
+        let telegram = sci_telegram::decode(message).ok()?;
+        octets = octets.wrapping_add(telegram.payload.len() as u32);
+    }
+    Some(octets)
+}
