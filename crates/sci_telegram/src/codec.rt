@@ -127,7 +127,7 @@ pub fn read_back<'a>(
 }
 
 /// A law, which does nothing when it is called: an accepted text has one value, and a value one
-/// text, so encoding what was decoded gives the same octets.
+/// text, so encoding what was decoded gives the same octets; and a text is seen as its value.
 pub fn one_spelling()
     ensures value { (t other : Tele) (octets : List ℕ) → TeleText t octets → TeleText other octets
         → t ≡ other }
