@@ -31,7 +31,8 @@ little_spelled (suc k) i xs fits long =
     let rest = little_spelled k (suc i) xs fits (omega arith) in
     rw (drop-cons xs i 0 inner, low, bytes_low_first-suc k 0 (get_or xs i 0 + 256 * tail), high, rest) refl
 
-AreOctets-drop : (n : ℕ) (xs : List ℕ) → AreOctets xs → AreOctets (drop n xs)
+-- and so is each behind a place
+pub AreOctets-drop : (n : ℕ) (xs : List ℕ) → AreOctets xs → AreOctets (drop n xs)
 AreOctets-drop n xs fits i = rw get_or-drop (fits (n + i))
 
 -- the list is its front and the rest

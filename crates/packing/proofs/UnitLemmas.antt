@@ -6,15 +6,12 @@ use Rattle.std.proofs.lemmas.List.Elements.{All-nil, All-cons, All-head, All-tai
 use Rattle.std.proofs.Math.Seq.{take-append_seam, drop-append_seam}
 use Rattle.arrayvec.specs.ArrayVec.{ArrayVec}
 use Rattle.byteorder.specs.Endian.{little_bytes}
-use Rattle.octets.proofs.Fields.{AreOctets, Splits, Splits-then, field_at, field_reads}
+use Rattle.octets.proofs.Fields.{AreOctets, AreOctets-drop, Splits, Splits-then, field_at, field_reads}
 use Rattle.octets.specs.declared.limits.TheConstants.{MESSAGE_LENGTH, MESSAGE_MIN, MESSAGE_MAX, UNIT_MESSAGES}
 use Rattle.packing.specs.declared.PackFault.{PackFault}
 use Rattle.packing.specs.declared.PackFault.TheVariants.{Empty, Length, TooMany}
 use Rattle.packing.specs.UnitText.{AreMessages, IsMessage, UnitText, messages_of, piece, unit_text}
 use Rattle.packing.specs.Places.{FirstFault, Goes, HoldsNoPiece, after, behind_first, first_message, is_piece, length_field, pieces_seen, seen_of, unit_seen}
-
-fits_behind : (octets : List ℕ) → AreOctets octets → AreOctets (behind_first octets)
-fits_behind octets fits i = rw get_or-drop (fits (MESSAGE_LENGTH + length_field octets + i))
 
 -- what the test of a piece says
 record Stands (octets : List ℕ) : Type 0 where
@@ -167,7 +164,7 @@ pieces_found (suc room) octets messages fits seen =
             let ends = after_ok (first_message octets ∷ []) (pieces_seen room (behind_first octets)) messages (sym (one_more room octets some test) ∙ seen) in
             rw ends.whole
             (found_more room (first_message octets) ends.rest (behind_first octets) octets (first_sized octets test) (first_cut octets fits test)
-            (pieces_found room (behind_first octets) ends.rest (fits_behind octets fits) ends.answer))
+            (pieces_found room (behind_first octets) ends.rest (AreOctets-drop (MESSAGE_LENGTH + length_field octets) octets fits) ends.answer))
       ]
     ]
 
@@ -229,7 +226,7 @@ pieces_fault (suc room) octets f fits seen =
         | inl test ↦
             let inner = after_err (first_message octets ∷ []) (pieces_seen room (behind_first octets)) f (sym (one_more room octets some test) ∙ seen) in
             fault_more f room (first_message octets) (behind_first octets) octets (first_sized octets test) (first_cut octets fits test)
-            (pieces_fault room (behind_first octets) f (fits_behind octets fits) inner)
+            (pieces_fault room (behind_first octets) f (AreOctets-drop (MESSAGE_LENGTH + length_field octets) octets fits) inner)
       ]
     ]
 

@@ -13,7 +13,7 @@ use Rattle.red_layer.specs.Parts.{Part}
 use Rattle.red_layer.specs.Redundancy.{decoded}
 use Rattle.red_layer.specs.Service.{accepted}
 use Rattle.red_layer.specs.Laws.{ArrivalLaw}
-use Rattle.red_layer.proofs.Ordered.{by_cond}
+use Rattle.octets.proofs.Choices.{by_cond}
 
 octets_are : (xs : List ℕ) → All (λ b. b < 256) xs → AreOctets xs
 octets_are [] h i = omega arith

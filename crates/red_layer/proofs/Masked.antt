@@ -10,7 +10,8 @@ use Rattle.red_layer.specs.Service.{accepted, arrivals_of, arrivals, passed_alon
 use Rattle.red_layer.specs.Masking.{IsFirstMissing, greatest, missing_from, first_missing, has_above, Wait, began_by, moment_of, wait_after, AreAtMost, IsInTime, QNear, NoDeadlineFalls, no_wait, first_parts}
 use Rattle.red_layer.specs.Laws.{Masking, FirstMissingLaw}
 use Rattle.red_layer.proofs.Views.{IsBelow-put_in}
-use Rattle.red_layer.proofs.Ordered.{by_cond, by_test, after_run-rises, IsBelow-weaken}
+use Rattle.octets.proofs.Choices.{by_cond, by_test}
+use Rattle.red_layer.proofs.Ordered.{after_run-rises, IsBelow-weaken}
 use Rattle.deferral.proofs.FiniteMap.{Rises-put_in, has-none, has-some, length-put_in, part-absent, part-below, part-of_has, part-put_in}
 
 -- no number past the greatest has arrived

@@ -7,17 +7,8 @@ use Rattle.red_layer.specs.Parts.{Part, IsBelow, is_nil}
 use Rattle.red_layer.specs.Redundancy.{Receiver, Stepped, Input, Datagram, Tick, run_from, after_run, follow, least_waiting, is_due, released, after_release, arrival, decoded, heard, passed_by, after, opened}
 use Rattle.red_layer.specs.Service.{IsAmong, AreAmong, HaveArrived, accepted, arrivals_of, passed_along, moments}
 use Rattle.red_layer.specs.Laws.{ServiceLaw}
+use Rattle.octets.proofs.Choices.{by_cond, by_test}
 use Rattle.deferral.proofs.FiniteMap.{Rises-put_in, Rises-weaken}
-
--- a choice by a test, with what the test tells
-pub by_cond : {A : Type 0} (P : A → Type 0) (b : Bool) (x y : A) → (b ≡ true → P x) → (b ≡ false → P y) → P (cond b x y)
-by_cond P true x y at_true at_false = at_true refl
-by_cond P false x y at_true at_false = at_false refl
-
--- the cases of a test, with what it tells
-pub by_test : (P : Bool → Type 0) (b : Bool) → (b ≡ true → P true) → (b ≡ false → P false) → P b
-by_test P true at_true at_false = at_true refl
-by_test P false at_true at_false = at_false refl
 
 -- the run from n on
 pub run_from-rises : (n : ℕ) (es : List Part) → Rises n (run_from n es)

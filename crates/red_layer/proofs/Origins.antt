@@ -8,7 +8,8 @@ use Rattle.red_layer.specs.Redundancy.{Receiver, Stepped, Input, Datagram, Tick,
 use Rattle.red_layer.specs.Service.{IsAmong, AreAmong, accepted, passed_along, after_along}
 use Rattle.red_layer.specs.Laws.{BoundedLaw, OriginLaw, OneMoreLaw}
 use Rattle.red_layer.proofs.Views.{length-after_run}
-use Rattle.red_layer.proofs.Ordered.{by_cond, by_test, run_from-among, after_run-among, put_in-among, AreAmong-more, AreAmong-append}
+use Rattle.octets.proofs.Choices.{by_cond, by_test}
+use Rattle.red_layer.proofs.Ordered.{run_from-among, after_run-among, put_in-among, AreAmong-more, AreAmong-append}
 use Rattle.deferral.proofs.FiniteMap.{length-put_in}
 
 AreAmong-cons : (p : Part) (ps qs : List Part) → AreAmong ps qs → AreAmong ps (p ∷ qs)

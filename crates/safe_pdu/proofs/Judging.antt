@@ -3,6 +3,7 @@
 use Rattle.std.proofs.Common.{◌≡◌, ◌≢◌, ◌<◌, ◌≤◌, ◌==◌, ◌+◌, ℕ, List, length, take, drop, refl, sym, ap, ◌∙◌, arith, rules, Bool, true, false, IsTrue, if◌then◌else◌, Option, Some, None, Result, Ok, Err, inl, inr, nat_lt, IfOk, IfErr, IsOkAnd, subst}
 use Rattle.std.proofs.lemmas.Bool.Decides.{Decides-eqb, Decides-ltb, nat_tests}
 use Rattle.std.proofs.lemmas.Slice.Eq.{bytes_eq-Decides}
+use Rattle.octets.proofs.Choices.{by_cond}
 use Rattle.octets.proofs.Fields.{AreOctets}
 use Rattle.octets.specs.declared.limits.TheConstants.{SAFE_HEADER, SAFE_FRONT_MAX}
 use Rattle.safe_pdu.specs.declared.Kind.{Kind}
@@ -16,11 +17,6 @@ use Rattle.safe_pdu.specs.Bodies.{IsBody, is_body}
 use Rattle.safe_pdu.specs.SafeText.{SafeText, code_octets, code_over}
 use Rattle.safe_pdu.specs.Places.{IsSized, HasCode, FirstFault, length_field, type_field, front_of, code_of, body_of, kind_of, has_code, read_of, read_kind, safe_seen, seen_of}
 use Rattle.safe_pdu.proofs.SafeLemmas.{Reads, safe_spelled, safe_only, text_reads, text_sized, text_coded, kind_of-number, text_body}
-
--- a choice by a test has what both branches have
-by_test : {A : Type 0} (P : A → Type 0) (b : Bool) (x y : A) → (b ≡ true → P x) → (b ≡ false → P y) → P (if b then x else y)
-by_test P true x y t f = t refl
-by_test P false x y t f = f refl
 
 -- all that is known of a PDU that was read
 pub record IsRead (rule : CodeRule) (octets : List ℕ) (p : Pdu) : Type 0 where
@@ -48,14 +44,14 @@ Names n found = (k : Kind) → found ≡ Some k → kind_number k ≡ n
 named : (n : ℕ) → Names n (kind_of n)
 unfolding Names
 named n =
-    by_test (Names n) (n == 6200) (Some ConnReq) _ (passed 6200 n ConnReq refl) (λ _.
-    by_test (Names n) (n == 6201) (Some ConnResp) _ (passed 6201 n ConnResp refl) (λ _.
-    by_test (Names n) (n == 6212) (Some RetrReq) _ (passed 6212 n RetrReq refl) (λ _.
-    by_test (Names n) (n == 6213) (Some RetrResp) _ (passed 6213 n RetrResp refl) (λ _.
-    by_test (Names n) (n == 6216) (Some DiscReq) _ (passed 6216 n DiscReq refl) (λ _.
-    by_test (Names n) (n == 6220) (Some Heartbeat) _ (passed 6220 n Heartbeat refl) (λ _.
-    by_test (Names n) (n == 6240) (Some Data) _ (passed 6240 n Data refl) (λ _.
-    by_test (Names n) (n == 6241) (Some RetrData) None (passed 6241 n RetrData refl) (λ _ k e. cc))))))))
+    by_cond (Names n) (n == 6200) (Some ConnReq) _ (passed 6200 n ConnReq refl) (λ _.
+    by_cond (Names n) (n == 6201) (Some ConnResp) _ (passed 6201 n ConnResp refl) (λ _.
+    by_cond (Names n) (n == 6212) (Some RetrReq) _ (passed 6212 n RetrReq refl) (λ _.
+    by_cond (Names n) (n == 6213) (Some RetrResp) _ (passed 6213 n RetrResp refl) (λ _.
+    by_cond (Names n) (n == 6216) (Some DiscReq) _ (passed 6216 n DiscReq refl) (λ _.
+    by_cond (Names n) (n == 6220) (Some Heartbeat) _ (passed 6220 n Heartbeat refl) (λ _.
+    by_cond (Names n) (n == 6240) (Some Data) _ (passed 6240 n Data refl) (λ _.
+    by_cond (Names n) (n == 6241) (Some RetrData) None (passed 6241 n RetrData refl) (λ _ k e. cc))))))))
 
 kind_named : (n : ℕ) (k : Kind) → kind_of n ≡ Some k → kind_number k ≡ n
 unfolding Names
@@ -72,7 +68,7 @@ judged_kind : (rule : CodeRule) (octets : List ℕ) (found : Option Kind) → ki
 unfolding Judged
 judged_kind rule octets None e sized coded = (sized, coded, kind_none (type_field octets) e)
 judged_kind rule octets (Some kind) e sized coded =
-    by_test (Judged rule octets) (is_body kind (body_of rule octets)) (Ok (read_of kind rule octets)) (Err Body)
+    by_cond (Judged rule octets) (is_body kind (body_of rule octets)) (Ok (read_of kind rule octets)) (Err Body)
     (λ fits.
     record {
       sized = sized;
@@ -88,17 +84,17 @@ judged : (rule : CodeRule) (octets : List ℕ) → Judged rule octets (safe_seen
 unfolding Judged
 judged rule octets =
     let n : ℕ = code_octets rule.length in
-    by_test (Judged rule octets) (nat_lt (length octets) (SAFE_HEADER + n)) (Err Short) _ (λ short. (Decides-ltb (length octets) (SAFE_HEADER + n)).0 short)
+    by_cond (Judged rule octets) (nat_lt (length octets) (SAFE_HEADER + n)) (Err Short) _ (λ short. (Decides-ltb (length octets) (SAFE_HEADER + n)).0 short)
     (λ not_short.
     let long : SAFE_HEADER + n ≤ length octets = grind (arith, nat_tests) in
-    by_test (Judged rule octets) (nat_lt (SAFE_FRONT_MAX + n) (length octets)) (Err Length) _
+    by_cond (Judged rule octets) (nat_lt (SAFE_FRONT_MAX + n) (length octets)) (Err Length) _
     (λ big. (long, inr ((Decides-ltb (SAFE_FRONT_MAX + n) (length octets)).0 big)))
     (λ not_big.
     let most : length octets ≤ SAFE_FRONT_MAX + n = grind (arith, nat_tests) in
-    by_test (Judged rule octets) (length_field octets == length octets) _ (Err Length)
+    by_cond (Judged rule octets) (length_field octets == length octets) _ (Err Length)
     (λ same.
     let sized : IsSized rule octets = record { long = long; said = (Decides-eqb (length_field octets) (length octets)).0 same; most = most } in
-    by_test (Judged rule octets) (has_code rule octets) _ (Err Code)
+    by_cond (Judged rule octets) (has_code rule octets) _ (Err Code)
     (λ right. judged_kind rule octets (kind_of (type_field octets)) refl sized ((bytes_eq-Decides _ _).0 right))
     (λ wrong. (sized, λ coded. let right = (bytes_eq-Decides (code_of rule octets) (code_over rule (front_of rule octets))).1 coded in cc)))
     (λ other. (long, inl (λ said. let same = (Decides-eqb (length_field octets) (length octets)).1 said in cc)))))
