@@ -1,11 +1,13 @@
 //! MD4 and the decoders for C, as `bench/` times and compares them. No part of the stack.
 #![tactic(auto)]
 
-ghost use Rattle.std.specs.Prelude.{◌≡◌, ◌++◌, length};
+ghost use Rattle.std.specs.Prelude.{◌≡◌, ◌<◌, ◌++◌, length};
 ghost use Rattle.md4.specs.Digest.{digest};
 
 use md4::{INITIAL_VALUE, Md4};
+use red_layer::{RedConfig, RedEvent, RedLayer, Upward};
 use safe_pdu::{CodeLength, CodeRule};
+use std::alloc::Global;
 
 /// The digest of octets, written to 16 octets. C: `bench_md4(const uint8_t *, size_t, uint8_t *, size_t)`.
 #[unsafe(no_mangle)]
@@ -58,4 +60,39 @@ fn payload_octets(datagram: &[u8], rule: &CodeRule) -> Option<u32> {
         octets = octets.wrapping_add(telegram.payload.len() as u32);
     }
     Some(octets)
+}
+
+/// Takes parts and forgets them.
+#[derive(Drop)]
+struct Nowhere;
+
+impl Upward for Nowhere {
+    ghost passes = { λ _ _ _. Unit {0} };
+
+    ghost ready = { λ _ _. Unit {0} };
+
+    fn up(&mut self, _seq: u32, _upper: &[u8]) {}
+
+    ghost later = { λ _ _ _ _ h. h };
+}
+
+/// Hands a row of datagrams of one size to a new receiving half of the redundancy layer so many times,
+/// and answers how many of them were dropped as old.
+/// C: `bench_repeats(const uint8_t *, size_t, size_t, uint32_t)`.
+#[unsafe(no_mangle)]
+pub extern "C" fn bench_repeats(alloc: Global, datagrams: &[u8], size: usize, times: u32) -> u32
+    requires { 0 < size }
+{
+    let Ok(mut layer) = RedLayer::open(alloc, RedConfig { q: 4, t_seq: 50 }) else {
+        return 0;
+    };
+    let mut dropped = 0u32;
+    for _ in 0..times {
+        for datagram in datagrams.chunks_exact(size) {
+            if layer.arrive(datagram, 0, &mut Nowhere) == RedEvent::Old {
+                dropped = dropped.wrapping_add(1);
+            }
+        }
+    }
+    dropped
 }

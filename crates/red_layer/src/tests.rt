@@ -1,5 +1,6 @@
 use crate::{Numbers, OpenFault, RedConfig, RedEvent, RedLayer, Upward};
 use arrayvec::ArrayVec;
+use deferral::Deferral;
 use linked_list_allocator::LocalHeap;
 use red_pdu::RedFault;
 use std::test::Fail;
@@ -110,13 +111,13 @@ fn any_datagram_tries_the_deadline(rt: HostRuntime) -> Result<(), Fail> {
     Ok(())
 }
 
-// A heap of each size in turn refuses the opening until it holds the places; nothing is taken
-// later.
+// A heap of each size in turn refuses the opening, until one just holds the places: on that full heap
+// the layer works, and takes nothing.
 #[test]
 fn opening_takes_the_only_memory(rt: HostRuntime) -> Result<(), Fail> {
-    let mut refused = 0;
-    for size in [0, 64, 256, 1_024, 2_048, 3_072, 4_096, 6_144, 8_192] {
-        let heap = LocalHeap::new(rt.alloc(), size)?;
+    let mut refused = false;
+    for step in 0..512usize {
+        let heap = LocalHeap::new(rt.alloc(), 16 * step)?;
         match RedLayer::open(&heap, CONFIG) {
             Ok(mut layer) => {
                 let used = heap.used();
@@ -127,12 +128,46 @@ fn opening_takes_the_only_memory(rt: HostRuntime) -> Result<(), Fail> {
                 layer.tick(50, &mut seen);
                 assert_eq!(rt; seen.numbers.as_slice(), [0, 1, 2, 3, 40].as_slice());
                 assert_eq!(rt; heap.used(), used);
+                assert!(rt; refused);
+                return Ok(());
             }
-            Err(OpenFault::Memory) => refused = size,
+            Err(OpenFault::Memory) => refused = true,
         }
     }
-    assert!(rt; refused > 0);
-    assert!(rt; refused < 8_192);
+    Err("no heap was great enough".into())
+}
+
+// The greatest number goes up, and everything is Old after it. No test has the time to come so far by
+// calls, so the receiving half is made as it would then be: every field is what its sound states have.
+#[test]
+fn everything_is_old_after_the_greatest_number(rt: HostRuntime) -> Result<(), Fail> {
+    let Ok(waiting) = Deferral::new(rt.alloc(), 4) else {
+        return Err("no memory".into());
+    };
+    let mut layer = RedLayer {
+        q: 4,
+        t_seq: 50,
+        expected: u64::from(u32::MAX),
+        since: 0,
+        waiting,
+    };
+    let mut seen = Seen::new();
+    for (seq, event) in [
+        (u32::MAX - 1, RedEvent::Old),
+        (u32::MAX, RedEvent::Passed),
+        (u32::MAX, RedEvent::Old),
+        (u32::MAX - 1, RedEvent::Old),
+        (0, RedEvent::Old),
+        (1, RedEvent::Old),
+    ] {
+        assert_eq!(rt;
+            layer.arrive(&datagram(seq), 60, &mut seen),
+            event,
+            "number {seq}"
+        );
+    }
+    assert_eq!(rt; seen.numbers.as_slice(), [u32::MAX].as_slice());
+    assert_eq!(rt; layer.deadline(), None);
     Ok(())
 }
 
