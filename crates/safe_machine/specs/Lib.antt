@@ -1,0 +1,11 @@
+pub mod Numbers
+pub mod Leaving
+pub mod Made
+pub mod Settings
+pub mod State
+pub mod Table
+pub mod Decision
+pub mod Step
+pub mod World
+pub mod Law
+pub mod Ring

@@ -1,0 +1,69 @@
+-- The PDUs that an end has made, and the units that they carry
+-- (safety and retransmission layer of DIN VDE V 0831-200:2015).
+use Rattle.std.specs.Prelude.{ℕ, Bool, true, false, List, [], ◌∷◌, ◌++◌}
+use Rattle.byteorder.specs.Endian.{little_bytes}
+use Rattle.safe_pdu.specs.declared.Kind.{Kind}
+use Rattle.safe_pdu.specs.declared.Kind.TheVariants.{RetrReq, RetrResp, Data, RetrData}
+use Rattle.safe_pdu.specs.Pdu.{Pdu}
+use Rattle.safe_machine.specs.declared.Reason.{Reason}
+use Rattle.safe_machine.specs.declared.Detail.{Detail}
+use Rattle.safe_machine.specs.Leaving.{reason_number, detail_number}
+
+-- A PDU that an end made: its fields, the own time, and how many of the peer's PDUs the end had behind it.
+-- Its basis is the last of these: the PDU that had last set the expected sequence number.
+pub record Made : Type 0 where
+  pub pdu : Pdu
+  pub time : ℕ
+  pub behind : ℕ
+
+-- the version of this profile: "0303"
+abbrev pub our_version : List ℕ
+our_version = 0x30 ∷ 0x33 ∷ 0x30 ∷ 0x33 ∷ []
+
+-- the body of a ConnReq or ConnResp: version, N_sendmax, eight zero octets
+abbrev pub opening_body : ℕ → List ℕ
+opening_body n = our_version ++ little_bytes 2 n ++ 0 ∷ 0 ∷ 0 ∷ 0 ∷ 0 ∷ 0 ∷ 0 ∷ 0 ∷ []
+
+-- the body of a DiscReq: detail, reason
+abbrev pub leaving_body : Reason → Detail → List ℕ
+leaving_body reason detail = little_bytes 2 (detail_number detail) ++ little_bytes 2 (reason_number reason)
+
+-- Data and RetrData carry a unit
+abbrev pub carries : Kind → Bool
+carries Data = true
+carries RetrData = true
+carries _ = false
+
+-- the unit that a PDU sends for the first time
+abbrev pub first_sent : Kind → List ℕ → List (List ℕ)
+first_sent Data body = body ∷ []
+first_sent _ body = []
+
+-- the units of an incarnation: the bodies of its Data, in order
+abbrev pub units : List Made → List (List ℕ)
+units [] = []
+units (m ∷ ms) = first_sent m.pdu.kind m.pdu.body ++ units ms
+
+-- A RetrResp begins the unconfirmed units anew, and Data and RetrData add theirs.
+abbrev pub after_pdu : Kind → List ℕ → List (List ℕ) → List (List ℕ)
+after_pdu RetrResp body run = []
+after_pdu Data body run = run ++ body ∷ []
+after_pdu RetrData body run = run ++ body ∷ []
+after_pdu _ body run = run
+
+-- the units that PDUs carry after their last RetrResp, or all of them behind `run` where they have none
+abbrev pub run_after : List (List ℕ) → List Made → List (List ℕ)
+run_after run [] = run
+run_after run (m ∷ ms) = run_after (after_pdu m.pdu.kind m.pdu.body run) ms
+
+abbrev pub run_of : List Made → List (List ℕ)
+run_of ms = run_after [] ms
+
+-- one for a RetrReq, one for a RetrResp: to count them
+abbrev pub is_request : Kind → ℕ
+is_request RetrReq = 1
+is_request _ = 0
+
+abbrev pub is_answer : Kind → ℕ
+is_answer RetrResp = 1
+is_answer _ = 0

@@ -1,0 +1,125 @@
+-- One end of a connection, and its single moves.
+use Rattle.std.specs.Prelude.{ℕ, ◌+◌, ◌%◌, Bool, true, false, List, [], ◌∷◌, ◌++◌, drop, length, if◌then◌else◌}
+use Rattle.safe_pdu.specs.declared.Kind.{Kind}
+use Rattle.safe_pdu.specs.declared.Kind.TheVariants.{ConnReq, RetrReq, RetrResp, DiscReq, Heartbeat, RetrData}
+use Rattle.safe_machine.specs.declared.ConnectionState.{ConnectionState}
+use Rattle.safe_machine.specs.declared.ConnectionState.TheVariants.{Closed, Down, Start, RetrReq as Requesting}
+use Rattle.safe_machine.specs.Numbers.{wrap, sn_of, ahead}
+use Rattle.safe_pdu.specs.Pdu.{Pdu}
+use Rattle.safe_machine.specs.Made.{Made, opening_body, leaving_body, run_of}
+use Rattle.safe_machine.specs.Settings.{Settings}
+use Rattle.safe_machine.specs.declared.Reason.{Reason}
+use Rattle.safe_machine.specs.declared.Detail.{Detail}
+
+pub record State : Type 0 where
+  pub settings : Settings
+  pub first : ℕ  -- the sequence number of its first PDU
+  pub connection : ConnectionState
+  pub made : List Made
+  pub taken : List (List ℕ)
+  pub since : ℕ  -- units taken since the last sending
+  pub expected : ℕ  -- the index of the peer's next PDU
+  pub last_sn : ℕ  -- SN and TS of the PDU that last moved `expected`, 0 before any
+  pub last_ts : ℕ
+  pub confirmed : ℕ  -- the index of the last own PDU confirmed, and the own time last confirmed
+  pub confirmed_at : ℕ
+  pub answered : ℕ  -- the index of the last RetrReq handled, 0 before any
+  pub window : ℕ  -- the peer's N_sendmax
+
+-- the units whose last PDU lies behind the last one confirmed
+abbrev pub unconfirmed : State → List (List ℕ)
+unconfirmed s = run_of (drop (s.confirmed + 1) s.made)
+
+-- the PDU that an end makes next
+abbrev pub next_made : State → Kind → List ℕ → ℕ → Made
+next_made s kind body now =
+    record {
+      pdu =
+          record {
+            kind = kind;
+            receiver = s.settings.peer;
+            sender = s.settings.own;
+            sn = sn_of s.first (length s.made);
+            cs = s.last_sn;
+            ts = now % wrap;
+            cts = s.last_ts;
+            body = body;
+          };
+      time = now;
+      behind = s.expected;
+    }
+
+abbrev pub make : Kind → List ℕ → ℕ → State → State
+make kind body now s = record s { made = s.made ++ next_made s kind body now ∷ []; since = 0 }
+
+abbrev pub move_to : ConnectionState → State → State
+move_to connection s = record s { connection = connection }
+
+-- the PDU at distance d is behind this end now
+abbrev pub pass : Pdu → ℕ → State → State
+pass p d s = record s { expected = s.expected + d + 1; last_sn = p.sn; last_ts = p.ts }
+
+-- how far a PDU confirms beyond what was confirmed, in PDUs and in time
+abbrev pub cs_step : State → Pdu → ℕ
+cs_step s p = ahead (sn_of s.first s.confirmed) p.cs
+
+abbrev pub cts_step : State → Pdu → ℕ
+cts_step s p = ahead s.confirmed_at p.cts
+
+abbrev pub confirm_units : Pdu → State → State
+confirm_units p s = record s { confirmed = s.confirmed + cs_step s p }
+
+abbrev pub confirm_time : Pdu → State → State
+confirm_time p s = record s { confirmed_at = s.confirmed_at + cts_step s p }
+
+abbrev pub hand_up : Pdu → State → State
+hand_up p s = record s { taken = s.taken ++ p.body ∷ []; since = s.since + 1 }
+
+abbrev pub note_request : ℕ → State → State
+note_request d s = record s { answered = s.expected + d }
+
+abbrev pub resend : List (List ℕ) → ℕ → State → State
+resend [] now s = s
+resend (unit ∷ units) now s = resend units now (make RetrData unit now s)
+
+-- RetrResp, each unconfirmed unit as RetrData, HB
+abbrev pub reply : ℕ → State → State
+reply now s = make Heartbeat [] now (resend (unconfirmed s) now (make RetrResp [] now s))
+
+abbrev pub ask : ℕ → State → State
+ask now s = move_to Requesting (make RetrReq [] now s)
+
+-- leaving: from Down and from Closed nothing is made
+abbrev pub says_goodbye : ConnectionState → Bool
+says_goodbye Closed = false
+says_goodbye Down = false
+says_goodbye _ = true
+
+abbrev pub leave : Reason → Detail → ℕ → State → State
+leave reason detail now s =
+    move_to Closed (if says_goodbye s.connection then make DiscReq (leaving_body reason detail) now s else s)
+
+-- an end as it is opened
+abbrev pub fresh : Settings → ℕ → ℕ → ConnectionState → State
+fresh settings first now connection =
+    record {
+      settings = settings;
+      first = first;
+      connection = connection;
+      made = [];
+      taken = [];
+      since = 0;
+      expected = 0;
+      last_sn = 0;
+      last_ts = 0;
+      confirmed = 0;
+      confirmed_at = now;
+      answered = 0;
+      window = 0;
+    }
+
+abbrev pub opened : Settings → ℕ → ℕ → State
+opened settings first now =
+    if settings.client
+    then make ConnReq (opening_body settings.n_sendmax) now (fresh settings first now Start)
+    else fresh settings first now Down

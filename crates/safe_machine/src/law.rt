@@ -1,0 +1,17 @@
+//! What two machines promise over every list of events.
+
+ghost use Rattle.safe_machine.specs.Law.{FreshLaw, LossLaw, UnitLaw};
+
+/// The laws of two machines, which do nothing when they are called: they hold of every genuine list of openings,
+/// sendings, closings, guards, ticks and arrivals of both ends, however often either is opened.
+pub fn unit_law()
+    // What an end takes is a beginning of what the end joined to it sent.
+    ensures beginnings { UnitLaw }
+
+    // While an end is not closed, a unit that it sent and that is not unconfirmed was taken.
+    ensures nothing_lost { LossLaw }
+
+    // Where no clock goes back, the PDU that carried what an end takes was made upon one that this end made less than
+    // its t_max before.
+    ensures fresh { FreshLaw }
+{}

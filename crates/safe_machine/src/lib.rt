@@ -1,0 +1,150 @@
+//! The safety and retransmission layer: what an end does with what comes and with its deadlines, as definitions, and the
+//! law of two ends over a network that loses, repeats, delays and reorders.
+//!
+//! The safety and retransmission layer of DIN VDE V 0831-200:2015, in this project's profile.
+#![tactic(auto)]
+
+ghost use Rattle.std.specs.Prelude.{◌≡◌};
+ghost use Rattle.safe_machine.specs.Leaving.{detail_number, reason_number};
+
+mod law;
+
+pub use law::unit_law;
+
+/// The states of a connection.
+#[derive(Clone, Copy, Debug, PartialEq, Eq)]
+pub enum ConnectionState {
+    /// No connection any more.
+    Closed,
+    /// The server, opened, before a ConnReq came.
+    Down,
+    /// The client has asked for the connection, or the server has granted it.
+    Start,
+    /// The connection is there.
+    Up,
+    /// A gap was seen, and a retransmission asked for.
+    RetrReq,
+    /// The retransmission goes on.
+    RetrRun,
+}
+
+/// The two roles in the opening of a connection.
+#[derive(Clone, Copy, Debug, PartialEq, Eq)]
+pub enum Role {
+    /// Asks for the connection: the interlocking.
+    Client,
+    /// Grants it: the field element.
+    Server,
+}
+
+/// Why an end leaves a connection, as its DiscReq says it.
+#[derive(Clone, Copy, Debug, PartialEq, Eq)]
+pub enum Reason {
+    /// 0: closed by the user.
+    ClosedByUser,
+    /// 1: a PDU that does not belong here.
+    UnexpectedPdu,
+    /// 2: a sequence error while connecting.
+    SequenceError,
+    /// 3: nothing recent was confirmed in time.
+    Timeout,
+    /// 4: the session refuses the service.
+    ServiceNotAllowed,
+    /// 5: another version of the protocol.
+    WrongVersion,
+    /// 6: what is asked for can't be sent again.
+    RetransmissionImpossible,
+    /// 7: an error of the protocol.
+    ProtocolError,
+}
+
+impl Reason {
+    /// The reason's number in a DiscReq.
+    pub fn number(self) -> u16
+        ensures { result ≡ reason_number self }
+    {
+        match self {
+            Reason::ClosedByUser => 0,
+            Reason::UnexpectedPdu => 1,
+            Reason::SequenceError => 2,
+            Reason::Timeout => 3,
+            Reason::ServiceNotAllowed => 4,
+            Reason::WrongVersion => 5,
+            Reason::RetransmissionImpossible => 6,
+            Reason::ProtocolError => 7,
+        }
+    }
+}
+
+/// What a DiscReq says beside the reason.
+#[derive(Clone, Copy, Debug, PartialEq, Eq)]
+pub enum Detail {
+    /// 0: nothing more.
+    NoDetail,
+    /// 1, of reason 4: the version of the session differs.
+    VersionDiffers,
+    /// 2, of reason 4: a telegram out of order.
+    OutOfOrder,
+    /// 3, of reason 4: a telegram that is not well formed, or not of this pair.
+    NotWellFormed,
+    /// 1, of reason 7: as many PDUs were made as one connection may have.
+    Limit,
+    /// 2, of reason 7: a unit that is none.
+    BadUnit,
+    /// 3, of reason 7: the confirmed sequence number is not of a PDU that awaits it.
+    ConfirmedNumber,
+    /// 4, of reason 7: the confirmed timestamp is not of this time.
+    ConfirmedTimestamp,
+}
+
+impl Detail {
+    /// The detail's number in a DiscReq.
+    pub fn number(self) -> u16
+        ensures { result ≡ detail_number self }
+    {
+        match self {
+            Detail::NoDetail => 0,
+            Detail::VersionDiffers => 1,
+            Detail::OutOfOrder => 2,
+            Detail::NotWellFormed => 3,
+            Detail::Limit => 1,
+            Detail::BadUnit => 2,
+            Detail::ConfirmedNumber => 3,
+            Detail::ConfirmedTimestamp => 4,
+        }
+    }
+}
+
+/// Why a PDU is dropped.
+#[derive(Clone, Copy, Debug, PartialEq, Eq)]
+pub enum DropCause {
+    /// It is no safety PDU under this end's code.
+    Fault(safe_pdu::SafeFault),
+    /// Its receiver is not this end, or its sender not the peer.
+    Stranger,
+    /// Nothing but a ConnReq is taken before a connection.
+    NotOpened,
+    /// Its sequence number is more than 10 times the own N_sendmax ahead of the expected one.
+    Number,
+    /// A retransmission is asked for, and this is not the answer.
+    Request,
+    /// A RetrReq that was handled before.
+    Answered,
+    /// A RetrReq that confirms less than was confirmed before.
+    Below,
+}
+
+/// What the machine did with what it was handed.
+#[derive(Clone, Copy, Debug, PartialEq, Eq)]
+pub enum Step {
+    /// It was taken; it connected, answered or resumed, or its unit went up.
+    Taken,
+    /// It was dropped.
+    Dropped(DropCause),
+    /// It revealed a gap: a retransmission was asked for.
+    Gap,
+    /// The end left the connection.
+    Left(Reason, Detail),
+    /// The end was closed before, or a DiscReq closed it.
+    Nothing,
+}
