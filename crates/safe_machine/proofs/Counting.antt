@@ -22,7 +22,7 @@ use Rattle.safe_machine.proofs.Deciding.{Fits, listens-live, decide-fits}
 use Rattle.safe_machine.specs.declared.Reason.{Reason}
 use Rattle.safe_machine.specs.declared.Reason.TheVariants.{Timeout, WrongVersion, ProtocolError}
 use Rattle.safe_machine.specs.declared.Detail.{Detail}
-use Rattle.safe_machine.specs.declared.Detail.TheVariants.{NoDetail, Limit}
+use Rattle.safe_machine.specs.declared.Detail.TheVariants.{Unspecified, Limit}
 
 pub record BoundedOf (settings : Settings) (made : List Made) (confirmed : ℕ) (connection : ConnectionState) (window : ℕ) : Type 0 where
   pub small : settings.n_sendmax ≤ 32
@@ -219,14 +219,14 @@ bounded-carry now p x b ready down window (Leaves reason detail) f = bounded-lea
 bounded-carry now p x b ready down window Rejects (is_down, is) =
     let empty : length x.made ≡ 0 = ap length (down is_down) in
     let z = pass p 0 x in
-    let one = length-make DiscReq (leaving_body WrongVersion NoDetail) now z in
-    let none : length (run_of (drop (x.confirmed + 1) (x.made ++ next_made z DiscReq (leaving_body WrongVersion NoDetail) now ∷ []))) ≤ 32 =
+    let one = length-make DiscReq (leaving_body WrongVersion Unspecified) now z in
+    let none : length (run_of (drop (x.confirmed + 1) (x.made ++ next_made z DiscReq (leaving_body WrongVersion Unspecified) now ∷ []))) ≤ 32 =
     omega (
       arith,
-      run_of-shrinks 0 (x.confirmed + 1) (x.made ++ next_made z DiscReq (leaving_body WrongVersion NoDetail) now ∷ []) (omega arith),
-      ap (λ ms. length (run_of (ms ++ next_made z DiscReq (leaving_body WrongVersion NoDetail) now ∷ []))) (down is_down),
+      run_of-shrinks 0 (x.confirmed + 1) (x.made ++ next_made z DiscReq (leaving_body WrongVersion Unspecified) now ∷ []) (omega arith),
+      ap (λ ms. length (run_of (ms ++ next_made z DiscReq (leaving_body WrongVersion Unspecified) now ∷ []))) (down is_down),
     ) in
-    bounded-low (move_to Closed (make DiscReq (leaving_body WrongVersion NoDetail) now z)) b.small b.limit (omega arith) b.window_small none (λ live. absurd (false≢true live))
+    bounded-low (move_to Closed (make DiscReq (leaving_body WrongVersion Unspecified) now z)) b.small b.limit (omega arith) b.window_small none (λ live. absurd (false≢true live))
 bounded-carry now p x b ready down window Accepts (is_down, is) =
     let empty : length x.made ≡ 0 = ap length (down is_down) in
     let z = set_window (window_of p.body) (pass p 0 x) in
@@ -306,9 +306,9 @@ bounded-guard now x b =
     let P : State → Type 0 = λ s. Bounded s × Ready s in
     let left : (reason : Reason) (detail : Detail) → P (leave reason detail now x) = λ reason detail. (bounded-leave reason detail now x b, λ live. absurd (false≢true live)) in
     let inner : State = if nat_le x.settings.pdu_limit (length x.made) then leave ProtocolError Limit now x else x in
-    if_both P (is_live x.connection) (if nat_le (x.confirmed_at + x.settings.t_max) now then leave Timeout NoDetail now x else inner) x
+    if_both P (is_live x.connection) (if nat_le (x.confirmed_at + x.settings.t_max) now then leave Timeout Unspecified now x else inner) x
     (λ live.
-    if_both P (nat_le (x.confirmed_at + x.settings.t_max) now) (leave Timeout NoDetail now x) inner (λ _. left Timeout NoDetail)
+    if_both P (nat_le (x.confirmed_at + x.settings.t_max) now) (leave Timeout Unspecified now x) inner (λ _. left Timeout Unspecified)
     (λ _.
     if_both P (nat_le x.settings.pdu_limit (length x.made)) (leave ProtocolError Limit now x) x (λ _. left ProtocolError Limit)
     (λ no. (b, λ _. leb-false x.settings.pdu_limit (length x.made) no))))

@@ -19,7 +19,7 @@ use Rattle.safe_machine.proofs.Cases.{if_both, and-parts, leb-false}
 use Rattle.safe_machine.proofs.Invariant.{room, needs_peer}
 use Rattle.safe_machine.proofs.Table.{Allowed, cell-allowed}
 use Rattle.safe_machine.specs.declared.Reason.TheVariants.{WrongVersion, RetransmissionImpossible, ProtocolError}
-use Rattle.safe_machine.specs.declared.Detail.TheVariants.{NoDetail, ConfirmedNumber, ConfirmedTimestamp}
+use Rattle.safe_machine.specs.declared.Detail.TheVariants.{Unspecified, ConfirmedNumber, ConfirmedTimestamp}
 
 -- the states that the table decides
 abbrev pub listens : ConnectionState → Bool → Bool
@@ -101,7 +101,7 @@ fits-answering x p now table live connected is =
     let d = distance x p in
     let P = Fits x p now in
     let inner : Decision = if (d == 0) && in_turn x.connection then (if cts_fits x p now then AnswersNext else Leaves ProtocolError ConfirmedTimestamp) else AnswersEarly in
-    let refused : Decision = if nat_le 0x8000_0000 (cs_step x p) then Drops Below else Leaves RetransmissionImpossible NoDetail in
+    let refused : Decision = if nat_le 0x8000_0000 (cs_step x p) then Drops Below else Leaves RetransmissionImpossible Unspecified in
     let fits : x.answered < x.expected + d → cs_fits x p ≡ true → AnswerFits x p =
     λ new cs. record { table = table; connected = connected; request = is; new = new; cs = cs } in
     if_both P (nat_le (x.expected + d) x.answered) (Drops Answered) (if cs_fits x p then inner else refused)
@@ -116,7 +116,7 @@ fits-answering x p now table live connected is =
     if_both P (cts_fits x p now) AnswersNext (Leaves ProtocolError ConfirmedTimestamp)
     (λ cts. (fits new cs, eqb-true d 0 parts.0, parts.1, cts)) (λ _. live))
     (λ _. fits new cs))
-    (λ _. if_both P (nat_le 0x8000_0000 (cs_step x p)) (Drops Below) (Leaves RetransmissionImpossible NoDetail) (λ _. tt) (λ _. live)))
+    (λ _. if_both P (nat_le 0x8000_0000 (cs_step x p)) (Drops Below) (Leaves RetransmissionImpossible Unspecified) (λ _. tt) (λ _. live)))
 
 fits-cell : (x : State) (p : Pdu) (now : ℕ) → ByTable x p → is_live x.connection ≡ true → (c : Cell) → Allowed x.connection (distance x p == 0) p.kind c → Fits x p now (by_cell x p now (distance x p) c)
 fits-cell x p now table live (Take to) (next, quiet, connected, plain, needs) =
@@ -149,7 +149,7 @@ fits-down x p now down RetrData is = tt
 
 fits-client : (x : State) (p : Pdu) (now : ℕ) → x.connection ≡ Start → is_live x.connection ≡ true → x.settings.client ≡ true → (kind : Kind) → p.kind ≡ kind → Fits x p now (as_client x p now kind)
 fits-client x p now start live client ConnResp is =
-    if_both (Fits x p now) (is_ours p.body) (tested x p now Connects) (Leaves WrongVersion NoDetail)
+    if_both (Fits x p now) (is_ours p.body) (tested x p now Connects) (Leaves WrongVersion Unspecified)
     (λ _. fits-tested x p now Connects live (λ passed. (start, client, is, passed))) (λ _. live)
 fits-client x p now start live client ConnReq is = live
 fits-client x p now start live client RetrReq is = live

@@ -13,9 +13,9 @@ use Rattle.safe_machine.specs.State.{State, unconfirmed, make, move_to, pass, co
 use Rattle.safe_machine.specs.Decision.{Decision, decide, distance, in_turn}
 use Rattle.safe_machine.specs.Decision.Decision.{Nothing, Drops, Shuts, Leaves, Rejects, Accepts, Connects, Takes, Asks, Resumes, AnswersNext, AnswersEarly}
 use Rattle.safe_machine.specs.Step.{is_live, guard, receive, arrive, carry_out, tick, send, tests_passed, beat}
-use Rattle.safe_machine.specs.World.{World, Event, start, happens, GenuineAt, GenuineEvent, Genuine, as_role, open_il, open_fe, with_il, with_fe}
+use Rattle.safe_machine.specs.World.{World, Event, start, changed, run, event_end, event_time, at_end, Timely, happens, GenuineAt, GenuineEvent, Genuine, as_role, open_il, open_fe, with_il, with_fe}
 use Rattle.safe_machine.specs.World.Event.{Open, Send, Close, Guard, Tick, Arrive}
-use Rattle.safe_machine.specs.Law.{event_end, event_time, at_end, Timely, Fresh, FreshEvent, AllFresh, FreshLaw}
+use Rattle.safe_machine.specs.Law.{Fresh, FreshEvent, AllFresh, FreshLaw, FreshAtLastLaw}
 use Rattle.safe_machine.proofs.Cases.{if_both, and-parts}
 use Rattle.safe_machine.proofs.Runs.{Every, every-weaken, every-drop_all, at-length}
 use Rattle.safe_machine.proofs.Invariant.{NotOpening, Solo, Half, Pair}
@@ -29,7 +29,7 @@ use Rattle.safe_machine.proofs.Times.{Timed, Steps, Stamped, timed-receiver, tim
 use Rattle.safe_machine.proofs.Timing.{Makes, makes-then, makes-leave, makes-guard, makes-heartbeat, makes-send, steps-none, steps-then, steps-carry, guard-passed, fresh-take}
 use Rattle.safe_machine.proofs.Worlds.{Inv, inv-event, inv-open_il, inv-open_fe, inv-start, nobody-among, mute-il, still-lone, on-lone}
 use Rattle.safe_machine.specs.declared.Reason.TheVariants.{Timeout, ProtocolError}
-use Rattle.safe_machine.specs.declared.Detail.TheVariants.{NoDetail, Limit}
+use Rattle.safe_machine.specs.declared.Detail.TheVariants.{Unspecified, Limit}
 
 -- what a decision hands up, and that settings stay
 resend-taken : (us : List (List ℕ)) (now : ℕ) (s : State) → (resend us now s).taken ≡ s.taken
@@ -88,9 +88,9 @@ guard-live : (now : ℕ) (s : State) → is_live (guard now s).connection ≡ tr
 guard-live now s =
     let P : State → Type 0 = λ t. is_live t.connection ≡ true → t ≡ s in
     let inner : State = if nat_le s.settings.pdu_limit (length s.made) then leave ProtocolError Limit now s else s in
-    if_both P (is_live s.connection) (if nat_le (s.confirmed_at + s.settings.t_max) now then leave Timeout NoDetail now s else inner) s
+    if_both P (is_live s.connection) (if nat_le (s.confirmed_at + s.settings.t_max) now then leave Timeout Unspecified now s else inner) s
     (λ _.
-    if_both P (nat_le (s.confirmed_at + s.settings.t_max) now) (leave Timeout NoDetail now s) inner (λ _. λ live. absurd (false≢true live))
+    if_both P (nat_le (s.confirmed_at + s.settings.t_max) now) (leave Timeout Unspecified now s) inner (λ _. λ live. absurd (false≢true live))
     (λ _. if_both P (nat_le s.settings.pdu_limit (length s.made)) (leave ProtocolError Limit now s) s (λ _. λ live. absurd (false≢true live)) (λ _. λ live. refl)))
     (λ _. λ live. refl)
 
@@ -393,42 +393,49 @@ makes-tick : (now : ℕ) (s : State) → Makes now s (tick now s)
 makes-tick now s = makes-then now s (guard now s) (tick now s) (makes-guard now s) (makes-heartbeat now (guard now s))
 
 -- Every event keeps the times, and what it takes is fresh.
-t-event : (w : World) (e : Event) (ci cf : ℕ) → TInv w ci cf → GenuineEvent w e → at_end (event_end e) ci cf ≤ event_time e →
-    TInv (happens w e) (at_end (event_end e) (event_time e) ci) (at_end (event_end e) cf (event_time e)) × FreshEvent w e
-t-event w (Open Il settings first now) ci cf h g later = (
+t-changed : (w : World) (e : Event) (ci cf : ℕ) → TInv w ci cf → GenuineEvent w e → at_end (event_end e) ci cf ≤ event_time e →
+    TInv (changed w e) (at_end (event_end e) (event_time e) ci) (at_end (event_end e) cf (event_time e)) × FreshEvent w e
+t-changed w (Open Il settings first now) ci cf h g later = (
   if_both (λ v. TInv v now cf) (is_legal settings) (open_il settings first now w) w
       (λ legal. t-open_il settings first now w ci cf later h legal)
       (λ _. record { inv = h.inv; short_il = h.short_il; short_fe = h.short_fe; times = il-later_times w.il w.fe w.dead_il w.dead_fe ci cf now later h.times }),
   tt,
 )
-t-event w (Open Fe settings first now) ci cf h g later = (
+t-changed w (Open Fe settings first now) ci cf h g later = (
   if_both (λ v. TInv v ci now) (is_legal settings) (open_fe settings first now w) w
       (λ legal. t-open_fe settings first now w ci cf later h legal)
       (λ _. record { inv = h.inv; short_il = h.short_il; short_fe = h.short_fe; times = fe-later_times w.il w.fe w.dead_il w.dead_fe ci cf now later h.times }),
   tt,
 )
-t-event w (Send Il unit now) ci cf h g later =
+t-changed w (Send Il unit now) ci cf h g later =
     (t-il_lone w ci cf now (send unit now w.il) later h (inv-event w (Send Il unit now) h.inv g) (lone-send unit now w.il h.inv.bounded_il) (makes-send unit now w.il) (mute-send unit now w.il), tt)
-t-event w (Send Fe unit now) ci cf h g later =
+t-changed w (Send Fe unit now) ci cf h g later =
     (t-fe_lone w ci cf now (send unit now w.fe) later h (inv-event w (Send Fe unit now) h.inv g) (lone-send unit now w.fe h.inv.bounded_fe) (makes-send unit now w.fe), tt)
-t-event w (Close Il reason detail now) ci cf h g later =
+t-changed w (Close Il reason detail now) ci cf h g later =
     (t-il_lone w ci cf now (leave reason detail now w.il) later h (inv-event w (Close Il reason detail now) h.inv g) (lone-leave reason detail now w.il) (makes-leave reason detail now w.il) (mute-leave reason detail now w.il), tt)
-t-event w (Close Fe reason detail now) ci cf h g later =
+t-changed w (Close Fe reason detail now) ci cf h g later =
     (t-fe_lone w ci cf now (leave reason detail now w.fe) later h (inv-event w (Close Fe reason detail now) h.inv g) (lone-leave reason detail now w.fe) (makes-leave reason detail now w.fe), tt)
-t-event w (Guard Il now) ci cf h g later =
+t-changed w (Guard Il now) ci cf h g later =
     (t-il_lone w ci cf now (guard now w.il) later h (inv-event w (Guard Il now) h.inv g) (lone-guard now w.il) (makes-guard now w.il) (mute-guard now w.il), tt)
-t-event w (Guard Fe now) ci cf h g later =
+t-changed w (Guard Fe now) ci cf h g later =
     (t-fe_lone w ci cf now (guard now w.fe) later h (inv-event w (Guard Fe now) h.inv g) (lone-guard now w.fe) (makes-guard now w.fe), tt)
-t-event w (Tick Il now) ci cf h g later =
+t-changed w (Tick Il now) ci cf h g later =
     (t-il_lone w ci cf now (tick now w.il) later h (inv-event w (Tick Il now) h.inv g) (lone-tick now w.il h.inv.bounded_il) (makes-tick now w.il) (mute-tick now w.il), tt)
-t-event w (Tick Fe now) ci cf h g later =
+t-changed w (Tick Fe now) ci cf h g later =
     (t-fe_lone w ci cf now (tick now w.fe) later h (inv-event w (Tick Fe now) h.inv g) (lone-tick now w.fe h.inv.bounded_fe) (makes-tick now w.fe), tt)
-t-event w (Arrive Il p now) ci cf h g later =
+t-changed w (Arrive Il p now) ci cf h g later =
     let r = il-arrive_times w ci cf now p later h g in
     (t-il w ci cf now (arrive p now w.il) h (inv-event w (Arrive Il p now) h.inv g) (arrive-settings p now w.il) r.0, r.1)
-t-event w (Arrive Fe p now) ci cf h g later =
+t-changed w (Arrive Fe p now) ci cf h g later =
     let r = fe-arrive_times w ci cf now p later h g in
     (t-fe w ci cf now (arrive p now w.fe) h (inv-event w (Arrive Fe p now) h.inv g) (arrive-settings p now w.fe) r.0, r.1)
+
+-- the noted times are not a matter of the invariant
+t-event : (w : World) (e : Event) (ci cf : ℕ) → TInv w ci cf → GenuineEvent w e → at_end (event_end e) ci cf ≤ event_time e →
+    TInv (happens w e) (at_end (event_end e) (event_time e) ci) (at_end (event_end e) cf (event_time e)) × FreshEvent w e
+t-event w e ci cf h g later =
+    let r = t-changed w e ci cf h g later in
+    (record { inv = r.0.inv; short_il = r.0.short_il; short_fe = r.0.short_fe; times = r.0.times }, r.1)
 
 t-start : TInv start 0 0
 t-start =
@@ -439,12 +446,20 @@ t-start =
       times = apart_il (record { mute = record { client = refl; connection = inr refl; taken = refl; quiet = tt }; started = λ e. cc; dead = tt });
     }
 
-t-run : (events : List Event) (w : World) (ci cf : ℕ) → TInv w ci cf → Genuine events w → Timely ci cf events → AllFresh events w
-t-run [] w ci cf h g k = tt
-t-run (e ∷ es) w ci cf h g k =
-    let r = t-event w e ci cf h g.0 k.0 in
-    (r.1, t-run es (happens w e) (at_end (event_end e) (event_time e) ci) (at_end (event_end e) cf (event_time e)) r.0 g.1 k.1)
+t-run : (events : List Event) (w : World) → TInv w w.clock_il w.clock_fe → Genuine events w → Timely events w → AllFresh events w
+t-run [] w h g k = tt
+t-run (e ∷ es) w h g k =
+    let r = t-event w e w.clock_il w.clock_fe h g.0 k.0 in
+    (r.1, t-run es (happens w e) r.0 g.1 k.1)
 
 -- The law.
 pub fresh_law_holds : FreshLaw
-fresh_law_holds events genuine timely = t-run events start 0 0 t-start genuine timely
+fresh_law_holds events genuine timely = t-run events start t-start genuine timely
+
+-- what is fresh along a list is fresh at its last event
+fresh-last : (events : List Event) (e : Event) (w : World) → AllFresh (events ++ e ∷ []) w → FreshEvent (run events w) e
+fresh-last [] e w h = h.0
+fresh-last (a ∷ es) e w h = fresh-last es e (happens w a) h.1
+
+pub fresh_at_last_law_holds : FreshAtLastLaw
+fresh_at_last_law_holds events e genuine timely = fresh-last events e start (fresh_law_holds (events ++ e ∷ []) genuine timely)

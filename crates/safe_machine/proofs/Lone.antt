@@ -25,7 +25,7 @@ use Rattle.safe_machine.proofs.Counting.{Bounded, bounded-guard, bounded-receive
 use Rattle.safe_machine.specs.declared.Reason.{Reason}
 use Rattle.safe_machine.specs.declared.Reason.TheVariants.{Timeout, ProtocolError}
 use Rattle.safe_machine.specs.declared.Detail.{Detail}
-use Rattle.safe_machine.specs.declared.Detail.TheVariants.{NoDetail, Limit}
+use Rattle.safe_machine.specs.declared.Detail.TheVariants.{Unspecified, Limit}
 
 -- from s to t nothing was taken
 pub record Lone (s t : State) : Type 0 where
@@ -120,9 +120,9 @@ lone-leave reason detail now s =
 pub lone-guard : (now : ℕ) (s : State) → Lone s (guard now s)
 lone-guard now s =
     let inner : State = if nat_le s.settings.pdu_limit (length s.made) then leave ProtocolError Limit now s else s in
-    if_both (Lone s) (is_live s.connection) (if nat_le (s.confirmed_at + s.settings.t_max) now then leave Timeout NoDetail now s else inner) s
+    if_both (Lone s) (is_live s.connection) (if nat_le (s.confirmed_at + s.settings.t_max) now then leave Timeout Unspecified now s else inner) s
     (λ _.
-    if_both (Lone s) (nat_le (s.confirmed_at + s.settings.t_max) now) (leave Timeout NoDetail now s) inner (λ _. lone-leave Timeout NoDetail now s)
+    if_both (Lone s) (nat_le (s.confirmed_at + s.settings.t_max) now) (leave Timeout Unspecified now s) inner (λ _. lone-leave Timeout Unspecified now s)
     (λ _. if_both (Lone s) (nat_le s.settings.pdu_limit (length s.made)) (leave ProtocolError Limit now s) s (λ _. lone-leave ProtocolError Limit now s) (λ _. lone-refl s)))
     (λ _. lone-refl s)
 
@@ -147,9 +147,9 @@ pub pair-guard : (now : ℕ) (x y : State) → Pair x y → Pair (guard now x) y
 pair-guard now x y h =
     let P : State → Type 0 = λ s. Pair s y in
     let inner : State = if nat_le x.settings.pdu_limit (length x.made) then leave ProtocolError Limit now x else x in
-    if_both P (is_live x.connection) (if nat_le (x.confirmed_at + x.settings.t_max) now then leave Timeout NoDetail now x else inner) x
+    if_both P (is_live x.connection) (if nat_le (x.confirmed_at + x.settings.t_max) now then leave Timeout Unspecified now x else inner) x
     (λ _.
-    if_both P (nat_le (x.confirmed_at + x.settings.t_max) now) (leave Timeout NoDetail now x) inner (λ _. pair-leave Timeout NoDetail now x y h)
+    if_both P (nat_le (x.confirmed_at + x.settings.t_max) now) (leave Timeout Unspecified now x) inner (λ _. pair-leave Timeout Unspecified now x y h)
     (λ _. if_both P (nat_le x.settings.pdu_limit (length x.made)) (leave ProtocolError Limit now x) x (λ _. pair-leave ProtocolError Limit now x y h) (λ _. h)))
     (λ _. h)
 
@@ -184,7 +184,7 @@ receive-stranger p now s e P h =
 pub guard-idle : (now : ℕ) (s : State) → is_live s.connection ≡ false → guard now s ≡ s
 guard-idle now s e =
     let inner : State = if nat_le s.settings.pdu_limit (length s.made) then leave ProtocolError Limit now s else s in
-    ap (λ (b : Bool). if b then (if nat_le (s.confirmed_at + s.settings.t_max) now then leave Timeout NoDetail now s else inner) else s) e
+    ap (λ (b : Bool). if b then (if nat_le (s.confirmed_at + s.settings.t_max) now then leave Timeout Unspecified now s else inner) else s) e
 
 closed_or : (connection : ConnectionState) → (connection ≡ Closed) ⊎ (connection ≢ Closed)
 closed_or Closed = inl refl

@@ -21,7 +21,7 @@ use Rattle.safe_machine.proofs.Passing.{half-take, reach}
 use Rattle.safe_machine.proofs.Deciding.{ByTable, Fits, listens, decide-fits}
 use Rattle.safe_machine.proofs.Arrivals.{Arrival, arrival-confirm, arrival-take, arrival-resume, arrival-next_request, arrival-early_request}
 use Rattle.safe_machine.specs.declared.Reason.TheVariants.{WrongVersion}
-use Rattle.safe_machine.specs.declared.Detail.TheVariants.{NoDetail}
+use Rattle.safe_machine.specs.declared.Detail.TheVariants.{Unspecified}
 
 -- a ConnReq or a ConnResp is the first PDU that its end made
 opening-first : (i : ℕ) (m : Made) (rest : List Made) (y : State) → Solo y → drop i y.made ≡ m ∷ rest → is_opening m.pdu.kind ≡ 1 → i ≡ 0
@@ -63,7 +63,7 @@ rejected now i m rest x y h peer few at is none closed =
       h.1,
       half-take [] x.taken Closed m rest x y peer h.2 closed a.at (ap is_answer is) (ap (λ kind. after_pdu kind m.pdu.body []) is) (sym (append-nil x.taken)),
     ) in
-    pair-plain DiscReq (leaving_body WrongVersion NoDetail) now [] z y before (λ run. refl) refl refl refl refl (λ one. absurd (omega arith)) tt
+    pair-plain DiscReq (leaving_body WrongVersion Unspecified) now [] z y before (λ run. refl) refl refl refl refl (λ one. absurd (omega arith)) tt
 
 -- an opening PDU says a window within bounds
 pub opening_window : (n : ℕ) → n ≤ 32 → window_of (opening_body n) ≡ n

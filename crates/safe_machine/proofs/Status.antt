@@ -22,7 +22,7 @@ use Rattle.safe_machine.proofs.Lone.{Lone, lone-refl, lone-trans, lone-leave, lo
 use Rattle.safe_machine.specs.declared.Reason.{Reason}
 use Rattle.safe_machine.specs.declared.Reason.TheVariants.{Timeout, ProtocolError}
 use Rattle.safe_machine.specs.declared.Detail.{Detail}
-use Rattle.safe_machine.specs.declared.Detail.TheVariants.{NoDetail, Limit}
+use Rattle.safe_machine.specs.declared.Detail.TheVariants.{Unspecified, Limit}
 
 -- a field element that has not joined
 abbrev pub Settled : State → Type 0
@@ -114,9 +114,9 @@ mute-leave reason detail now s h =
 pub mute-guard : (now : ℕ) (s : State) → Mute s → Mute (guard now s)
 mute-guard now s h =
     let inner : State = if nat_le s.settings.pdu_limit (length s.made) then leave ProtocolError Limit now s else s in
-    if_both Mute (is_live s.connection) (if nat_le (s.confirmed_at + s.settings.t_max) now then leave Timeout NoDetail now s else inner) s
+    if_both Mute (is_live s.connection) (if nat_le (s.confirmed_at + s.settings.t_max) now then leave Timeout Unspecified now s else inner) s
     (λ _.
-    if_both Mute (nat_le (s.confirmed_at + s.settings.t_max) now) (leave Timeout NoDetail now s) inner (λ _. mute-leave Timeout NoDetail now s h)
+    if_both Mute (nat_le (s.confirmed_at + s.settings.t_max) now) (leave Timeout Unspecified now s) inner (λ _. mute-leave Timeout Unspecified now s h)
     (λ _. if_both Mute (nat_le s.settings.pdu_limit (length s.made)) (leave ProtocolError Limit now s) s (λ _. mute-leave ProtocolError Limit now s h) (λ _. h)))
     (λ _. h)
 

@@ -24,7 +24,7 @@ use Rattle.safe_machine.proofs.Times.{Timed, Steps, MadeNow, Stamped, ahead-time
 use Rattle.safe_machine.specs.declared.Reason.{Reason}
 use Rattle.safe_machine.specs.declared.Reason.TheVariants.{Timeout, WrongVersion, ProtocolError}
 use Rattle.safe_machine.specs.declared.Detail.{Detail}
-use Rattle.safe_machine.specs.declared.Detail.TheVariants.{NoDetail, Limit}
+use Rattle.safe_machine.specs.declared.Detail.TheVariants.{Unspecified, Limit}
 
 -- PDUs are made and nothing else that the times speak of
 pub record Makes (now : ℕ) (s t : State) : Type 0 where
@@ -102,9 +102,9 @@ makes-ask now s = makes-moved now Requesting s (make RetrReq [] now s) (makes-on
 pub makes-guard : (now : ℕ) (s : State) → Makes now s (guard now s)
 makes-guard now s =
     let inner : State = if nat_le s.settings.pdu_limit (length s.made) then leave ProtocolError Limit now s else s in
-    if_both (Makes now s) (is_live s.connection) (if nat_le (s.confirmed_at + s.settings.t_max) now then leave Timeout NoDetail now s else inner) s
+    if_both (Makes now s) (is_live s.connection) (if nat_le (s.confirmed_at + s.settings.t_max) now then leave Timeout Unspecified now s else inner) s
     (λ _.
-    if_both (Makes now s) (nat_le (s.confirmed_at + s.settings.t_max) now) (leave Timeout NoDetail now s) inner (λ _. makes-leave Timeout NoDetail now s)
+    if_both (Makes now s) (nat_le (s.confirmed_at + s.settings.t_max) now) (leave Timeout Unspecified now s) inner (λ _. makes-leave Timeout Unspecified now s)
     (λ _. if_both (Makes now s) (nat_le s.settings.pdu_limit (length s.made)) (leave ProtocolError Limit now s) s (λ _. makes-leave ProtocolError Limit now s) (λ _. makes-none now s)))
     (λ _. makes-none now s)
 
@@ -245,9 +245,9 @@ steps-carry clock other now i m rest x y later guarded a h g Rejects (down, is) 
     let s = subst (λ (c : ConnectionState). Started c x.settings.client x.expected x.made) down a.pair.0.started in
     let r = first-arrival i m rest x y a.pair a.peer a.few a.at (ap is_opening is) s.1 in
     let z = pass m.pdu 0 x in
-    steps-then now x z (move_to Closed (make DiscReq (leaving_body WrongVersion NoDetail) now z)) y
+    steps-then now x z (move_to Closed (make DiscReq (leaving_body WrongVersion Unspecified) now z)) y
     (steps-over clock other now (x.expected + 0) m rest x z y later h g (omega arith) r.at refl refl refl refl)
-    (makes-moved now Closed z (make DiscReq (leaving_body WrongVersion NoDetail) now z) (makes-one DiscReq (leaving_body WrongVersion NoDetail) now z))
+    (makes-moved now Closed z (make DiscReq (leaving_body WrongVersion Unspecified) now z) (makes-one DiscReq (leaving_body WrongVersion Unspecified) now z))
 steps-carry clock other now i m rest x y later guarded a h g Accepts (down, is) =
     let s = subst (λ (c : ConnectionState). Started c x.settings.client x.expected x.made) down a.pair.0.started in
     let r = first-arrival i m rest x y a.pair a.peer a.few a.at (ap is_opening is) s.1 in
@@ -310,9 +310,9 @@ pub guard-passed : (now : ℕ) (s : State) → is_live (guard now s).connection 
 guard-passed now s =
     let P : State → Type 0 = λ t. is_live t.connection ≡ true → now < t.confirmed_at + t.settings.t_max in
     let inner : State = if nat_le s.settings.pdu_limit (length s.made) then leave ProtocolError Limit now s else s in
-    if_both P (is_live s.connection) (if nat_le (s.confirmed_at + s.settings.t_max) now then leave Timeout NoDetail now s else inner) s
+    if_both P (is_live s.connection) (if nat_le (s.confirmed_at + s.settings.t_max) now then leave Timeout Unspecified now s else inner) s
     (λ _.
-    if_both P (nat_le (s.confirmed_at + s.settings.t_max) now) (leave Timeout NoDetail now s) inner (λ _. λ live. absurd (false≢true live))
+    if_both P (nat_le (s.confirmed_at + s.settings.t_max) now) (leave Timeout Unspecified now s) inner (λ _. λ live. absurd (false≢true live))
     (λ early.
     let before = leb-false (s.confirmed_at + s.settings.t_max) now early in
     if_both P (nat_le s.settings.pdu_limit (length s.made)) (leave ProtocolError Limit now s) s (λ _. λ live. absurd (false≢true live)) (λ _. λ live. before)))

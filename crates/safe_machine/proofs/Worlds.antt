@@ -29,7 +29,7 @@ use Rattle.safe_machine.proofs.Status.{Settled, JoinedTo, Met, Mute, IlLater, Fe
 use Rattle.safe_machine.proofs.Lost.{met-loses_nothing, mute-loses_nothing, taken-other, taken-pushed, lone-owes}
 use Rattle.safe_machine.proofs.Status.Status.{met, il_later, fe_later}
 use Rattle.safe_machine.specs.declared.Reason.TheVariants.{WrongVersion}
-use Rattle.safe_machine.specs.declared.Detail.TheVariants.{NoDetail}
+use Rattle.safe_machine.specs.declared.Detail.TheVariants.{Unspecified}
 
 abbrev pub Idle : State → Option ℕ → Type 0
 Idle fe joined = fe.connection ≡ Down → Untouched fe × (joined ≡ None)
@@ -360,9 +360,9 @@ down-carry index p now s down k Shuts f =
 down-carry index p now s down k (Leaves reason detail) f = absurd (false≢true (sym (down-deaf s down).1 ∙ f))
 down-carry index p now s down k Rejects f =
     let z = pass p 0 s in
-    let m = next_made z DiscReq (leaving_body WrongVersion NoDetail) now in
+    let m = next_made z DiscReq (leaving_body WrongVersion Unspecified) now in
     let none : units (s.made ++ m ∷ []) ≡ [] = ap (λ ms. units (ms ++ m ∷ [])) k.made in
-    after-down index s (move_to Closed (make DiscReq (leaving_body WrongVersion NoDetail) now z)) (joins-same s.connection Closed (inr refl)) (inr refl, none, k.taken) (λ e. absurd (closed≢down e))
+    after-down index s (move_to Closed (make DiscReq (leaving_body WrongVersion Unspecified) now z)) (joins-same s.connection Closed (inr refl)) (inr refl, none, k.taken) (λ e. absurd (closed≢down e))
 down-carry index p now s down k Accepts f =
     let yes : joins s.connection Start ≡ true = ap (λ (c : ConnectionState). joins c Start) down in
     let t = carry_out p now Accepts s in

@@ -19,7 +19,7 @@ use Rattle.safe_machine.specs.State.{State, cs_step, cts_step}
 use Rattle.safe_machine.specs.Table.{Cell, cell}
 use Rattle.safe_machine.specs.Table.Cell.{Take, Ask, Answer as Reply, Resume, Refuse, Skip}
 use Rattle.safe_machine.specs.declared.Reason.TheVariants.{UnexpectedPdu, WrongVersion, RetransmissionImpossible, ProtocolError}
-use Rattle.safe_machine.specs.declared.Detail.TheVariants.{NoDetail, ConfirmedNumber, ConfirmedTimestamp}
+use Rattle.safe_machine.specs.declared.Detail.TheVariants.{Unspecified, ConfirmedNumber, ConfirmedTimestamp}
 
 pub data Decision : Type 0 where
   Nothing : Decision
@@ -57,8 +57,8 @@ in_down p ConnReq = if is_ours p.body then Accepts else Rejects
 in_down p _ = Drops NotOpened
 
 abbrev pub as_client : State → Pdu → ℕ → Kind → Decision
-as_client s p now ConnResp = if is_ours p.body then tested s p now Connects else Leaves WrongVersion NoDetail
-as_client s p now _ = Leaves UnexpectedPdu NoDetail
+as_client s p now ConnResp = if is_ours p.body then tested s p now Connects else Leaves WrongVersion Unspecified
+as_client s p now _ = Leaves UnexpectedPdu Unspecified
 
 -- how far the PDU lies ahead of the expected one
 abbrev pub distance : State → Pdu → ℕ
@@ -76,14 +76,14 @@ answering s p now d =
     then (if (d == 0) && in_turn s.connection
     then (if cts_fits s p now then AnswersNext else Leaves ProtocolError ConfirmedTimestamp)
     else AnswersEarly)
-    else (if nat_le 0x8000_0000 (cs_step s p) then Drops Below else Leaves RetransmissionImpossible NoDetail)
+    else (if nat_le 0x8000_0000 (cs_step s p) then Drops Below else Leaves RetransmissionImpossible Unspecified)
 
 abbrev pub by_cell : State → Pdu → ℕ → ℕ → Cell → Decision
 by_cell s p now d (Take connection) = tested s p now (Takes connection)
 by_cell s p now d Ask = Asks
 by_cell s p now d Reply = answering s p now d
 by_cell s p now d Resume = tested s p now Resumes
-by_cell s p now d (Refuse reason) = Leaves reason NoDetail
+by_cell s p now d (Refuse reason) = Leaves reason Unspecified
 by_cell s p now d Skip = Drops Request
 
 abbrev pub by_table : State → Pdu → ℕ → ℕ → Decision
@@ -120,7 +120,7 @@ answer_of Nothing = NoAnswer
 answer_of (Drops cause) = Dropped cause
 answer_of Shuts = NoAnswer
 answer_of (Leaves reason detail) = Left reason detail
-answer_of Rejects = Left WrongVersion NoDetail
+answer_of Rejects = Left WrongVersion Unspecified
 answer_of Accepts = Taken
 answer_of Connects = Taken
 answer_of (Takes connection) = Taken

@@ -1,5 +1,5 @@
 -- The law of two machines: what one takes is a beginning of what its joined sent.
-use Rattle.std.specs.Prelude.{ℕ, ◌+◌, ◌-◌, ◌≡◌, ◌≢◌, ◌<◌, ◌≤◌, ◌⊎◌, ◌==◌, Bool, false, Option, Some, None, MatchOption, List, [], ◌∷◌, length, drop, if◌then◌else◌}
+use Rattle.std.specs.Prelude.{ℕ, ◌+◌, ◌-◌, ◌≡◌, ◌≢◌, ◌<◌, ◌≤◌, ◌⊎◌, ◌==◌, Bool, false, Option, Some, None, MatchOption, List, [], ◌∷◌, ◌++◌, length, drop, if◌then◌else◌}
 use Rattle.safe_machine.specs.World.{Side}
 use Rattle.safe_machine.specs.World.Side.{Il, Fe}
 use Rattle.safe_pdu.specs.Pdu.{Pdu}
@@ -8,7 +8,7 @@ use Rattle.safe_machine.specs.declared.ConnectionState.TheVariants.{Closed}
 use Rattle.safe_machine.specs.State.{State, unconfirmed}
 use Rattle.safe_machine.specs.Step.{arrive}
 use Rattle.safe_machine.specs.World.Event.{Open, Send, Close, Guard, Tick, Arrive}
-use Rattle.safe_machine.specs.World.{happens, World, Served, Event, start, run, Genuine, IsBeginningOf}
+use Rattle.safe_machine.specs.World.{happens, Timely, World, Served, Event, start, run, Genuine, IsBeginningOf}
 
 -- the incarnations of each end, the latest first
 abbrev pub il_incarnations : World → List State
@@ -95,33 +95,6 @@ UnitLaw = (events : List Event) → Genuine events start → Law (run events sta
 abbrev pub LossLaw : Type 0
 LossLaw = (events : List Event) → Genuine events start → LosesNothing (run events start)
 
--- No end's clock goes back.
-abbrev pub event_end : Event → Side
-event_end (Open e settings first now) = e
-event_end (Send e unit now) = e
-event_end (Close e reason detail now) = e
-event_end (Guard e now) = e
-event_end (Tick e now) = e
-event_end (Arrive e p now) = e
-
-abbrev pub event_time : Event → ℕ
-event_time (Open e settings first now) = now
-event_time (Send e unit now) = now
-event_time (Close e reason detail now) = now
-event_time (Guard e now) = now
-event_time (Tick e now) = now
-event_time (Arrive e p now) = now
-
--- of two values, that of the end; and the values with that of the end replaced
-abbrev pub at_end : Side → ℕ → ℕ → ℕ
-at_end Il il fe = il
-at_end Fe il fe = fe
-
-abbrev pub Timely : ℕ → ℕ → List Event → Type 0
-Timely il fe [] = Unit {0}
-Timely il fe (e ∷ es) =
-    (at_end (event_end e) il fe ≤ event_time e) × Timely (at_end (event_end e) (event_time e) il) (at_end (event_end e) fe (event_time e)) es
-
 -- The PDU was made by the peer upon a PDU that this end made less than t_max ago.
 pub record Fresh (s : State) (p : Pdu) (now : ℕ) (peer : List Made) : Type 0 where
   pub index : ℕ
@@ -144,5 +117,11 @@ abbrev pub AllFresh : List Event → World → Type 0
 AllFresh [] w = Unit {0}
 AllFresh (e ∷ es) w = FreshEvent w e × AllFresh es (happens w e)
 
+-- over every list of events, and for whoever adds one event to a list
 abbrev pub FreshLaw : Type 0
-FreshLaw = (events : List Event) → Genuine events start → Timely 0 0 events → AllFresh events start
+FreshLaw = (events : List Event) → Genuine events start → Timely events start → AllFresh events start
+
+abbrev pub FreshAtLastLaw : Type 0
+FreshAtLastLaw =
+    (events : List Event) (e : Event) → Genuine (events ++ e ∷ []) start → Timely (events ++ e ∷ []) start →
+    FreshEvent (run events start) e

@@ -3,7 +3,7 @@ use Rattle.std.specs.Prelude.{ℕ}
 use Rattle.safe_machine.specs.declared.Reason.{Reason}
 use Rattle.safe_machine.specs.declared.Reason.TheVariants.{ClosedByUser, UnexpectedPdu, SequenceError, Timeout, ServiceNotAllowed, WrongVersion, RetransmissionImpossible, ProtocolError}
 use Rattle.safe_machine.specs.declared.Detail.{Detail}
-use Rattle.safe_machine.specs.declared.Detail.TheVariants.{NoDetail, VersionDiffers, OutOfOrder, NotWellFormed, Limit, BadUnit, ConfirmedNumber, ConfirmedTimestamp}
+use Rattle.safe_machine.specs.declared.Detail.TheVariants.{Unspecified, VersionDiffers, OutOfOrder, NotWellFormed, Limit, BadUnit, ConfirmedNumber, ConfirmedTimestamp}
 
 -- the number of a reason
 abbrev pub reason_number : Reason → ℕ
@@ -18,7 +18,7 @@ reason_number ProtocolError = 7
 
 -- the number of a detail; the first three belong to reason 4, the others to reason 7
 abbrev pub detail_number : Detail → ℕ
-detail_number NoDetail = 0
+detail_number Unspecified = 0
 detail_number VersionDiffers = 1
 detail_number OutOfOrder = 2
 detail_number NotWellFormed = 3

@@ -8,4 +8,5 @@ pub mod Decision
 pub mod Step
 pub mod World
 pub mod Law
+pub mod InOrder
 pub mod Ring

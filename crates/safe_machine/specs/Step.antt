@@ -12,7 +12,7 @@ use Rattle.safe_machine.specs.declared.Step.TheVariants.{Left}
 use Rattle.safe_machine.specs.Decision.{Decision, answer_of, decide, distance, in_turn}
 use Rattle.safe_machine.specs.Decision.Decision.{Nothing, Drops, Shuts, Leaves, Rejects, Accepts, Connects, Takes, Asks, Resumes, AnswersNext, AnswersEarly}
 use Rattle.safe_machine.specs.declared.Reason.TheVariants.{Timeout, WrongVersion, ProtocolError}
-use Rattle.safe_machine.specs.declared.Detail.TheVariants.{NoDetail, Limit}
+use Rattle.safe_machine.specs.declared.Detail.TheVariants.{Unspecified, Limit}
 
 -- the time of the last PDU made
 abbrev pub last_time : List Made → ℕ → ℕ
@@ -41,7 +41,7 @@ carry_out p now Nothing s = s
 carry_out p now (Drops cause) s = s
 carry_out p now Shuts s = move_to Closed s
 carry_out p now (Leaves reason detail) s = leave reason detail now s
-carry_out p now Rejects s = move_to Closed (make DiscReq (leaving_body WrongVersion NoDetail) now (pass p 0 s))
+carry_out p now Rejects s = move_to Closed (make DiscReq (leaving_body WrongVersion Unspecified) now (pass p 0 s))
 carry_out p now Accepts s =
     move_to Start (confirm_to (length s.made) now
     (make ConnResp (opening_body s.settings.n_sendmax) now (set_window (window_of p.body) (pass p 0 s))))
@@ -63,7 +63,7 @@ is_live _ = true
 abbrev pub guard : ℕ → State → State
 guard now s =
     if is_live s.connection
-    then (if nat_le (s.confirmed_at + s.settings.t_max) now then leave Timeout NoDetail now s
+    then (if nat_le (s.confirmed_at + s.settings.t_max) now then leave Timeout Unspecified now s
     else if nat_le s.settings.pdu_limit (length s.made) then leave ProtocolError Limit now s
     else s)
     else s
@@ -78,7 +78,7 @@ arrive p now s = receive p now (guard now s)
 abbrev pub arrive_answer : Pdu → ℕ → State → Answer
 arrive_answer p now s =
     if is_live s.connection
-    then (if nat_le (s.confirmed_at + s.settings.t_max) now then Left Timeout NoDetail
+    then (if nat_le (s.confirmed_at + s.settings.t_max) now then Left Timeout Unspecified
     else if nat_le s.settings.pdu_limit (length s.made) then Left ProtocolError Limit
     else answer_of (decide s p now))
     else answer_of (decide s p now)

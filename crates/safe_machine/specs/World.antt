@@ -1,5 +1,5 @@
 -- Two machines and the network between them, over any list of events.
-use Rattle.std.specs.Prelude.{ℕ, ◌&&◌, ◌≡◌, ◌≢◌, ◌⊎◌, nat_lt, nat_le, Bool, true, false, Option, Some, None, List, [], ◌∷◌, ◌++◌, length, drop, if◌then◌else◌}
+use Rattle.std.specs.Prelude.{ℕ, ◌&&◌, ◌≡◌, ◌≢◌, ◌≤◌, ◌⊎◌, nat_lt, nat_le, Bool, true, false, Option, Some, None, List, [], ◌∷◌, ◌++◌, length, drop, if◌then◌else◌}
 use Rattle.safe_machine.specs.declared.ConnectionState.{ConnectionState}
 use Rattle.safe_machine.specs.declared.ConnectionState.TheVariants.{Closed, Down, Start}
 use Rattle.safe_pdu.specs.declared.CodeLength.TheVariants.{Eight}
@@ -30,6 +30,8 @@ pub record World : Type 0 where
   pub fe_before : List Served
   pub dead_il : ℕ  -- of the PDUs that the present il made, the first so many are dead: made before the later opening
   pub dead_fe : ℕ
+  pub clock_il : ℕ  -- the time of each end's last event, 0 before any
+  pub clock_fe : ℕ
 
 -- an end before its first opening
 abbrev pub unopened : State
@@ -46,6 +48,8 @@ start =
       fe_before = [];
       dead_il = 0;
       dead_fe = 0;
+      clock_il = 0;
+      clock_fe = 0;
     }
 
 pub data Event : Type 0 where
@@ -89,19 +93,53 @@ joins _ _ = false
 abbrev pub with_fe : State → World → World
 with_fe s w = record w { fe = s; joined = if joins w.fe.connection s.connection then Some (length w.il_before) else w.joined }
 
+-- where and when an event happens
+abbrev pub event_end : Event → Side
+event_end (Open e settings first now) = e
+event_end (Send e unit now) = e
+event_end (Close e reason detail now) = e
+event_end (Guard e now) = e
+event_end (Tick e now) = e
+event_end (Arrive e p now) = e
+
+abbrev pub event_time : Event → ℕ
+event_time (Open e settings first now) = now
+event_time (Send e unit now) = now
+event_time (Close e reason detail now) = now
+event_time (Guard e now) = now
+event_time (Tick e now) = now
+event_time (Arrive e p now) = now
+
+-- of two values, that of the end; and the values with that of the end replaced
+abbrev pub at_end : Side → ℕ → ℕ → ℕ
+at_end Il il fe = il
+at_end Fe il fe = fe
+
+-- what an event changes in the machines
+abbrev pub changed : World → Event → World
+changed w (Open Il settings first now) = if is_legal settings then open_il settings first now w else w
+changed w (Open Fe settings first now) = if is_legal settings then open_fe settings first now w else w
+changed w (Send Il unit now) = with_il (send unit now w.il) w
+changed w (Send Fe unit now) = with_fe (send unit now w.fe) w
+changed w (Close Il reason detail now) = with_il (leave reason detail now w.il) w
+changed w (Close Fe reason detail now) = with_fe (leave reason detail now w.fe) w
+changed w (Guard Il now) = with_il (guard now w.il) w
+changed w (Guard Fe now) = with_fe (guard now w.fe) w
+changed w (Tick Il now) = with_il (tick now w.il) w
+changed w (Tick Fe now) = with_fe (tick now w.fe) w
+changed w (Arrive Il p now) = with_il (arrive p now w.il) w
+changed w (Arrive Fe p now) = with_fe (arrive p now w.fe) w
+
+-- the world after an event, whose time is noted
+abbrev pub clocked : Event → World → World → World
+clocked e before w =
+    record w {
+      clock_il = at_end (event_end e) (event_time e) before.clock_il;
+      clock_fe = at_end (event_end e) before.clock_fe (event_time e);
+    }
+
 abbrev pub happens : World → Event → World
-happens w (Open Il settings first now) = if is_legal settings then open_il settings first now w else w
-happens w (Open Fe settings first now) = if is_legal settings then open_fe settings first now w else w
-happens w (Send Il unit now) = with_il (send unit now w.il) w
-happens w (Send Fe unit now) = with_fe (send unit now w.fe) w
-happens w (Close Il reason detail now) = with_il (leave reason detail now w.il) w
-happens w (Close Fe reason detail now) = with_fe (leave reason detail now w.fe) w
-happens w (Guard Il now) = with_il (guard now w.il) w
-happens w (Guard Fe now) = with_fe (guard now w.fe) w
-happens w (Tick Il now) = with_il (tick now w.il) w
-happens w (Tick Fe now) = with_fe (tick now w.fe) w
-happens w (Arrive Il p now) = with_il (arrive p now w.il) w
-happens w (Arrive Fe p now) = with_fe (arrive p now w.fe) w
+happens w e = clocked e w (changed w e)
 
 abbrev pub run : List Event → World → World
 run [] w = w
@@ -124,6 +162,14 @@ GenuineEvent w _ = Unit {0}
 abbrev pub Genuine : List Event → World → Type 0
 Genuine [] w = Unit {0}
 Genuine (e ∷ es) w = GenuineEvent w e × Genuine es (happens w e)
+
+-- No end's clock goes back.
+abbrev pub TimelyEvent : World → Event → Type 0
+TimelyEvent w e = at_end (event_end e) w.clock_il w.clock_fe ≤ event_time e
+
+abbrev pub Timely : List Event → World → Type 0
+Timely [] w = Unit {0}
+Timely (e ∷ es) w = TimelyEvent w e × Timely es (happens w e)
 
 abbrev pub IsBeginningOf : List (List ℕ) → List (List ℕ) → Type 0
 IsBeginningOf front whole = (rest : List (List ℕ)) × (front ++ rest ≡ whole)

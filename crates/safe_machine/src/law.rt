@@ -1,6 +1,6 @@
 //! What two machines promise over every list of events.
 
-ghost use Rattle.safe_machine.specs.Law.{FreshLaw, LossLaw, UnitLaw};
+ghost use Rattle.safe_machine.specs.Law.{FreshAtLastLaw, FreshLaw, LossLaw, UnitLaw};
 
 /// The laws of two machines, which do nothing when they are called: they hold of every genuine list of openings,
 /// sendings, closings, guards, ticks and arrivals of both ends, however often either is opened.
@@ -14,4 +14,5 @@ pub fn unit_law()
     // Where no clock goes back, the PDU that carried what an end takes was made upon one that this end made less than
     // its t_max before.
     ensures fresh { FreshLaw }
+    ensures fresh_at_last { FreshAtLastLaw }
 {}

@@ -80,7 +80,7 @@ impl Reason {
 #[derive(Clone, Copy, Debug, PartialEq, Eq)]
 pub enum Detail {
     /// 0: nothing more.
-    NoDetail,
+    Unspecified,
     /// 1, of reason 4: the version of the session differs.
     VersionDiffers,
     /// 2, of reason 4: a telegram out of order.
@@ -103,7 +103,7 @@ impl Detail {
         ensures { result ≡ detail_number self }
     {
         match self {
-            Detail::NoDetail => 0,
+            Detail::Unspecified => 0,
             Detail::VersionDiffers => 1,
             Detail::OutOfOrder => 2,
             Detail::NotWellFormed => 3,
