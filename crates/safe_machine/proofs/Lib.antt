@@ -20,3 +20,8 @@ pub mod Timing
 pub mod Freshness
 pub mod InOrder
 pub mod Ring
+pub mod Leaving
+pub mod OneMachine
+pub mod Kept
+pub mod MovesLaw
+pub mod Texts

@@ -10,3 +10,5 @@ pub mod World
 pub mod Law
 pub mod InOrder
 pub mod Ring
+pub mod Moves
+pub mod Octets

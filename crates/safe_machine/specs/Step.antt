@@ -74,14 +74,17 @@ receive p now s = carry_out p now (decide s p now) s
 abbrev pub arrive : Pdu → ℕ → State → State
 arrive p now s = receive p now (guard now s)
 
--- the answer: the guard's, where it left
-abbrev pub arrive_answer : Pdu → ℕ → State → Answer
-arrive_answer p now s =
+-- an answer, unless the guard leaves
+abbrev pub unless_guarded : ℕ → State → Answer → Answer
+unless_guarded now s answer =
     if is_live s.connection
     then (if nat_le (s.confirmed_at + s.settings.t_max) now then Left Timeout Unspecified
     else if nat_le s.settings.pdu_limit (length s.made) then Left ProtocolError Limit
-    else answer_of (decide s p now))
-    else answer_of (decide s p now)
+    else answer)
+    else answer
+
+abbrev pub arrive_answer : Pdu → ℕ → State → Answer
+arrive_answer p now s = unless_guarded now s (answer_of (decide s p now))
 
 abbrev pub is_connected : ConnectionState → Bool
 is_connected Up = true

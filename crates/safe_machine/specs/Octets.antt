@@ -1,0 +1,33 @@
+-- What a machine does with octets: it arrives with what they read as, and where they read as nothing, the guard is all.
+use Rattle.std.specs.Prelude.{ℕ, List, Result, Ok, Err, if◌then◌else◌}
+use Rattle.safe_pdu.specs.declared.SafeFault.{SafeFault}
+use Rattle.safe_pdu.specs.Pdu.{Pdu}
+use Rattle.safe_pdu.specs.Places.{safe_seen}
+use Rattle.safe_machine.specs.declared.DropCause.TheVariants.{Fault}
+use Rattle.safe_machine.specs.declared.Step.{Step as Answer}
+use Rattle.safe_machine.specs.declared.Step.TheVariants.{Dropped, Nothing as NoAnswer}
+use Rattle.safe_machine.specs.State.{State}
+use Rattle.safe_machine.specs.Decision.{is_closed}
+use Rattle.safe_machine.specs.Step.{guard, arrive, arrive_answer, unless_guarded}
+use Rattle.safe_machine.specs.Moves.{Move, move}
+use Rattle.safe_machine.specs.Moves.Move.{Guards, Hears}
+
+-- octets that read so, as a move of the machine
+abbrev pub heard : Result Pdu SafeFault → ℕ → Move
+heard (Ok p) now = Hears p now
+heard (Err fault) now = Guards now
+
+-- and how it is answered: closed, guard and fault in this order
+abbrev pub heard_answer : Result Pdu SafeFault → ℕ → State → Answer
+heard_answer (Ok p) now s = arrive_answer p now s
+heard_answer (Err fault) now s = unless_guarded now s (if is_closed s.connection then NoAnswer else Dropped (Fault fault))
+
+-- what octets read as under the end's own rule of the code
+abbrev pub seen_by : State → List ℕ → Result Pdu SafeFault
+seen_by s octets = safe_seen s.settings.rule octets
+
+abbrev pub arrive_octets : List ℕ → ℕ → State → State
+arrive_octets octets now s = move (heard (seen_by s octets) now) s
+
+abbrev pub octets_answer : List ℕ → ℕ → State → Answer
+octets_answer octets now s = heard_answer (seen_by s octets) now s
