@@ -25,3 +25,4 @@ pub mod OneMachine
 pub mod Kept
 pub mod MovesLaw
 pub mod Texts
+pub mod Carriers

@@ -10,7 +10,7 @@ use Rattle.safe_machine.specs.Made.{Made, after_pdu, run_after}
 use Rattle.safe_machine.specs.State.{State, next_made, make, resend, unconfirmed}
 use Rattle.safe_machine.specs.Ring.{Carried, after_at, carried_at, ring_of, above, renumbered, units_of}
 
-units_of-append : (a b : List Carried) → units_of (a ++ b) ≡ units_of a ++ units_of b
+pub units_of-append : (a b : List Carried) → units_of (a ++ b) ≡ units_of a ++ units_of b
 units_of-append [] b = refl
 units_of-append (c ∷ a) b = ap (λ us. c.unit ∷ us) (units_of-append a b)
 
@@ -34,7 +34,7 @@ carried_at-units index run (m ∷ ms) =
 pub ring_of-units : (s : State) → units_of (ring_of s) ≡ unconfirmed s
 ring_of-units s = carried_at-units (s.confirmed + 1) [] (drop (s.confirmed + 1) s.made)
 
-carried_at-append : (index : ℕ) (run : List Carried) (a b : List Made) → carried_at index run (a ++ b) ≡ carried_at (index + length a) (carried_at index run a) b
+pub carried_at-append : (index : ℕ) (run : List Carried) (a b : List Made) → carried_at index run (a ++ b) ≡ carried_at (index + length a) (carried_at index run a) b
 carried_at-append index run [] b = ap (λ (n : ℕ). carried_at n run b) (omega arith)
 carried_at-append index run (m ∷ a) b =
     let next = after_at m.pdu.kind m.pdu.body index run in
@@ -46,11 +46,11 @@ above-both : (index : ℕ) (c : Carried) (a b : List Carried) (t : Bool) → abo
 above-both index c a b true e = ap (λ cs. c ∷ cs) e
 above-both index c a b false e = e
 
-above-append : (index : ℕ) (a b : List Carried) → above index (a ++ b) ≡ above index a ++ above index b
+pub above-append : (index : ℕ) (a b : List Carried) → above index (a ++ b) ≡ above index a ++ above index b
 above-append index [] b = refl
 above-append index (c ∷ a) b = above-both index c a b (nat_lt index c.index) (above-append index a b)
 
-above-one : (index p : ℕ) (unit : List ℕ) → index < p → above index (record { index = p; unit = unit } ∷ []) ≡ record { index = p; unit = unit } ∷ []
+pub above-one : (index p : ℕ) (unit : List ℕ) → index < p → above index (record { index = p; unit = unit } ∷ []) ≡ record { index = p; unit = unit } ∷ []
 above-one index p unit h = ap (λ (t : Bool). if t then record { index = p; unit = unit } ∷ [] else []) (lt-ltb index p h)
 
 below-one : (index p : ℕ) (unit : List ℕ) → p ≤ index → above index (record { index = p; unit = unit } ∷ []) ≡ []
@@ -71,7 +71,7 @@ after_at-above RetrReq body index p run h = refl
 after_at-above DiscReq body index p run h = refl
 after_at-above Heartbeat body index p run h = refl
 
-carried_at-above : (index p : ℕ) (run : List Carried) (ms : List Made) → index < p → above index (carried_at p run ms) ≡ carried_at p (above index run) ms
+pub carried_at-above : (index p : ℕ) (run : List Carried) (ms : List Made) → index < p → above index (carried_at p run ms) ≡ carried_at p (above index run) ms
 carried_at-above index p run [] h = refl
 carried_at-above index p run (m ∷ ms) h =
     carried_at-above index (p + 1) (after_at m.pdu.kind m.pdu.body p run) ms (omega arith)

@@ -1,15 +1,195 @@
 -- Each PDU that a machine makes has a text.
-use Rattle.std.proofs.Common.{◌≡◌, ◌≤◌, ◌<◌, ◌+◌, ◌^◌, ℕ, List, [], ◌∷◌, ◌++◌, Bool, true, false, refl, sym, ap, subst, ◌∙◌, arith, IsTrue, length-append}
-use Rattle.std.specs.Prelude.{length, drop, if◌then◌else◌, ◌&&◌, nat_le, nat_lt}
-use Rattle.std.proofs.lemmas.Bool.{le-leb}
+use Rattle.std.proofs.Common.{◌≡◌, ◌==◌, ◌≤◌, ◌<◌, ◌+◌, ◌%◌, ◌^◌, ℕ, zero, suc, List, [], ◌∷◌, ◌++◌, Bool, true, false, refl, sym, ap, subst, ◌∙◌, arith, IsTrue, length, drop}
+use Rattle.std.specs.Prelude.{if◌then◌else◌, ◌&&◌, nat_le, nat_lt}
+use Rattle.std.proofs.lemmas.Bool.{le-leb, leb-true, ltb-true, eqb-true}
+use Rattle.octets.specs.declared.limits.TheConstants.{LEAVING_BODY, UNIT_MIN, UNIT_MAX, SAFE_HEADER, SAFE_FRONT_MAX}
 use Rattle.safe_pdu.specs.declared.Kind.{Kind}
 use Rattle.safe_pdu.specs.declared.Kind.TheVariants.{ConnReq, ConnResp, RetrReq, RetrResp, DiscReq, Heartbeat, Data, RetrData}
 use Rattle.safe_pdu.specs.declared.CodeRule.{CodeRule}
+use Rattle.safe_pdu.specs.declared.CodeLength.TheVariants.{Eight}
 use Rattle.safe_pdu.specs.Pdu.{Pdu}
-use Rattle.safe_pdu.specs.Bodies.{IsBody, is_body}
+use Rattle.safe_pdu.specs.Bodies.{IsBody, is_unit_sized, is_opening, window_of}
 use Rattle.safe_pdu.specs.SafeText.{SafeText, HasNumbers, safe_text}
-use Rattle.safe_machine.specs.Made.{Made, opening_body, leaving_body}
-use Rattle.safe_machine.specs.State.{State, next_made, make, unconfirmed}
-use Rattle.safe_machine.specs.Settings.{Settings, is_legal}
-use Rattle.safe_machine.specs.Moves.{HasText, HaveTexts, IsUnitSized}
+use Rattle.safe_pdu.proofs.SafeLemmas.{length-text}
+use Rattle.safe_machine.specs.Numbers.{wrap, sn_of}
+use Rattle.safe_machine.specs.Made.{Made, opening_body, leaving_body, after_pdu, run_after, run_of}
+use Rattle.safe_machine.specs.State.{State, next_made, make, pass, confirm_units, resend, reply, unconfirmed, opened, fresh}
+use Rattle.safe_machine.specs.Settings.{Settings, is_legal, in_range, are_two, is_coded}
+use Rattle.safe_machine.specs.Step.{confirm_to}
+use Rattle.safe_machine.specs.Moves.{Move, moved, move, HasText, HaveTexts, IsUnitSized, AreSoundMoves, IsSoundMove, TextsLaw}
+use Rattle.safe_machine.specs.Moves.Move.{Guards, Hears, Ticks, Sends, Leaves}
+use Rattle.safe_machine.specs.declared.ConnectionState.TheVariants.{Start, Down}
+use Rattle.safe_machine.proofs.Cases.{if_both, and-parts}
+use Rattle.safe_machine.proofs.Receiving.{opening_window}
+use Rattle.safe_machine.proofs.Kept.{Kept, AllowsMove, kept-move, is_plain}
 
+-- a 32-bit number
+small_number : (first index : ℕ) → sn_of first index < 256 ^ 4
+unfolding sn_of
+small_number first index = omega arith
+
+-- what fits its fields has a text under every rule
+text-of : (p : Pdu) → HasNumbers p → IsBody p.kind p.body → length p.body ≤ UNIT_MAX → HasText p
+text-of p numbers body small rule =
+    record { numbers = numbers; body = body; size = omega (arith, length-text p rule); spelled = refl }
+
+-- what the settings say of an end's own fields
+pub record Own (s : Settings) : Type 0 where
+  pub own : s.own < 256 ^ 4
+  pub peer : s.peer < 256 ^ 4
+  pub window : IsBody ConnReq (opening_body s.n_sendmax)
+
+pub own-legal : (s : Settings) → is_legal s ≡ true → Own s
+own-legal s e =
+    let both = and-parts (in_range s) (are_two s && is_coded s.rule.length) e in
+    let two = and-parts (are_two s) (is_coded s.rule.length) both.1 in
+    let ids = and-parts (nat_lt s.own (256 ^ 4) && nat_lt s.peer (256 ^ 4)) (if s.own == s.peer then false else true) two.0 in
+    let id = and-parts (nat_lt s.own (256 ^ 4)) (nat_lt s.peer (256 ^ 4)) ids.0 in
+    let a = nat_le 1 s.n_sendmax && nat_le s.n_sendmax 32 in
+    let b = nat_le 100 s.t_max && nat_le s.t_max 60000 in
+    let c = nat_le 10 s.t_h && nat_lt s.t_h s.t_max in
+    let d = nat_le 1 s.mwa && nat_le s.mwa 16 in
+    let l = nat_le 100 s.pdu_limit && nat_le s.pdu_limit 4294901760 in
+    let p1 = and-parts (a && b && c && d) l both.0 in
+    let p2 = and-parts (a && b && c) d p1.0 in
+    let p3 = and-parts (a && b) c p2.0 in
+    let p4 = and-parts a b p3.0 in
+    let n = and-parts (nat_le 1 s.n_sendmax) (nat_le s.n_sendmax 32) p4.0 in
+    let says : window_of (opening_body s.n_sendmax) ≡ s.n_sendmax = opening_window s.n_sendmax (leb-true s.n_sendmax 32 n.1) in
+    record {
+      own = ltb-true s.own (256 ^ 4) id.0;
+      peer = ltb-true s.peer (256 ^ 4) id.1;
+      window =
+          ap (λ (w : ℕ). nat_le 1 w && (nat_le w 32 && true)) says
+          ∙ (ap (λ (x : Bool). x && (nat_le s.n_sendmax 32 && true)) n.0 ∙ ap (λ (x : Bool). x && true) n.1);
+    }
+
+-- what is known of the PDUs made, and of what the next one will confirm
+pub record TextsOf (settings : Settings) (made : List Made) (last_sn last_ts : ℕ) : Type 0 where
+  pub own : Own settings
+  pub sn : last_sn < 256 ^ 4
+  pub ts : last_ts < 256 ^ 4
+  pub texts : HaveTexts made
+
+abbrev pub Texts : State → Type 0
+Texts s = TextsOf s.settings s.made s.last_sn s.last_ts
+
+texts-push : (ms : List Made) (m : Made) → HaveTexts ms → HasText m.pdu → HaveTexts (ms ++ m ∷ [])
+texts-push [] m h k = (k, tt)
+texts-push (a ∷ ms) m h k = (h.0, texts-push ms m h.1 k)
+
+texts-make : (kind : Kind) (body : List ℕ) (now : ℕ) (s : State) → IsBody kind body → length body ≤ UNIT_MAX → Texts s → Texts (make kind body now s)
+texts-make kind body now s fits small h =
+    let m = next_made s kind body now in
+    record {
+      own = h.own;
+      sn = h.sn;
+      ts = h.ts;
+      texts =
+          texts-push s.made m h.texts
+          (text-of m.pdu
+          (record {
+            receiver = h.own.peer;
+            sender = h.own.own;
+            sn = small_number s.first (length s.made);
+            cs = h.sn;
+            ts = omega arith;
+            cts = h.ts;
+          })
+          fits small);
+    }
+
+-- the units that PDUs with texts carry have the size of units
+abbrev AllSized : List (List ℕ) → Type 0
+AllSized [] = Unit {0}
+AllSized (u ∷ us) = IsBody Data u × AllSized us
+
+sized-push : (us : List (List ℕ)) (u : List ℕ) → AllSized us → IsBody Data u → AllSized (us ++ u ∷ [])
+sized-push [] u h k = (k, tt)
+sized-push (a ∷ us) u h k = (h.0, sized-push us u h.1 k)
+
+sized-after : (kind : Kind) (body : List ℕ) (run : List (List ℕ)) → IsBody kind body → AllSized run → AllSized (after_pdu kind body run)
+sized-after Data body run k h = sized-push run body h k
+sized-after RetrData body run k h = sized-push run body h k
+sized-after RetrResp body run k h = tt
+sized-after ConnReq body run k h = h
+sized-after ConnResp body run k h = h
+sized-after RetrReq body run k h = h
+sized-after DiscReq body run k h = h
+sized-after Heartbeat body run k h = h
+
+sized-run : (run : List (List ℕ)) (ms : List Made) → HaveTexts ms → AllSized run → AllSized (run_after run ms)
+sized-run run [] h k = k
+sized-run run (m ∷ ms) h k = sized-run (after_pdu m.pdu.kind m.pdu.body run) ms h.1 (sized-after m.pdu.kind m.pdu.body run (h.0 (record { length = Eight; initial_value = [] })).body k)
+
+texts-drop : (n : ℕ) (ms : List Made) → HaveTexts ms → HaveTexts (drop n ms)
+texts-drop zero ms h = h
+texts-drop (suc n) [] h = tt
+texts-drop (suc n) (m ∷ ms) h = texts-drop n ms h.1
+
+unit-small : (u : List ℕ) → IsBody Data u → length u ≤ UNIT_MAX
+unit-small u h = leb-true (length u) UNIT_MAX (and-parts (nat_le UNIT_MIN (length u)) (nat_le (length u) UNIT_MAX) h).1
+
+texts-resend : (us : List (List ℕ)) (now : ℕ) (s : State) → AllSized us → Texts s → Texts (resend us now s)
+texts-resend [] now s k h = h
+texts-resend (u ∷ us) now s k h = texts-resend us now (make RetrData u now s) k.1 (texts-make RetrData u now s k.0 (unit-small u k.0) h)
+
+texts-reply : (now : ℕ) (s : State) → Texts s → Texts (reply now s)
+texts-reply now s h =
+    let a = make RetrResp [] now s in
+    let us = unconfirmed s in
+    let sized : AllSized us = sized-run [] (drop (s.confirmed + 1) s.made) (texts-drop (s.confirmed + 1) s.made h.texts) tt in
+    texts-make Heartbeat [] now (resend us now a) refl (omega arith) (texts-resend us now a sized (texts-make RetrResp [] now s refl (omega arith) h))
+
+plain-small : (kind : Kind) (body : List ℕ) → is_plain kind ≡ true → IsBody kind body → length body ≤ UNIT_MAX
+plain-small Heartbeat body is fits = omega (arith, eqb-true (length body) 0 fits)
+plain-small RetrReq body is fits = omega (arith, eqb-true (length body) 0 fits)
+plain-small DiscReq body is fits = omega (arith, eqb-true (length body) LEAVING_BODY fits)
+plain-small ConnReq body is fits = cc
+plain-small ConnResp body is fits = cc
+plain-small RetrResp body is fits = cc
+plain-small Data body is fits = cc
+plain-small RetrData body is fits = cc
+
+unit-body : (unit : List ℕ) → IsUnitSized unit → IsBody Data unit
+unit-body unit sized =
+    ap (λ (x : Bool). x && nat_le (length unit) UNIT_MAX) (le-leb UNIT_MIN (length unit) sized.0) ∙ le-leb (length unit) UNIT_MAX sized.1
+
+kept-texts : Kept HasNumbers IsUnitSized Texts
+kept-texts =
+    record {
+      silent = λ s t same h.
+          record {
+            own = subst Own (sym same.0) h.own;
+            sn = subst (λ (n : ℕ). n < 256 ^ 4) (sym same.3) h.sn;
+            ts = subst (λ (n : ℕ). n < 256 ^ 4) (sym same.4) h.ts;
+            texts = subst HaveTexts (sym same.1) h.texts;
+          };
+      plain = λ kind body now s is fits h. texts-make kind body now s fits (plain-small kind body is fits) h;
+      passes = λ p d s a h. record { own = h.own; sn = a.sn; ts = a.ts; texts = h.texts };
+      confirms = λ p s fits h. h;
+      accepts = λ now s h. texts-make ConnResp (opening_body s.settings.n_sendmax) now s h.own.window (omega arith) h;
+      sends = λ unit now s a h. texts-make Data unit now s (unit-body unit a) a.1 h;
+      replies = λ now s h. texts-reply now s h;
+    }
+
+allowed : (m : Move) → IsSoundMove m → AllowsMove HasNumbers IsUnitSized m
+allowed (Guards now) h = h
+allowed (Hears p now) h = h
+allowed (Ticks now) h = h
+allowed (Sends unit now) h = h
+allowed (Leaves reason detail now) h = h
+
+texts-moved : (ms : List Move) (s : State) → AreSoundMoves ms → Texts s → Texts (moved ms s)
+texts-moved [] s a h = h
+texts-moved (m ∷ ms) s a h = texts-moved ms (move m s) a.1 (kept-move HasNumbers IsUnitSized Texts kept-texts m s (allowed m a.0) h)
+
+pub texts_law_holds : TextsLaw
+texts_law_holds settings first now ms legal sound =
+    let own = own-legal settings legal in
+    let begun : State = fresh settings first now Start in
+    let before : Texts begun = record { own = own; sn = omega arith; ts = omega arith; texts = tt } in
+    (texts-moved ms (opened settings first now) sound
+    (if_both Texts settings.client (make ConnReq (opening_body settings.n_sendmax) now begun) (fresh settings first now Down)
+    (λ _. texts-make ConnReq (opening_body settings.n_sendmax) now begun own.window (omega arith) before)
+    (λ _. record { own = own; sn = omega arith; ts = omega arith; texts = tt }))).texts

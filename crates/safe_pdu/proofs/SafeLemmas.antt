@@ -115,7 +115,7 @@ text_reads p rule octets text =
     }
 
 -- the octets of a text: how many they are, and where the code begins
-length-text : (p : Pdu) (rule : CodeRule) → length (safe_text rule p) ≡ SAFE_HEADER + length p.body + code_octets rule.length
+pub length-text : (p : Pdu) (rule : CodeRule) → length (safe_text rule p) ≡ SAFE_HEADER + length p.body + code_octets rule.length
 length-text p rule =
     let front : List ℕ = front_text rule p in
     let size : ℕ = SAFE_HEADER + length p.body + code_octets rule.length in
