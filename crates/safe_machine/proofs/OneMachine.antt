@@ -79,7 +79,7 @@ plain-resend : (us : List (List ℕ)) (now : ℕ) (s : State) → Plain s (resen
 plain-resend [] now s = plain-refl s
 plain-resend (u ∷ us) now s = plain-then s (make RetrData u now s) (resend us now (make RetrData u now s)) (plain-make RetrData u now s refl) (plain-resend us now (make RetrData u now s))
 
-plain-reply : (now : ℕ) (s : State) → Plain s (reply now s)
+pub plain-reply : (now : ℕ) (s : State) → Plain s (reply now s)
 plain-reply now s =
     let a = make RetrResp [] now s in
     let c = resend (unconfirmed s) now a in

@@ -1,6 +1,7 @@
 //! What two machines promise over every list of events.
 
 ghost use Rattle.safe_machine.specs.Law.{FreshAtLastLaw, FreshLaw, LossLaw, UnitLaw};
+ghost use Rattle.safe_machine.specs.Moves.{MovesLaw, ReachedLaw, TextsLaw};
 
 /// The laws of two machines, which do nothing when they are called: they hold of every genuine list of openings,
 /// sendings, closings, guards, ticks and arrivals of both ends, however often either is opened.
@@ -15,4 +16,16 @@ pub fn unit_law()
     // its t_max before.
     ensures fresh { FreshLaw }
     ensures fresh_at_last { FreshAtLastLaw }
+
+    // What one move of one machine does: none leads to Down, who starts a connection has heard its own identifiers, PDUs
+    // are made at the end of the list, units are sent by a sending and taken by an arrival alone, and a closed machine
+    // stays as it is.
+    ensures moves { MovesLaw }
+
+    // In every state reached from an opening the unconfirmed units are those whose carrier lies behind the last PDU
+    // confirmed, and the units sent end in them.
+    ensures reached { ReachedLaw }
+
+    // Each PDU made has a text.
+    ensures texts { TextsLaw }
 {}
