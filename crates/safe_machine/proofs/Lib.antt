@@ -26,3 +26,4 @@ pub mod Kept
 pub mod MovesLaw
 pub mod Texts
 pub mod Carriers
+pub mod Rows

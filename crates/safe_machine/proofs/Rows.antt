@@ -1,0 +1,205 @@
+-- The definitions computed on worked cases: the table, each cause of a drop, each reason of leaving.
+use Rattle.std.proofs.Common.{inl, inr, Some, ◌≡◌, ℕ, List, [], ◌∷◌, drop, true, false, refl, Ok, Err}
+use Rattle.safe_pdu.specs.declared.CodeLength.TheVariants.{Eight}
+use Rattle.safe_pdu.specs.declared.SafeFault.TheVariants.{Short}
+use Rattle.safe_pdu.specs.declared.Kind.{Kind}
+use Rattle.safe_pdu.specs.declared.Kind.TheVariants.{ConnReq, ConnResp, RetrReq, RetrResp, DiscReq, Heartbeat, Data, RetrData}
+use Rattle.safe_pdu.specs.Pdu.{Pdu, kind_number}
+use Rattle.safe_machine.specs.declared.ConnectionState.TheVariants.{Closed, Down, Start, Up, RetrReq as Requesting, RetrRun}
+use Rattle.safe_machine.specs.declared.DropCause.TheVariants.{Fault, Stranger, NotOpened, Number, Request, Answered, Below}
+use Rattle.safe_machine.specs.declared.Step.TheVariants.{Dropped, Gap, Left, Taken, Nothing as NoAnswer}
+use Rattle.safe_machine.specs.declared.Reason.TheVariants.{ClosedByUser, UnexpectedPdu, SequenceError, Timeout, ServiceNotAllowed, WrongVersion, RetransmissionImpossible, ProtocolError}
+use Rattle.safe_machine.specs.declared.Detail.TheVariants.{Unspecified, VersionDiffers, OutOfOrder, NotWellFormed, Limit, BadUnit, ConfirmedNumber, ConfirmedTimestamp}
+use Rattle.safe_machine.specs.Numbers.{sn_of, ahead}
+use Rattle.safe_machine.specs.Made.{Made, opening_body, leaving_body}
+use Rattle.safe_machine.specs.Settings.{Settings}
+use Rattle.safe_machine.specs.State.{State, opened, leave}
+use Rattle.safe_machine.specs.Decision.{Decision, decide}
+use Rattle.safe_machine.specs.Decision.Decision.{Nothing, Drops, Shuts, Leaves, Rejects, Accepts, Connects, Takes, Asks, Resumes, AnswersNext, AnswersEarly}
+use Rattle.safe_machine.specs.Step.{arrive, arrive_answer, guard, send, tick}
+use Rattle.safe_machine.specs.World.Side.{Il, Fe}
+use Rattle.safe_machine.specs.World.{Event, start, run, Genuine}
+use Rattle.safe_machine.specs.World.Event.{Open, Send, Arrive}
+use Rattle.safe_machine.specs.Octets.{heard_answer}
+
+settings : Settings
+settings = record { client = false; own = 2; peer = 1; n_sendmax = 20; t_max = 1800; t_h = 300; mwa = 10; pdu_limit = 4294901760; rule = record { length = Eight; initial_value = [] } }
+
+client_settings : Settings
+client_settings = record { client = true; own = 1; peer = 2; n_sendmax = 20; t_max = 1800; t_h = 300; mwa = 10; pdu_limit = 4294901760; rule = record { length = Eight; initial_value = [] } }
+
+-- PDUs from the interlocking (1) and from the field element (2)
+from_il : Kind → ℕ → ℕ → ℕ → List ℕ → Pdu
+from_il kind sn cs cts body = record { kind = kind; receiver = 2; sender = 1; sn = sn; cs = cs; ts = 0; cts = cts; body = body }
+
+from_fe : Kind → ℕ → ℕ → List ℕ → Pdu
+from_fe kind sn cs body = record { kind = kind; receiver = 1; sender = 2; sn = sn; cs = cs; ts = 0; cts = 0; body = body }
+
+-- a server with first number 500 in Down; that took ConnReq 100; that took HB 101 as well; that saw a gap; that got its answer
+down : State
+down = opened settings 500 0
+
+starting : State
+starting = arrive (from_il ConnReq 100 0 0 (opening_body 20)) 0 down
+
+up : State
+up = arrive (from_il Heartbeat 101 500 0 []) 0 starting
+
+requesting : State
+requesting = arrive (from_il Data 103 500 0 (7 ∷ [])) 0 up
+
+running : State
+running = arrive (from_il RetrResp 104 500 0 []) 0 requesting
+
+-- a client in Start
+client : State
+client = opened client_settings 100 0
+
+-- what is seen of PDUs: type, number, confirmed number
+seen : List Made → List (ℕ × ℕ × ℕ)
+seen [] = []
+seen (m ∷ ms) = (kind_number m.pdu.kind, m.pdu.sn, m.pdu.cs) ∷ seen ms
+
+opening_seen : (seen up.made ≡ (6201, 500, 100) ∷ []) × (up.connection ≡ Up) × (starting.connection ≡ Start) × (requesting.connection ≡ Requesting) × (running.connection ≡ RetrRun)
+unfolding seen up starting requesting running down from_il settings sn_of ahead
+opening_seen = (refl, refl, refl, refl, refl)
+
+-- A row of the table: what is decided on HB, Data, RetrData, RetrReq, RetrResp, ConnReq, ConnResp with this number.
+row : State → ℕ → List Decision
+row s sn =
+    decide s (from_il Heartbeat sn 500 0 []) 0 ∷ decide s (from_il Data sn 500 0 (7 ∷ [])) 0 ∷ decide s (from_il RetrData sn 500 0 (7 ∷ [])) 0
+    ∷ decide s (from_il RetrReq sn 500 0 []) 0 ∷ decide s (from_il RetrResp sn 500 0 []) 0
+    ∷ decide s (from_il ConnReq sn 500 0 (opening_body 20)) 0 ∷ decide s (from_il ConnResp sn 500 0 (opening_body 20)) 0 ∷ []
+
+unexpected : Decision
+unexpected = Leaves UnexpectedPdu Unspecified
+
+sequence : Decision
+sequence = Leaves SequenceError Unspecified
+
+start_rows : (row starting 101 ≡ Takes Up ∷ unexpected ∷ unexpected ∷ unexpected ∷ unexpected ∷ unexpected ∷ unexpected ∷ [])
+    × (row starting 102 ≡ sequence ∷ sequence ∷ unexpected ∷ unexpected ∷ unexpected ∷ unexpected ∷ unexpected ∷ [])
+unfolding row unexpected sequence starting down from_il settings sn_of ahead
+start_rows = (refl, refl)
+
+up_rows : (row up 102 ≡ Takes Up ∷ Takes Up ∷ unexpected ∷ AnswersNext ∷ unexpected ∷ unexpected ∷ unexpected ∷ [])
+    × (row up 103 ≡ Asks ∷ Asks ∷ unexpected ∷ AnswersEarly ∷ unexpected ∷ unexpected ∷ unexpected ∷ [])
+unfolding row unexpected up starting down from_il settings sn_of ahead
+up_rows = (refl, refl)
+
+run_rows : (row running 105 ≡ Takes Up ∷ Takes Up ∷ Takes RetrRun ∷ AnswersNext ∷ unexpected ∷ unexpected ∷ unexpected ∷ [])
+    × (row running 106 ≡ Asks ∷ Asks ∷ Asks ∷ AnswersEarly ∷ unexpected ∷ unexpected ∷ unexpected ∷ [])
+unfolding row unexpected running requesting up starting down from_il settings sn_of ahead
+run_rows = (refl, refl)
+
+request_rows : (row requesting 102 ≡ Drops Request ∷ Drops Request ∷ Drops Request ∷ AnswersEarly ∷ Resumes ∷ unexpected ∷ unexpected ∷ [])
+    × (row requesting 104 ≡ Drops Request ∷ Drops Request ∷ Drops Request ∷ AnswersEarly ∷ Resumes ∷ unexpected ∷ unexpected ∷ [])
+unfolding row unexpected requesting up starting down from_il settings sn_of ahead
+request_rows = (refl, refl)
+
+-- A DiscReq closes at any distance; in Down it is dropped.
+goodbye_seen : (decide starting (from_il DiscReq 900 1 1 []) 0 ≡ Shuts) × (decide up (from_il DiscReq 900 1 1 []) 0 ≡ Shuts)
+    × (decide requesting (from_il DiscReq 900 1 1 []) 0 ≡ Shuts) × (decide running (from_il DiscReq 900 1 1 []) 0 ≡ Shuts)
+    × (decide client (from_fe DiscReq 900 1 []) 0 ≡ Shuts) × (decide down (from_il DiscReq 100 0 0 []) 0 ≡ Drops NotOpened)
+unfolding starting up requesting running down client from_il from_fe settings client_settings sn_of ahead
+goodbye_seen = (refl, refl, refl, refl, refl, refl)
+
+-- The server in Down, and the client in Start, with the own version and with "0304".
+other_version : List ℕ
+other_version = 0x30 ∷ 0x33 ∷ 0x30 ∷ 0x34 ∷ 20 ∷ 0 ∷ 0 ∷ 0 ∷ 0 ∷ 0 ∷ 0 ∷ 0 ∷ 0 ∷ 0 ∷ []
+
+version_seen : (decide down (from_il ConnReq 100 0 0 (opening_body 20)) 0 ≡ Accepts) × (decide down (from_il ConnReq 100 0 0 other_version) 0 ≡ Rejects)
+    × (decide client (from_fe ConnResp 500 100 (opening_body 20)) 0 ≡ Connects) × (decide client (from_fe ConnResp 500 100 other_version) 0 ≡ Leaves WrongVersion Unspecified)
+    × (decide client (from_fe Heartbeat 500 100 []) 0 ≡ unexpected)
+    × (seen (arrive (from_il ConnReq 100 0 0 other_version) 0 down).made ≡ (6216, 500, 100) ∷ [])
+unfolding seen unexpected down client other_version from_il from_fe settings client_settings sn_of ahead
+version_seen = (refl, refl, refl, refl, refl, refl)
+
+-- One arrival at a server in Up: Data 302 is the last in reach, and out of turn: RetrReq 501, CS 101; Data 303 is out of reach.
+gap_seen : (seen (drop 1 (arrive (from_il Data 302 500 0 (7 ∷ [])) 0 up).made) ≡ (6212, 501, 101) ∷ [])
+    × ((arrive (from_il Data 302 500 0 (7 ∷ [])) 0 up).connection ≡ Requesting) × (arrive_answer (from_il Data 302 500 0 (7 ∷ [])) 0 up ≡ Gap)
+    × (arrive_answer (from_il Data 303 500 0 (7 ∷ [])) 0 up ≡ Dropped Number)
+unfolding seen up starting down from_il settings sn_of ahead
+gap_seen = (refl, refl, refl, refl)
+
+-- RetrData: 1; CS 501: 7, 3; CTS 1: 7, 4; at time 1800: 3, at time 1799: taken; a stranger
+one_arrival : (arrive (from_il RetrData 102 500 0 (7 ∷ [])) 0 up ≡ leave UnexpectedPdu Unspecified 0 up)
+    × (arrive (from_il Heartbeat 102 501 0 []) 0 up ≡ leave ProtocolError ConfirmedNumber 0 up)
+    × (arrive (from_il Heartbeat 102 500 1 []) 0 up ≡ leave ProtocolError ConfirmedTimestamp 0 up)
+    × (arrive (from_il Heartbeat 102 500 0 []) 1800 up ≡ leave Timeout Unspecified 1800 up)
+    × (arrive_answer (from_il Heartbeat 102 500 0 []) 1800 up ≡ Left Timeout Unspecified)
+    × (arrive_answer (from_il Heartbeat 102 500 0 []) 1799 up ≡ Taken)
+    × (arrive_answer (record { kind = Heartbeat; receiver = 2; sender = 9; sn = 102; cs = 500; ts = 0; cts = 0; body = [] }) 0 up ≡ Dropped Stranger)
+unfolding up starting down from_il settings sn_of ahead
+one_arrival = (refl, refl, refl, refl, refl, refl, refl)
+
+-- the server has sent two units, as 501 and 502
+sending : State
+sending = send (8 ∷ []) 0 (send (7 ∷ []) 0 up)
+
+after : Pdu → State
+after p = arrive p 0 sending
+
+-- A request with the next number is answered with all units again; that one again is out of reach, CS 499 is below.
+answer_seen : (seen (drop 3 (after (from_il RetrReq 102 500 0 [])).made) ≡ (6213, 503, 102) ∷ (6241, 504, 102) ∷ (6241, 505, 102) ∷ (6220, 506, 102) ∷ [])
+    × (decide (after (from_il RetrReq 102 500 0 [])) (from_il RetrReq 102 500 0 []) 0 ≡ Drops Number)
+    × (decide sending (from_il RetrReq 102 499 0 []) 0 ≡ Drops Below)
+unfolding seen sending after up starting down from_il settings sn_of ahead
+answer_seen = (refl, refl, refl)
+
+-- CS 503 confirms what was not made: reason 6, without confirming
+beyond_seen : (seen (drop 3 (after (from_il RetrReq 102 503 0 [])).made) ≡ (6216, 503, 101) ∷ [])
+    × (decide sending (from_il RetrReq 102 503 0 []) 0 ≡ Leaves RetransmissionImpossible Unspecified)
+unfolding seen sending after up starting down from_il settings sn_of ahead
+beyond_seen = (refl, refl)
+
+-- An early request is answered with the units behind its CS, and with a request of one's own; again it is dropped.
+early_seen : (seen (drop 3 (after (from_il RetrReq 105 501 0 [])).made) ≡ (6213, 503, 101) ∷ (6241, 504, 101) ∷ (6220, 505, 101) ∷ (6212, 506, 101) ∷ [])
+    × (decide (after (from_il RetrReq 105 501 0 [])) (from_il RetrReq 105 501 0 []) 0 ≡ Drops Answered)
+    × ((after (from_il RetrReq 105 501 0 [])).connection ≡ Requesting)
+unfolding seen sending after up starting down from_il settings sn_of ahead
+early_seen = (refl, refl, refl)
+
+-- A closed end answers nothing, whoever speaks to it, and octets that read as nothing meet the guard.
+closed_seen : (decide (leave ClosedByUser Unspecified 0 up) (record { kind = Heartbeat; receiver = 2; sender = 9; sn = 102; cs = 500; ts = 0; cts = 0; body = [] }) 0 ≡ Nothing)
+    × (heard_answer (Err Short) 0 (leave ClosedByUser Unspecified 0 up) ≡ NoAnswer)
+    × (heard_answer (Err Short) 0 up ≡ Dropped (Fault Short)) × (heard_answer (Err Short) 1800 up ≡ Left Timeout Unspecified)
+unfolding up starting down from_il settings sn_of ahead
+closed_seen = (refl, refl, refl, refl)
+
+-- Where as many PDUs were made as may be: reason 7, detail 1. (Here the limit is one PDU.)
+short_settings : Settings
+short_settings = record { client = false; own = 2; peer = 1; n_sendmax = 20; t_max = 1800; t_h = 300; mwa = 10; pdu_limit = 1; rule = record { length = Eight; initial_value = [] } }
+
+limit_seen : arrive_answer (from_il Heartbeat 101 500 0 []) 0 (arrive (from_il ConnReq 100 0 0 (opening_body 20)) 0 (opened short_settings 500 0)) ≡ Left ProtocolError Limit
+unfolding from_il short_settings sn_of ahead
+limit_seen = refl
+
+-- The numbers in a DiscReq: detail, then reason.
+numbers_seen : (leaving_body ClosedByUser Unspecified ≡ 0 ∷ 0 ∷ 0 ∷ 0 ∷ []) × (leaving_body ServiceNotAllowed VersionDiffers ≡ 1 ∷ 0 ∷ 4 ∷ 0 ∷ [])
+    × (leaving_body ServiceNotAllowed OutOfOrder ≡ 2 ∷ 0 ∷ 4 ∷ 0 ∷ []) × (leaving_body ServiceNotAllowed NotWellFormed ≡ 3 ∷ 0 ∷ 4 ∷ 0 ∷ [])
+    × (leaving_body ProtocolError Limit ≡ 1 ∷ 0 ∷ 7 ∷ 0 ∷ []) × (leaving_body ProtocolError BadUnit ≡ 2 ∷ 0 ∷ 7 ∷ 0 ∷ [])
+    × (leaving_body ProtocolError ConfirmedNumber ≡ 3 ∷ 0 ∷ 7 ∷ 0 ∷ []) × (leaving_body ProtocolError ConfirmedTimestamp ≡ 4 ∷ 0 ∷ 7 ∷ 0 ∷ [])
+numbers_seen = (refl, refl, refl, refl, refl, refl, refl, refl)
+
+-- A heartbeat is due 300 ms after the last sending, and none in Start.
+heartbeat_seen : (seen (tick 299 up).made ≡ (6201, 500, 100) ∷ []) × (seen (tick 300 up).made ≡ (6201, 500, 100) ∷ (6220, 501, 101) ∷ [])
+    × (seen (tick 300 starting).made ≡ (6201, 500, 100) ∷ [])
+unfolding seen up starting down from_il settings sn_of ahead
+heartbeat_seen = (refl, refl, refl)
+
+-- A genuine list of events in which a unit is taken, so that the law is not said of nothing.
+one_unit : List Event
+one_unit =
+    Open Fe settings 500 0 ∷ Open Il client_settings 100 0
+    ∷ Arrive Fe (from_il ConnReq 100 0 0 (opening_body 20)) 0 ∷ Arrive Il (from_fe ConnResp 500 100 (opening_body 20)) 0
+    ∷ Arrive Fe (from_il Heartbeat 101 500 0 []) 0 ∷ Send Il (7 ∷ []) 0 ∷ Arrive Fe (from_il Data 102 500 0 (7 ∷ [])) 0 ∷ []
+
+one_unit-genuine : Genuine one_unit start
+unfolding one_unit settings client_settings from_il from_fe sn_of ahead
+one_unit-genuine =
+    (tt, (tt, ((λ on meant. inl refl), ((λ on meant. inl refl), ((λ on meant. inr (inl refl)), (tt, ((λ on meant. inr (inr (inl refl))), tt)))))))
+
+one_unit-taken : ((run one_unit start).fe.taken ≡ (7 ∷ []) ∷ []) × ((run one_unit start).joined ≡ Some 1)
+unfolding one_unit settings client_settings from_il from_fe sn_of ahead
+one_unit-taken = (refl, refl)
