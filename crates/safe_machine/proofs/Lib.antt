@@ -20,3 +20,4 @@ pub mod Timing
 pub mod Freshness
 pub mod InOrder
 pub mod Ring
+pub mod OrderKinds
