@@ -21,3 +21,4 @@ pub mod Freshness
 pub mod InOrder
 pub mod Ring
 pub mod OrderKinds
+pub mod OrderEnds

@@ -6,7 +6,7 @@ use Rattle.safe_pdu.specs.declared.Kind.{Kind}
 use Rattle.safe_pdu.specs.declared.Kind.TheVariants.{ConnReq, ConnResp, RetrReq, RetrResp, DiscReq, Heartbeat, Data, RetrData}
 use Rattle.safe_machine.specs.Made.{Made, opening_body, units, first_sent, after_pdu, run_after, run_of}
 use Rattle.safe_machine.specs.InOrder.{AsksNothing}
-use Rattle.safe_machine.proofs.Runs.{units-append, Every, at-length}
+use Rattle.safe_machine.proofs.Runs.{units-append, Every, every-drop, every-from, at-length}
 use Rattle.safe_machine.proofs.Times.{at-append}
 
 -- a PDU of an end that is connected, or leaves
@@ -98,11 +98,6 @@ kinds-push client n ms m h k =
           subst (λ (j : ℕ). GoodAt client n j a) last (subst (λ (b : Made). GoodAt client n (length ms) b) new.1 k)
     ]
 
--- what holds at each index holds of all
-every-from : (P : Made → Type 0) (ms : List Made) → ((i : ℕ) (m : Made) (rest : List Made) → drop i ms ≡ m ∷ rest → P m) → Every P ms
-every-from P [] h = tt
-every-from P (m ∷ ms) h = (h 0 m ms refl, every-from P ms (λ i. h (suc i)))
-
 pub kinds-ordinary : (client : Bool) (n : ℕ) (ms : List Made) → Kinds client n ms → Every Ordinary ms
 kinds-ordinary client n ms h = every-from Ordinary ms (λ i m rest at. good-ordinary client n i m (h i m rest at))
 
@@ -126,11 +121,6 @@ ordinary-run run [] h = sym (append-nil run)
 ordinary-run run (m ∷ ms) h =
     let sent = first_sent m.pdu.kind m.pdu.body in
     ap (λ us. run_after us ms) (ordinary-after m.pdu.kind m.pdu.body run h.0) ∙ (ordinary-run (run ++ sent) ms h.1 ∙ append_assoc run sent (units ms))
-
-every-drop : (P : Made → Type 0) (n : ℕ) (ms : List Made) → Every P ms → Every P (drop n ms)
-every-drop P zero ms h = h
-every-drop P (suc n) [] h = tt
-every-drop P (suc n) (m ∷ ms) h = every-drop P n ms h.1
 
 -- What was taken are the units of the PDUs before the expected one.
 pub taken-so_far : (taken : List (List ℕ)) (n : ℕ) (ms : List Made) → Every Ordinary ms → taken ++ (run_of (drop n ms) ++ []) ≡ units ms → taken ≡ units (take n ms)
