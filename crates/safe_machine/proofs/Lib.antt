@@ -22,3 +22,4 @@ pub mod InOrder
 pub mod Ring
 pub mod OrderKinds
 pub mod OrderEnds
+pub mod OrderDecide
