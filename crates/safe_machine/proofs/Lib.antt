@@ -23,3 +23,4 @@ pub mod Ring
 pub mod OrderKinds
 pub mod OrderEnds
 pub mod OrderDecide
+pub mod OrderArrivals

@@ -43,7 +43,7 @@ Kinds client n ms = (i : ℕ) (m : Made) (rest : List Made) → drop i ms ≡ m 
 abbrev pub Ordinary : Made → Type 0
 Ordinary m = is_repeat m.pdu.kind ≡ false
 
-bare-plain : (kind : Kind) → is_bare kind ≡ true → is_plain kind ≡ true
+pub bare-plain : (kind : Kind) → is_bare kind ≡ true → is_plain kind ≡ true
 bare-plain Heartbeat e = refl
 bare-plain DiscReq e = refl
 bare-plain Data e = cc
