@@ -24,3 +24,4 @@ pub mod OrderKinds
 pub mod OrderEnds
 pub mod OrderDecide
 pub mod OrderArrivals
+pub mod OrderPairs
