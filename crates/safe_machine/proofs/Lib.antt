@@ -25,3 +25,5 @@ pub mod OrderEnds
 pub mod OrderDecide
 pub mod OrderArrivals
 pub mod OrderPairs
+pub mod OrderApart
+pub mod OrderLaw
