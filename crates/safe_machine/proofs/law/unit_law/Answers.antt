@@ -1,6 +1,7 @@
 use Rattle.safe_machine.proofs.Freshness.{fresh_law_holds, fresh_at_last_law_holds}
+use Rattle.safe_machine.proofs.OrderLaw.{order_law_holds}
 use Rattle.safe_machine.proofs.Worlds.{unit_law_holds, loss_law_holds}
 use Rattle.safe_machine.proofs.law.unit_law.Goals as goal
 
 pub returns : goal.returns
-returns c = record { beginnings = unit_law_holds; nothing_lost = loss_law_holds; fresh = fresh_law_holds; fresh_at_last = fresh_at_last_law_holds }
+returns c = record { beginnings = unit_law_holds; nothing_lost = loss_law_holds; fresh = fresh_law_holds; fresh_at_last = fresh_at_last_law_holds; in_order = order_law_holds }
