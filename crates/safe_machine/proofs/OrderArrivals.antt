@@ -1,19 +1,19 @@
 -- The next PDU of the peer comes in.
-use Rattle.std.proofs.Common.{◌≡◌, ◌≢◌, ◌⊎◌, inl, inr, ℕ, suc, zero, ◌+◌, ◌-◌, ◌<◌, ◌≤◌, List, [], ◌∷◌, ◌++◌, length, drop, Bool, true, false, refl, sym, ap, subst, ◌∙◌, arith, length-append}
-use Rattle.std.specs.Prelude.{if◌then◌else◌, nat_le}
+use Rattle.std.proofs.Common.{◌≡◌, ◌≢◌, inl, inr, ℕ, suc, zero, ◌+◌, ◌-◌, ◌<◌, ◌≤◌, List, [], ◌∷◌, length, drop, Bool, true, false, refl, sym, ap, subst, ◌∙◌, arith, length-append}
+use Rattle.std.specs.Prelude.{nat_le}
 use Rattle.std.proofs.lemmas.Bool.{false≢true}
 use Rattle.safe_pdu.specs.declared.Kind.TheVariants.{ConnReq, ConnResp, Heartbeat}
 use Rattle.safe_pdu.specs.Bodies.{window_of}
 use Rattle.safe_machine.specs.declared.ConnectionState.{ConnectionState}
 use Rattle.safe_machine.specs.declared.ConnectionState.TheVariants.{Closed, Down, Start, Up}
 use Rattle.safe_machine.specs.Made.{Made, opening_body, carries}
-use Rattle.safe_machine.specs.State.{State, next_made, make, move_to, pass, hand_up, cs_step}
+use Rattle.safe_machine.specs.State.{State, next_made, make, move_to, pass, hand_up}
 use Rattle.safe_machine.specs.Decision.{Decision, decide, is_stranger, cs_fits, cts_fits}
-use Rattle.safe_machine.specs.Decision.Decision.{Shuts, Accepts, Connects, Takes}
+use Rattle.safe_machine.specs.Decision.Decision.{Accepts, Connects, Takes}
 use Rattle.safe_machine.specs.Step.{is_live, beat, tests_passed, set_window, carry_out, receive}
 use Rattle.safe_machine.specs.InOrder.{client_state, server_state}
 use Rattle.safe_machine.proofs.Cases.{if_both}
-use Rattle.safe_machine.proofs.Runs.{Every, every-at, every-from}
+use Rattle.safe_machine.proofs.Runs.{every-at, every-from}
 use Rattle.safe_machine.proofs.Invariant.{needs_peer, Started, Solo, Pair, Few}
 use Rattle.safe_machine.proofs.Arrivals.{Arrival}
 use Rattle.safe_machine.proofs.Receiving.{opening_window}
@@ -21,7 +21,7 @@ use Rattle.safe_machine.proofs.Times.{Timed}
 use Rattle.safe_machine.proofs.Timing.{arrival-coming}
 use Rattle.safe_machine.proofs.InOrder.{next-distance, next-cs, next-cts}
 use Rattle.safe_machine.proofs.OrderKinds.{GoodAt, is_plain, is_bare, bare-plain, good-bare, kinds-push}
-use Rattle.safe_machine.proofs.OrderEnds.{state_of, opposite, Beyond, End, Ends, end-make, end-made, ends-make, ends-close, end-take}
+use Rattle.safe_machine.proofs.OrderEnds.{state_of, Beyond, End, Ends, end-make, end-made, ends-make, ends-close, end-take}
 use Rattle.safe_machine.proofs.OrderDecide.{Passes, ShutsOrTakes, decide-up, decide-granted, decide-connects, decide-accepts}
 
 -- what is known where the next PDU of y comes in at x, which is not closed

@@ -1,20 +1,20 @@
 -- What an end decides on the next PDU of its peer.
-use Rattle.std.proofs.Common.{◌≡◌, ◌⊎◌, inl, inr, ℕ, suc, zero, ◌+◌, ◌-◌, ◌*◌, ◌<◌, ◌≤◌, List, [], ◌∷◌, length, drop, Bool, true, false, refl, sym, ap, subst, ◌∙◌, arith}
-use Rattle.std.specs.Prelude.{if◌then◌else◌, ◌==◌, nat_le}
+use Rattle.std.proofs.Common.{◌≡◌, ◌⊎◌, inl, inr, ℕ, ◌*◌, Bool, true, false, refl, sym, ap, subst, ◌∙◌, arith}
+use Rattle.std.specs.Prelude.{if◌then◌else◌, nat_le}
 use Rattle.std.proofs.lemmas.Bool.{le-leb}
 use Rattle.safe_pdu.specs.declared.Kind.{Kind}
 use Rattle.safe_pdu.specs.declared.Kind.TheVariants.{ConnReq, ConnResp, RetrReq, RetrResp, DiscReq, Heartbeat, Data, RetrData}
 use Rattle.safe_machine.specs.declared.ConnectionState.{ConnectionState}
-use Rattle.safe_machine.specs.declared.ConnectionState.TheVariants.{Closed, Down, Start, Up}
+use Rattle.safe_machine.specs.declared.ConnectionState.TheVariants.{Down, Start, Up}
 use Rattle.safe_machine.specs.declared.DropCause.TheVariants.{Stranger, Number}
 use Rattle.safe_machine.specs.declared.Reason.TheVariants.{WrongVersion, ProtocolError}
 use Rattle.safe_machine.specs.declared.Detail.TheVariants.{Unspecified, ConfirmedNumber, ConfirmedTimestamp}
 use Rattle.safe_pdu.specs.Pdu.{Pdu}
 use Rattle.safe_machine.specs.Made.{opening_body}
 use Rattle.safe_machine.specs.State.{State}
-use Rattle.safe_machine.specs.Table.{Cell, cell}
+use Rattle.safe_machine.specs.Table.{cell}
 use Rattle.safe_machine.specs.Table.Cell.{Take}
-use Rattle.safe_machine.specs.Decision.{Decision, is_ours, is_stranger, cs_fits, cts_fits, tested, in_down, as_client, distance, by_cell, by_table, in_start, is_goodbye, by_connection, decide, is_closed}
+use Rattle.safe_machine.specs.Decision.{Decision, is_ours, is_stranger, cs_fits, cts_fits, tested, in_down, as_client, distance, by_cell, by_table, is_goodbye, by_connection, decide, is_closed}
 use Rattle.safe_machine.specs.Decision.Decision.{Nothing, Drops, Shuts, Leaves, Rejects, Accepts, Connects, Takes}
 use Rattle.safe_machine.proofs.Invariant.{needs_peer}
 use Rattle.safe_machine.proofs.OrderKinds.{is_plain, is_bare}

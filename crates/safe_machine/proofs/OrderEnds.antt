@@ -1,5 +1,5 @@
 -- What holds of an end and its peer while everything comes in order, and the moves that keep it.
-use Rattle.std.proofs.Common.{◌≡◌, ◌≢◌, ℕ, suc, zero, ◌+◌, ◌-◌, ◌≤◌, List, [], ◌∷◌, ◌++◌, length, drop, Bool, true, false, refl, sym, ap, subst, ◌∙◌, arith, length-append}
+use Rattle.std.proofs.Common.{◌≡◌, ◌≢◌, ℕ, ◌+◌, ◌-◌, ◌≤◌, List, [], ◌∷◌, length, drop, Bool, true, false, refl, sym, ◌∙◌, arith, length-append}
 use Rattle.std.proofs.lemmas.List.{drop-drop}
 use Rattle.safe_pdu.specs.declared.Kind.{Kind}
 use Rattle.safe_machine.specs.declared.ConnectionState.{ConnectionState}
@@ -8,7 +8,7 @@ use Rattle.safe_machine.specs.Made.{Made}
 use Rattle.safe_machine.specs.State.{State, next_made, make, move_to, cs_step}
 use Rattle.safe_machine.specs.Decision.{cs_fits}
 use Rattle.safe_machine.specs.InOrder.{client_state, server_state}
-use Rattle.safe_machine.proofs.Runs.{Every, every-from, every-drop_push, at-next}
+use Rattle.safe_machine.proofs.Runs.{Every, every-from, every-drop_push}
 use Rattle.safe_machine.proofs.Invariant.{needs_peer}
 use Rattle.safe_machine.proofs.Arrivals.{Arrival, arrival-index}
 use Rattle.safe_machine.proofs.Times.{Rises, behind_of}

@@ -1,10 +1,8 @@
 -- Over every list of events in which each end hears the peer's PDUs one by one in the order of their making, nothing is
 -- asked for again and everything is taken.
-use Rattle.std.proofs.Common.{◌≡◌, ◌≢◌, ◌⊎◌, inl, inr, ℕ, suc, zero, ◌+◌, ◌-◌, ◌≤◌, List, [], ◌∷◌, ◌++◌, length, take, drop, Bool, true, false, refl, sym, ap, subst, ◌∙◌, arith}
-use Rattle.std.specs.Prelude.{if◌then◌else◌}
+use Rattle.std.proofs.Common.{◌≡◌, ◌≢◌, inl, inr, ℕ, suc, zero, ◌+◌, ◌≤◌, List, [], ◌∷◌, ◌++◌, length, take, drop, Bool, true, false, refl, sym, ap, subst, ◌∙◌, arith}
 use Rattle.std.proofs.lemmas.Bool.{false≢true}
 use Rattle.safe_machine.specs.World.Side.{Il, Fe}
-use Rattle.safe_pdu.specs.declared.Kind.{Kind}
 use Rattle.safe_pdu.specs.declared.Kind.TheVariants.{ConnReq}
 use Rattle.safe_machine.specs.declared.ConnectionState.{ConnectionState}
 use Rattle.safe_machine.specs.declared.ConnectionState.TheVariants.{Closed, Down, Start, Up}
@@ -12,18 +10,18 @@ use Rattle.safe_machine.specs.Made.{Made, opening_body, units, run_of}
 use Rattle.safe_machine.specs.Settings.{Settings, is_legal}
 use Rattle.safe_machine.specs.State.{State, next_made, fresh, opened, leave}
 use Rattle.safe_machine.specs.Step.{guard, arrive, tick, send}
-use Rattle.safe_machine.specs.World.{World, Served, Event, start, run, event_end, event_time, at_end, changed, happens, GenuineEvent, Genuine, TimelyEvent, Timely, as_role, open_il, open_fe}
+use Rattle.safe_machine.specs.World.{World, Served, Event, start, run, event_end, event_time, at_end, changed, happens, GenuineEvent, Genuine, Timely, as_role, open_il, open_fe}
 use Rattle.safe_machine.specs.World.Event.{Open, Send, Close, Guard, Tick, Arrive}
 use Rattle.safe_machine.specs.InOrder.{AsksNothing, client_state, server_state, KeepsOrder, InOrderEvent, InOrder, heard_by_il, heard_by_fe, all_heard_by_il, all_heard_by_fe, OrderLaw}
 use Rattle.safe_machine.proofs.Cases.{if_both}
 use Rattle.safe_machine.proofs.Runs.{Every, every-from, every-drop_all}
 use Rattle.safe_machine.proofs.Invariant.{needs_peer, is_opening, NotOpening, Started}
 use Rattle.safe_machine.proofs.Lone.{lone-leave, lone-guard, lone-tick, lone-send, down_or}
-use Rattle.safe_machine.proofs.Status.{Mute, Quiet, Untouched, mute-leave, mute-guard, mute-tick, mute-send}
+use Rattle.safe_machine.proofs.Status.{Quiet, Untouched, mute-leave, mute-guard, mute-tick, mute-send}
 use Rattle.safe_machine.proofs.Timing.{makes-leave, makes-guard, makes-send}
 use Rattle.safe_machine.proofs.Worlds.{met-opened, solo-il, solo-untouched, mute-il}
 use Rattle.safe_machine.proofs.Freshness.{TInv, t-event, t-start, fe-past, opened-times, makes-tick}
-use Rattle.safe_machine.proofs.OrderKinds.{GoodAt, kinds-none, kinds-push, kinds-ordinary, ordinary-asks, taken-so_far}
+use Rattle.safe_machine.proofs.OrderKinds.{kinds-none, kinds-push, kinds-ordinary, ordinary-asks, taken-so_far}
 use Rattle.safe_machine.proofs.OrderEnds.{opposite, Beyond, End, Ends}
 use Rattle.safe_machine.proofs.OrderPairs.{Two, two-swap, two-later, two-send, two-leave, two-guard, two-tick, two-arrive, two-all_there}
 use Rattle.safe_machine.proofs.OrderApart.{Apart, apart-il, apart-fe, apart-silent, apart-arrive}

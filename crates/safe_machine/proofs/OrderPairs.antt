@@ -1,6 +1,6 @@
 -- Each step of an end keeps what holds of it and its peer while everything comes in order.
-use Rattle.std.proofs.Common.{◌≡◌, ◌≢◌, inl, inr, ℕ, suc, zero, ◌+◌, ◌-◌, ◌<◌, ◌≤◌, List, [], length, drop, Bool, true, false, refl, sym, ap, subst, ◌∙◌, arith}
-use Rattle.std.specs.Prelude.{if◌then◌else◌, ◌&&◌, nat_lt, nat_le}
+use Rattle.std.proofs.Common.{◌≡◌, ◌≢◌, inl, inr, ℕ, suc, zero, ◌+◌, ◌<◌, ◌≤◌, List, [], length, drop, Bool, true, false, refl, sym, ap, subst, ◌∙◌, arith}
+use Rattle.std.specs.Prelude.{◌&&◌, nat_lt, nat_le}
 use Rattle.std.proofs.lemmas.Bool.{ltb-false}
 use Rattle.safe_pdu.specs.declared.Kind.TheVariants.{DiscReq, Heartbeat, Data}
 use Rattle.safe_pdu.specs.Pdu.{Pdu}
@@ -15,11 +15,10 @@ use Rattle.safe_machine.specs.Step.{is_live, is_connected, guard, receive, arriv
 use Rattle.safe_machine.specs.World.{GenuineAt}
 use Rattle.safe_machine.specs.InOrder.{GuardHolds, NextArrival, AllThere}
 use Rattle.safe_machine.proofs.Cases.{if_both, and-parts}
-use Rattle.safe_machine.proofs.Invariant.{Started, Solo, Half, Pair}
+use Rattle.safe_machine.proofs.Invariant.{Started, Solo, Pair}
 use Rattle.safe_machine.proofs.Moves.{pair-leave, started-parts}
 use Rattle.safe_machine.proofs.Counting.{Bounded}
 use Rattle.safe_machine.proofs.Lone.{pair-guard, pair-send, pair-tick, pair-arrive, closed_or}
-use Rattle.safe_machine.proofs.Times.{Timed}
 use Rattle.safe_machine.proofs.Timing.{Makes, makes-none, makes-leave, makes-guard, makes-send, guard-passed}
 use Rattle.safe_machine.proofs.Worlds.{closed-arrive}
 use Rattle.safe_machine.proofs.Freshness.{Both, both-makes, met-arrive, makes-tick}
