@@ -27,3 +27,4 @@ pub mod OrderArrivals
 pub mod OrderPairs
 pub mod OrderApart
 pub mod OrderLaw
+pub mod OrderRow
