@@ -110,24 +110,24 @@ timed-later clock now x y h t =
     }
 
 -- one step of x, for both directions
-record Both (clock other : ℕ) (t y : State) : Type 0 where
-  receives : Timed clock t y
-  sends : Timed other y t
+pub record Both (clock other : ℕ) (t y : State) : Type 0 where
+  pub receives : Timed clock t y
+  pub sends : Timed other y t
 
 both-step : (clock other now : ℕ) (x t y : State) → clock ≤ now → Half x y → Half y x → Both clock other x y → Steps now x t y → Both now other t y
 both-step clock other now x t y later h g b s =
     record { receives = timed-receiver clock now x t y later b.receives s h.told h.within; sends = timed-sender other now x t y b.sends s g.told }
 
-both-makes : (clock other now : ℕ) (x t y : State) → clock ≤ now → Half x y → Half y x → Both clock other x y → Makes now x t → Both now other t y
+pub both-makes : (clock other now : ℕ) (x t y : State) → clock ≤ now → Half x y → Half y x → Both clock other x y → Makes now x t → Both now other t y
 both-makes clock other now x t y later h g b m =
     both-step clock other now x t y later h g b (steps-then now x x t y (steps-none clock other now x y later b.receives b.sends) m)
 
 -- An arrival that is genuine, where the two have met.
-record Arrived (clock other now : ℕ) (p : Pdu) (x t y : State) : Type 0 where
-  both : Both now other t y
-  fresh : t.taken ≢ x.taken → Fresh x p now y.made
+pub record Arrived (clock other now : ℕ) (p : Pdu) (x t y : State) : Type 0 where
+  pub both : Both now other t y
+  pub fresh : t.taken ≢ x.taken → Fresh x p now y.made
 
-met-arrive : (clock other now n : ℕ) (p : Pdu) (x y : State) → clock ≤ now → Pair x y → Solo y → Bounded x → Bounded y → x.settings.t_max ≤ 60000 → Both clock other x y →
+pub met-arrive : (clock other now n : ℕ) (p : Pdu) (x y : State) → clock ≤ now → Pair x y → Solo y → Bounded x → Bounded y → x.settings.t_max ≤ 60000 → Both clock other x y →
     GenuineAt x p (drop n y.made) → Arrived clock other now p x (arrive p now x) y
 met-arrive clock other now n p x y later h peer bounded bounded_peer short both genuine =
     let s = guard now x in
@@ -179,27 +179,27 @@ met-arrive clock other now n p x y later h peer bounded bounded_peer short both 
         ]
 
 -- The times, by the status in which the present incarnations stand.
-record ApartIl (il fe : State) (dead_fe : ℕ) : Type 0 where
+pub record ApartIl (il fe : State) (dead_fe : ℕ) : Type 0 where
   mute : Mute il
   started : fe.connection ≢ Down
   dead : Every NotOpening (drop dead_fe fe.made)
 
-record ApartFe (il fe : State) (dead_il fe_clock : ℕ) : Type 0 where
+pub record ApartFe (il fe : State) (dead_il fe_clock : ℕ) : Type 0 where
   connection : (fe.connection ≡ Down) ⊎ (fe.connection ≡ Closed)
   made : fe.made ≡ []
   dead : Every NotOpening (drop dead_il il.made)
   past : fe.confirmed_at ≤ fe_clock
 
-data TimesOf (il fe : State) (dead_il dead_fe il_clock fe_clock : ℕ) : Type 0 where
+pub data TimesOf (il fe : State) (dead_il dead_fe il_clock fe_clock : ℕ) : Type 0 where
   together : Both il_clock fe_clock il fe → TimesOf il fe dead_il dead_fe il_clock fe_clock
   apart_il : ApartIl il fe dead_fe → TimesOf il fe dead_il dead_fe il_clock fe_clock
   apart_fe : ApartFe il fe dead_il fe_clock → TimesOf il fe dead_il dead_fe il_clock fe_clock
 
-record TInv (w : World) (il_clock fe_clock : ℕ) : Type 0 where
-  inv : Inv w
-  short_il : w.il.settings.t_max ≤ 60000
-  short_fe : w.fe.settings.t_max ≤ 60000
-  times : TimesOf w.il w.fe w.dead_il w.dead_fe il_clock fe_clock
+pub record TInv (w : World) (il_clock fe_clock : ℕ) : Type 0 where
+  pub inv : Inv w
+  pub short_il : w.il.settings.t_max ≤ 60000
+  pub short_fe : w.fe.settings.t_max ≤ 60000
+  pub times : TimesOf w.il w.fe w.dead_il w.dead_fe il_clock fe_clock
 
 -- Either the two have met and keep times together, or nothing can be taken.
 data Now (w : World) (il_clock fe_clock : ℕ) : Type 0 where
@@ -283,14 +283,14 @@ legal-short s e =
     let p4 = and-parts a b p3.0 in
     leb-true s.t_max 60000 (and-parts (nat_le 100 s.t_max) (nat_le s.t_max 60000) p4.1).1
 
-no_index : {P : Type 0} (k : ℕ) (ms : List Made) (m : Made) (rest : List Made) → ms ≡ [] → drop k ms ≡ m ∷ rest → P
+pub no_index : {P : Type 0} (k : ℕ) (ms : List Made) (m : Made) (rest : List Made) → ms ≡ [] → drop k ms ≡ m ∷ rest → P
 no_index k ms m rest e at = let l = at-length k ms m rest at in absurd (omega (arith, ap length e))
 
 only_index : (k : ℕ) (m b : Made) (rb : List Made) → drop k (m ∷ []) ≡ b ∷ rb → (m ≡ b) × (k ≡ 0)
 only_index zero m b rb e = (cc, refl)
 only_index (suc k) m b rb e = no_index k [] b rb refl e
 
-opened-times : (settings : Settings) (first now cf : ℕ) (fe : State) → Untouched fe → fe.confirmed_at ≤ cf → Both now cf (opened (as_role true settings) first now) fe
+pub opened-times : (settings : Settings) (first now cf : ℕ) (fe : State) → Untouched fe → fe.confirmed_at ≤ cf → Both now cf (opened (as_role true settings) first now) fe
 opened-times settings first now cf fe k past =
     let il = opened (as_role true settings) first now in
     record {
@@ -344,7 +344,7 @@ fe-later_times il fe di df ci cf now later (together b) = together (record { rec
 fe-later_times il fe di df ci cf now later (apart_il s) = apart_il s
 fe-later_times il fe di df ci cf now later (apart_fe s) = apart_fe (record { connection = s.connection; made = s.made; dead = s.dead; past = omega (arith, s.past) })
 
-fe-past : (w : World) (ci cf : ℕ) → TInv w ci cf → w.fe.connection ≡ Down → w.fe.confirmed_at ≤ cf
+pub fe-past : (w : World) (ci cf : ℕ) → TInv w ci cf → w.fe.connection ≡ Down → w.fe.confirmed_at ≤ cf
 fe-past w ci cf h down = go (now_of w ci cf h)
   where
     go : Now w ci cf → w.fe.confirmed_at ≤ cf
@@ -389,7 +389,7 @@ t-il_lone w ci cf now t later h inv l m mute = t-il w ci cf now t h inv l.settin
 t-fe_lone : (w : World) (ci cf now : ℕ) (t : State) → cf ≤ now → TInv w ci cf → Inv (with_fe t w) → Lone w.fe t → Makes now w.fe t → TInv (with_fe t w) ci now
 t-fe_lone w ci cf now t later h inv l m = t-fe w ci cf now t h inv l.settings (fe-lone_times w ci cf now t later h l m)
 
-makes-tick : (now : ℕ) (s : State) → Makes now s (tick now s)
+pub makes-tick : (now : ℕ) (s : State) → Makes now s (tick now s)
 makes-tick now s = makes-then now s (guard now s) (tick now s) (makes-guard now s) (makes-heartbeat now (guard now s))
 
 -- Every event keeps the times, and what it takes is fresh.
@@ -431,13 +431,13 @@ t-changed w (Arrive Fe p now) ci cf h g later =
     (t-fe w ci cf now (arrive p now w.fe) h (inv-event w (Arrive Fe p now) h.inv g) (arrive-settings p now w.fe) r.0, r.1)
 
 -- the noted times are not a matter of the invariant
-t-event : (w : World) (e : Event) (ci cf : ℕ) → TInv w ci cf → GenuineEvent w e → at_end (event_end e) ci cf ≤ event_time e →
+pub t-event : (w : World) (e : Event) (ci cf : ℕ) → TInv w ci cf → GenuineEvent w e → at_end (event_end e) ci cf ≤ event_time e →
     TInv (happens w e) (at_end (event_end e) (event_time e) ci) (at_end (event_end e) cf (event_time e)) × FreshEvent w e
 t-event w e ci cf h g later =
     let r = t-changed w e ci cf h g later in
     (record { inv = r.0.inv; short_il = r.0.short_il; short_fe = r.0.short_fe; times = r.0.times }, r.1)
 
-t-start : TInv start 0 0
+pub t-start : TInv start 0 0
 t-start =
     record {
       inv = inv-start;

@@ -27,3 +27,11 @@ pub mod MovesLaw
 pub mod Texts
 pub mod Carriers
 pub mod Rows
+pub mod OrderKinds
+pub mod OrderEnds
+pub mod OrderDecide
+pub mod OrderArrivals
+pub mod OrderPairs
+pub mod OrderApart
+pub mod OrderLaw
+pub mod OrderRow

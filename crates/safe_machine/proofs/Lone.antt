@@ -186,7 +186,7 @@ guard-idle now s e =
     let inner : State = if nat_le s.settings.pdu_limit (length s.made) then leave ProtocolError Limit now s else s in
     ap (λ (b : Bool). if b then (if nat_le (s.confirmed_at + s.settings.t_max) now then leave Timeout Unspecified now s else inner) else s) e
 
-closed_or : (connection : ConnectionState) → (connection ≡ Closed) ⊎ (connection ≢ Closed)
+pub closed_or : (connection : ConnectionState) → (connection ≡ Closed) ⊎ (connection ≢ Closed)
 closed_or Closed = inl refl
 closed_or Down = inr (λ e. cc)
 closed_or Start = inr (λ e. cc)

@@ -145,6 +145,16 @@ pub every-weaken : (P Q : Made → Type 0) (ms : List Made) → ((m : Made) → 
 every-weaken P Q [] f h = tt
 every-weaken P Q (m ∷ ms) f h = (f m h.0, every-weaken P Q ms f h.1)
 
+-- what holds at each index holds of all
+pub every-from : (P : Made → Type 0) (ms : List Made) → ((i : ℕ) (m : Made) (rest : List Made) → drop i ms ≡ m ∷ rest → P m) → Every P ms
+every-from P [] h = tt
+every-from P (m ∷ ms) h = (h 0 m ms refl, every-from P ms (λ i. h (suc i)))
+
+pub every-drop : (P : Made → Type 0) (n : ℕ) (ms : List Made) → Every P ms → Every P (drop n ms)
+every-drop P zero ms h = h
+every-drop P (suc n) [] h = tt
+every-drop P (suc n) (m ∷ ms) h = every-drop P n ms h.1
+
 every-behind : (P : Made → Type 0) (a b : List Made) → Every P (a ++ b) → Every P b
 every-behind P [] b h = h
 every-behind P (x ∷ a) b h = every-behind P a b h.1

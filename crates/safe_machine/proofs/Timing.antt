@@ -227,7 +227,7 @@ steps-over clock other now i m rest x z y later h g beyond at made expected ts c
 makes-same : (now : ℕ) (s t : State) → t.made ≡ s.made → t.expected ≡ s.expected → t.last_ts ≡ s.last_ts → t.confirmed_at ≡ s.confirmed_at → Makes now s t
 makes-same now s t a b c d = record { new = []; made = a ∙ sym (append-nil s.made); fresh = tt; expected = b; last_ts = c; confirmed_at = d }
 
-arrival-coming : (d : ℕ) (m : Made) (rest : List Made) (x y : State) → Arrival d m rest x y → needs_peer m.pdu.kind ≡ 1 → Coming (x.expected + d) m rest x y
+pub arrival-coming : (d : ℕ) (m : Made) (rest : List Made) (x y : State) → Arrival d m rest x y → needs_peer m.pdu.kind ≡ 1 → Coming (x.expected + d) m rest x y
 arrival-coming d m rest x y a needs =
     let sound = every-at Sound 0 (x.expected + d) y.made m rest a.peer.sound (omega arith) a.at in
     let told = every-at (Told x.first y.expected) 0 (x.expected + d) y.made m rest a.pair.1.told (omega arith) a.at in

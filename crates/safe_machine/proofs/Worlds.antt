@@ -334,7 +334,7 @@ on-arrive p now s on =
     let g = guard now s in
     on-carry p now g (on-lone s g (lone-guard now s) on) (decide g p now) (decide-fits g p now)
 
-closed-arrive : (p : Pdu) (now : ℕ) (s : State) → s.connection ≡ Closed → arrive p now s ≡ s
+pub closed-arrive : (p : Pdu) (now : ℕ) (s : State) → s.connection ≡ Closed → arrive p now s ≡ s
 closed-arrive p now s e =
     let g = guard-idle now s (ap is_live e) in
     ap (receive p now) g ∙ receive-closed p now s e (λ t. t ≡ s) refl
@@ -466,7 +466,7 @@ bounded-fe s first now e =
       confirmed_made = λ live. absurd (false≢true live);
     }
 
-solo-il : (s : Settings) (first now : ℕ) → is_legal s ≡ true → Solo (opened (as_role true s) first now)
+pub solo-il : (s : Settings) (first now : ℕ) → is_legal s ≡ true → Solo (opened (as_role true s) first now)
 solo-il s first now e =
     record {
       numbered = (refl, tt);
@@ -478,7 +478,7 @@ solo-il s first now e =
 pub mute-il : (s : Settings) (first now : ℕ) → Mute (opened (as_role true s) first now)
 mute-il s first now = record { client = refl; connection = inl refl; taken = refl; quiet = (refl, tt) }
 
-solo-untouched : (s : State) → s.connection ≡ Down → Untouched s → Solo s
+pub solo-untouched : (s : State) → s.connection ≡ Down → Untouched s → Solo s
 solo-untouched s down k =
     record {
       numbered = subst (λ ms. Numbered s.first 0 ms) (sym k.made) tt;
@@ -488,7 +488,7 @@ solo-untouched s down k =
     }
 
 -- the interlocking, opened while the field element is in Down
-met-opened : (settings : Settings) (first now : ℕ) (fe : State) → fe.connection ≡ Down → Untouched fe →
+pub met-opened : (settings : Settings) (first now : ℕ) (fe : State) → fe.connection ≡ Down → Untouched fe →
     let il = opened (as_role true settings) first now in Half il fe × Half fe il
 met-opened settings first now fe down k =
     let il = opened (as_role true settings) first now in

@@ -1,6 +1,5 @@
 -- Two machines to which the peer's PDUs come one by one in the order of their making.
-use Rattle.std.specs.Prelude.{ℕ, zero, suc, ◌+◌, ◌≡◌, ◌≢◌, ◌≤◌, Bool, false, List, [], ◌∷◌, length, drop, take}
-use Rattle.safe_pdu.specs.declared.Kind.{Kind}
+use Rattle.std.specs.Prelude.{ℕ, zero, suc, ◌+◌, ◌≡◌, ◌≢◌, ◌≤◌, false, List, [], ◌∷◌, length, drop, take}
 use Rattle.safe_pdu.specs.declared.Kind.TheVariants.{RetrReq}
 use Rattle.safe_pdu.specs.Pdu.{Pdu}
 use Rattle.safe_machine.specs.declared.ConnectionState.{ConnectionState}
@@ -11,7 +10,7 @@ use Rattle.safe_machine.specs.Decision.{is_stranger}
 use Rattle.safe_machine.specs.Step.{guard, may_send}
 use Rattle.safe_machine.specs.World.{World, Event, start, happens, run, Genuine, Timely}
 use Rattle.safe_machine.specs.World.Side.{Il, Fe}
-use Rattle.safe_machine.specs.World.Event.{Open, Send, Close, Guard, Tick, Arrive}
+use Rattle.safe_machine.specs.World.Event.{Open, Guard, Tick, Arrive}
 
 -- no guard finds its time passed or its limit reached
 abbrev pub GuardHolds : State → ℕ → Type 0

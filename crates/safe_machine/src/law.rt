@@ -1,5 +1,6 @@
 //! What two machines promise over every list of events.
 
+ghost use Rattle.safe_machine.specs.InOrder.{OrderLaw};
 ghost use Rattle.safe_machine.specs.Law.{FreshAtLastLaw, FreshLaw, LossLaw, UnitLaw};
 ghost use Rattle.safe_machine.specs.Moves.{MovesLaw, ReachedLaw, TextsLaw};
 
@@ -28,4 +29,10 @@ pub fn unit_law()
 
     // Each PDU made has a text.
     ensures texts { TextsLaw }
+
+    // Where moreover each end is opened once at most, no guard leaves, and each end hears the peer's PDUs one by one in
+    // the order of their making, no retransmission is asked for, an end that is not closed has the state that its
+    // arrivals make and has taken exactly the units that came, and with all arrived both are up, have taken all, and
+    // are kept from sending by a full window alone.
+    ensures in_order { OrderLaw }
 {}

@@ -1,4 +1,5 @@
 use Rattle.safe_machine.proofs.Freshness.{fresh_law_holds, fresh_at_last_law_holds}
+use Rattle.safe_machine.proofs.OrderLaw.{order_law_holds}
 use Rattle.safe_machine.proofs.Worlds.{unit_law_holds, loss_law_holds}
 use Rattle.safe_machine.proofs.MovesLaw.{moves_law_holds}
 use Rattle.safe_machine.proofs.Carriers.{reached_law_holds}
@@ -14,4 +15,5 @@ returns c = record {
   moves = moves_law_holds;
   reached = reached_law_holds;
   texts = texts_law_holds;
+  in_order = order_law_holds;
 }
