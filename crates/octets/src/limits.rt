@@ -1,5 +1,5 @@
-//! The sizes that the profile fixes, in octets unless a name says otherwise. Code and definitions
-//! both read them here, so a limit is changed in one line.
+//! The sizes and counts that the profile fixes, in octets unless a line says otherwise. Code and
+//! definitions both read them here, so a limit is changed in one line.
 
 /// The header of a redundancy PDU: length (2), reserve (2), sequence number (4).
 pub const RED_HEADER: usize = 8;
@@ -14,6 +14,12 @@ pub const CODE_MAX: usize = 16;
 /// The protocol type (1), the message type (2) and the two names (20 each) of a telegram, so the
 /// shortest message: a telegram with no payload.
 pub const MESSAGE_MIN: usize = 43;
+
+/// How many octets a name has in a telegram, its filling included.
+pub const NAME_LENGTH: usize = 20;
+
+/// The octet that a name is filled up with. No name contains it.
+pub const FILLING: u8 = 0x5f;
 
 /// The longest payload of a telegram.
 pub const PAYLOAD_MAX: usize = 357;
@@ -41,6 +47,15 @@ pub const LEAVING_BODY: usize = 4;
 
 /// The greatest N_sendmax: how many units may be unconfirmed at most.
 pub const WINDOW_MAX: usize = 32;
+
+/// How many messages wait to be sent at most.
+pub const WAITING_MAX: usize = 64;
+
+/// How many early parts a deferral queue may hold at most.
+pub const Q_MAX: usize = 8;
+
+/// The longest time for which an early part may wait, in milliseconds.
+pub const T_SEQ_MAX: u64 = 1_000;
 
 /// The longest safety PDU without its code: the header and a longest unit.
 pub const SAFE_FRONT_MAX: usize = SAFE_HEADER + UNIT_MAX;

@@ -11,11 +11,9 @@ use octets::limits::{UNIT_MAX, UNIT_MESSAGES};
 mod unit;
 mod waiting;
 
+pub use octets::limits::WAITING_MAX;
 pub use unit::{one_spelling, unpack};
 pub use waiting::{Waiting, pack, read_back};
-
-/// How many messages wait at most.
-pub const WAITING_MAX: usize = 64;
 
 /// The octets of a unit, in storage of the longest one.
 pub type Unit = ArrayVec<u8, UNIT_MAX>;

@@ -24,7 +24,7 @@ pub struct Waiting<A: Allocator = Global> {
 impl<A: Allocator> Model for Waiting<A> {
     ghost use Rattle.std.specs.Prelude.{◌≡◌, ℕ, List, map};
     ghost use Rattle.packing.specs.UnitText.{AreMessages};
-    ghost use Rattle.packing.specs.declared.TheConstants.{WAITING_MAX};
+    ghost use Rattle.octets.specs.declared.limits.TheConstants.{WAITING_MAX};
 
     ghost Value = { List (List ℕ) };
 

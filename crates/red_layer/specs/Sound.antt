@@ -2,7 +2,7 @@
 use Rattle.std.specs.Prelude.{◌≡◌, ℕ, ◌+◌, ◌^◌, ◌≤◌, List, length}
 use Rattle.deferral.specs.FiniteMap.{Rises}
 use Rattle.red_layer.specs.Parts.{IsBelow}
-use Rattle.red_layer.specs.declared.TheConstants.{Q_MAX, T_SEQ_MAX}
+use Rattle.octets.specs.declared.limits.TheConstants.{Q_MAX, T_SEQ_MAX}
 
 pub record IsSound {T : Type 0} (q room t_seq expected since : ℕ) (waiting : List (ℕ × T)) : Type 0 where
   pub rises : Rises (expected + 1) waiting

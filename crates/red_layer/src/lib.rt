@@ -22,12 +22,7 @@ mod law;
 mod tests;
 
 pub use law::order_law;
-
-/// The most places that a deferral queue may have.
-pub const Q_MAX: usize = 8;
-
-/// The longest time for which an early part may wait, in milliseconds.
-pub const T_SEQ_MAX: u64 = 1_000;
+pub use octets::limits::{Q_MAX, T_SEQ_MAX};
 
 /// An upper part that waits, at most 1,250 octets.
 type Kept = ArrayVec<u8, SAFE_PDU_MAX>;

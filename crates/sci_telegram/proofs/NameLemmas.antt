@@ -12,7 +12,7 @@ use Rattle.std.specs.List.{list_all}
 use Rattle.std.specs.Str.{IsAscii, IsUtf8}
 use Rattle.sci_telegram.specs.declared.NameFault.{NameFault}
 use Rattle.sci_telegram.specs.declared.NameFault.TheVariants.{Empty, Long, Character}
-use Rattle.sci_telegram.specs.declared.TheConstants.{NAME_LENGTH, FILLING}
+use Rattle.octets.specs.declared.limits.TheConstants.{NAME_LENGTH, FILLING}
 use Rattle.sci_telegram.specs.Names.{HasCharacters, IsName, filled, is_character, name_read}
 use Rattle.sci_telegram.specs.Places.{HoldsNoName, name_at, name_seen, name_size}
 

@@ -6,8 +6,8 @@ use Rattle.std.proofs.lemmas.Bool.{le-ltb}
 use Rattle.std.proofs.lemmas.List.{length-take, length-append, length-drop, length-replicate, drop-drop, take-append-drop}
 use Rattle.byteorder.specs.Endian.{little_number}
 use Rattle.octets.proofs.Fields.{AreOctets, Splits, Splits-then, field_at, field_below, field_reads}
-use Rattle.octets.specs.declared.limits.TheConstants.{MESSAGE_MIN, MESSAGE_MAX}
-use Rattle.sci_telegram.specs.declared.TheConstants.{NAME_LENGTH, FILLING, KIND, RECEIVER, SENDER}
+use Rattle.octets.specs.declared.limits.TheConstants.{MESSAGE_MIN, MESSAGE_MAX, NAME_LENGTH, FILLING}
+use Rattle.sci_telegram.specs.declared.TheConstants.{KIND, RECEIVER, SENDER}
 use Rattle.sci_telegram.specs.Names.{IsName, filled}
 use Rattle.sci_telegram.specs.Places.{IsSized, name_seen, receiver_field, sender_field, tele_seen}
 use Rattle.sci_telegram.specs.Tele.{Tele}

@@ -1,7 +1,7 @@
 -- Names of a telegram (session layer; the characters and the filling are the profile's, docs/PROFILE.md).
 use Rattle.std.specs.Prelude.{◌≡◌, ◌==◌, ◌<◌, ◌≤◌, ℕ, ◌-◌, Bool, true, ◌&&◌, not, nat_lt, nat_le, if◌then◌else◌, List, ◌++◌, length, replicate, Result, Ok, Err}
 use Rattle.std.specs.List.{list_all}
-use Rattle.sci_telegram.specs.declared.TheConstants.{NAME_LENGTH, FILLING}
+use Rattle.octets.specs.declared.limits.TheConstants.{NAME_LENGTH, FILLING}
 use Rattle.sci_telegram.specs.declared.NameFault.{NameFault}
 use Rattle.sci_telegram.specs.declared.NameFault.TheVariants.{Empty, Long, Character}
 

@@ -4,8 +4,8 @@ use Rattle.std.specs.List.{list_all, position_or_len}
 use Rattle.std.specs.Option.{option_map}
 use Rattle.std.specs.Result.{result_ok}
 use Rattle.byteorder.specs.Endian.{little_number}
-use Rattle.octets.specs.declared.limits.TheConstants.{MESSAGE_MIN, MESSAGE_MAX}
-use Rattle.sci_telegram.specs.declared.TheConstants.{NAME_LENGTH, FILLING, KIND, SENDER, RECEIVER}
+use Rattle.octets.specs.declared.limits.TheConstants.{MESSAGE_MIN, MESSAGE_MAX, NAME_LENGTH, FILLING}
+use Rattle.sci_telegram.specs.declared.TheConstants.{KIND, SENDER, RECEIVER}
 use Rattle.sci_telegram.specs.declared.Name.{Name}
 use Rattle.sci_telegram.specs.declared.TeleFault.{TeleFault}
 use Rattle.sci_telegram.specs.declared.TeleFault.TheVariants as fault

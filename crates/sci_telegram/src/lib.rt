@@ -14,12 +14,7 @@ mod codec;
 mod names;
 
 pub use codec::{decode, encode, one_spelling, read_back};
-
-/// How many octets a name has in a telegram, its filling included.
-pub const NAME_LENGTH: usize = 20;
-
-/// The octet that a name is filled up with. No name contains it.
-pub const FILLING: u8 = 0x5f;
+pub use octets::limits::{FILLING, NAME_LENGTH};
 
 /// Where the message type stands, behind the protocol type.
 const KIND: usize = 1;

@@ -1,0 +1,30 @@
+//! The units that were sent and are not confirmed yet, each with the number of the PDU that carried
+//! it last.
+//!
+//! The sending side of the safety and retransmission layer of DIN VDE V 0831-200:2015. Numbers are
+//! kept without wrap; a PDU carries the low 32 bits of one, and `true_number` reads them again.
+#![tactic(auto)]
+
+use arrayvec::ArrayVec;
+use octets::limits::UNIT_MAX;
+
+mod numbers;
+mod unconfirmed;
+
+pub use numbers::{numbers_law, true_number};
+pub use unconfirmed::Unconfirmed;
+
+/// The octets of a unit, in storage of the longest one (1,206 octets).
+pub type Unit = ArrayVec<u8, UNIT_MAX>;
+
+/// A unit, with the number of the PDU that carried it last.
+#[derive(Drop)]
+pub struct NumberedUnit {
+    /// The number of the PDU, without wrap.
+    pub number: u64,
+    /// The octets of the unit.
+    pub unit: Unit,
+}
+
+#[cfg(test)]
+mod tests;
