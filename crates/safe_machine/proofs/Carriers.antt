@@ -14,13 +14,14 @@ use Rattle.safe_machine.specs.Settings.{Settings}
 use Rattle.safe_machine.specs.State.{State, next_made, make, pass, confirm_units, cs_step, resend, reply, unconfirmed, opened, fresh}
 use Rattle.safe_machine.specs.Decision.{cs_fits}
 use Rattle.safe_machine.specs.Step.{confirm_to}
-use Rattle.safe_machine.specs.Ring.{Carried, after_at, carried_at, ring_of, above, renumbered, units_of, is_resent, resent, carried_again, after_carrier, carriers_from, carriers}
+use Rattle.retrans.specs.Units.{Numbered, above, renumbered, octets_of}
+use Rattle.safe_machine.specs.Ring.{after_at, carried_at, ring_of, is_resent, resent, carried_again, after_carrier, carriers_from, carriers}
 use Rattle.safe_machine.specs.Moves.{Move, moved, move, ReachedState, ReachedLaw}
 use Rattle.safe_machine.specs.Moves.Move.{Guards, Hears, Ticks, Sends, Leaves}
 use Rattle.safe_machine.proofs.Cases.{if_both}
 use Rattle.safe_machine.proofs.Runs.{units-append}
 use Rattle.safe_machine.proofs.OneMachine.{plain-reply}
-use Rattle.safe_machine.proofs.Ring.{units_of-append, carried_at-append, above-append, above-one, carried_at-above, ring_of-units, ring-confirm, ring-resend}
+use Rattle.safe_machine.proofs.Ring.{octets_of-append, carried_at-append, above-append, above-one, carried_at-above, ring_of-units, ring-confirm, ring-resend}
 use Rattle.safe_machine.proofs.Kept.{Kept, AllowsMove, kept-move, is_plain}
 
 -- Carriers of a list that grows. A RetrData at its front would be counted with a RetrResp before it.
@@ -33,36 +34,36 @@ resent-append [] [] h = refl
 resent-append [] (m ∷ ms) h = ap (λ (t : Bool). if t then suc (resent ms) else 0) h
 resent-append (m ∷ a) b h = ap (λ (n : ℕ). if is_resent m.pdu.kind then suc n else 0) (resent-append a b h)
 
-carriers-append : (index : ℕ) (cs : List Carried) (a b : List Made) → Begins b →
+carriers-append : (index : ℕ) (cs : List Numbered) (a b : List Made) → Begins b →
     carriers_from index cs (a ++ b) ≡ carriers_from (index + length a) (carriers_from index cs a) b
 carriers-append index cs [] b h = ap (λ (n : ℕ). carriers_from n cs b) (omega arith)
 carriers-append index cs (m ∷ a) b h =
-    let next : ℕ → List Carried = λ n. after_carrier m.pdu.kind m.pdu.body index n cs in
+    let next : ℕ → List Numbered = λ n. after_carrier m.pdu.kind m.pdu.body index n cs in
     ap (λ (n : ℕ). carriers_from (index + 1) (next n) (a ++ b)) (resent-append a b h)
     ∙ (carriers-append (index + 1) (next (resent a)) a b h
     ∙ ap (λ (n : ℕ). carriers_from n (carriers_from (index + 1) (next (resent a)) a) b) (omega arith))
 
-abbrev Ring : ℕ → List Made → List Carried
+abbrev Ring : ℕ → List Made → List Numbered
 Ring confirmed made = carried_at (confirmed + 1) [] (drop (confirmed + 1) made)
 
 -- Indices rise from the first bound on and stay below the second.
-abbrev Rises : ℕ → ℕ → List Carried → Type 0
+abbrev Rises : ℕ → ℕ → List Numbered → Type 0
 Rises low high [] = low ≤ high
-Rises low high (c ∷ cs) = (low ≤ c.index) × Rises (c.index + 1) high cs
+Rises low high (c ∷ cs) = (low ≤ c.number) × Rises (c.number + 1) high cs
 
-rises-bounds : (low high : ℕ) (cs : List Carried) → Rises low high cs → low ≤ high
+rises-bounds : (low high : ℕ) (cs : List Numbered) → Rises low high cs → low ≤ high
 rises-bounds low high [] h = h
-rises-bounds low high (c ∷ cs) h = omega (arith, h.0, rises-bounds (c.index + 1) high cs h.1)
+rises-bounds low high (c ∷ cs) h = omega (arith, h.0, rises-bounds (c.number + 1) high cs h.1)
 
-rises-weaken : (low high : ℕ) (cs : List Carried) → Rises low high cs → Rises low (high + 1) cs
+rises-weaken : (low high : ℕ) (cs : List Numbered) → Rises low high cs → Rises low (high + 1) cs
 rises-weaken low high [] h = omega (arith, h)
-rises-weaken low high (c ∷ cs) h = (h.0, rises-weaken (c.index + 1) high cs h.1)
+rises-weaken low high (c ∷ cs) h = (h.0, rises-weaken (c.number + 1) high cs h.1)
 
-rises-push : (low high : ℕ) (unit : List ℕ) (cs : List Carried) → Rises low high cs → Rises low (high + 1) (cs ++ record { index = high; unit = unit } ∷ [])
+rises-push : (low high : ℕ) (unit : List ℕ) (cs : List Numbered) → Rises low high cs → Rises low (high + 1) (cs ++ record { number = high; octets = unit } ∷ [])
 rises-push low high unit [] h = (h, omega arith)
-rises-push low high unit (c ∷ cs) h = (h.0, rises-push (c.index + 1) high unit cs h.1)
+rises-push low high unit (c ∷ cs) h = (h.0, rises-push (c.number + 1) high unit cs h.1)
 
-rises-after : (low high : ℕ) (kind : Kind) (body : List ℕ) (cs : List Carried) → Rises low high cs → Rises low (high + 1) (after_at kind body high cs)
+rises-after : (low high : ℕ) (kind : Kind) (body : List ℕ) (cs : List Numbered) → Rises low high cs → Rises low (high + 1) (after_at kind body high cs)
 rises-after low high Data body cs h = rises-push low high body cs h
 rises-after low high RetrData body cs h = rises-push low high body cs h
 rises-after low high RetrResp body cs h = omega (arith, rises-bounds low high cs h)
@@ -72,32 +73,32 @@ rises-after low high RetrReq body cs h = rises-weaken low high cs h
 rises-after low high DiscReq body cs h = rises-weaken low high cs h
 rises-after low high Heartbeat body cs h = rises-weaken low high cs h
 
-rises-carried : (low high : ℕ) (cs : List Carried) (ms : List Made) → Rises low high cs → Rises low (high + length ms) (carried_at high cs ms)
+rises-carried : (low high : ℕ) (cs : List Numbered) (ms : List Made) → Rises low high cs → Rises low (high + length ms) (carried_at high cs ms)
 rises-carried low high cs [] h = subst (λ (n : ℕ). Rises low n cs) (omega arith) h
 rises-carried low high cs (m ∷ ms) h =
     let next = after_at m.pdu.kind m.pdu.body high cs in
     subst (λ (n : ℕ). Rises low n (carried_at (high + 1) next ms)) (omega arith) (rises-carried low (high + 1) next ms (rises-after low high m.pdu.kind m.pdu.body cs h))
 
-all-above : (b low high : ℕ) (cs : List Carried) → Rises low high cs → b < low → above b cs ≡ cs
+all-above : (b low high : ℕ) (cs : List Numbered) → Rises low high cs → b < low → above b cs ≡ cs
 all-above b low high [] h less = refl
 all-above b low high (c ∷ cs) h less =
-    ap (λ (t : Bool). if t then c ∷ above b cs else above b cs) (lt-ltb b c.index (omega (arith, h.0)))
-    ∙ ap (λ xs. c ∷ xs) (all-above b (c.index + 1) high cs h.1 (omega (arith, h.0)))
+    ap (λ (t : Bool). if t then c ∷ above b cs else above b cs) (lt-ltb b c.number (omega (arith, h.0)))
+    ∙ ap (λ xs. c ∷ xs) (all-above b (c.number + 1) high cs h.1 (omega (arith, h.0)))
 
 -- What is above an index stands behind what is not.
-record Split (b : ℕ) (cs : List Carried) : Type 0 where
-  low : List Carried
+record Split (b : ℕ) (cs : List Numbered) : Type 0 where
+  low : List Numbered
   is : cs ≡ low ++ above b cs
   none : above b low ≡ []
 
-split-at : (b low high : ℕ) (cs : List Carried) → Rises low high cs → Split b cs
+split-at : (b low high : ℕ) (cs : List Numbered) → Rises low high cs → Split b cs
 split-at b low high [] h = record { low = []; is = refl; none = refl }
-split-at b low high (c ∷ cs) h = go (nat_lt b c.index) refl (split-at b (c.index + 1) high cs h.1)
+split-at b low high (c ∷ cs) h = go (nat_lt b c.number) refl (split-at b (c.number + 1) high cs h.1)
   where
-    go : (t : Bool) → nat_lt b c.index ≡ t → Split b cs → Split b (c ∷ cs)
+    go : (t : Bool) → nat_lt b c.number ≡ t → Split b cs → Split b (c ∷ cs)
     go true e s =
-        let less : b < c.index = ltb-true b c.index e in
-        let all : above b (c ∷ cs) ≡ c ∷ cs = all-above b c.index high (c ∷ cs) (omega arith, h.1) less in
+        let less : b < c.number = ltb-true b c.number e in
+        let all : above b (c ∷ cs) ≡ c ∷ cs = all-above b c.number high (c ∷ cs) (omega arith, h.1) less in
         record { low = []; is = sym all; none = refl }
     go false e s =
         let one : above b (c ∷ cs) ≡ above b cs = ap (λ (t : Bool). if t then c ∷ above b cs else above b cs) e in
@@ -108,24 +109,24 @@ split-at b low high (c ∷ cs) h = go (nat_lt b c.index) refl (split-at b (c.ind
         }
 
 -- what is not above an index is not above a greater one
-above-less : (a b : ℕ) (cs : List Carried) → a ≤ b → above a cs ≡ [] → above b cs ≡ []
+above-less : (a b : ℕ) (cs : List Numbered) → a ≤ b → above a cs ≡ [] → above b cs ≡ []
 above-less a b [] h e = refl
-above-less a b (c ∷ cs) h e = go (nat_lt a c.index) refl e (λ none. above-less a b cs h none)
+above-less a b (c ∷ cs) h e = go (nat_lt a c.number) refl e (λ none. above-less a b cs h none)
   where
-    go : (t : Bool) → nat_lt a c.index ≡ t → (if t then c ∷ above a cs else above a cs) ≡ [] → (above a cs ≡ [] → above b cs ≡ []) → above b (c ∷ cs) ≡ []
+    go : (t : Bool) → nat_lt a c.number ≡ t → (if t then c ∷ above a cs else above a cs) ≡ [] → (above a cs ≡ [] → above b cs ≡ []) → above b (c ∷ cs) ≡ []
     go true is e f = cc
     go false is e f = ap (λ (t : Bool). if t then c ∷ above b cs else above b cs) not_above ∙ f e
       where
-        not_above : nat_lt b c.index ≡ false
+        not_above : nat_lt b c.number ≡ false
         not_above = grind (arith, nat_tests)
 
 -- What is known of the carriers: those of the confirmed units, then the ring.
 record CarriersOf (made : List Made) (confirmed : ℕ) : Type 0 where
-  front : List Carried
+  front : List Numbered
   is : carriers made ≡ front ++ Ring confirmed made
   none : above confirmed front ≡ []
   placed : (confirmed < length made) ⊎ ((made ≡ []) × (confirmed ≡ 0))
-  all : units_of (carriers made) ≡ units made
+  all : octets_of (carriers made) ≡ units made
 
 abbrev Carriers : State → Type 0
 Carriers s = CarriersOf s.made s.confirmed
@@ -147,7 +148,7 @@ new-begins Heartbeat h = refl
 new-begins Data h = refl
 
 -- what a new PDU carries
-new-carrier : (kind : Kind) (body : List ℕ) (index n : ℕ) (cs : List Carried) → is_new kind ≡ true → after_carrier kind body index n cs ≡ cs ++ after_at kind body index []
+new-carrier : (kind : Kind) (body : List ℕ) (index n : ℕ) (cs : List Numbered) → is_new kind ≡ true → after_carrier kind body index n cs ≡ cs ++ after_at kind body index []
 new-carrier RetrData body index n cs h = cc
 new-carrier RetrResp body index n cs h = cc
 new-carrier Data body index n cs h = refl
@@ -157,7 +158,7 @@ new-carrier RetrReq body index n cs h = sym (append-nil cs)
 new-carrier DiscReq body index n cs h = sym (append-nil cs)
 new-carrier Heartbeat body index n cs h = sym (append-nil cs)
 
-new-ring : (kind : Kind) (body : List ℕ) (index : ℕ) (cs : List Carried) → is_new kind ≡ true → after_at kind body index cs ≡ cs ++ after_at kind body index []
+new-ring : (kind : Kind) (body : List ℕ) (index : ℕ) (cs : List Numbered) → is_new kind ≡ true → after_at kind body index cs ≡ cs ++ after_at kind body index []
 new-ring RetrData body index cs h = cc
 new-ring RetrResp body index cs h = cc
 new-ring Data body index cs h = refl
@@ -167,7 +168,7 @@ new-ring RetrReq body index cs h = sym (append-nil cs)
 new-ring DiscReq body index cs h = sym (append-nil cs)
 new-ring Heartbeat body index cs h = sym (append-nil cs)
 
-new-units : (kind : Kind) (body : List ℕ) (index : ℕ) → is_new kind ≡ true → units_of (after_at kind body index []) ≡ first_sent kind body
+new-units : (kind : Kind) (body : List ℕ) (index : ℕ) → is_new kind ≡ true → octets_of (after_at kind body index []) ≡ first_sent kind body
 new-units RetrData body index h = cc
 new-units RetrResp body index h = cc
 new-units Data body index h = refl
@@ -205,10 +206,10 @@ carriers-push made m new =
 push : (made : List Made) (confirmed : ℕ) (m : Made) → is_new m.pdu.kind ≡ true → CarriersOf made confirmed → CarriersOf (made ++ m ∷ []) confirmed
 push made confirmed m new h =
     let add = after_at m.pdu.kind m.pdu.body (length made) [] in
-    let all : units_of (carriers (made ++ m ∷ [])) ≡ units (made ++ m ∷ []) =
-    ap units_of (carriers-push made m new)
-    ∙ (units_of-append (carriers made) add
-    ∙ (ap (λ us. us ++ units_of add) h.all
+    let all : octets_of (carriers (made ++ m ∷ [])) ≡ units (made ++ m ∷ []) =
+    ap octets_of (carriers-push made m new)
+    ∙ (octets_of-append (carriers made) add
+    ∙ (ap (λ us. us ++ octets_of add) h.all
     ∙ (ap (λ us. units made ++ us) (new-units m.pdu.kind m.pdu.body (length made) new ∙ sym (append-nil (first_sent m.pdu.kind m.pdu.body)))
     ∙ sym (units-append made (m ∷ []))))) in
     elim h.placed [
@@ -231,7 +232,7 @@ push made confirmed m new h =
             is = carriers-push [] m new ∙ sym (append-nil (after_at m.pdu.kind m.pdu.body 0 []));
             none = new-first m.pdu.kind m.pdu.body;
             placed = inl (omega arith);
-            all = subst (λ ms. units_of (carriers (ms ++ m ∷ [])) ≡ units (ms ++ m ∷ [])) empty.0 all;
+            all = subst (λ ms. octets_of (carriers (ms ++ m ∷ [])) ≡ units (ms ++ m ∷ [])) empty.0 all;
           }))
     ]
 
@@ -265,37 +266,37 @@ unfolding datas
 resent-datas [] now s m h = ap (λ (t : Bool). if t then 1 else 0) h
 resent-datas (u ∷ us) now s m h = ap suc (resent-datas us now (make RetrData u now s) m h)
 
-carriers-datas : (us : List (List ℕ)) (now index : ℕ) (s : State) (cs : List Carried) (m : Made) → m.pdu.kind ≡ Heartbeat → carriers_from index cs (datas us now s ++ m ∷ []) ≡ cs
+carriers-datas : (us : List (List ℕ)) (now index : ℕ) (s : State) (cs : List Numbered) (m : Made) → m.pdu.kind ≡ Heartbeat → carriers_from index cs (datas us now s ++ m ∷ []) ≡ cs
 unfolding datas
 carriers-datas [] now index s cs m h = ap (λ kind. after_carrier kind m.pdu.body index 0 cs) h
 carriers-datas (u ∷ us) now index s cs m h = carriers-datas us now (index + 1) (make RetrData u now s) cs m h
 
-length-units_of : (cs : List Carried) → length (units_of cs) ≡ length cs
-length-units_of [] = refl
-length-units_of (c ∷ cs) = ap suc (length-units_of cs)
+length-octets_of : (cs : List Numbered) → length (octets_of cs) ≡ length cs
+length-octets_of [] = refl
+length-octets_of (c ∷ cs) = ap suc (length-octets_of cs)
 
-units_of-renumbered : (index : ℕ) (us : List (List ℕ)) → units_of (renumbered index us) ≡ us
-units_of-renumbered index [] = refl
-units_of-renumbered index (u ∷ us) = ap (λ xs. u ∷ xs) (units_of-renumbered (index + 1) us)
+octets_of-renumbered : (index : ℕ) (us : List (List ℕ)) → octets_of (renumbered index us) ≡ us
+octets_of-renumbered index [] = refl
+octets_of-renumbered index (u ∷ us) = ap (λ xs. u ∷ xs) (octets_of-renumbered (index + 1) us)
 
 -- the last units, carried again
-again : (front ring : List Carried) (us : List (List ℕ)) (index : ℕ) → units_of ring ≡ us → carried_again (length us) index (front ++ ring) ≡ front ++ renumbered index us
+again : (front ring : List Numbered) (us : List (List ℕ)) (index : ℕ) → octets_of ring ≡ us → carried_again (length us) index (front ++ ring) ≡ front ++ renumbered index us
 again front ring us index e =
-    let size : length us ≡ length ring = sym (ap length e) ∙ length-units_of ring in
+    let size : length us ≡ length ring = sym (ap length e) ∙ length-octets_of ring in
     let at : length (front ++ ring) - length us ≡ length front = omega (arith, length-append front ring) in
-    ap (λ (n : ℕ). take n (front ++ ring) ++ renumbered index (units_of (drop n (front ++ ring)))) at
-    ∙ (ap (λ cs. cs ++ renumbered index (units_of (drop (length front) (front ++ ring)))) (take-append_seam front ring)
-    ∙ ap (λ cs. front ++ renumbered index cs) (ap units_of (drop-append_seam front ring) ∙ e))
+    ap (λ (n : ℕ). take n (front ++ ring) ++ renumbered index (octets_of (drop n (front ++ ring)))) at
+    ∙ (ap (λ cs. cs ++ renumbered index (octets_of (drop (length front) (front ++ ring)))) (take-append_seam front ring)
+    ∙ ap (λ cs. front ++ renumbered index cs) (ap octets_of (drop-append_seam front ring) ∙ e))
 
 ring-answer : (confirmed : ℕ) (made : List Made) (m : Made) → m.pdu.kind ≡ RetrResp → (confirmed < length made) ⊎ ((made ≡ []) × (confirmed ≡ 0)) → Ring confirmed (made ++ m ∷ []) ≡ []
 ring-answer confirmed made m is (inl less) = ring-push confirmed made m less ∙ ap (λ kind. after_at kind m.pdu.body (length made) (Ring confirmed made)) is
 ring-answer confirmed made m is (inr empty) = ap (λ ms. carried_at (confirmed + 1) [] (drop (confirmed + 1) (ms ++ m ∷ []))) empty.0 ∙ ap (λ (n : ℕ). Ring n (m ∷ [])) empty.1
 
 -- the units made end in the unconfirmed ones
-ended : (s : State) (h : Carriers s) → units_of h.front ++ unconfirmed s ≡ units s.made
+ended : (s : State) (h : Carriers s) → octets_of h.front ++ unconfirmed s ≡ units s.made
 ended s h =
-    ap (λ us. units_of h.front ++ us) (sym (ring_of-units s))
-    ∙ (sym (units_of-append h.front (Ring s.confirmed s.made)) ∙ (sym (ap units_of h.is) ∙ h.all))
+    ap (λ us. octets_of h.front ++ us) (sym (ring_of-units s))
+    ∙ (sym (octets_of-append h.front (Ring s.confirmed s.made)) ∙ (sym (ap octets_of h.is) ∙ h.all))
 
 plain-new : (kind : Kind) → is_plain kind ≡ true → is_new kind ≡ true
 plain-new Heartbeat h = refl
@@ -346,9 +347,9 @@ replied now s h =
       none = subst (λ (k : ℕ). above k h.front ≡ []) (sym still) h.none;
       placed = inl (omega (arith, still, grown, in_place, length-append b.made (last ∷ [])));
       all =
-          ap units_of new
-          ∙ (units_of-append h.front (renumbered (length s.made + 1) us)
-          ∙ (ap (λ xs. units_of h.front ++ xs) (units_of-renumbered (length s.made + 1) us)
+          ap octets_of new
+          ∙ (octets_of-append h.front (renumbered (length s.made + 1) us)
+          ∙ (ap (λ xs. octets_of h.front ++ xs) (octets_of-renumbered (length s.made + 1) us)
           ∙ (ended s h ∙ sym (plain-reply now s).sent)));
     }
 
@@ -393,9 +394,9 @@ reached s h =
     let all_there : above s.confirmed ring ≡ ring = carried_at-above s.confirmed (s.confirmed + 1) [] (drop (s.confirmed + 1) s.made) (omega arith) in
     record {
       by_carriers =
-          sym (ap units_of (ap (above s.confirmed) h.is ∙ (above-append s.confirmed h.front ring ∙ (ap (λ cs. cs ++ above s.confirmed ring) h.none ∙ all_there)))
+          sym (ap octets_of (ap (above s.confirmed) h.is ∙ (above-append s.confirmed h.front ring ∙ (ap (λ cs. cs ++ above s.confirmed ring) h.none ∙ all_there)))
           ∙ ring_of-units s);
-      confirmed_before = units_of h.front;
+      confirmed_before = octets_of h.front;
       ends = ended s h;
     }
 

@@ -8,15 +8,16 @@ use Rattle.safe_pdu.specs.declared.Kind.{Kind}
 use Rattle.safe_pdu.specs.declared.Kind.TheVariants.{ConnReq, ConnResp, RetrReq, RetrResp, DiscReq, Heartbeat, Data, RetrData}
 use Rattle.safe_machine.specs.Made.{Made, after_pdu, run_after}
 use Rattle.safe_machine.specs.State.{State, next_made, make, resend, unconfirmed}
-use Rattle.safe_machine.specs.Ring.{Carried, after_at, carried_at, ring_of, above, renumbered, units_of}
+use Rattle.retrans.specs.Units.{Numbered, above, renumbered, octets_of}
+use Rattle.safe_machine.specs.Ring.{after_at, carried_at, ring_of}
 
-pub units_of-append : (a b : List Carried) → units_of (a ++ b) ≡ units_of a ++ units_of b
-units_of-append [] b = refl
-units_of-append (c ∷ a) b = ap (λ us. c.unit ∷ us) (units_of-append a b)
+pub octets_of-append : (a b : List Numbered) → octets_of (a ++ b) ≡ octets_of a ++ octets_of b
+octets_of-append [] b = refl
+octets_of-append (c ∷ a) b = ap (λ us. c.octets ∷ us) (octets_of-append a b)
 
-after_at-units : (kind : Kind) (body : List ℕ) (index : ℕ) (run : List Carried) → units_of (after_at kind body index run) ≡ after_pdu kind body (units_of run)
-after_at-units Data body index run = units_of-append run (record { index = index; unit = body } ∷ [])
-after_at-units RetrData body index run = units_of-append run (record { index = index; unit = body } ∷ [])
+after_at-units : (kind : Kind) (body : List ℕ) (index : ℕ) (run : List Numbered) → octets_of (after_at kind body index run) ≡ after_pdu kind body (octets_of run)
+after_at-units Data body index run = octets_of-append run (record { number = index; octets = body } ∷ [])
+after_at-units RetrData body index run = octets_of-append run (record { number = index; octets = body } ∷ [])
 after_at-units RetrResp body index run = refl
 after_at-units ConnReq body index run = refl
 after_at-units ConnResp body index run = refl
@@ -25,45 +26,45 @@ after_at-units DiscReq body index run = refl
 after_at-units Heartbeat body index run = refl
 
 -- the units of the ring are the unconfirmed ones
-pub carried_at-units : (index : ℕ) (run : List Carried) (ms : List Made) → units_of (carried_at index run ms) ≡ run_after (units_of run) ms
+pub carried_at-units : (index : ℕ) (run : List Numbered) (ms : List Made) → octets_of (carried_at index run ms) ≡ run_after (octets_of run) ms
 carried_at-units index run [] = refl
 carried_at-units index run (m ∷ ms) =
     carried_at-units (index + 1) (after_at m.pdu.kind m.pdu.body index run) ms
     ∙ ap (λ us. run_after us ms) (after_at-units m.pdu.kind m.pdu.body index run)
 
-pub ring_of-units : (s : State) → units_of (ring_of s) ≡ unconfirmed s
+pub ring_of-units : (s : State) → octets_of (ring_of s) ≡ unconfirmed s
 ring_of-units s = carried_at-units (s.confirmed + 1) [] (drop (s.confirmed + 1) s.made)
 
-pub carried_at-append : (index : ℕ) (run : List Carried) (a b : List Made) → carried_at index run (a ++ b) ≡ carried_at (index + length a) (carried_at index run a) b
+pub carried_at-append : (index : ℕ) (run : List Numbered) (a b : List Made) → carried_at index run (a ++ b) ≡ carried_at (index + length a) (carried_at index run a) b
 carried_at-append index run [] b = ap (λ (n : ℕ). carried_at n run b) (omega arith)
 carried_at-append index run (m ∷ a) b =
     let next = after_at m.pdu.kind m.pdu.body index run in
     let same : index + 1 + length a ≡ index + length (m ∷ a) = omega arith in
     carried_at-append (index + 1) next a b ∙ ap (λ (n : ℕ). carried_at n (carried_at (index + 1) next a) b) same
 
-above-both : (index : ℕ) (c : Carried) (a b : List Carried) (t : Bool) → above index (a ++ b) ≡ above index a ++ above index b →
+above-both : (index : ℕ) (c : Numbered) (a b : List Numbered) (t : Bool) → above index (a ++ b) ≡ above index a ++ above index b →
     (if t then c ∷ above index (a ++ b) else above index (a ++ b)) ≡ (if t then c ∷ above index a else above index a) ++ above index b
 above-both index c a b true e = ap (λ cs. c ∷ cs) e
 above-both index c a b false e = e
 
-pub above-append : (index : ℕ) (a b : List Carried) → above index (a ++ b) ≡ above index a ++ above index b
+pub above-append : (index : ℕ) (a b : List Numbered) → above index (a ++ b) ≡ above index a ++ above index b
 above-append index [] b = refl
-above-append index (c ∷ a) b = above-both index c a b (nat_lt index c.index) (above-append index a b)
+above-append index (c ∷ a) b = above-both index c a b (nat_lt index c.number) (above-append index a b)
 
-pub above-one : (index p : ℕ) (unit : List ℕ) → index < p → above index (record { index = p; unit = unit } ∷ []) ≡ record { index = p; unit = unit } ∷ []
-above-one index p unit h = ap (λ (t : Bool). if t then record { index = p; unit = unit } ∷ [] else []) (lt-ltb index p h)
+pub above-one : (index p : ℕ) (unit : List ℕ) → index < p → above index (record { number = p; octets = unit } ∷ []) ≡ record { number = p; octets = unit } ∷ []
+above-one index p unit h = ap (λ (t : Bool). if t then record { number = p; octets = unit } ∷ [] else []) (lt-ltb index p h)
 
-below-one : (index p : ℕ) (unit : List ℕ) → p ≤ index → above index (record { index = p; unit = unit } ∷ []) ≡ []
+below-one : (index p : ℕ) (unit : List ℕ) → p ≤ index → above index (record { number = p; octets = unit } ∷ []) ≡ []
 below-one index p unit h =
     let no_more : nat_lt index p ≡ false = grind (arith, nat_tests) in
-    ap (λ (t : Bool). if t then record { index = p; unit = unit } ∷ [] else []) no_more
+    ap (λ (t : Bool). if t then record { number = p; octets = unit } ∷ [] else []) no_more
 
 -- beyond the index confirmed every unit is kept
-after_at-above : (kind : Kind) (body : List ℕ) (index p : ℕ) (run : List Carried) → index < p → above index (after_at kind body p run) ≡ after_at kind body p (above index run)
+after_at-above : (kind : Kind) (body : List ℕ) (index p : ℕ) (run : List Numbered) → index < p → above index (after_at kind body p run) ≡ after_at kind body p (above index run)
 after_at-above Data body index p run h =
-    above-append index run (record { index = p; unit = body } ∷ []) ∙ ap (λ cs. above index run ++ cs) (above-one index p body h)
+    above-append index run (record { number = p; octets = body } ∷ []) ∙ ap (λ cs. above index run ++ cs) (above-one index p body h)
 after_at-above RetrData body index p run h =
-    above-append index run (record { index = p; unit = body } ∷ []) ∙ ap (λ cs. above index run ++ cs) (above-one index p body h)
+    above-append index run (record { number = p; octets = body } ∷ []) ∙ ap (λ cs. above index run ++ cs) (above-one index p body h)
 after_at-above RetrResp body index p run h = refl
 after_at-above ConnReq body index p run h = refl
 after_at-above ConnResp body index p run h = refl
@@ -71,18 +72,18 @@ after_at-above RetrReq body index p run h = refl
 after_at-above DiscReq body index p run h = refl
 after_at-above Heartbeat body index p run h = refl
 
-pub carried_at-above : (index p : ℕ) (run : List Carried) (ms : List Made) → index < p → above index (carried_at p run ms) ≡ carried_at p (above index run) ms
+pub carried_at-above : (index p : ℕ) (run : List Numbered) (ms : List Made) → index < p → above index (carried_at p run ms) ≡ carried_at p (above index run) ms
 carried_at-above index p run [] h = refl
 carried_at-above index p run (m ∷ ms) h =
     carried_at-above index (p + 1) (after_at m.pdu.kind m.pdu.body p run) ms (omega arith)
     ∙ ap (λ cs. carried_at (p + 1) cs ms) (after_at-above m.pdu.kind m.pdu.body index p run h)
 
 -- and up to it none
-after_at-below : (kind : Kind) (body : List ℕ) (index p : ℕ) (run : List Carried) → p ≤ index → above index run ≡ [] → above index (after_at kind body p run) ≡ []
+after_at-below : (kind : Kind) (body : List ℕ) (index p : ℕ) (run : List Numbered) → p ≤ index → above index run ≡ [] → above index (after_at kind body p run) ≡ []
 after_at-below Data body index p run h e =
-    above-append index run (record { index = p; unit = body } ∷ []) ∙ (ap (λ cs. cs ++ above index (record { index = p; unit = body } ∷ [])) e ∙ below-one index p body h)
+    above-append index run (record { number = p; octets = body } ∷ []) ∙ (ap (λ cs. cs ++ above index (record { number = p; octets = body } ∷ [])) e ∙ below-one index p body h)
 after_at-below RetrData body index p run h e =
-    above-append index run (record { index = p; unit = body } ∷ []) ∙ (ap (λ cs. cs ++ above index (record { index = p; unit = body } ∷ [])) e ∙ below-one index p body h)
+    above-append index run (record { number = p; octets = body } ∷ []) ∙ (ap (λ cs. cs ++ above index (record { number = p; octets = body } ∷ [])) e ∙ below-one index p body h)
 after_at-below RetrResp body index p run h e = refl
 after_at-below ConnReq body index p run h e = e
 after_at-below ConnResp body index p run h e = e
@@ -90,7 +91,7 @@ after_at-below RetrReq body index p run h e = e
 after_at-below DiscReq body index p run h e = e
 after_at-below Heartbeat body index p run h e = e
 
-carried_at-below : (index p : ℕ) (run : List Carried) (ms : List Made) → p + length ms ≤ index + 1 → above index run ≡ [] → above index (carried_at p run ms) ≡ []
+carried_at-below : (index p : ℕ) (run : List Numbered) (ms : List Made) → p + length ms ≤ index + 1 → above index run ≡ [] → above index (carried_at p run ms) ≡ []
 carried_at-below index p run [] h e = e
 carried_at-below index p run (m ∷ ms) h e =
     carried_at-below index (p + 1) (after_at m.pdu.kind m.pdu.body p run) ms (omega arith) (after_at-below m.pdu.kind m.pdu.body index p run (omega arith) e)
@@ -119,11 +120,11 @@ ring-resend (u ∷ us) now s h =
     let more : length t.made ≡ length s.made + 1 = length-append s.made (m ∷ []) in
     let size : length (drop (s.confirmed + 1) s.made) ≡ length s.made - (s.confirmed + 1) = length-drop (s.confirmed + 1) s.made in
     let index : s.confirmed + 1 + length (drop (s.confirmed + 1) s.made) ≡ length s.made = omega arith in
-    let one : ring_of t ≡ ring_of s ++ record { index = length s.made; unit = u } ∷ [] =
+    let one : ring_of t ≡ ring_of s ++ record { number = length s.made; octets = u } ∷ [] =
     ap (carried_at (s.confirmed + 1) []) (drop-append-le (s.confirmed + 1) s.made (m ∷ []) (omega arith))
     ∙ (carried_at-append (s.confirmed + 1) [] (drop (s.confirmed + 1) s.made) (m ∷ [])
-    ∙ ap (λ (n : ℕ). ring_of s ++ record { index = n; unit = u } ∷ []) index) in
+    ∙ ap (λ (n : ℕ). ring_of s ++ record { number = n; octets = u } ∷ []) index) in
     ring-resend us now t (omega arith)
     ∙ (ap (λ cs. cs ++ renumbered (length t.made) us) one
-    ∙ (append_assoc (ring_of s) (record { index = length s.made; unit = u } ∷ []) (renumbered (length t.made) us)
-    ∙ ap (λ (n : ℕ). ring_of s ++ record { index = length s.made; unit = u } ∷ renumbered n us) more))
+    ∙ (append_assoc (ring_of s) (record { number = length s.made; octets = u } ∷ []) (renumbered (length t.made) us)
+    ∙ ap (λ (n : ℕ). ring_of s ++ record { number = length s.made; octets = u } ∷ renumbered n us) more))
