@@ -6,7 +6,8 @@ use Rattle.std.proofs.lemmas.Bool.Decides.{eqb_tells}
 use Rattle.safe_machine.specs.Made.{units}
 use Rattle.safe_machine.specs.State.{State}
 use Rattle.safe_machine.specs.World.{Served, IsBeginningOf}
-use Rattle.safe_machine.specs.Law.{incarnation, TakesBeginnings, AllTakeBeginnings, JoinedBelow, next_bound, JoinsFall, IsJoined, OnlyJoinedTake}
+use Rattle.safe_machine.specs.Law.{JoinedBelow, next_bound, JoinsFall, IsJoined}
+use Rattle.safe_machine.proofs.Inner.{incarnation, TakesBeginnings, AllTakeBeginnings, OnlyJoinedTake}
 use Rattle.safe_machine.proofs.Lone.{Lone, beginning_trans}
 
 abbrev pub Linked : State → State → Type 0

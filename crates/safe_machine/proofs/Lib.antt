@@ -1,4 +1,5 @@
 pub mod Cases
+pub mod Inner
 pub mod Numbers
 pub mod Runs
 pub mod Invariant
@@ -27,6 +28,7 @@ pub mod MovesLaw
 pub mod Texts
 pub mod Carriers
 pub mod Rows
+pub mod Opened
 pub mod OrderKinds
 pub mod OrderEnds
 pub mod OrderDecide

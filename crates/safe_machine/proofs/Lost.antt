@@ -9,7 +9,8 @@ use Rattle.safe_machine.specs.declared.ConnectionState.TheVariants.{Closed}
 use Rattle.safe_machine.specs.Made.{Made, units, first_sent, run_of}
 use Rattle.safe_machine.specs.State.{State, unconfirmed}
 use Rattle.safe_machine.specs.World.{Served}
-use Rattle.safe_machine.specs.Law.{incarnation, JoinedBelow, taken_from_il, taken_count, taken_from_fe, LosesNothingOf}
+use Rattle.safe_machine.specs.Law.{JoinedBelow, taken_from_il, taken_count}
+use Rattle.safe_machine.proofs.Inner.{incarnation, taken_from_fe, LosesNothingOf}
 use Rattle.safe_machine.proofs.Runs.{Every}
 use Rattle.safe_machine.proofs.Invariant.{needs_peer, Half}
 use Rattle.safe_machine.proofs.Counting.{run_of-shrinks}

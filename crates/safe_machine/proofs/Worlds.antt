@@ -15,7 +15,8 @@ use Rattle.safe_machine.specs.Decision.Decision.{Nothing, Drops, Shuts, Leaves, 
 use Rattle.safe_machine.specs.Step.{is_live, is_connected, guard, receive, arrive, carry_out, tick, send, tests_passed, beat}
 use Rattle.safe_machine.specs.World.{World, Served, Event, unopened, start, happens, run, Among, GenuineAt, GenuineEvent, Genuine, joins, IsBeginningOf, as_role, open_il, open_fe, with_il, with_fe}
 use Rattle.safe_machine.specs.World.Event.{Open, Send, Close, Guard, Tick, Arrive}
-use Rattle.safe_machine.specs.Law.{TakesBeginnings, AllTakeBeginnings, next_bound, JoinsFall, OnlyJoinedTake, LawOf, UnitLaw, taken_from_il, taken_from_fe, LosesNothingOf, LossLaw}
+use Rattle.safe_machine.specs.Law.{next_bound, JoinsFall, taken_from_il}
+use Rattle.safe_machine.proofs.Inner.{TakesBeginnings, AllTakeBeginnings, OnlyJoinedTake, LawOf, taken_from_fe, LosesNothingOf}
 use Rattle.safe_machine.proofs.Cases.{if_both, and-parts}
 use Rattle.safe_machine.proofs.Runs.{requests, answers, count-drop_nil, Every, every-drop_all, no_requests, Numbered, at-length}
 use Rattle.safe_machine.proofs.Invariant.{NotOpening, Sound, Told, Started, Solo, Half, Pair}
@@ -645,10 +646,3 @@ inv-event w (Arrive Fe p now) h g = fe-arrive w p now h g
 pub inv-run : (events : List Event) (w : World) → Inv w → Genuine events w → Inv (run events w)
 inv-run [] w h g = h
 inv-run (e ∷ es) w h g = inv-run es (happens w e) (inv-event w e h g.0) g.1
-
--- The law.
-pub unit_law_holds : UnitLaw
-unit_law_holds events genuine = (inv-run events start inv-start genuine).law
-
-pub loss_law_holds : LossLaw
-loss_law_holds events genuine = (inv-run events start inv-start genuine).loses_nothing

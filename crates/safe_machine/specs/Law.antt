@@ -1,29 +1,29 @@
--- The law of two machines: what one takes is a beginning of what its joined sent.
-use Rattle.std.specs.Prelude.{ℕ, ◌+◌, ◌-◌, ◌≡◌, ◌≢◌, ◌<◌, ◌≤◌, ◌⊎◌, ◌==◌, Bool, false, Option, Some, None, MatchOption, List, [], ◌∷◌, ◌++◌, length, drop, if◌then◌else◌}
+-- The law of two machines: what one takes is a beginning of what the end joined to it sent.
+use Rattle.std.specs.Prelude.{ℕ, ◌+◌, ◌-◌, ◌≡◌, ◌≢◌, ◌<◌, ◌≤◌, ◌⊎◌, ◌==◌, Bool, false, Option, Some, None, MatchOption, List, [], ◌∷◌, ◌++◌, length, take, drop, if◌then◌else◌}
 use Rattle.safe_machine.specs.World.{Side}
 use Rattle.safe_machine.specs.World.Side.{Il, Fe}
 use Rattle.safe_pdu.specs.Pdu.{Pdu}
 use Rattle.safe_machine.specs.Made.{Made, units}
-use Rattle.safe_machine.specs.declared.ConnectionState.TheVariants.{Closed}
+use Rattle.safe_machine.specs.declared.ConnectionState.TheVariants.{Closed, Down, Start}
 use Rattle.safe_machine.specs.State.{State, unconfirmed}
 use Rattle.safe_machine.specs.Step.{arrive}
 use Rattle.safe_machine.specs.World.Event.{Open, Send, Close, Guard, Tick, Arrive}
-use Rattle.safe_machine.specs.World.{happens, Timely, World, Served, Event, start, run, Genuine, IsBeginningOf}
+use Rattle.safe_machine.specs.World.{happens, Timely, World, Served, Event, start, run, Genuine, Among, IsBeginningOf}
 
--- the incarnations of each end, the latest first
+-- The incarnations of each end, the latest first: all but what stood there before the first opening.
 abbrev pub il_incarnations : World → List State
-il_incarnations w = w.il ∷ w.il_before
+il_incarnations w = take (length w.il_before) (w.il ∷ w.il_before)
 
 abbrev pub fe_incarnations : World → List Served
-fe_incarnations w = record { machine = w.fe; joined = w.joined } ∷ w.fe_before
+fe_incarnations w = take (length w.fe_before) (record { machine = w.fe; joined = w.joined } ∷ w.fe_before)
 
--- the incarnation with this number, counted from 0 in the order of opening
+-- the incarnation with this number; the first opening has number 1
 abbrev pub incarnation : List State → ℕ → Option State
 incarnation [] number = None
-incarnation (s ∷ before) number = if number == length before then Some s else incarnation before number
+incarnation (s ∷ before) number = if number == length before + 1 then Some s else incarnation before number
 
--- An incarnation of the field element without a joined has taken nothing;
--- with one, each has taken a beginning of the units that the other sent.
+-- An incarnation of the field element that is joined to none has taken nothing;
+-- of two that are joined each has taken a beginning of the units that the other sent.
 abbrev pub TakesBeginnings : List State → State → Option ℕ → Type 0
 TakesBeginnings ils fe None = fe.taken ≡ []
 TakesBeginnings ils fe (Some number) =
@@ -33,7 +33,7 @@ abbrev pub AllTakeBeginnings : List State → List Served → Type 0
 AllTakeBeginnings ils [] = Unit {0}
 AllTakeBeginnings ils (f ∷ fs) = TakesBeginnings ils f.machine f.joined × AllTakeBeginnings ils fs
 
--- Later incarnations of the field element have later joined ones, so none is the joined of two.
+-- Later incarnations of the field element are joined to later ones of the interlocking, so none is joined to two.
 abbrev pub JoinedBelow : ℕ → Option ℕ → Type 0
 JoinedBelow bound None = Unit {0}
 JoinedBelow bound (Some number) = number < bound
@@ -46,24 +46,24 @@ abbrev pub JoinsFall : ℕ → List Served → Type 0
 JoinsFall bound [] = Unit {0}
 JoinsFall bound (f ∷ fs) = JoinedBelow bound f.joined × JoinsFall (next_bound bound f.joined) fs
 
--- An incarnation of the interlocking that is no joined has taken nothing.
+-- An incarnation of the interlocking to which none is joined has taken nothing.
 abbrev pub IsJoined : ℕ → List Served → Type 0
 IsJoined number [] = ⊥
 IsJoined number (f ∷ fs) = (f.joined ≡ Some number) ⊎ IsJoined number fs
 
 abbrev pub OnlyJoinedTake : List Served → List State → Type 0
 OnlyJoinedTake fes [] = Unit {0}
-OnlyJoinedTake fes (s ∷ before) = ((s.taken ≡ []) ⊎ IsJoined (length before) fes) × OnlyJoinedTake fes before
+OnlyJoinedTake fes (s ∷ before) = ((s.taken ≡ []) ⊎ IsJoined (length before + 1) fes) × OnlyJoinedTake fes before
 
 pub record LawOf (ils : List State) (fes : List Served) : Type 0 where
   pub beginnings : AllTakeBeginnings ils fes
-  pub joins_fall : JoinsFall (length ils) fes
+  pub joins_fall : JoinsFall (length ils + 1) fes
   pub only_joined : OnlyJoinedTake fes ils
 
 abbrev pub Law : World → Type 0
 Law w = LawOf (il_incarnations w) (fe_incarnations w)
 
--- how many units the joined of an incarnation of the interlocking took, and the joined of one of the field element
+-- how many units were taken by the end that is joined: to this incarnation of the interlocking, to one of the field element
 abbrev pub is_number : ℕ → Option ℕ → Bool
 is_number number None = false
 is_number number (Some other) = other == number
@@ -80,13 +80,10 @@ abbrev pub taken_from_fe : List State → Option ℕ → ℕ
 taken_from_fe ils None = 0
 taken_from_fe ils (Some number) = taken_count (incarnation ils number)
 
--- While an end is not closed, each unit that it sent and that is not unconfirmed was taken by its joined.
-pub record LosesNothingOf (il : State) (il_before : List State) (fe : State) (joined : Option ℕ) (fe_before : List Served) : Type 0 where
-  pub from_il : il.connection ≢ Closed → length (units il.made) ≤ taken_from_il (length il_before) (record { machine = fe; joined = joined } ∷ fe_before) + length (unconfirmed il)
-  pub from_fe : fe.connection ≢ Closed → length (units fe.made) ≤ taken_from_fe (il ∷ il_before) joined + length (unconfirmed fe)
-
-abbrev pub LosesNothing : World → Type 0
-LosesNothing w = LosesNothingOf w.il w.il_before w.fe w.joined w.fe_before
+-- While an end is not closed, each unit that it sent and that is not unconfirmed was taken by the end joined to it.
+pub record LosesNothing (w : World) : Type 0 where
+  pub from_il : w.il.connection ≢ Closed → length (units w.il.made) ≤ taken_from_il (length (il_incarnations w)) (fe_incarnations w) + length (unconfirmed w.il)
+  pub from_fe : w.fe.connection ≢ Closed → length (units w.fe.made) ≤ taken_from_fe (il_incarnations w) w.joined + length (unconfirmed w.fe)
 
 -- what every list of events keeps
 abbrev pub UnitLaw : Type 0
@@ -94,6 +91,15 @@ UnitLaw = (events : List Event) → Genuine events start → Law (run events sta
 
 abbrev pub LossLaw : Type 0
 LossLaw = (events : List Event) → Genuine events start → LosesNothing (run events start)
+
+-- When a field element starts a connection, the present incarnation of the interlocking, to which it is joined, has made
+-- the PDU that came: so it is the latest that had made it.
+abbrev pub JoinsEvent : World → Event → Type 0
+JoinsEvent w (Arrive Fe p now) = w.fe.connection ≡ Down → (arrive p now w.fe).connection ≡ Start → Among p w.il.made
+JoinsEvent w _ = Unit {0}
+
+abbrev pub JoinedLaw : Type 0
+JoinedLaw = (events : List Event) (e : Event) → Genuine (events ++ e ∷ []) start → JoinsEvent (run events start) e
 
 -- The PDU was made by the peer upon a PDU that this end made less than t_max ago.
 pub record Fresh (s : State) (p : Pdu) (now : ℕ) (peer : List Made) : Type 0 where

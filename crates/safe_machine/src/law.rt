@@ -1,14 +1,18 @@
 //! What two machines promise over every list of events.
 
 ghost use Rattle.safe_machine.specs.InOrder.{OrderLaw};
-ghost use Rattle.safe_machine.specs.Law.{FreshAtLastLaw, FreshLaw, LossLaw, UnitLaw};
+ghost use Rattle.safe_machine.specs.Law.{FreshAtLastLaw, FreshLaw, JoinedLaw, LossLaw, UnitLaw};
 ghost use Rattle.safe_machine.specs.Moves.{MovesLaw, ReachedLaw, TextsLaw};
 
 /// The laws of two machines, which do nothing when they are called: they hold of every genuine list of openings,
 /// sendings, closings, guards, ticks and arrivals of both ends, however often either is opened.
 pub fn unit_law()
-    // What an end takes is a beginning of what the end joined to it sent.
+    // What an end takes is a beginning of what the end joined to it sent; no interlocking is joined to two field
+    // elements; who is joined to none has taken nothing.
     ensures beginnings { UnitLaw }
+
+    // The interlocking that a field element is joined to has made the ConnReq that it took, and is the latest that had.
+    ensures joined { JoinedLaw }
 
     // While an end is not closed, a unit that it sent and that is not unconfirmed was taken.
     ensures nothing_lost { LossLaw }
