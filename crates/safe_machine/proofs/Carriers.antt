@@ -1,5 +1,5 @@
 -- The run of unconfirmed units is the list of those whose carrier lies behind the last PDU confirmed.
-use Rattle.std.proofs.Common.{◌≡◌, ◌⊎◌, inl, inr, ℕ, zero, suc, ◌+◌, ◌-◌, ◌<◌, ◌≤◌, List, [], ◌∷◌, ◌++◌, length, take, drop, Bool, true, false, refl, sym, ap, subst, ◌∙◌, arith, append_assoc, append-nil, length-append}
+use Rattle.std.proofs.Common.{◌≡◌, ◌⊎◌, inl, inr, ℕ, suc, ◌+◌, ◌-◌, ◌<◌, ◌≤◌, List, [], ◌∷◌, ◌++◌, length, take, drop, Bool, true, false, refl, sym, ap, subst, ◌∙◌, arith, append_assoc, append-nil, length-append}
 use Rattle.std.specs.Prelude.{if◌then◌else◌, nat_lt}
 use Rattle.std.proofs.lemmas.List.{drop-append-le, length-drop}
 use Rattle.std.proofs.Math.Seq.{take-append_seam, drop-append_seam}
@@ -7,21 +7,18 @@ use Rattle.std.proofs.lemmas.Bool.{lt-ltb, ltb-true}
 use Rattle.std.proofs.lemmas.Bool.Decides.{nat_tests}
 use Rattle.safe_pdu.specs.declared.Kind.{Kind}
 use Rattle.safe_pdu.specs.declared.Kind.TheVariants.{ConnReq, ConnResp, RetrReq, RetrResp, DiscReq, Heartbeat, Data, RetrData}
-use Rattle.safe_pdu.specs.Pdu.{Pdu}
 use Rattle.safe_machine.specs.declared.ConnectionState.TheVariants.{Start, Down}
-use Rattle.safe_machine.specs.Made.{Made, units, first_sent, opening_body, run_of}
+use Rattle.safe_machine.specs.Made.{Made, units, first_sent, opening_body}
 use Rattle.safe_machine.specs.Settings.{Settings}
-use Rattle.safe_machine.specs.State.{State, next_made, make, pass, confirm_units, cs_step, resend, reply, unconfirmed, opened, fresh}
-use Rattle.safe_machine.specs.Decision.{cs_fits}
-use Rattle.safe_machine.specs.Step.{confirm_to}
+use Rattle.safe_machine.specs.State.{State, next_made, make, cs_step, resend, reply, unconfirmed, opened, fresh}
 use Rattle.retrans.specs.Units.{Numbered, above, renumbered, octets_of}
-use Rattle.safe_machine.specs.Ring.{after_at, carried_at, ring_of, is_resent, resent, carried_again, after_carrier, carriers_from, carriers}
+use Rattle.safe_machine.specs.Ring.{after_at, carried_at, is_resent, resent, carried_again, after_carrier, carriers_from, carriers}
 use Rattle.safe_machine.specs.Moves.{Move, moved, move, ReachedState, ReachedLaw}
 use Rattle.safe_machine.specs.Moves.Move.{Guards, Hears, Ticks, Sends, Leaves}
 use Rattle.safe_machine.proofs.Cases.{if_both}
 use Rattle.safe_machine.proofs.Runs.{units-append}
 use Rattle.safe_machine.proofs.OneMachine.{plain-reply}
-use Rattle.safe_machine.proofs.Ring.{octets_of-append, carried_at-append, above-append, above-one, carried_at-above, ring_of-units, ring-confirm, ring-resend}
+use Rattle.safe_machine.proofs.Ring.{octets_of-append, carried_at-append, above-append, carried_at-above, ring_of-units, ring-confirm, ring-resend}
 use Rattle.safe_machine.proofs.Kept.{Kept, AllowsMove, kept-move, is_plain}
 
 -- Carriers of a list that grows. A RetrData at its front would be counted with a RetrResp before it.

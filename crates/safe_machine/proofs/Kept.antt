@@ -1,8 +1,8 @@
 -- A property that every single change of a machine keeps is kept by every move.
-use Rattle.std.proofs.Common.{◌≡◌, ℕ, ◌+◌, List, [], ◌∷◌, Bool, true, false, refl, sym, ap, subst, ◌∙◌, IsTrue}
-use Rattle.std.specs.Prelude.{length, if◌then◌else◌, ◌&&◌, nat_le, nat_lt}
+use Rattle.std.proofs.Common.{◌≡◌, ℕ, ◌+◌, List, [], Bool, true, false, refl}
+use Rattle.std.specs.Prelude.{length, if◌then◌else◌, ◌&&◌, nat_le}
 use Rattle.safe_pdu.specs.declared.Kind.{Kind}
-use Rattle.safe_pdu.specs.declared.Kind.TheVariants.{ConnReq, ConnResp, RetrReq, RetrResp, DiscReq, Heartbeat, Data, RetrData}
+use Rattle.safe_pdu.specs.declared.Kind.TheVariants.{ConnResp, RetrReq, DiscReq, Heartbeat, Data}
 use Rattle.safe_pdu.specs.Pdu.{Pdu}
 use Rattle.safe_pdu.specs.Bodies.{IsBody, window_of}
 use Rattle.safe_machine.specs.declared.ConnectionState.TheVariants.{Closed, Start, Up, RetrReq as Requesting, RetrRun}
@@ -14,8 +14,8 @@ use Rattle.safe_machine.specs.Made.{opening_body, leaving_body, carries}
 use Rattle.safe_machine.specs.State.{State, make, move_to, pass, confirm_units, confirm_time, hand_up, note_request, reply, ask, leave, says_goodbye}
 use Rattle.safe_machine.specs.Decision.{Decision, decide, cs_fits, distance, in_turn}
 use Rattle.safe_machine.specs.Decision.Decision.{Nothing, Drops, Shuts, Leaves, Rejects, Accepts, Connects, Takes, Asks, Resumes, AnswersNext, AnswersEarly}
-use Rattle.safe_machine.specs.Step.{last_time, set_window, confirm_to, beat, take_unit, tests_passed, carry_out, is_live, guard, is_connected, heartbeat, tick, send, may_send, arrive}
-use Rattle.safe_machine.specs.Moves.{Move, move, moved}
+use Rattle.safe_machine.specs.Step.{last_time, set_window, confirm_to, beat, tests_passed, carry_out, is_live, guard, is_connected, may_send}
+use Rattle.safe_machine.specs.Moves.{Move, move}
 use Rattle.safe_machine.specs.Moves.Move.{Guards, Hears, Ticks, Sends, Leaves as LeavesNow}
 use Rattle.safe_machine.proofs.Cases.{if_both}
 use Rattle.safe_machine.proofs.Deciding.{Fits, decide-fits}

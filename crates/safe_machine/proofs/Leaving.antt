@@ -1,13 +1,13 @@
 -- Which moves of a machine leave Down, and that none leads back.
-use Rattle.std.proofs.Common.{◌≡◌, ◌≢◌, ℕ, zero, suc, ◌+◌, List, [], ◌∷◌, ◌++◌, Option, Some, None, Bool, true, false, refl, sym, ap, subst, ◌∙◌}
-use Rattle.std.specs.Prelude.{drop, length, if◌then◌else◌, ◌==◌, ◌&&◌, nat_le}
+use Rattle.std.proofs.Common.{◌≡◌, ◌≢◌, ℕ, ◌+◌, List, [], true, false, refl, sym, subst, ◌∙◌}
+use Rattle.std.specs.Prelude.{length, if◌then◌else◌, ◌&&◌, nat_le}
 use Rattle.safe_machine.specs.declared.ConnectionState.{ConnectionState}
 use Rattle.safe_machine.specs.declared.ConnectionState.TheVariants.{Closed, Down, Start, Up, RetrReq as Requesting, RetrRun}
 use Rattle.safe_pdu.specs.declared.Kind.TheVariants.{Heartbeat, Data, RetrResp}
 use Rattle.safe_pdu.specs.Pdu.{Pdu}
 use Rattle.safe_machine.specs.Made.{carries}
-use Rattle.safe_machine.specs.State.{State, leave, make, move_to, reply, resend, ask, pass, note_request, confirm_units, unconfirmed, hand_up}
-use Rattle.safe_machine.specs.Step.{guard, receive, tick, send, arrive, may_send, is_live, heartbeat, carry_out, take_unit, beat, tests_passed, is_connected, last_time}
+use Rattle.safe_machine.specs.State.{State, leave, make, move_to, reply, ask, pass, note_request, confirm_units, unconfirmed, hand_up}
+use Rattle.safe_machine.specs.Step.{guard, tick, send, arrive, may_send, is_live, heartbeat, carry_out, take_unit, beat, tests_passed, is_connected, last_time}
 use Rattle.safe_machine.specs.Decision.{Decision, decide, distance, in_turn, is_stranger}
 use Rattle.safe_machine.specs.Decision.Decision.{Nothing, Drops, Shuts, Leaves, Rejects, Accepts, Connects, Takes, Asks, Resumes, AnswersNext, AnswersEarly}
 use Rattle.safe_machine.specs.World.{joins}

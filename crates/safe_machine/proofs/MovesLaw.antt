@@ -1,23 +1,21 @@
 -- What every move of a machine does, in every state.
-use Rattle.std.proofs.Common.{◌≡◌, ℕ, ◌+◌, List, [], ◌∷◌, ◌++◌, Bool, true, false, refl, sym, ap, subst, ◌∙◌, inl, inr, append_assoc, append-nil}
+use Rattle.std.proofs.Common.{◌≡◌, ℕ, ◌+◌, List, [], ◌∷◌, ◌++◌, Bool, true, false, refl, sym, ap, ◌∙◌, append_assoc, append-nil}
 use Rattle.std.specs.Prelude.{length, if◌then◌else◌, ◌&&◌, nat_le, nat_lt}
 use Rattle.std.proofs.lemmas.Bool.{false≢true}
 use Rattle.safe_pdu.specs.declared.Kind.{Kind}
 use Rattle.safe_pdu.specs.declared.Kind.TheVariants.{ConnResp, RetrResp, Heartbeat, Data, RetrData}
-use Rattle.safe_pdu.specs.Pdu.{Pdu}
 use Rattle.safe_machine.specs.declared.ConnectionState.{ConnectionState}
 use Rattle.safe_machine.specs.declared.ConnectionState.TheVariants.{Closed, Down, Start}
 use Rattle.safe_machine.specs.Made.{Made, units, opening_body}
-use Rattle.safe_machine.specs.State.{State, next_made, make, resend, reply, unconfirmed, leave}
-use Rattle.safe_machine.specs.Decision.{in_turn, is_stranger}
+use Rattle.safe_machine.specs.State.{State, next_made, make, resend, unconfirmed, leave}
+use Rattle.safe_machine.specs.Decision.{in_turn}
 use Rattle.safe_machine.specs.Step.{guard, arrive, tick, send, may_send, heartbeat, is_connected, last_time}
 use Rattle.safe_machine.specs.World.{joins}
-use Rattle.safe_machine.specs.Moves.{Move, move, sent_by, IsTakenBy, HearsOwn, OneMove, MovesLaw}
+use Rattle.safe_machine.specs.Moves.{Move, move, sent_by, MovesLaw}
 use Rattle.safe_machine.specs.Moves.Move.{Guards, Hears, Ticks, Sends, Leaves}
-use Rattle.safe_machine.proofs.Cases.{if_both}
 use Rattle.safe_machine.proofs.Runs.{units-append}
 use Rattle.safe_machine.proofs.Leaving.{quiet-guard, quiet-tick, quiet-send, quiet-leave, arrive-down, arrive-joins}
-use Rattle.safe_machine.proofs.OneMachine.{plain-guard, plain-tick, plain-leave, sent-data, send-taken, takes-arrive, closed-guard, closed-arrive}
+use Rattle.safe_machine.proofs.OneMachine.{plain-guard, plain-tick, plain-leave, send-taken, takes-arrive, closed-guard, closed-arrive}
 use Rattle.safe_machine.proofs.Lone.{lone-leave}
 use Rattle.safe_machine.proofs.Kept.{Kept, AllowsMove, kept-move}
 

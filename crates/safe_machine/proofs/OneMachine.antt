@@ -1,6 +1,6 @@
 -- What one machine's moves do to its lists.
-use Rattle.std.proofs.Common.{◌≡◌, ◌≢◌, ◌⊎◌, inl, inr, ℕ, zero, suc, ◌+◌, List, [], ◌∷◌, ◌++◌, Option, Some, None, Bool, true, false, refl, sym, ap, subst, ◌∙◌, append_assoc, append-nil}
-use Rattle.std.specs.Prelude.{drop, length, if◌then◌else◌, ◌==◌, ◌&&◌, nat_le}
+use Rattle.std.proofs.Common.{◌≡◌, ◌⊎◌, inl, inr, ℕ, ◌+◌, List, [], ◌∷◌, ◌++◌, true, false, refl, sym, ap, subst, ◌∙◌, append-nil}
+use Rattle.std.specs.Prelude.{length, if◌then◌else◌, ◌&&◌, nat_le}
 use Rattle.safe_pdu.specs.declared.Kind.{Kind}
 use Rattle.safe_machine.specs.declared.ConnectionState.{ConnectionState}
 use Rattle.safe_machine.specs.declared.ConnectionState.TheVariants.{Closed, Down, Start, Up, RetrReq as Requesting, RetrRun}
@@ -9,8 +9,8 @@ use Rattle.safe_pdu.specs.Pdu.{Pdu}
 use Rattle.safe_pdu.specs.Bodies.{window_of}
 use Rattle.safe_machine.specs.Made.{carries, units, first_sent, opening_body, leaving_body}
 use Rattle.safe_machine.specs.State.{State, next_made, leave, make, move_to, reply, resend, ask, pass, note_request, confirm_units, unconfirmed, hand_up, says_goodbye}
-use Rattle.safe_machine.specs.Step.{guard, receive, tick, send, arrive, may_send, is_live, heartbeat, carry_out, take_unit, beat, tests_passed, is_connected, last_time, set_window, confirm_to}
-use Rattle.safe_machine.specs.Decision.{Decision, decide, distance, in_turn, is_stranger, is_closed, heard}
+use Rattle.safe_machine.specs.Step.{guard, receive, tick, send, arrive, may_send, is_live, carry_out, beat, tests_passed, is_connected, last_time, set_window}
+use Rattle.safe_machine.specs.Decision.{Decision, decide, distance, in_turn, is_closed, heard}
 use Rattle.safe_machine.specs.Decision.Decision.{Nothing, Drops, Shuts, Leaves, Rejects, Accepts, Connects, Takes, Asks, Resumes, AnswersNext, AnswersEarly}
 use Rattle.safe_machine.proofs.Cases.{if_both}
 use Rattle.safe_machine.proofs.Runs.{units-append}

@@ -1,8 +1,8 @@
 -- From the law over all ends that ever stood to that over the incarnations, which are those that were opened.
-use Rattle.std.proofs.Common.{◌≡◌, ◌≢◌, ◌⊎◌, inl, inr, ℕ, zero, suc, ◌+◌, ◌<◌, ◌≤◌, ◌==◌, List, [], ◌∷◌, ◌++◌, length, take, drop, Bool, true, false, Option, Some, None, refl, sym, ap, subst, ◌∙◌, arith}
+use Rattle.std.proofs.Common.{◌≡◌, ◌≢◌, inl, inr, ℕ, zero, suc, ◌+◌, ◌≤◌, ◌==◌, List, [], ◌∷◌, ◌++◌, length, take, drop, Bool, true, false, Option, Some, None, refl, sym, ap, subst, ◌∙◌, arith}
 use Rattle.std.specs.Prelude.{if◌then◌else◌, MatchOption}
 use Rattle.std.proofs.lemmas.Bool.Decides.{nat_tests}
-use Rattle.safe_machine.specs.declared.ConnectionState.TheVariants.{Closed, Down, Start}
+use Rattle.safe_machine.specs.declared.ConnectionState.TheVariants.{Closed, Down}
 use Rattle.safe_pdu.specs.Pdu.{Pdu}
 use Rattle.safe_machine.specs.Made.{Made, units}
 use Rattle.safe_machine.specs.State.{State, unconfirmed}
@@ -17,7 +17,7 @@ use Rattle.safe_machine.proofs.Leaving.{joins-down}
 use Rattle.safe_machine.proofs.MovesLaw.{moves_law_holds}
 use Rattle.safe_machine.specs.Law.{JoinedBelow, next_bound, JoinsFall, IsJoined, is_number, taken_from_il, taken_count, UnitLaw, LossLaw, JoinedLaw}
 use Rattle.safe_machine.specs.Law as Public
-use Rattle.safe_machine.proofs.Inner.{incarnation, TakesBeginnings, AllTakeBeginnings, OnlyJoinedTake, LawOf, taken_from_fe, LosesNothingOf}
+use Rattle.safe_machine.proofs.Inner.{incarnation, TakesBeginnings, AllTakeBeginnings, OnlyJoinedTake, taken_from_fe}
 use Rattle.safe_machine.proofs.Worlds.{Inv, inv-run, inv-start}
 
 -- a list without its last entry

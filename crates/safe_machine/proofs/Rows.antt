@@ -1,11 +1,11 @@
 -- The definitions computed on worked cases: the table, each cause of a drop, each reason of leaving.
-use Rattle.std.proofs.Common.{inl, inr, Some, ◌≡◌, ℕ, List, [], ◌∷◌, drop, true, false, refl, Ok, Err}
+use Rattle.std.proofs.Common.{inl, inr, Some, ◌≡◌, ℕ, List, [], ◌∷◌, drop, true, false, refl, Err}
 use Rattle.safe_pdu.specs.declared.CodeLength.TheVariants.{Eight}
 use Rattle.safe_pdu.specs.declared.SafeFault.TheVariants.{Short}
 use Rattle.safe_pdu.specs.declared.Kind.{Kind}
 use Rattle.safe_pdu.specs.declared.Kind.TheVariants.{ConnReq, ConnResp, RetrReq, RetrResp, DiscReq, Heartbeat, Data, RetrData}
 use Rattle.safe_pdu.specs.Pdu.{Pdu, kind_number}
-use Rattle.safe_machine.specs.declared.ConnectionState.TheVariants.{Closed, Down, Start, Up, RetrReq as Requesting, RetrRun}
+use Rattle.safe_machine.specs.declared.ConnectionState.TheVariants.{Start, Up, RetrReq as Requesting, RetrRun}
 use Rattle.safe_machine.specs.declared.DropCause.TheVariants.{Fault, Stranger, NotOpened, Number, Request, Answered, Below}
 use Rattle.safe_machine.specs.declared.Step.TheVariants.{Dropped, Gap, Left, Taken, Nothing as NoAnswer}
 use Rattle.safe_machine.specs.declared.Reason.TheVariants.{ClosedByUser, UnexpectedPdu, SequenceError, Timeout, ServiceNotAllowed, WrongVersion, RetransmissionImpossible, ProtocolError}
@@ -16,7 +16,7 @@ use Rattle.safe_machine.specs.Settings.{Settings}
 use Rattle.safe_machine.specs.State.{State, opened, leave}
 use Rattle.safe_machine.specs.Decision.{Decision, decide}
 use Rattle.safe_machine.specs.Decision.Decision.{Nothing, Drops, Shuts, Leaves, Rejects, Accepts, Connects, Takes, Asks, Resumes, AnswersNext, AnswersEarly}
-use Rattle.safe_machine.specs.Step.{arrive, arrive_answer, guard, send, tick}
+use Rattle.safe_machine.specs.Step.{arrive, arrive_answer, send, tick}
 use Rattle.safe_machine.specs.World.Side.{Il, Fe}
 use Rattle.safe_machine.specs.World.{Event, start, run, Genuine}
 use Rattle.safe_machine.specs.World.Event.{Open, Send, Arrive}

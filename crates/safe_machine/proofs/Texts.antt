@@ -1,21 +1,19 @@
 -- Each PDU that a machine makes has a text.
-use Rattle.std.proofs.Common.{◌≡◌, ◌==◌, ◌≤◌, ◌<◌, ◌+◌, ◌%◌, ◌^◌, ℕ, zero, suc, List, [], ◌∷◌, ◌++◌, Bool, true, false, refl, sym, ap, subst, ◌∙◌, arith, IsTrue, length, drop}
+use Rattle.std.proofs.Common.{◌≡◌, ◌==◌, ◌≤◌, ◌<◌, ◌+◌, ◌^◌, ℕ, zero, suc, List, [], ◌∷◌, ◌++◌, Bool, true, false, refl, sym, ap, subst, ◌∙◌, arith, length, drop}
 use Rattle.std.specs.Prelude.{if◌then◌else◌, ◌&&◌, nat_le, nat_lt}
 use Rattle.std.proofs.lemmas.Bool.{le-leb, leb-true, ltb-true, eqb-true}
-use Rattle.octets.specs.declared.limits.TheConstants.{LEAVING_BODY, UNIT_MIN, UNIT_MAX, SAFE_HEADER, SAFE_FRONT_MAX}
+use Rattle.octets.specs.declared.limits.TheConstants.{LEAVING_BODY, UNIT_MIN, UNIT_MAX}
 use Rattle.safe_pdu.specs.declared.Kind.{Kind}
 use Rattle.safe_pdu.specs.declared.Kind.TheVariants.{ConnReq, ConnResp, RetrReq, RetrResp, DiscReq, Heartbeat, Data, RetrData}
-use Rattle.safe_pdu.specs.declared.CodeRule.{CodeRule}
 use Rattle.safe_pdu.specs.declared.CodeLength.TheVariants.{Eight}
 use Rattle.safe_pdu.specs.Pdu.{Pdu}
-use Rattle.safe_pdu.specs.Bodies.{IsBody, is_unit_sized, is_opening, window_of}
-use Rattle.safe_pdu.specs.SafeText.{SafeText, HasNumbers, safe_text}
+use Rattle.safe_pdu.specs.Bodies.{IsBody, window_of}
+use Rattle.safe_pdu.specs.SafeText.{HasNumbers}
 use Rattle.safe_pdu.proofs.SafeLemmas.{length-text}
-use Rattle.safe_machine.specs.Numbers.{wrap, sn_of}
-use Rattle.safe_machine.specs.Made.{Made, opening_body, leaving_body, after_pdu, run_after, run_of}
-use Rattle.safe_machine.specs.State.{State, next_made, make, pass, confirm_units, resend, reply, unconfirmed, opened, fresh}
+use Rattle.safe_machine.specs.Numbers.{sn_of}
+use Rattle.safe_machine.specs.Made.{Made, opening_body, after_pdu, run_after}
+use Rattle.safe_machine.specs.State.{State, next_made, make, resend, reply, unconfirmed, opened, fresh}
 use Rattle.safe_machine.specs.Settings.{Settings, is_legal, in_range, are_two, is_coded}
-use Rattle.safe_machine.specs.Step.{confirm_to}
 use Rattle.safe_machine.specs.Moves.{Move, moved, move, HasText, HaveTexts, IsUnitSized, AreSoundMoves, IsSoundMove, TextsLaw}
 use Rattle.safe_machine.specs.Moves.Move.{Guards, Hears, Ticks, Sends, Leaves}
 use Rattle.safe_machine.specs.declared.ConnectionState.TheVariants.{Start, Down}

@@ -1,13 +1,12 @@
 -- The law of two machines: what one takes is a beginning of what the end joined to it sent.
 use Rattle.std.specs.Prelude.{ℕ, ◌+◌, ◌-◌, ◌≡◌, ◌≢◌, ◌<◌, ◌≤◌, ◌⊎◌, ◌==◌, Bool, false, Option, Some, None, MatchOption, List, [], ◌∷◌, ◌++◌, length, take, drop, if◌then◌else◌}
-use Rattle.safe_machine.specs.World.{Side}
 use Rattle.safe_machine.specs.World.Side.{Il, Fe}
 use Rattle.safe_pdu.specs.Pdu.{Pdu}
 use Rattle.safe_machine.specs.Made.{Made, units}
 use Rattle.safe_machine.specs.declared.ConnectionState.TheVariants.{Closed, Down, Start}
 use Rattle.safe_machine.specs.State.{State, unconfirmed}
 use Rattle.safe_machine.specs.Step.{arrive}
-use Rattle.safe_machine.specs.World.Event.{Open, Send, Close, Guard, Tick, Arrive}
+use Rattle.safe_machine.specs.World.Event.{Arrive}
 use Rattle.safe_machine.specs.World.{happens, Timely, World, Served, Event, start, run, Genuine, Among, IsBeginningOf}
 
 -- The incarnations of each end, the latest first: all but what stood there before the first opening.

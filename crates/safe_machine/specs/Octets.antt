@@ -8,7 +8,7 @@ use Rattle.safe_machine.specs.declared.Step.{Step as Answer}
 use Rattle.safe_machine.specs.declared.Step.TheVariants.{Dropped, Nothing as NoAnswer}
 use Rattle.safe_machine.specs.State.{State}
 use Rattle.safe_machine.specs.Decision.{is_closed}
-use Rattle.safe_machine.specs.Step.{guard, arrive, arrive_answer, unless_guarded}
+use Rattle.safe_machine.specs.Step.{arrive_answer, unless_guarded}
 use Rattle.safe_machine.specs.Moves.{Move, move}
 use Rattle.safe_machine.specs.Moves.Move.{Guards, Hears}
 

@@ -3,7 +3,6 @@ use Rattle.std.specs.Prelude.{ℕ, ◌^◌, ◌==◌, ◌&&◌, nat_lt, nat_le, 
 use Rattle.safe_pdu.specs.declared.CodeRule.{CodeRule}
 use Rattle.safe_pdu.specs.declared.CodeLength.{CodeLength}
 use Rattle.safe_pdu.specs.declared.CodeLength.TheVariants.{Zero}
-use Rattle.octets.specs.declared.limits.TheConstants.{WINDOW_MAX}
 
 pub record Settings : Type 0 where
   pub client : Bool  -- whether it asks for the connection
