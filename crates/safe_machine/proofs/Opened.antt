@@ -82,8 +82,7 @@ is-joined number f (g ∷ gs) last (inr h) = inr (is-joined number g gs last h)
 only : (f : Served) (fs : List Served) (x : State) (xs : List State) → LastFe f fs → OnlyJoinedTake (f ∷ fs) (x ∷ xs) → Public.OnlyJoinedTake (take (length fs) (f ∷ fs)) (take (length xs) (x ∷ xs))
 only f fs x [] last h = tt
 only f fs x (y ∷ ys) last h =
-    let count : length (y ∷ ys) ≡ length (take (length ys) (y ∷ ys)) + 1 = omega (arith, length-front y ys) in
-    (
+    let count : length (y ∷ ys) ≡ length (take (length ys) (y ∷ ys)) + 1 = omega (arith, length-front y ys) in (
       elim h.0 [
         | inl none ↦ inl none
         | inr is ↦ inr (subst (λ (n : ℕ). IsJoined n (take (length fs) (f ∷ fs))) count (is-joined (length (y ∷ ys)) f fs last is))
@@ -177,8 +176,7 @@ fe-moved m w s g =
   where
     last : (before : List Served) → LastFe (entry w) before → LastFe (entry (with_fe (move m w.fe) w)) before
     last [] e =
-        let closed : w.fe.connection ≡ Closed = ap (λ x. x.connection) e.0 in
-        (
+        let closed : w.fe.connection ≡ Closed = ap (λ x. x.connection) e.0 in (
           (moves_law_holds m w.fe).closed closed ∙ e.0,
           ap (λ c. if joins c (move m w.fe).connection then Some (length w.il_before) else w.joined) closed ∙ e.1,
         )

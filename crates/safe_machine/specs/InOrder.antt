@@ -43,10 +43,12 @@ abbrev pub heard_by_il : Event → ℕ → ℕ
 heard_by_il (Arrive Il p now) n = n + 1
 heard_by_il _ n = n
 
+-- likewise by fe
 abbrev pub heard_by_fe : Event → ℕ → ℕ
 heard_by_fe (Arrive Fe p now) n = n + 1
 heard_by_fe _ n = n
 
+-- every event of a list, with the arrivals counted
 abbrev pub InOrder : (il fe : ℕ) → List Event → World → Type 0
 InOrder il fe [] w = Unit {0}
 InOrder il fe (e ∷ es) w = InOrderEvent il fe w e × InOrder (heard_by_il e il) (heard_by_fe e fe) es (happens w e)
@@ -56,6 +58,7 @@ abbrev pub all_heard_by_il : List Event → ℕ → ℕ
 all_heard_by_il [] n = n
 all_heard_by_il (e ∷ es) n = all_heard_by_il es (heard_by_il e n)
 
+-- likewise by fe
 abbrev pub all_heard_by_fe : List Event → ℕ → ℕ
 all_heard_by_fe [] n = n
 all_heard_by_fe (e ∷ es) n = all_heard_by_fe es (heard_by_fe e n)
@@ -70,6 +73,7 @@ abbrev pub client_state : ℕ → ConnectionState
 client_state zero = Start
 client_state (suc n) = Up
 
+-- likewise of a server
 abbrev pub server_state : ℕ → ConnectionState
 server_state zero = Down
 server_state (suc zero) = Start
@@ -95,6 +99,7 @@ pub record KeepsOrder (il fe : ℕ) (w : World) : Type 0 where
   pub il_all : w.il.connection ≢ Closed → w.fe.connection ≢ Closed → il ≡ length w.fe.made → fe ≡ length w.il.made → AllThere w.il w.fe
   pub fe_all : w.il.connection ≢ Closed → w.fe.connection ≢ Closed → il ≡ length w.fe.made → fe ≡ length w.il.made → AllThere w.fe w.il
 
+-- what every list of events in order keeps
 abbrev pub OrderLaw : Type 0
 OrderLaw =
     (events : List Event) → Genuine events start → Timely events start → InOrder 0 0 events start →

@@ -13,6 +13,7 @@ use Rattle.safe_machine.specs.World.{happens, Timely, World, Served, Event, star
 abbrev pub il_incarnations : World → List State
 il_incarnations w = take (length w.il_before) (w.il ∷ w.il_before)
 
+-- likewise of the field element
 abbrev pub fe_incarnations : World → List Served
 fe_incarnations w = take (length w.fe_before) (record { machine = w.fe; joined = w.joined } ∷ w.fe_before)
 
@@ -28,6 +29,7 @@ TakesBeginnings ils fe None = fe.taken ≡ []
 TakesBeginnings ils fe (Some number) =
     MatchOption (incarnation ils number) ⊥ (λ il. IsBeginningOf fe.taken (units il.made) × IsBeginningOf il.taken (units fe.made))
 
+-- this of each incarnation of the field element
 abbrev pub AllTakeBeginnings : List State → List Served → Type 0
 AllTakeBeginnings ils [] = Unit {0}
 AllTakeBeginnings ils (f ∷ fs) = TakesBeginnings ils f.machine f.joined × AllTakeBeginnings ils fs
@@ -37,10 +39,12 @@ abbrev pub JoinedBelow : ℕ → Option ℕ → Type 0
 JoinedBelow bound None = Unit {0}
 JoinedBelow bound (Some number) = number < bound
 
+-- an earlier one is joined below this
 abbrev pub next_bound : ℕ → Option ℕ → ℕ
 next_bound bound None = bound
 next_bound bound (Some number) = number
 
+-- joined below a bound, and each earlier one below the later
 abbrev pub JoinsFall : ℕ → List Served → Type 0
 JoinsFall bound [] = Unit {0}
 JoinsFall bound (f ∷ fs) = JoinedBelow bound f.joined × JoinsFall (next_bound bound f.joined) fs
@@ -50,15 +54,18 @@ abbrev pub IsJoined : ℕ → List Served → Type 0
 IsJoined number [] = ⊥
 IsJoined number (f ∷ fs) = (f.joined ≡ Some number) ⊎ IsJoined number fs
 
+-- this of each incarnation of the interlocking
 abbrev pub OnlyJoinedTake : List Served → List State → Type 0
 OnlyJoinedTake fes [] = Unit {0}
 OnlyJoinedTake fes (s ∷ before) = ((s.taken ≡ []) ⊎ IsJoined (length before + 1) fes) × OnlyJoinedTake fes before
 
+-- the three facts of all incarnations
 pub record LawOf (ils : List State) (fes : List Served) : Type 0 where
   pub beginnings : AllTakeBeginnings ils fes
   pub joins_fall : JoinsFall (length ils + 1) fes
   pub only_joined : OnlyJoinedTake fes ils
 
+-- the law of a world
 abbrev pub Law : World → Type 0
 Law w = LawOf (il_incarnations w) (fe_incarnations w)
 
@@ -67,14 +74,17 @@ abbrev pub is_number : ℕ → Option ℕ → Bool
 is_number number None = false
 is_number number (Some other) = other == number
 
+-- by the field element joined to this number
 abbrev pub taken_from_il : ℕ → List Served → ℕ
 taken_from_il number [] = 0
 taken_from_il number (f ∷ fs) = if is_number number f.joined then length f.machine.taken else taken_from_il number fs
 
+-- how many units an end took, where it is one
 abbrev pub taken_count : Option State → ℕ
 taken_count None = 0
 taken_count (Some s) = length s.taken
 
+-- by the interlocking with this number
 abbrev pub taken_from_fe : List State → Option ℕ → ℕ
 taken_from_fe ils None = 0
 taken_from_fe ils (Some number) = taken_count (incarnation ils number)
@@ -88,6 +98,7 @@ pub record LosesNothing (w : World) : Type 0 where
 abbrev pub UnitLaw : Type 0
 UnitLaw = (events : List Event) → Genuine events start → Law (run events start)
 
+-- nothing is lost over every list
 abbrev pub LossLaw : Type 0
 LossLaw = (events : List Event) → Genuine events start → LosesNothing (run events start)
 
@@ -97,6 +108,7 @@ abbrev pub JoinsEvent : World → Event → Type 0
 JoinsEvent w (Arrive Fe p now) = w.fe.connection ≡ Down → (arrive p now w.fe).connection ≡ Start → Among p w.il.made
 JoinsEvent w _ = Unit {0}
 
+-- this at each event that may end a list
 abbrev pub JoinedLaw : Type 0
 JoinedLaw = (events : List Event) (e : Event) → Genuine (events ++ e ∷ []) start → JoinsEvent (run events start) e
 
@@ -113,11 +125,13 @@ pub record Fresh (s : State) (p : Pdu) (now : ℕ) (peer : List Made) : Type 0 w
   pub own_at : drop (carrier.behind - 1) s.made ≡ basis ∷ own_rest
   pub recent : now < basis.time + s.settings.t_max
 
+-- an arrival that hands up a unit is fresh
 abbrev pub FreshEvent : World → Event → Type 0
 FreshEvent w (Arrive Il p now) = (arrive p now w.il).taken ≢ w.il.taken → Fresh w.il p now w.fe.made
 FreshEvent w (Arrive Fe p now) = (arrive p now w.fe).taken ≢ w.fe.taken → Fresh w.fe p now w.il.made
 FreshEvent w _ = Unit {0}
 
+-- this at every event of a list
 abbrev pub AllFresh : List Event → World → Type 0
 AllFresh [] w = Unit {0}
 AllFresh (e ∷ es) w = FreshEvent w e × AllFresh es (happens w e)
@@ -126,6 +140,7 @@ AllFresh (e ∷ es) w = FreshEvent w e × AllFresh es (happens w e)
 abbrev pub FreshLaw : Type 0
 FreshLaw = (events : List Event) → Genuine events start → Timely events start → AllFresh events start
 
+-- and at the event that ends a list
 abbrev pub FreshAtLastLaw : Type 0
 FreshAtLastLaw =
     (events : List Event) (e : Event) → Genuine (events ++ e ∷ []) start → Timely (events ++ e ∷ []) start →

@@ -56,6 +56,7 @@ abbrev pub run_after : List (List ℕ) → List Made → List (List ℕ)
 run_after run [] = run
 run_after run (m ∷ ms) = run_after (after_pdu m.pdu.kind m.pdu.body run) ms
 
+-- the run of a list of PDUs
 abbrev pub run_of : List Made → List (List ℕ)
 run_of ms = run_after [] ms
 
@@ -64,6 +65,7 @@ abbrev pub is_request : Kind → ℕ
 is_request RetrReq = 1
 is_request _ = 0
 
+-- likewise for a RetrResp
 abbrev pub is_answer : Kind → ℕ
 is_answer RetrResp = 1
 is_answer _ = 0

@@ -14,6 +14,7 @@ use Rattle.safe_machine.specs.Decision.{is_stranger}
 use Rattle.safe_machine.specs.Step.{guard, arrive, tick, send, may_send}
 use Rattle.safe_machine.specs.Ring.{by_carriers}
 
+-- What may happen to a machine.
 pub data Move : Type 0 where
   Guards : (now : ℕ) → Move
   Hears : Pdu → (now : ℕ) → Move
@@ -21,6 +22,7 @@ pub data Move : Type 0 where
   Sends : (unit : List ℕ) → (now : ℕ) → Move
   Leaves : Reason → Detail → (now : ℕ) → Move
 
+-- what a move does
 abbrev pub move : Move → State → State
 move (Guards now) s = guard now s
 move (Hears p now) s = arrive p now s
@@ -64,11 +66,13 @@ pub record OneMove (m : Move) (s : State) : Type 0 where
 abbrev pub IsUnitSized : List ℕ → Type 0
 IsUnitSized unit = (UNIT_MIN ≤ length unit) × (length unit ≤ UNIT_MAX)
 
+-- a move that brings what its fields allow
 abbrev pub IsSoundMove : Move → Type 0
 IsSoundMove (Hears p now) = HasNumbers p
 IsSoundMove (Sends unit now) = IsUnitSized unit
 IsSoundMove _ = Unit {0}
 
+-- each of them
 abbrev pub AreSoundMoves : List Move → Type 0
 AreSoundMoves [] = Unit {0}
 AreSoundMoves (m ∷ ms) = IsSoundMove m × AreSoundMoves ms
@@ -77,6 +81,7 @@ AreSoundMoves (m ∷ ms) = IsSoundMove m × AreSoundMoves ms
 abbrev pub HasText : Pdu → Type 0
 HasText p = (rule : CodeRule) → SafeText p rule (safe_text rule p)
 
+-- each of them has one
 abbrev pub HaveTexts : List Made → Type 0
 HaveTexts [] = Unit {0}
 HaveTexts (m ∷ ms) = HasText m.pdu × HaveTexts ms
@@ -88,12 +93,15 @@ pub record ReachedState (s : State) : Type 0 where
   pub confirmed_before : List (List ℕ)
   pub ends : confirmed_before ++ unconfirmed s ≡ units s.made
 
+-- every move, in every state
 abbrev pub MovesLaw : Type 0
 MovesLaw = (m : Move) (s : State) → OneMove m s
 
+-- every state reached from an opening
 abbrev pub ReachedLaw : Type 0
 ReachedLaw = (settings : Settings) (first now : ℕ) (ms : List Move) → ReachedState (moved ms (opened settings first now))
 
+-- every PDU made, where settings and moves are sound
 abbrev pub TextsLaw : Type 0
 TextsLaw =
     (settings : Settings) (first now : ℕ) (ms : List Move) → is_legal settings ≡ true → AreSoundMoves ms →

@@ -26,8 +26,10 @@ heard_answer (Err fault) now s = unless_guarded now s (if is_closed s.connection
 abbrev pub seen_by : State → List ℕ → Result Pdu SafeFault
 seen_by s octets = safe_seen s.settings.rule octets
 
+-- octets arrive
 abbrev pub arrive_octets : List ℕ → ℕ → State → State
 arrive_octets octets now s = move (heard (seen_by s octets) now) s
 
+-- and are answered
 abbrev pub octets_answer : List ℕ → ℕ → State → Answer
 octets_answer octets now s = heard_answer (seen_by s octets) now s

@@ -6,16 +6,19 @@ use Rattle.retrans.specs.Units.{Numbered, above, renumbered, octets_of}
 use Rattle.safe_machine.specs.Made.{Made}
 use Rattle.safe_machine.specs.State.{State}
 
+-- the run after a PDU with this index, with the indices of the carriers
 abbrev pub after_at : Kind → List ℕ → ℕ → List Numbered → List Numbered
 after_at RetrResp body index run = []
 after_at Data body index run = run ++ record { number = index; octets = body } ∷ []
 after_at RetrData body index run = run ++ record { number = index; octets = body } ∷ []
 after_at _ body index run = run
 
+-- the run of a list of PDUs, the first with this index
 abbrev pub carried_at : ℕ → List Numbered → List Made → List Numbered
 carried_at index run [] = run
 carried_at index run (m ∷ ms) = carried_at (index + 1) (after_at m.pdu.kind m.pdu.body index run) ms
 
+-- what the ring of an end holds: the units behind the last PDU confirmed
 abbrev pub ring_of : State → List Numbered
 ring_of s = carried_at (s.confirmed + 1) [] (drop (s.confirmed + 1) s.made)
 
@@ -24,6 +27,7 @@ abbrev pub is_resent : Kind → Bool
 is_resent RetrData = true
 is_resent _ = false
 
+-- how many RetrData a list begins with
 abbrev pub resent : List Made → ℕ
 resent [] = 0
 resent (m ∷ ms) = if is_resent m.pdu.kind then suc (resent ms) else 0
@@ -43,6 +47,7 @@ abbrev pub carriers_from : ℕ → List Numbered → List Made → List Numbered
 carriers_from index cs [] = cs
 carriers_from index cs (m ∷ ms) = carriers_from (index + 1) (after_carrier m.pdu.kind m.pdu.body index (resent ms) cs) ms
 
+-- of all PDUs that an end made
 abbrev pub carriers : List Made → List Numbered
 carriers ms = carriers_from 0 [] ms
 

@@ -4,6 +4,7 @@ use Rattle.safe_pdu.specs.declared.CodeRule.{CodeRule}
 use Rattle.safe_pdu.specs.declared.CodeLength.{CodeLength}
 use Rattle.safe_pdu.specs.declared.CodeLength.TheVariants.{Zero}
 
+-- What an end is opened with.
 pub record Settings : Type 0 where
   pub client : Bool  -- whether it asks for the connection
   pub own : ℕ  -- the two identifiers

@@ -11,6 +11,7 @@ use Rattle.safe_machine.specs.Settings.{Settings}
 use Rattle.safe_machine.specs.declared.Reason.{Reason}
 use Rattle.safe_machine.specs.declared.Detail.{Detail}
 
+-- What an end knows, and all that it made and took.
 pub record State : Type 0 where
   pub settings : Settings
   pub first : ℕ  -- the sequence number of its first PDU
@@ -49,9 +50,11 @@ next_made s kind body now =
       behind = s.expected;
     }
 
+-- a PDU is made: a sending
 abbrev pub make : Kind → List ℕ → ℕ → State → State
 make kind body now s = record s { made = s.made ++ next_made s kind body now ∷ []; since = 0 }
 
+-- the connection state changes
 abbrev pub move_to : ConnectionState → State → State
 move_to connection s = record s { connection = connection }
 
@@ -63,21 +66,27 @@ pass p d s = record s { expected = s.expected + d + 1; last_sn = p.sn; last_ts =
 abbrev pub cs_step : State → Pdu → ℕ
 cs_step s p = ahead (sn_of s.first s.confirmed) p.cs
 
+-- likewise its confirmed timestamp
 abbrev pub cts_step : State → Pdu → ℕ
 cts_step s p = ahead s.confirmed_at p.cts
 
+-- the confirmed number moves on
 abbrev pub confirm_units : Pdu → State → State
 confirm_units p s = record s { confirmed = s.confirmed + cs_step s p }
 
+-- the confirmed time moves on
 abbrev pub confirm_time : Pdu → State → State
 confirm_time p s = record s { confirmed_at = s.confirmed_at + cts_step s p }
 
+-- the unit goes up
 abbrev pub hand_up : Pdu → State → State
 hand_up p s = record s { taken = s.taken ++ p.body ∷ []; since = s.since + 1 }
 
+-- a RetrReq was handled
 abbrev pub note_request : ℕ → State → State
 note_request d s = record s { answered = s.expected + d }
 
+-- units go out again, as RetrData
 abbrev pub resend : List (List ℕ) → ℕ → State → State
 resend [] now s = s
 resend (unit ∷ units) now s = resend units now (make RetrData unit now s)
@@ -86,6 +95,7 @@ resend (unit ∷ units) now s = resend units now (make RetrData unit now s)
 abbrev pub reply : ℕ → State → State
 reply now s = make Heartbeat [] now (resend (unconfirmed s) now (make RetrResp [] now s))
 
+-- a retransmission is asked for
 abbrev pub ask : ℕ → State → State
 ask now s = move_to Requesting (make RetrReq [] now s)
 
@@ -95,6 +105,7 @@ says_goodbye Closed = false
 says_goodbye Down = false
 says_goodbye _ = true
 
+-- a DiscReq, and closed
 abbrev pub leave : Reason → Detail → ℕ → State → State
 leave reason detail now s =
     move_to Closed (if says_goodbye s.connection then make DiscReq (leaving_body reason detail) now s else s)
@@ -118,6 +129,7 @@ fresh settings first now connection =
       window = 0;
     }
 
+-- the client asks for the connection, the server waits
 abbrev pub opened : Settings → ℕ → ℕ → State
 opened settings first now =
     if settings.client

@@ -19,9 +19,11 @@ abbrev pub last_time : List Made → ℕ → ℕ
 last_time [] time = time
 last_time (m ∷ ms) time = last_time ms m.time
 
+-- the peer's window is known
 abbrev pub set_window : ℕ → State → State
 set_window window s = record s { window = window }
 
+-- all up to this index is confirmed
 abbrev pub confirm_to : ℕ → ℕ → State → State
 confirm_to index now s = record s { confirmed = index; confirmed_at = now }
 
@@ -29,9 +31,11 @@ confirm_to index now s = record s { confirmed = index; confirmed_at = now }
 abbrev pub beat : ℕ → State → State
 beat now s = if nat_le s.settings.mwa s.since then make Heartbeat [] now s else s
 
+-- the unit goes up, where there is one
 abbrev pub take_unit : Pdu → ℕ → State → State
 take_unit p now s = if carries p.kind then beat now (hand_up p s) else s
 
+-- both confirmations move on
 abbrev pub tests_passed : Pdu → State → State
 tests_passed p s = confirm_time p (confirm_units p s)
 
@@ -55,11 +59,13 @@ carry_out p now AnswersEarly s =
     let t = reply now (note_request (distance s p) (confirm_units p s)) in
     if in_turn s.connection then ask now t else t
 
+-- the states with a connection, or asking for one
 abbrev pub is_live : ConnectionState → Bool
 is_live Closed = false
 is_live Down = false
 is_live _ = true
 
+-- the deadline, then the limit
 abbrev pub guard : ℕ → State → State
 guard now s =
     if is_live s.connection
@@ -68,9 +74,11 @@ guard now s =
     else s)
     else s
 
+-- an arrival behind the guard
 abbrev pub receive : Pdu → ℕ → State → State
 receive p now s = carry_out p now (decide s p now) s
 
+-- an arrival
 abbrev pub arrive : Pdu → ℕ → State → State
 arrive p now s = receive p now (guard now s)
 
@@ -83,24 +91,30 @@ unless_guarded now s answer =
     else answer)
     else answer
 
+-- how an arrival is answered
 abbrev pub arrive_answer : Pdu → ℕ → State → Answer
 arrive_answer p now s = unless_guarded now s (answer_of (decide s p now))
 
+-- the states in which heartbeats are due
 abbrev pub is_connected : ConnectionState → Bool
 is_connected Up = true
 is_connected Requesting = true
 is_connected RetrRun = true
 is_connected _ = false
 
+-- a heartbeat, T_h after the last sending
 abbrev pub heartbeat : ℕ → State → State
 heartbeat now s =
     if is_connected s.connection && nat_le (last_time s.made 0 + s.settings.t_h) now then make Heartbeat [] now s else s
 
+-- time passes
 abbrev pub tick : ℕ → State → State
 tick now s = heartbeat now (guard now s)
 
+-- units go out while the peer's window is open
 abbrev pub may_send : State → Bool
 may_send s = in_turn s.connection && nat_lt (length (unconfirmed s)) s.window
 
+-- a unit goes out
 abbrev pub send : List ℕ → ℕ → State → State
 send unit now s = if may_send s then make Data unit now s else s

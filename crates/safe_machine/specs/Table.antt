@@ -7,6 +7,7 @@ use Rattle.safe_machine.specs.declared.ConnectionState.TheVariants.{Start, Up, R
 use Rattle.safe_machine.specs.declared.Reason.{Reason}
 use Rattle.safe_machine.specs.declared.Reason.TheVariants.{UnexpectedPdu, SequenceError}
 
+-- What a cell of the table says.
 pub data Cell : Type 0 where
   Take : ConnectionState → Cell  -- take it, and be in that state
   Ask : Cell  -- ask for retransmission
@@ -22,6 +23,7 @@ start_row false Heartbeat = Refuse SequenceError
 start_row false Data = Refuse SequenceError
 start_row _ _ = Refuse UnexpectedPdu
 
+-- the server and the client in Up
 abbrev pub up_row : Bool → Kind → Cell
 up_row true Heartbeat = Take Up
 up_row true Data = Take Up
@@ -30,6 +32,7 @@ up_row false Data = Ask
 up_row _ RetrReq = Answer
 up_row _ _ = Refuse UnexpectedPdu
 
+-- while a retransmission runs
 abbrev pub run_row : Bool → Kind → Cell
 run_row true Heartbeat = Take Up
 run_row true Data = Take Up
@@ -40,6 +43,7 @@ run_row false RetrData = Ask
 run_row _ RetrReq = Answer
 run_row _ _ = Refuse UnexpectedPdu
 
+-- while one is asked for, at any distance
 abbrev pub request_row : Kind → Cell
 request_row Heartbeat = Skip
 request_row Data = Skip
@@ -48,6 +52,7 @@ request_row RetrReq = Answer
 request_row RetrResp = Resume
 request_row _ = Refuse UnexpectedPdu
 
+-- the table
 abbrev pub cell : ConnectionState → Bool → Kind → Cell
 cell Start next kind = start_row next kind
 cell Up next kind = up_row next kind

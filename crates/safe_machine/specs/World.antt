@@ -22,6 +22,7 @@ pub record Served : Type 0 where
   pub machine : State
   pub joined : Option ℕ
 
+-- Both ends, what they were before, and their clocks.
 pub record World : Type 0 where
   pub il : State  -- the present incarnations, and those before, the latest first
   pub il_before : List State
@@ -38,6 +39,7 @@ abbrev pub unopened : State
 unopened =
     fresh (record { client = true; own = 0; peer = 0; n_sendmax = 1; t_max = 0; t_h = 0; mwa = 1; pdu_limit = 0; rule = record { length = Eight; initial_value = [] } }) 0 0 Closed
 
+-- nothing is opened yet
 abbrev pub start : World
 start =
     record {
@@ -52,6 +54,7 @@ start =
       clock_fe = 0;
     }
 
+-- What may happen in a world.
 pub data Event : Type 0 where
   Open : Side → (settings : Settings) → (first now : ℕ) → Event
   Send : Side → (unit : List ℕ) → (now : ℕ) → Event
@@ -60,9 +63,11 @@ pub data Event : Type 0 where
   Tick : Side → (now : ℕ) → Event
   Arrive : Side → Pdu → (now : ℕ) → Event
 
+-- the settings in a role
 abbrev pub as_role : Bool → Settings → Settings
 as_role client s = record s { client = client }
 
+-- the interlocking is opened anew
 abbrev pub open_il : Settings → ℕ → ℕ → World → World
 open_il settings first now w =
     record w {
@@ -72,6 +77,7 @@ open_il settings first now w =
       dead_fe = length w.fe.made;
     }
 
+-- the field element is opened anew
 abbrev pub open_fe : Settings → ℕ → ℕ → World → World
 open_fe settings first now w =
     record w {
@@ -82,6 +88,7 @@ open_fe settings first now w =
       dead_fe = 0;
     }
 
+-- the interlocking has moved
 abbrev pub with_il : State → World → World
 with_il s w = record w { il = s }
 
@@ -90,6 +97,7 @@ abbrev pub joins : ConnectionState → ConnectionState → Bool
 joins Down Start = true
 joins _ _ = false
 
+-- the field element has moved
 abbrev pub with_fe : State → World → World
 with_fe s w = record w { fe = s; joined = if joins w.fe.connection s.connection then Some (length w.il_before) else w.joined }
 
@@ -102,6 +110,7 @@ event_end (Guard e now) = e
 event_end (Tick e now) = e
 event_end (Arrive e p now) = e
 
+-- the own time of that end
 abbrev pub event_time : Event → ℕ
 event_time (Open e settings first now) = now
 event_time (Send e unit now) = now
@@ -138,9 +147,11 @@ clocked e before w =
       clock_fe = at_end (event_end e) before.clock_fe (event_time e);
     }
 
+-- an event
 abbrev pub happens : World → Event → World
 happens w e = clocked e w (changed w e)
 
+-- a list of events
 abbrev pub run : List Event → World → World
 run [] w = w
 run (e ∷ es) w = run es (happens w e)
@@ -154,11 +165,13 @@ Among p (m ∷ ms) = (m.pdu ≡ p) ⊎ Among p ms
 abbrev pub GenuineAt : State → Pdu → List Made → Type 0
 GenuineAt s p live = s.connection ≢ Closed → is_stranger s p ≡ false → Among p live
 
+-- this of an arrival at either end
 abbrev pub GenuineEvent : World → Event → Type 0
 GenuineEvent w (Arrive Il p now) = GenuineAt w.il p (drop w.dead_fe w.fe.made)
 GenuineEvent w (Arrive Fe p now) = GenuineAt w.fe p (drop w.dead_il w.il.made)
 GenuineEvent w _ = Unit {0}
 
+-- every event of a list is genuine
 abbrev pub Genuine : List Event → World → Type 0
 Genuine [] w = Unit {0}
 Genuine (e ∷ es) w = GenuineEvent w e × Genuine es (happens w e)
@@ -167,9 +180,11 @@ Genuine (e ∷ es) w = GenuineEvent w e × Genuine es (happens w e)
 abbrev pub TimelyEvent : World → Event → Type 0
 TimelyEvent w e = at_end (event_end e) w.clock_il w.clock_fe ≤ event_time e
 
+-- this at every event
 abbrev pub Timely : List Event → World → Type 0
 Timely [] w = Unit {0}
 Timely (e ∷ es) w = TimelyEvent w e × Timely es (happens w e)
 
+-- the first items of a list, none or all included
 abbrev pub IsBeginningOf : List (List ℕ) → List (List ℕ) → Type 0
 IsBeginningOf front whole = (rest : List (List ℕ)) × (front ++ rest ≡ whole)
