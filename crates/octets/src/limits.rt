@@ -48,6 +48,26 @@ pub const LEAVING_BODY: usize = 4;
 /// The greatest N_sendmax: how many units may be unconfirmed at most.
 pub const WINDOW_MAX: usize = 32;
 
+/// How far ahead of the expected number one may lie that is judged: so many times the window, or q.
+pub const REACH: usize = 10;
+
+/// The shortest and the longest T_max, after which nothing recent was confirmed, in milliseconds.
+pub const T_MAX_LOWEST: u64 = 100;
+/// See `T_MAX_LOWEST`.
+pub const T_MAX_HIGHEST: u64 = 60_000;
+
+/// The shortest T_h, after which a heartbeat is due, in milliseconds; it is below T_max.
+pub const T_H_LOWEST: u64 = 10;
+
+/// The greatest number of units that are taken without a sending before a heartbeat is made.
+pub const MWA_MAX: u32 = 16;
+
+/// The fewest and the most PDUs that one connection may be limited to. The most leaves room below 2^32
+/// for what a step that began below the limit, an open window and a leaving may still make.
+pub const PDU_LIMIT_LOWEST: u64 = 100;
+/// See `PDU_LIMIT_LOWEST`.
+pub const PDU_LIMIT_HIGHEST: u64 = 4_294_901_760;
+
 /// How many messages wait to be sent at most.
 pub const WAITING_MAX: usize = 64;
 

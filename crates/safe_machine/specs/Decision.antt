@@ -1,5 +1,6 @@
 -- What an end decides on an arrival, from its state, the PDU and the own time.
 use Rattle.std.specs.Prelude.{ℕ, ◌+◌, ◌-◌, ◌*◌, ◌==◌, ◌&&◌, nat_lt, nat_le, Bool, true, false, List, length, if◌then◌else◌}
+use Rattle.octets.specs.declared.limits.TheConstants.{REACH}
 use Rattle.safe_pdu.specs.declared.Kind.{Kind}
 use Rattle.safe_pdu.specs.declared.Kind.TheVariants.{ConnReq, ConnResp, DiscReq}
 use Rattle.safe_machine.specs.declared.ConnectionState.{ConnectionState}
@@ -98,7 +99,7 @@ by_cell s p now d Skip = Drops Request
 -- within reach the table decides
 abbrev pub by_table : State → Pdu → ℕ → ℕ → Decision
 by_table s p now d =
-    if nat_le d (10 * s.settings.n_sendmax) then by_cell s p now d (cell s.connection (d == 0) p.kind) else Drops Number
+    if nat_le d (REACH * s.settings.n_sendmax) then by_cell s p now d (cell s.connection (d == 0) p.kind) else Drops Number
 
 -- in Start the role decides
 abbrev pub in_start : State → Pdu → ℕ → Decision
