@@ -49,7 +49,7 @@ pub const LEAVING_BODY: usize = 4;
 pub const WINDOW_MAX: usize = 32;
 
 /// How far ahead of the expected number one may lie that is judged: so many times the window, or q.
-pub const REACH: usize = 10;
+pub const REACH: u64 = 10;
 
 /// The shortest and the longest T_max, after which nothing recent was confirmed, in milliseconds.
 pub const T_MAX_LOWEST: u64 = 100;

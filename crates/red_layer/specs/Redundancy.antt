@@ -3,6 +3,7 @@
 -- (redundancy layer of DIN VDE V 0831-200:2015; the rules are the profile's, docs/PROFILE.md).
 use Rattle.std.specs.Prelude.{ℕ, ◌+◌, ◌*◌, ◌==◌, nat_le, nat_lt, Bool, not, ◌&&◌, List, [], ◌∷◌, ◌++◌, length, Option, Some, None, Result, Ok, Err, if◌then◌else◌}
 use Rattle.deferral.specs.FiniteMap.{put_in, has_number}
+use Rattle.octets.specs.declared.limits.TheConstants.{REACH}
 use Rattle.red_pdu.specs.RedText.{red_seen}
 use Rattle.red_pdu.specs.declared.RedFault.{RedFault}
 use Rattle.red_layer.specs.Parts.{Part, is_nil}
@@ -80,7 +81,7 @@ arrival now p r =
     if nat_lt p.0 r.expected then record { event = Old; passed = []; left = r }
     else if p.0 == r.expected then
     record { event = Passed; passed = p ∷ run_from (p.0 + 1) r.waiting; left = follow now (p.0 + 1) r }
-    else if nat_lt (r.expected + 10 * r.q) p.0 then record { event = Far; passed = []; left = r }
+    else if nat_lt (r.expected + REACH * r.q) p.0 then record { event = Far; passed = []; left = r }
     else deferred now p r
 
 -- what comes to the receiving half: any octets, or a moment at which the deadline is tried

@@ -12,7 +12,7 @@ ghost use Rattle.red_layer.specs.Redundancy.{Input, decoded, run_from, after_run
 
 use arrayvec::ArrayVec;
 use deferral::Deferral;
-use octets::limits::SAFE_PDU_MAX;
+use octets::limits::{REACH, SAFE_PDU_MAX};
 use red_pdu::{RedFault, RedPdu, decode};
 use std::alloc::{Allocator, Global};
 use std::marker::Model;
@@ -213,7 +213,7 @@ impl<A: Allocator> RedLayer<A> {
             self.follow(number + 1, now, up);
             return RedEvent::Passed;
         }
-        if number > self.expected + 10 * self.q {
+        if number > self.expected + REACH * self.q {
             return RedEvent::Far;
         }
         self.defer(seq, upper, now)
