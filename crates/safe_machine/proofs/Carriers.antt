@@ -19,7 +19,7 @@ use Rattle.safe_machine.proofs.Cases.{if_both}
 use Rattle.safe_machine.proofs.Runs.{units-append}
 use Rattle.safe_machine.proofs.OneMachine.{plain-reply}
 use Rattle.safe_machine.proofs.Ring.{octets_of-append, carried_at-append, above-append, carried_at-above, ring_of-units, ring-confirm, ring-resend}
-use Rattle.safe_machine.proofs.Kept.{Kept, AllowsMove, kept-move, is_plain}
+use Rattle.safe_machine.proofs.Kept.{Kept, Anything, anything, kept-move, is_plain}
 
 -- Carriers of a list that grows. A RetrData at its front would be counted with a RetrResp before it.
 abbrev Begins : List Made → Type 0
@@ -350,7 +350,7 @@ replied now s h =
           ∙ (ended s h ∙ sym (plain-reply now s).sent)));
     }
 
-kept-carriers : Kept (λ p. Unit {0}) (λ u. Unit {0}) Carriers
+kept-carriers : Kept Anything Anything Carriers
 kept-carriers =
     record {
       silent = λ s t same h. subst (λ ms. CarriersOf ms t.confirmed) (sym same.1) (subst (λ (k : ℕ). CarriersOf s.made k) (sym same.2) h);
@@ -368,16 +368,9 @@ kept-carriers =
       replies = λ now s h. replied now s h;
     }
 
-allowed : (m : Move) → AllowsMove (λ p. Unit {0}) (λ u. Unit {0}) m
-allowed (Guards now) = tt
-allowed (Hears p now) = tt
-allowed (Ticks now) = tt
-allowed (Sends unit now) = tt
-allowed (Leaves reason detail now) = tt
-
 carriers-moved : (ms : List Move) (s : State) → Carriers s → Carriers (moved ms s)
 carriers-moved [] s h = h
-carriers-moved (m ∷ ms) s h = carriers-moved ms (move m s) (kept-move (λ p. Unit {0}) (λ u. Unit {0}) Carriers kept-carriers m s (allowed m) h)
+carriers-moved (m ∷ ms) s h = carriers-moved ms (move m s) (kept-move Anything Anything Carriers kept-carriers m s (anything m) h)
 
 carriers-opened : (settings : Settings) (first now : ℕ) → Carriers (opened settings first now)
 carriers-opened settings first now =

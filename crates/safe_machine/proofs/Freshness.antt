@@ -1,14 +1,14 @@
 -- Over every list of events with clocks that never go back, what is taken is fresh.
 use Rattle.std.proofs.Common.{◌≡◌, ◌≢◌, ◌⊎◌, inl, inr, ℕ, suc, zero, ◌+◌, ◌-◌, ◌<◌, ◌≤◌, List, [], ◌∷◌, ◌++◌, length, drop, true, refl, sym, ap, subst, ◌∙◌, arith}
-use Rattle.std.specs.Prelude.{if◌then◌else◌, ◌&&◌, nat_lt, nat_le}
-use Rattle.std.proofs.lemmas.Bool.{false≢true, leb-true}
+use Rattle.std.specs.Prelude.{if◌then◌else◌, nat_le}
+use Rattle.std.proofs.lemmas.Bool.{false≢true}
 use Rattle.safe_machine.specs.World.Side.{Il, Fe}
 use Rattle.safe_pdu.specs.declared.Kind.TheVariants.{ConnReq, RetrData, RetrResp, Heartbeat}
 use Rattle.safe_machine.specs.declared.ConnectionState.{ConnectionState}
 use Rattle.safe_machine.specs.declared.ConnectionState.TheVariants.{Closed, Down, Start}
 use Rattle.safe_pdu.specs.Pdu.{Pdu}
 use Rattle.safe_machine.specs.Made.{Made, carries, opening_body}
-use Rattle.safe_machine.specs.Settings.{Settings, is_legal, in_range}
+use Rattle.safe_machine.specs.Settings.{Settings, is_legal}
 use Rattle.safe_machine.specs.State.{State, unconfirmed, make, move_to, pass, confirm_units, hand_up, note_request, resend, reply, ask, leave, opened, fresh, next_made}
 use Rattle.safe_machine.specs.Decision.{Decision, decide, distance, in_turn}
 use Rattle.safe_machine.specs.Decision.Decision.{Nothing, Drops, Shuts, Leaves, Rejects, Accepts, Connects, Takes, Asks, Resumes, AnswersNext, AnswersEarly}
@@ -16,7 +16,8 @@ use Rattle.safe_machine.specs.Step.{is_live, guard, receive, arrive, carry_out, 
 use Rattle.safe_machine.specs.World.{World, Event, start, changed, run, event_end, event_time, at_end, Timely, happens, GenuineAt, GenuineEvent, Genuine, as_role, open_il, open_fe, with_il, with_fe}
 use Rattle.safe_machine.specs.World.Event.{Open, Send, Close, Guard, Tick, Arrive}
 use Rattle.safe_machine.specs.Law.{Fresh, FreshEvent, AllFresh, FreshLaw, FreshAtLastLaw}
-use Rattle.safe_machine.proofs.Cases.{if_both, and-parts}
+use Rattle.safe_machine.proofs.Legal.{legal as lawful}
+use Rattle.safe_machine.proofs.Cases.{if_both}
 use Rattle.safe_machine.proofs.Runs.{Every, every-weaken, every-drop_all, at-length}
 use Rattle.safe_machine.proofs.Invariant.{NotOpening, Solo, Half, Pair}
 use Rattle.safe_machine.proofs.Deciding.{Fits, listens-live, decide-fits}
@@ -270,19 +271,6 @@ fe-arrive_times w ci cf now p later h genuine = go (now_of w ci cf h)
         (apart_fe (record { connection = r.2; made = r.3 ∙ s.made; dead = s.dead; past = omega (arith, r.4, s.past) }), λ new. absurd (new r.0.taken))
 
 -- openings
-legal-short : (s : Settings) → is_legal s ≡ true → s.t_max ≤ 60000
-legal-short s e =
-    let a = nat_le 1 s.n_sendmax && nat_le s.n_sendmax 32 in
-    let b = nat_le 100 s.t_max && nat_le s.t_max 60000 in
-    let c = nat_le 10 s.t_h && nat_lt s.t_h s.t_max in
-    let d = nat_le 1 s.mwa && nat_le s.mwa 16 in
-    let l = nat_le 100 s.pdu_limit && nat_le s.pdu_limit 4294901760 in
-    let p1 = and-parts (a && b && c && d) l (and-parts (in_range s) _ e).0 in
-    let p2 = and-parts (a && b && c) d p1.0 in
-    let p3 = and-parts (a && b) c p2.0 in
-    let p4 = and-parts a b p3.0 in
-    leb-true s.t_max 60000 (and-parts (nat_le 100 s.t_max) (nat_le s.t_max 60000) p4.1).1
-
 pub no_index : {P : Type 0} (k : ℕ) (ms : List Made) (m : Made) (rest : List Made) → ms ≡ [] → drop k ms ≡ m ∷ rest → P
 no_index k ms m rest e at = let l = at-length k ms m rest at in absurd (omega (arith, ap length e))
 
@@ -356,7 +344,7 @@ t-open_il : (settings : Settings) (first now : ℕ) (w : World) (ci cf : ℕ) �
 t-open_il settings first now w ci cf later h legal =
     record {
       inv = inv-open_il settings first now w h.inv legal;
-      short_il = legal-short settings legal;
+      short_il = (lawful settings legal).t_max_most;
       short_fe = h.short_fe;
       times =
           elim (down_or w.fe.connection) [
@@ -370,7 +358,7 @@ t-open_fe settings first now w ci cf later h legal =
     record {
       inv = inv-open_fe settings first now w h.inv legal;
       short_il = h.short_il;
-      short_fe = legal-short settings legal;
+      short_fe = (lawful settings legal).t_max_most;
       times = apart_fe (record { connection = inl refl; made = refl; dead = every-drop_all NotOpening w.il.made; past = omega arith });
     }
 

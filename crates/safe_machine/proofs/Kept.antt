@@ -49,6 +49,17 @@ AllowsMove A U (Hears p now) = A p
 AllowsMove A U (Sends unit now) = U unit
 AllowsMove A U _ = Unit {0}
 
+-- where nothing is asked of what a move brings
+abbrev pub Anything : {X : Type 0} → X → Type 0
+Anything x = Unit {0}
+
+pub anything : (m : Move) → AllowsMove Anything Anything m
+anything (Guards now) = tt
+anything (Hears p now) = tt
+anything (Ticks now) = tt
+anything (Sends unit now) = tt
+anything (LeavesNow reason detail now) = tt
+
 module _ (A : Pdu → Type 0) (U : List ℕ → Type 0) (P : State → Type 0) (k : Kept A U P) where
   kept-leave : (reason : Reason) (detail : Detail) (now : ℕ) (s : State) → P s → P (leave reason detail now s)
   kept-leave reason detail now s h =

@@ -17,7 +17,7 @@ use Rattle.safe_machine.proofs.Runs.{units-append}
 use Rattle.safe_machine.proofs.Leaving.{quiet-guard, quiet-tick, quiet-send, quiet-leave, arrive-down, arrive-joins}
 use Rattle.safe_machine.proofs.OneMachine.{plain-guard, plain-tick, plain-leave, send-taken, takes-arrive, closed-guard, closed-arrive}
 use Rattle.safe_machine.proofs.Lone.{lone-leave}
-use Rattle.safe_machine.proofs.Kept.{Kept, AllowsMove, kept-move}
+use Rattle.safe_machine.proofs.Kept.{Kept, Anything, anything, kept-move}
 
 -- the PDUs made before stand in front
 abbrev Grown : List Made → State → Type 0
@@ -33,7 +33,7 @@ grown-resend : (before : List Made) (us : List (List ℕ)) (now : ℕ) (s : Stat
 grown-resend before [] now s h = h
 grown-resend before (u ∷ us) now s h = grown-resend before us now (make RetrData u now s) (grown-make before RetrData u now s h)
 
-kept-grown : (before : List Made) → Kept (λ p. Unit {0}) (λ u. Unit {0}) (Grown before)
+kept-grown : (before : List Made) → Kept Anything Anything (Grown before)
 kept-grown before =
     record {
       silent = λ s t same h. (h.0, same.1 ∙ h.1);
@@ -49,14 +49,7 @@ kept-grown before =
     }
 
 grown : (m : Move) (s : State) → Grown s.made (move m s)
-grown m s = kept-move (λ p. Unit {0}) (λ u. Unit {0}) (Grown s.made) (kept-grown s.made) m s (allowed m) ([], sym (append-nil s.made))
-  where
-    allowed : (m : Move) → AllowsMove (λ p. Unit {0}) (λ u. Unit {0}) m
-    allowed (Guards now) = tt
-    allowed (Hears p now) = tt
-    allowed (Ticks now) = tt
-    allowed (Sends unit now) = tt
-    allowed (Leaves reason detail now) = tt
+grown m s = kept-move Anything Anything (Grown s.made) (kept-grown s.made) m s (anything m) ([], sym (append-nil s.made))
 
 -- a move that is no arrival doesn't start a connection
 no-start : (a b : ConnectionState) → joins a b ≡ false → a ≡ Down → b ≡ Start → ⊥

@@ -1,7 +1,7 @@
 -- Each PDU that a machine makes has a text.
-use Rattle.std.proofs.Common.{◌≡◌, ◌==◌, ◌≤◌, ◌<◌, ◌+◌, ◌^◌, ℕ, zero, suc, List, [], ◌∷◌, ◌++◌, Bool, true, false, refl, sym, ap, subst, ◌∙◌, arith, length, drop}
-use Rattle.std.specs.Prelude.{if◌then◌else◌, ◌&&◌, nat_le, nat_lt}
-use Rattle.std.proofs.lemmas.Bool.{le-leb, leb-true, ltb-true, eqb-true}
+use Rattle.std.proofs.Common.{◌≡◌, ◌≤◌, ◌<◌, ◌+◌, ◌^◌, ℕ, zero, suc, List, [], ◌∷◌, ◌++◌, Bool, true, refl, sym, ap, subst, ◌∙◌, arith, length, drop}
+use Rattle.std.specs.Prelude.{◌&&◌, nat_le}
+use Rattle.std.proofs.lemmas.Bool.{le-leb, leb-true, eqb-true}
 use Rattle.octets.specs.declared.limits.TheConstants.{LEAVING_BODY, UNIT_MIN, UNIT_MAX}
 use Rattle.safe_pdu.specs.declared.Kind.{Kind}
 use Rattle.safe_pdu.specs.declared.Kind.TheVariants.{ConnReq, ConnResp, RetrReq, RetrResp, DiscReq, Heartbeat, Data, RetrData}
@@ -13,10 +13,11 @@ use Rattle.safe_pdu.proofs.SafeLemmas.{length-text}
 use Rattle.safe_machine.specs.Numbers.{sn_of}
 use Rattle.safe_machine.specs.Made.{Made, opening_body, after_pdu, run_after}
 use Rattle.safe_machine.specs.State.{State, next_made, make, resend, reply, unconfirmed, opened, fresh}
-use Rattle.safe_machine.specs.Settings.{Settings, is_legal, in_range, are_two, is_coded}
+use Rattle.safe_machine.specs.Settings.{Settings, is_legal}
 use Rattle.safe_machine.specs.Moves.{Move, moved, move, HasText, HaveTexts, IsUnitSized, AreSoundMoves, IsSoundMove, TextsLaw}
 use Rattle.safe_machine.specs.Moves.Move.{Guards, Hears, Ticks, Sends, Leaves}
 use Rattle.safe_machine.specs.declared.ConnectionState.TheVariants.{Start, Down}
+use Rattle.safe_machine.proofs.Legal.{legal}
 use Rattle.safe_machine.proofs.Cases.{if_both, and-parts}
 use Rattle.safe_machine.proofs.Receiving.{opening_window}
 use Rattle.safe_machine.proofs.Kept.{Kept, AllowsMove, kept-move, is_plain}
@@ -39,27 +40,14 @@ pub record Own (s : Settings) : Type 0 where
 
 pub own-legal : (s : Settings) → is_legal s ≡ true → Own s
 own-legal s e =
-    let both = and-parts (in_range s) (are_two s && is_coded s.rule.length) e in
-    let two = and-parts (are_two s) (is_coded s.rule.length) both.1 in
-    let ids = and-parts (nat_lt s.own (256 ^ 4) && nat_lt s.peer (256 ^ 4)) (if s.own == s.peer then false else true) two.0 in
-    let id = and-parts (nat_lt s.own (256 ^ 4)) (nat_lt s.peer (256 ^ 4)) ids.0 in
-    let a = nat_le 1 s.n_sendmax && nat_le s.n_sendmax 32 in
-    let b = nat_le 100 s.t_max && nat_le s.t_max 60000 in
-    let c = nat_le 10 s.t_h && nat_lt s.t_h s.t_max in
-    let d = nat_le 1 s.mwa && nat_le s.mwa 16 in
-    let l = nat_le 100 s.pdu_limit && nat_le s.pdu_limit 4294901760 in
-    let p1 = and-parts (a && b && c && d) l both.0 in
-    let p2 = and-parts (a && b && c) d p1.0 in
-    let p3 = and-parts (a && b) c p2.0 in
-    let p4 = and-parts a b p3.0 in
-    let n = and-parts (nat_le 1 s.n_sendmax) (nat_le s.n_sendmax 32) p4.0 in
-    let says : window_of (opening_body s.n_sendmax) ≡ s.n_sendmax = opening_window s.n_sendmax (leb-true s.n_sendmax 32 n.1) in
+    let l = legal s e in
+    let says : window_of (opening_body s.n_sendmax) ≡ s.n_sendmax = opening_window s.n_sendmax l.window_most in
     record {
-      own = ltb-true s.own (256 ^ 4) id.0;
-      peer = ltb-true s.peer (256 ^ 4) id.1;
+      own = l.own;
+      peer = l.peer;
       window =
           ap (λ (w : ℕ). nat_le 1 w && (nat_le w 32 && true)) says
-          ∙ (ap (λ (x : Bool). x && (nat_le s.n_sendmax 32 && true)) n.0 ∙ ap (λ (x : Bool). x && true) n.1);
+          ∙ (ap (λ (x : Bool). x && (nat_le s.n_sendmax 32 && true)) (le-leb 1 s.n_sendmax l.window_least) ∙ ap (λ (x : Bool). x && true) (le-leb s.n_sendmax 32 l.window_most));
     }
 
 -- what is known of the PDUs made, and of what the next one will confirm
@@ -183,8 +171,8 @@ texts-moved [] s a h = h
 texts-moved (m ∷ ms) s a h = texts-moved ms (move m s) a.1 (kept-move HasNumbers IsUnitSized Texts kept-texts m s (allowed m a.0) h)
 
 pub texts_law_holds : TextsLaw
-texts_law_holds settings first now ms legal sound =
-    let own = own-legal settings legal in
+texts_law_holds settings first now ms lawful sound =
+    let own = own-legal settings lawful in
     let begun : State = fresh settings first now Start in
     let before : Texts begun = record { own = own; sn = omega arith; ts = omega arith; texts = tt } in
     (texts-moved ms (opened settings first now) sound

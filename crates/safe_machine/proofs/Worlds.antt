@@ -1,14 +1,14 @@
 -- Every event keeps the law.
 use Rattle.std.proofs.Common.{◌≡◌, ◌≢◌, ◌⊎◌, inl, inr, ℕ, zero, suc, ◌+◌, ◌<◌, ◌≤◌, List, [], ◌∷◌, ◌++◌, length, drop, Option, Some, None, Bool, true, false, refl, sym, ap, subst, ◌∙◌, arith}
-use Rattle.std.specs.Prelude.{if◌then◌else◌, ◌&&◌, nat_lt, nat_le}
-use Rattle.std.proofs.lemmas.Bool.{false≢true, leb-true}
+use Rattle.std.specs.Prelude.{if◌then◌else◌, nat_le}
+use Rattle.std.proofs.lemmas.Bool.{false≢true}
 use Rattle.safe_machine.specs.World.Side.{Il, Fe}
 use Rattle.safe_pdu.specs.declared.Kind.TheVariants.{RetrResp, DiscReq, Heartbeat}
 use Rattle.safe_machine.specs.declared.ConnectionState.{ConnectionState}
 use Rattle.safe_machine.specs.declared.ConnectionState.TheVariants.{Closed, Down, Start, Up, RetrReq as Requesting, RetrRun}
 use Rattle.safe_pdu.specs.Pdu.{Pdu}
 use Rattle.safe_machine.specs.Made.{Made, units, run_of, leaving_body, carries, is_request}
-use Rattle.safe_machine.specs.Settings.{Settings, is_legal, in_range}
+use Rattle.safe_machine.specs.Settings.{Settings, is_legal}
 use Rattle.safe_machine.specs.State.{State, next_made, make, move_to, pass, hand_up, note_request, confirm_units, reply, ask, leave, unconfirmed, opened}
 use Rattle.safe_machine.specs.Decision.{Decision, decide, distance, in_turn}
 use Rattle.safe_machine.specs.Decision.Decision.{Nothing, Drops, Shuts, Leaves, Rejects, Accepts, Connects, Takes, Asks, Resumes, AnswersNext, AnswersEarly}
@@ -17,7 +17,8 @@ use Rattle.safe_machine.specs.World.{World, Served, Event, unopened, start, happ
 use Rattle.safe_machine.specs.World.Event.{Open, Send, Close, Guard, Tick, Arrive}
 use Rattle.safe_machine.specs.Law.{next_bound, JoinsFall, taken_from_il}
 use Rattle.safe_machine.proofs.Inner.{TakesBeginnings, AllTakeBeginnings, OnlyJoinedTake, LawOf, taken_from_fe, LosesNothingOf}
-use Rattle.safe_machine.proofs.Cases.{if_both, and-parts}
+use Rattle.safe_machine.proofs.Legal.{legal}
+use Rattle.safe_machine.proofs.Cases.{if_both}
 use Rattle.safe_machine.proofs.Runs.{requests, answers, count-drop_nil, Every, every-drop_all, no_requests, Numbered, at-length}
 use Rattle.safe_machine.proofs.Invariant.{NotOpening, Sound, Told, Started, Solo, Half, Pair}
 use Rattle.safe_machine.proofs.Moves.{pair-leave, resend-connection}
@@ -426,27 +427,12 @@ fe-arrive w p now h genuine = go h.status
         (fe-fe_later w (arrive p now w.fe) h s r.2 r.3 r.0 r.1)
 
 -- Openings.
-pub legal-parts : (s : Settings) → is_legal s ≡ true → (s.n_sendmax ≤ 32) × (s.pdu_limit ≤ 4294901760)
-legal-parts s e =
-    let a = nat_le 1 s.n_sendmax && nat_le s.n_sendmax 32 in
-    let b = nat_le 100 s.t_max && nat_le s.t_max 60000 in
-    let c = nat_le 10 s.t_h && nat_lt s.t_h s.t_max in
-    let d = nat_le 1 s.mwa && nat_le s.mwa 16 in
-    let l = nat_le 100 s.pdu_limit && nat_le s.pdu_limit 4294901760 in
-    let p1 = and-parts (a && b && c && d) l (and-parts (in_range s) _ e).0 in
-    let p2 = and-parts (a && b && c) d p1.0 in
-    let p3 = and-parts (a && b) c p2.0 in
-    let p4 = and-parts a b p3.0 in
-    let n = and-parts (nat_le 1 s.n_sendmax) (nat_le s.n_sendmax 32) p4.0 in
-    let m = and-parts (nat_le 100 s.pdu_limit) (nat_le s.pdu_limit 4294901760) p1.1 in
-    (leb-true s.n_sendmax 32 n.1, leb-true s.pdu_limit 4294901760 m.1)
-
 bounded-il : (s : Settings) (first now : ℕ) → is_legal s ≡ true → Bounded (opened (as_role true s) first now)
 bounded-il s first now e =
-    let l = legal-parts s e in
+    let l = legal s e in
     record {
-      small = l.0;
-      limit = l.1;
+      small = l.window_most;
+      limit = l.limit_most;
       few = omega arith;
       few_live = λ live. omega arith;
       window_small = omega arith;
@@ -456,10 +442,10 @@ bounded-il s first now e =
 
 bounded-fe : (s : Settings) (first now : ℕ) → is_legal s ≡ true → Bounded (opened (as_role false s) first now)
 bounded-fe s first now e =
-    let l = legal-parts s e in
+    let l = legal s e in
     record {
-      small = l.0;
-      limit = l.1;
+      small = l.window_most;
+      limit = l.limit_most;
       few = omega arith;
       few_live = λ live. omega arith;
       window_small = omega arith;
@@ -472,7 +458,7 @@ solo-il s first now e =
     record {
       numbered = (refl, tt);
       opening = tt;
-      sound = (record { late = λ one. absurd (omega arith); window = λ one. rw (opening_window s.n_sendmax (legal-parts s e).0) (legal-parts s e).0 }, tt);
+      sound = (record { late = λ one. absurd (omega arith); window = λ one. rw (opening_window s.n_sendmax (legal s e).window_most) (legal s e).window_most }, tt);
       started = ((λ client. refl), (λ server. absurd (false≢true (sym server))), omega arith);
     }
 
