@@ -1,5 +1,5 @@
 -- The lines of messages, one after the other.
-use Rattle.std.proofs.Common.{◌≡◌, ◌+◌, ◌<◌, ◌≤◌, ◌∙◌, ◌&&◌, ◌++◌, map, drop, length, List, [], ◌∷◌, ℕ, Bool, Bor, Option, arith, refl, sym, ap, get_or, drop-cons, suc, true, false}
+use Rattle.std.proofs.Common.{◌≡◌, ◌+◌, ◌<◌, ◌≤◌, ◌∙◌, ◌&&◌, ◌++◌, map, drop, length, List, [], ℕ, Bool, Bor, Option, arith, refl, sym, get_or, drop-cons, suc, true, false}
 use Rattle.std.proofs.lemmas.List.{drop_all}
 use Rattle.std.specs.Io.KnownBytes.{Appends}
 use Rattle.std.proofs.KnownBytes.{Appends-trans}

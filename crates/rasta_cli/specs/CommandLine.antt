@@ -1,11 +1,13 @@
 -- The command line of the program, as clap reads it, and the commands that words ask for.
-use Rattle.std.specs.Prelude.{◌≡◌, ℕ, true, List, codes, Option, Some}
+use Rattle.std.specs.Prelude.{◌≡◌, ⊤, true, List, codes, Option, Some}
 use Rattle.std.specs.Option.{option_copied}
-use Rattle.clap.specs.Words.{App, Row, Rule, Text, first_of, new_app, new_rule, subcommand_of, with_rule, with_subcommand}
+use Rattle.clap.specs.Words.{App, HasKind, Row, Rule, Text, fault_of, first_of, new_app, new_rule, subcommand_of, with_rule, with_subcommand}
 use Rattle.safe_pdu.specs.declared.CodeLength.{CodeLength}
 use Rattle.safe_pdu.specs.declared.CodeLength.TheVariants.{Zero, Eight, Sixteen}
 use Rattle.rasta_cli.specs.declared.command_line.Request.{Request}
 use Rattle.rasta_cli.specs.declared.command_line.Request.TheVariants.{Digest, Show}
+use Rattle.rasta_cli.specs.declared.command_line.WordsFault.{WordsFault}
+use Rattle.rasta_cli.specs.declared.command_line.WordsFault.TheVariants.{Words, BadCode, NotText, Memory}
 
 -- show --code N [--iv HEX] HEX
 abbrev pub code_rule : Rule
@@ -53,3 +55,22 @@ IsFound found request = (f : Text × List Row) × (found ≡ Some f) × HasEntri
 -- the words ask for this
 abbrev pub Asks : List Text → Request → Type 0
 Asks words request = IsFound (subcommand_of rasta_app words) request
+
+-- no request has its values in these entries
+abbrev pub HasNoEntries : Text → List Row → Type 0
+HasNoEntries name rows = (request : Request) → ¬ HasEntries request name rows
+
+abbrev pub FindsNone : Option (Text × List Row) → Type 0
+FindsNone found = (request : Request) → ¬ IsFound found request
+
+-- what clap's rules find wrong in the words, or want of memory
+abbrev pub IsFaultOf : List Text → WordsFault → Type 0
+IsFaultOf words (Words error) = HasKind (fault_of rasta_app words) error
+IsFaultOf words BadCode = ⊥
+IsFaultOf words NotText = ⊥
+IsFaultOf words (Memory error) = ⊤
+
+-- a fault that the words have: one that clap's rules find, or that no request is found in them
+abbrev pub Refuses : List Text → WordsFault → Type 0
+Refuses words BadCode = (request : Request) → ¬ Asks words request
+Refuses words fault = IsFaultOf words fault

@@ -1,5 +1,5 @@
 -- The text that `show` prints for the octets of a datagram.
-use Rattle.std.specs.Prelude.{ℕ, Bool, true, false, List, [], ◌∷◌, ◌++◌, length, codes, Result, Ok, Err}
+use Rattle.std.specs.Prelude.{ℕ, Bool, false, List, [], ◌∷◌, ◌++◌, length, codes, Result, Ok, Err}
 use Rattle.std.specs.Fmt.{decimal}
 use Rattle.red_pdu.specs.declared.RedFault.{RedFault}
 use Rattle.red_pdu.specs.declared.RedFault.TheVariants as red

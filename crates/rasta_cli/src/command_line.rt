@@ -1,10 +1,10 @@
 //! The command that the words of a command line ask for.
 
-ghost use Rattle.std.specs.Prelude.{◌≡◌, Some, IfOk, IfSome, false, map};
+ghost use Rattle.std.specs.Prelude.{◌≡◌, [], Some, IsOk, IfOk, IfErr, IsNone, IfSome, false, map};
 ghost use Rattle.std.specs.Option.{option_copied};
 ghost use Rattle.clap.specs.declared.Command.TheViews.{out-Command};
-ghost use Rattle.clap.specs.Words.{app_of, first_of, found_of, rows_of, subcommand_of, subcommand_rows_of};
-ghost use Rattle.rasta_cli.specs.CommandLine.{Asks, HasEntries, IsFound, code_word, coded_app, md4_app, rasta_app, show_app};
+ghost use Rattle.clap.specs.Words.{app_of, fault_of, first_of, found_of, rows_of, subcommand_of, subcommand_rows_of};
+ghost use Rattle.rasta_cli.specs.CommandLine.{Asks, FindsNone, HasEntries, HasNoEntries, IsFaultOf, IsFound, Refuses, code_word, coded_app, md4_app, rasta_app, show_app};
 
 use clap::{Arg, ArgMatches, Command};
 use safe_pdu::CodeLength;
@@ -45,26 +45,36 @@ pub enum WordsFault {
     NotText,
     /// Memory was refused.
     #[error("fault: memory")]
-    Memory(#[from(alloc)] AllocError),
+    Memory(AllocError),
 }
 
 /// Finds the command that words ask for; the first word is the program's name.
+///
+/// Refused: `Words`, where clap's rules find a fault in the words, or have no memory; `BadCode`, where
+/// they find none and yet no command is asked for, as with a code of 9 octets; `Memory`.
 pub fn command<'a, S: AsStr>(alloc: Global, words: &'a [S]) -> Result<Request<'a>, WordsFault>
-    ensures { IfOk result (Asks (map S.text words.entry.now)) }
+    ensures found { IfOk result (Asks (map S.text words.entry.now)) }
+    ensures fits { IsOk result → fault_of rasta_app (map S.text words.entry.now) ≡ [] }
+    ensures refused { IfErr result (Refuses (map S.text words.entry.now)) }
 {
     let matches = matched(alloc, words)?;
-    asked(&matches).ok_or(WordsFault::BadCode)
+    match asked(&matches) {
+        Some(request) => Ok(request),
+        None => Err(WordsFault::BadCode),
+    }
 }
 
 fn asked<'a>(matches: &ArgMatches<'a>) -> Option<Request<'a>>
-    ensures { IfSome result (IsFound (subcommand_rows_of matches.now)) }
+    ensures found { IfSome result (IsFound (subcommand_rows_of matches.now)) }
+    ensures none { IsNone result → FindsNone (subcommand_rows_of matches.now) }
 {
     let (name, entries) = matches.subcommand()?;
     asked_by(name, entries)
 }
 
 fn asked_by<'a>(name: &str, entries: &ArgMatches<'a>) -> Option<Request<'a>>
-    ensures { IfSome result (λ request. HasEntries request name.now (rows_of (found_of entries.now))) }
+    ensures found { IfSome result (λ request. HasEntries request name.now (rows_of (found_of entries.now))) }
+    ensures none { IsNone result → HasNoEntries name.now (rows_of (found_of entries.now)) }
 {
     match name {
         "md4" => {
@@ -89,7 +99,8 @@ fn entry<'a>(entries: &ArgMatches<'a>, id: &str) -> Option<&'a str>
 }
 
 fn code_length(word: &str) -> Option<CodeLength>
-    ensures { IfSome result (λ code. word.now ≡ code_word code) }
+    ensures found { IfSome result (λ code. word.now ≡ code_word code) }
+    ensures only { (code : CodeLength) → word.now ≡ code_word code → result ≡ Some code }
 {
     match word {
         "0" => Some(CodeLength::Zero),
@@ -100,12 +111,18 @@ fn code_length(word: &str) -> Option<CodeLength>
 }
 
 fn matched<'a, S: AsStr>(alloc: Global, words: &'a [S]) -> Result<ArgMatches<'a>, WordsFault>
-    ensures { IfOk result (λ matches. subcommand_rows_of matches ≡ subcommand_of rasta_app (map S.text words.entry.now)) }
+    ensures rows { IfOk result (λ matches. subcommand_rows_of matches ≡ subcommand_of rasta_app (map S.text words.entry.now)) }
+    ensures fits { IsOk result → fault_of rasta_app (map S.text words.entry.now) ≡ [] }
+    ensures refused { IfErr result (IsFaultOf (map S.text words.entry.now)) }
 {
-    let command = rasta_command(alloc)?;
-    command
-        .try_get_matches_from(words)
-        .map_err(WordsFault::Words)
+    let command = match rasta_command(alloc) {
+        Ok(command) => command,
+        Err(error) => return Err(WordsFault::Memory(error)),
+    };
+    match command.try_get_matches_from(words) {
+        Ok(matches) => Ok(matches),
+        Err(error) => Err(WordsFault::Words(error)),
+    }
 }
 
 fn rasta_command<'a>(alloc: Global) -> Result<Command<'a>, AllocError>

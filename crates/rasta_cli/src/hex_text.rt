@@ -38,6 +38,7 @@ pub fn hex_octets(alloc: Global, text: &str) -> Result<Vec<u8>, Fault>
     ensures ok { IfOk result (λ octets. octets_of text.now ≡ Some octets.items) }
     ensures none { octets_of text.now ≡ None → (result ≡ Err Fault.Hex) ⊎ (result ≡ Err Fault.Memory) }
     ensures kinds { IsErr result → (result ≡ Err Fault.Hex) ⊎ (result ≡ Err Fault.Memory) }
+    ensures hex { result ≡ Err Fault.Hex → octets_of text.now ≡ None }
 {
     if text.is_empty() {
         return Err(Fault::Hex);

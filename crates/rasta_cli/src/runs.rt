@@ -1,6 +1,6 @@
 //! The program's words, each over the writers that it is given.
 
-ghost use Rattle.std.specs.Prelude.{◌≡◌, ◌≢◌, ◌⊎◌, true, false, None, Some, Err, IfOk, OnOk};
+ghost use Rattle.std.specs.Prelude.{◌≡◌, ◌≢◌, ◌⊎◌, true, false, None, Some, Err, IfOk, IsErr, OnOk};
 ghost use Rattle.std.specs.Io.KnownBytes.{Appends};
 ghost use Rattle.std.specs.Option.{option_copied};
 ghost use Rattle.rasta_cli.specs.HexText.{initial_value_of, message_of, octets_of};
@@ -62,6 +62,7 @@ fn digested<O: Write>(alloc: Global, hex: &str, out: &mut O) -> Result<(), Fault
     ensures ok { OnOk result (HasDigested hex.now (O.contents out.old) (O.contents out.new)) }
     ensures untouched { (result ≡ Err Fault.Hex) ⊎ (result ≡ Err Fault.Memory) → out.new ≡ out.old }
     ensures no_octets { message_of hex.now ≡ None → (result ≡ Err Fault.Hex) ⊎ (result ≡ Err Fault.Memory) }
+    ensures hex { result ≡ Err Fault.Hex → message_of hex.now ≡ None }
 {
     let octets = match message_octets(alloc, hex) {
         Ok(octets) => octets,
@@ -77,6 +78,8 @@ fn digested<O: Write>(alloc: Global, hex: &str, out: &mut O) -> Result<(), Fault
 fn message_octets(alloc: Global, text: &str) -> Result<Vec<u8>, Fault>
     ensures ok { IfOk result (λ octets. message_of text.now ≡ Some octets.items) }
     ensures none { message_of text.now ≡ None → (result ≡ Err Fault.Hex) ⊎ (result ≡ Err Fault.Memory) }
+    ensures kinds { IsErr result → (result ≡ Err Fault.Hex) ⊎ (result ≡ Err Fault.Memory) }
+    ensures hex { result ≡ Err Fault.Hex → message_of text.now ≡ None }
 {
     if text == "empty" {
         return Ok(Vec::new(alloc));
@@ -114,6 +117,7 @@ fn shown<O: Write>(
     ensures untouched { (result ≡ Err Fault.Hex) ⊎ (result ≡ Err Fault.Memory) → out.new ≡ out.old }
     ensures no_value { initial_value_of (option_copied iv.entry) ≡ None → result ≡ Err Fault.Hex }
     ensures no_octets { octets_of hex.now ≡ None → (result ≡ Err Fault.Hex) ⊎ (result ≡ Err Fault.Memory) }
+    ensures hex { result ≡ Err Fault.Hex → (initial_value_of (option_copied iv.entry) ≡ None) ⊎ (octets_of hex.now ≡ None) }
 {
     let Some(words) = initial_value(iv) else {
         return Err(Fault::Hex);

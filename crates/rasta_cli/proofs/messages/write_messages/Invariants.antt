@@ -1,4 +1,4 @@
-use Rattle.std.proofs.Common.{◌≡◌, ◌+◌, ◌&&◌, map, drop, List, ℕ, Bor, Option}
+use Rattle.std.proofs.Common.{◌≡◌, ◌+◌, ◌&&◌, drop, List, ℕ, Option}
 use Rattle.std.specs.Io.KnownBytes.{Appends}
 use Rattle.rasta_cli.specs.MessageText.{are_telegrams, message_lines}
 use Rattle.rasta_cli.proofs.MessageLemmas.{octets_of_all}

@@ -1,0 +1,6 @@
+use Rattle.std.proofs.Common.{refl, subst}
+use Rattle.rasta_cli.specs.CommandLine.{FindsNone}
+use Rattle.rasta_cli.proofs.command_line.command.Goals as goal
+
+pub returns-clause-refused : goal.returns-clause-refused
+returns-clause-refused g c = subst FindsNone c.in_ok-matches.ensures.rows (c.in-None.ensures.none refl)

@@ -1,0 +1,13 @@
+use Rattle.std.proofs.Common.{◌≡◌, [], map, refl, subst, true}
+use Rattle.clap.specs.Words.{App, HasKind, fault_of, is_simple_and_free}
+use Rattle.rasta_cli.proofs.command_line.matched.Goals as goal
+
+pub returns-in-Ok-try_get_matches_from-clause-fits : goal.returns-in-Ok-try_get_matches_from-clause-fits
+returns-in-Ok-try_get_matches_from-clause-fits g c = λ _.
+    subst (λ (app : App). is_simple_and_free app ≡ true → fault_of app (map g.S.AsStr.text c.args.words.now) ≡ []) c.in-Ok.ensures.app
+    c.in-Ok-try_get_matches_from.ensures.kinds refl
+
+pub returns-in-Err-try_get_matches_from-clause-refused : goal.returns-in-Err-try_get_matches_from-clause-refused
+returns-in-Err-try_get_matches_from-clause-refused g c =
+    subst (λ (app : App). is_simple_and_free app ≡ true → HasKind (fault_of app (map g.S.AsStr.text c.args.words.now)) c.in-Err-try_get_matches_from.error)
+    c.in-Ok.ensures.app c.in-Err-try_get_matches_from.ensures.kinds refl
