@@ -1,0 +1,4 @@
+pub mod Settings
+pub mod Telegrams
+pub mod Tables
+pub mod SessionStep
