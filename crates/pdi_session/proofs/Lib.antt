@@ -1,1 +1,5 @@
 pub mod TableLemmas
+pub mod Growing
+pub mod Rows
+pub mod RowLaws
+pub mod Added

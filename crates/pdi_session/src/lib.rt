@@ -12,10 +12,12 @@ use arrayvec::ArrayVec;
 use sci_telegram::OwnedName;
 
 mod forms;
+mod law;
 mod messages;
 mod session;
 mod tables;
 
+pub use law::session_law;
 pub use session::{Session, are_versions};
 
 /// The kind of a version check, from the interlocking. Payload: version (1).

@@ -1,6 +1,6 @@
 //! The session of one end.
 
-ghost use Rattle.std.specs.Prelude.{◌≡◌, ◌≢◌, ◌<◌, ℕ, List, [], ◌∷◌, ◌++◌, length, None, Some, MatchResult};
+ghost use Rattle.std.specs.Prelude.{◌≡◌, ◌≢◌, ◌<◌, ℕ, List, [], ◌∷◌, ◌++◌, length, None, Some, MatchResult, OnErr};
 ghost use Rattle.std.specs.List.{FoldsTo};
 ghost use Rattle.sci_telegram.specs.Tele.{tele_of};
 ghost use Rattle.sci_telegram.specs.TeleText.{tele_text};
@@ -8,6 +8,7 @@ ghost use Rattle.packing.specs.declared.TheConstants.{WAITING_MAX};
 ghost use Rattle.pdi_session.specs.Settings.{AreVersions, Interlocking, Field, addressing_of, are_different, are_versions};
 ghost use Rattle.pdi_session.specs.Tables.{may_put, is_initialising};
 ghost use Rattle.pdi_session.specs.Telegrams.{is_addressed};
+ghost use Rattle.pdi_session.specs.Histories.{History, StandsFor, grown};
 ghost use Rattle.pdi_session.specs.SessionStep.{Event, FewWait, HasRoom, added_by, after, end_of, init_refusal, judged, notice_tele, opened, phase_by, put_refusal, sent_by, taken_by, texts, with_phase};
 
 use super::{
@@ -85,10 +86,12 @@ impl Session {
 
     /// The connection is up: an interlocking sends its version, a field element waits for one. In
     /// another phase than Idle nothing happens. The caller keeps room for one message.
+    #[tactic(auto, using(crate::proofs::Growing::stands_on))]
     pub fn up<A: Allocator>(&mut self, waiting: &mut Waiting<A>)
         requires room { HasRoom self.old waiting.old }
         ensures left { self.new ≡ after Event.Up self.old }
         ensures added { waiting.new ≡ waiting.old ++ texts (added_by Event.Up self.old) }
+        ensures stands { (h : History) → StandsFor self.old waiting.old h → StandsFor self.new waiting.new (grown Event.Up h) }
         ensures few { FewWait self.old waiting.old → FewWait self.new waiting.new }
     {
         let verdict = match self.side {
@@ -103,6 +106,7 @@ impl Session {
     ///
     /// Refused, and the session is then over: `VersionDiffers`, `OutOfOrder`, `NotOfThisPair`, of
     /// which the last is tested first.
+    #[tactic(auto, using(crate::proofs::Growing::stands_on))]
     pub fn arrive<A: Allocator, T: Taker>(
         &mut self,
         telegram: &Telegram<'_>,
@@ -114,6 +118,7 @@ impl Session {
             (λ end. end_of (judged self.old (tele_of telegram.now)) ≡ Some end.detail) }
         ensures left { self.new ≡ after (Event.Arrives (tele_of telegram.now)) self.old }
         ensures added { waiting.new ≡ waiting.old ++ texts (added_by (Event.Arrives (tele_of telegram.now)) self.old) }
+        ensures stands { (h : History) → StandsFor self.old waiting.old h → StandsFor self.new waiting.new (grown (Event.Arrives (tele_of telegram.now)) h) }
         ensures taken { FoldsTo T.takes taker.old (taken_by (Event.Arrives (tele_of telegram.now)) self.old) taker.new }
         ensures few { FewWait self.old waiting.old → FewWait self.new waiting.new }
     {
@@ -133,6 +138,7 @@ impl Session {
     ///
     /// Refused, and the first that holds is named; nothing changes then: `NotEstablished`, `Full`,
     /// `ReservedType`, `TooLong`.
+    #[tactic(auto, using(crate::proofs::Growing::stands_on))]
     pub fn put<A: Allocator>(
         &self,
         kind: u16,
@@ -142,6 +148,8 @@ impl Session {
         ensures answer { MatchResult result (λ _. put_refusal self.now kind payload.now (length waiting.old) ≡ None)
             (λ fault. put_refusal self.now kind payload.now (length waiting.old) ≡ Some fault) }
         ensures added { waiting.new ≡ waiting.old ++ texts (added_by (Event.Puts kind payload.now (length waiting.old)) self.now) }
+        ensures refused { OnErr result (waiting.new ≡ waiting.old) }
+        ensures stands { (h : History) → StandsFor self.now waiting.old h → StandsFor self.now waiting.new (grown (Event.Puts kind payload.now (length waiting.old)) h) }
         ensures few { FewWait self.now waiting.old → FewWait self.now waiting.new }
     {
         if !self.may_put() {
@@ -163,11 +171,14 @@ impl Session {
     /// The application of a field element has put its initial status in: its end is sent behind it.
     ///
     /// Refused, and the first that holds is named; nothing changes then: `NotInitialising`, `Full`.
+    #[tactic(auto, using(crate::proofs::Growing::stands_on))]
     pub fn init_done<A: Allocator>(&mut self, waiting: &mut Waiting<A>) -> Result<(), InitFault>
         ensures answer { MatchResult result (λ _. init_refusal self.old (length waiting.old) ≡ None)
             (λ fault. init_refusal self.old (length waiting.old) ≡ Some fault) }
         ensures left { self.new ≡ after (Event.InitDone (length waiting.old)) self.old }
         ensures added { waiting.new ≡ waiting.old ++ texts (added_by (Event.InitDone (length waiting.old)) self.old) }
+        ensures refused { OnErr result ((self.new ≡ self.old) × (waiting.new ≡ waiting.old)) }
+        ensures stands { (h : History) → StandsFor self.old waiting.old h → StandsFor self.new waiting.new (grown (Event.InitDone (length waiting.old)) h) }
         ensures few { FewWait self.old waiting.old → FewWait self.new waiting.new }
     {
         if !self.is_initialising() {
@@ -182,8 +193,10 @@ impl Session {
     }
 
     /// The connection is closed: the session is over.
+    #[tactic(auto, using(crate::proofs::Growing::stands_on))]
     pub fn end(&mut self)
         ensures left { self.new ≡ after Event.Closes self.old }
+        ensures stands { (waiting : List (List ℕ)) (h : History) → StandsFor self.old waiting h → StandsFor self.new waiting (grown Event.Closes h) }
         ensures few { (waiting : List (List ℕ)) → FewWait self.old waiting → FewWait self.new waiting }
     {
         self.phase = Phase::Ended;

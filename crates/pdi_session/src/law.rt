@@ -1,0 +1,27 @@
+//! What the tables promise of any session, and over every list of its events.
+
+ghost use Rattle.pdi_session.specs.Laws.{GoesLaw, MessageLaw, OwnLaw, PutLaw, RoomLaw, StandsLaw, TakesLaw};
+
+/// The laws of the session's step, which do nothing when they are called.
+pub fn session_law()
+    // What a call leaves stands for the history made longer by its event.
+    ensures stands { StandsLaw }
+
+    // A telegram that is taken has no kind of the establishment.
+    ensures takes { TakesLaw }
+
+    // One for which the session goes on without taking it has such a kind, and so has what it answers.
+    ensures goes { GoesLaw }
+
+    // What a session adds by itself is of the establishment.
+    ensures own { OwnLaw }
+
+    // An accepted put adds one telegram, with what was put, and it is not of the establishment.
+    ensures puts { PutLaw }
+
+    // Each message that is added has 43 to 400 octets, and is read as its telegram.
+    ensures messages { MessageLaw }
+
+    // Before Initialising two messages wait at most, so there is room for one more.
+    ensures room { RoomLaw }
+{}
