@@ -1,6 +1,6 @@
 //! What the tables promise of any session, and over every list of its events.
 
-ghost use Rattle.pdi_session.specs.Laws.{GoesLaw, MessageLaw, OwnLaw, PutLaw, RoomLaw, StandsLaw, TakesLaw};
+ghost use Rattle.pdi_session.specs.Laws.{GoesLaw, MessageLaw, OwnLaw, PutLaw, QueueLaw, RoomLaw, StandsLaw, TakenLaw, TakesLaw};
 
 /// The laws of the session's step, which do nothing when they are called.
 pub fn session_law()
@@ -24,4 +24,11 @@ pub fn session_law()
 
     // Before Initialising two messages wait at most, so there is room for one more.
     ensures room { RoomLaw }
+
+    // What is taken is a beginning of the commands or status judged, and all of it while the session is
+    // not over.
+    ensures taken { TakenLaw }
+
+    // What was put in is the commands or status of the queue.
+    ensures queue { QueueLaw }
 {}

@@ -1,5 +1,7 @@
 use Rattle.pdi_session.proofs.Growing.{stands_on}
 use Rattle.pdi_session.proofs.Added.{message_law}
+use Rattle.pdi_session.proofs.ItemLists.{queue_law, taken_law}
+use Rattle.pdi_session.proofs.IlSteps.{il_step}
 use Rattle.pdi_session.proofs.RowLaws.{takes_law, goes_law, own_law, put_law, room_law}
 use Rattle.pdi_session.proofs.law.session_law.Goals as goal
 
@@ -23,3 +25,9 @@ returns-clause-messages c = message_law
 
 pub returns-clause-room : goal.returns-clause-room
 returns-clause-room c = room_law
+
+pub returns-clause-taken : goal.returns-clause-taken
+returns-clause-taken c = taken_law
+
+pub returns-clause-queue : goal.returns-clause-queue
+returns-clause-queue c = queue_law
