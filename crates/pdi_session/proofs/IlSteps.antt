@@ -30,7 +30,7 @@ use Rattle.pdi_session.specs.Laws.{IsItem, IsStatus, completions}
 use Rattle.pdi_session.proofs.TableLemmas.{by_cond}
 use Rattle.pdi_session.proofs.Rows.{form_kind, reserved_of, item_of_form, FormKind, InterlockingRow, IlOver, IlEqual, IlBegins, IlInitial, IlDone, IlStatus, interlocking_row}
 use Rattle.pdi_session.proofs.RowLaws.{put_law}
-use Rattle.pdi_session.proofs.Shapes.{IlAt, IlPast, Told, Asked, IlRequesting, IlInitialising, IlEstablished, check_from, request_from, il_past, completions-append, All-append}
+use Rattle.pdi_session.proofs.Shapes.{IlAt, IlPast, Told, Asked, IlRequesting, IlInitialising, IlEstablished, base, check_from, request_from, il_past, completions-append, All-append}
 
 pub by_bool : (P : Bool → Type 0) (b : Bool) → (b ≡ true → P true) → (b ≡ false → P false) → P b
 by_bool P true p q = p refl
@@ -77,22 +77,22 @@ il_past_more version s queue js more past =
 
 -- what a verdict leaves
 abbrev pub IlThen : ℕ → SessionState → List Tele → List Tele → Phase → Verdict → Type 0
-IlThen version s queue js phase verdict = IlAt version s (phase_by phase verdict) (queue ++ sent_by s verdict) js
+IlThen version s queue js phase verdict = IlAt version (base s) (phase_by phase verdict) (queue ++ sent_by s verdict) js
 
 il_still : (version : ℕ) (s : SessionState) (phase : Phase) (queue js : List Tele) → IlAt version s phase queue js → IlAt version s phase (queue ++ []) (js ++ [])
 il_still version s phase queue js at =
     subst (λ x. IlAt version s phase x (js ++ [])) (sym (append-nil queue)) (subst (λ x. IlAt version s phase queue x) (sym (append-nil js)) at)
 
-il_up : (version : ℕ) (s : SessionState) (queue js : List Tele) (phase : Phase) → IlAt version s phase queue js → IlThen version s queue (js ++ []) phase (interlocking_up version phase)
+il_up : (version : ℕ) (s : SessionState) (queue js : List Tele) (phase : Phase) → IlAt version (base s) phase queue js → IlThen version s queue (js ++ []) phase (interlocking_up version phase)
 il_up version s queue js Idle at = (ap (λ xs. xs ++ check_from version s ∷ []) at.0, append-nil js ∙ at.1)
-il_up version s queue js Checking at = il_still version s Checking queue js at
-il_up version s queue js Requesting at = il_still version s Requesting queue js at
+il_up version s queue js Checking at = il_still version (base s) Checking queue js at
+il_up version s queue js Requesting at = il_still version (base s) Requesting queue js at
 il_up version s queue js AwaitCheck at = absurd at
 il_up version s queue js AwaitRequest at = absurd at
 il_up version s queue js Refused at = absurd at
-il_up version s queue js Initialising at = il_still version s Initialising queue js at
-il_up version s queue js Established at = il_still version s Established queue js at
-il_up version s queue js Ended at = il_still version s Ended queue js at
+il_up version s queue js Initialising at = il_still version (base s) Initialising queue js at
+il_up version s queue js Established at = il_still version (base s) Established queue js at
+il_up version s queue js Ended at = il_still version (base s) Ended queue js at
 
 il_equal : (version : ℕ) (s : SessionState) (queue js : List Tele) (t : Tele) → form_of t.kind t.payload ≡ Notifies (notice.VersionEqual version) → IlAt version s Checking queue js
     → IlRequesting version s (queue ++ request_from s ∷ []) (js ++ t ∷ [])
@@ -158,21 +158,21 @@ il_status version s queue js t says at =
     }
 
 il_by_row : (version : ℕ) (s : SessionState) (queue js : List Tele) (t : Tele) (verdict : Verdict) → InterlockingRow version s.phase (form_of t.kind t.payload) verdict
-    → IlAt version s s.phase queue js → IlThen version s queue (js ++ t ∷ []) s.phase verdict
+    → IlAt version (base s) s.phase queue js → IlThen version s queue (js ++ t ∷ []) s.phase verdict
 il_by_row version s queue js t verdict (IlOver why e) at =
-    subst (IlThen version s queue (js ++ t ∷ []) s.phase) (sym e) (il_past_more version s queue js (t ∷ []) (il_past version s s.phase queue js at))
+    subst (IlThen version s queue (js ++ t ∷ []) s.phase) (sym e) (il_past_more version (base s) queue js (t ∷ []) (il_past version (base s) s.phase queue js at))
 il_by_row version s queue js t verdict (IlEqual p f e) at =
-    subst (IlThen version s queue (js ++ t ∷ []) s.phase) (sym e) (il_equal version s queue js t f (subst (λ x. IlAt version s x queue js) p at))
+    subst (IlThen version s queue (js ++ t ∷ []) s.phase) (sym e) (il_equal version (base s) queue js t f (subst (λ x. IlAt version (base s) x queue js) p at))
 il_by_row version s queue js t verdict (IlBegins p f e) at =
-    subst (IlThen version s queue (js ++ t ∷ []) s.phase) (sym e) (il_begins version s queue js t f (subst (λ x. IlAt version s x queue js) p at))
+    subst (IlThen version s queue (js ++ t ∷ []) s.phase) (sym e) (il_begins version (base s) queue js t f (subst (λ x. IlAt version (base s) x queue js) p at))
 il_by_row version s queue js t verdict (IlInitial p f e) at =
     subst (IlThen version s queue (js ++ t ∷ []) s.phase) (sym e)
-    (subst (λ x. IlAt version s x (queue ++ []) (js ++ t ∷ [])) (sym p) (il_initial version s queue js t f (subst (λ x. IlAt version s x queue js) p at)))
+    (subst (λ x. IlAt version (base s) x (queue ++ []) (js ++ t ∷ [])) (sym p) (il_initial version (base s) queue js t f (subst (λ x. IlAt version (base s) x queue js) p at)))
 il_by_row version s queue js t verdict (IlDone p f e) at =
-    subst (IlThen version s queue (js ++ t ∷ []) s.phase) (sym e) (il_done version s queue js t f (subst (λ x. IlAt version s x queue js) p at))
+    subst (IlThen version s queue (js ++ t ∷ []) s.phase) (sym e) (il_done version (base s) queue js t f (subst (λ x. IlAt version (base s) x queue js) p at))
 il_by_row version s queue js t verdict (IlStatus p f e) at =
     subst (IlThen version s queue (js ++ t ∷ []) s.phase) (sym e)
-    (subst (λ x. IlAt version s x (queue ++ []) (js ++ t ∷ [])) (sym p) (il_status version s queue js t f (subst (λ x. IlAt version s x queue js) p at)))
+    (subst (λ x. IlAt version (base s) x (queue ++ []) (js ++ t ∷ [])) (sym p) (il_status version (base s) queue js t f (subst (λ x. IlAt version (base s) x queue js) p at)))
 
 -- the row of what an interlocking decides
 pub il_row : (version : ℕ) (s : SessionState) (t : Tele) → s.role ≡ Interlocking version → InterlockingRow version s.phase (form_of t.kind t.payload) (judged s t)
@@ -228,19 +228,19 @@ il_puts version s queue js kind payload free at =
       done = omega (arith, at.done, completions-append js []);
     }
 
-pub il_step : (version : ℕ) (e : Event) (s : SessionState) (queue js : List Tele) → s.role ≡ Interlocking version → IlAt version s s.phase queue js
-    → IlAt version s (phase_after e s) (queue ++ added_by e s) (js ++ handed_by e)
+pub il_step : (version : ℕ) (e : Event) (s : SessionState) (queue js : List Tele) → s.role ≡ Interlocking version → IlAt version (base s) s.phase queue js
+    → IlAt version (base s) (phase_after e s) (queue ++ added_by e s) (js ++ handed_by e)
 il_step version Up s queue js role at = subst (λ r. IlThen version s queue (js ++ []) s.phase (at_up r s.phase)) (sym role) (il_up version s queue js s.phase at)
 il_step version (Arrives t) s queue js role at = il_by_row version s queue js t (judged s t) (il_row version s t role) at
 il_step version (Puts kind payload waits) s queue js role at =
-    by_cond (λ x. IlAt version s s.phase (queue ++ x) (js ++ [])) (is_none (put_refusal s kind payload waits)) _ _
+    by_cond (λ x. IlAt version (base s) s.phase (queue ++ x) (js ++ [])) (is_none (put_refusal s kind payload waits)) _ _
     (λ none.
     let may = put_open s kind payload waits none in
     let now : s.phase ≡ Established = il_may_put version s.phase (ap (λ r. may_put r s.phase) (sym role) ∙ may.0) in
-    subst (λ p. IlAt version s p (queue ++ telegram s.addressing kind payload ∷ []) (js ++ [])) (sym now)
-    (il_puts version s queue js kind payload may.1 (subst (λ p. IlAt version s p queue js) now at)))
-    (λ _. il_still version s s.phase queue js at)
+    subst (λ p. IlAt version (base s) p (queue ++ telegram s.addressing kind payload ∷ []) (js ++ [])) (sym now)
+    (il_puts version (base s) queue js kind payload may.1 (subst (λ p. IlAt version (base s) p queue js) now at)))
+    (λ _. il_still version (base s) s.phase queue js at)
 il_step version (InitDone waits) s queue js role at =
     let no : is_initialising s.role s.phase ≡ false = ap (λ r. is_initialising r s.phase) role ∙ il_no_init version s.phase in
-    rw no (il_still version s s.phase queue js at)
-il_step version Closes s queue js role at = il_past_more version s queue js [] (il_past version s s.phase queue js at)
+    rw no (il_still version (base s) s.phase queue js at)
+il_step version Closes s queue js role at = il_past_more version (base s) queue js [] (il_past version (base s) s.phase queue js at)

@@ -46,10 +46,10 @@ items-added (Puts kind payload waits) s = one (put_refusal s kind payload waits)
 items-added (InitDone waits) s = reserved-none (added_by (InitDone waits) s) ((own_law s).1 waits)
 items-added Closes s = refl
 
-abbrev PutIsQueue : History → Type 0
+abbrev pub PutIsQueue : History → Type 0
 PutIsQueue h = items_of h.queue ≡ h.put
 
-put_grows : (e : Event) (h : History) → PutIsQueue h → PutIsQueue (grown e h)
+pub put_grows : (e : Event) (h : History) → PutIsQueue h → PutIsQueue (grown e h)
 put_grows e h is = items-append h.queue (added_by e h.state) ∙ ap (λ xs. xs ++ items_of (added_by e h.state)) is ∙ ap (λ xs. h.put ++ xs) (items-added e h.state)
 
 -- what each event keeps, a list of events keeps

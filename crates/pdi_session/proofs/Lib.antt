@@ -6,3 +6,5 @@ pub mod Added
 pub mod ItemLists
 pub mod Shapes
 pub mod IlSteps
+pub mod FeSteps
+pub mod Queues

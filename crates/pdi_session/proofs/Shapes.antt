@@ -19,10 +19,14 @@ use Rattle.pdi_session.specs.declared.Verdict.{Verdict}
 use Rattle.pdi_session.specs.declared.Verdict.TheVariants.{Takes, Goes, Answers, Ends}
 use Rattle.pdi_session.specs.Settings.{Role, Interlocking, Field}
 use Rattle.pdi_session.specs.Telegrams.{form_of, is_addressed, is_reserved, kind_of, telegram}
-use Rattle.pdi_session.specs.SessionStep.{SessionState, notice_tele, phase_by, sent_by}
+use Rattle.pdi_session.specs.SessionStep.{SessionState, notice_tele, phase_by, sent_by, with_phase}
 use Rattle.pdi_session.specs.Laws.{IsItem, IsStatus, completions}
 use Rattle.pdi_session.proofs.TableLemmas.{by_cond}
 use Rattle.pdi_session.proofs.Rows.{form_kind, reserved_of, item_of_form, FormKind}
+
+-- a session but for its phase
+abbrev pub base : SessionState → SessionState
+base s = with_phase Idle s
 
 -- the telegrams of an interlocking of this version
 abbrev pub check_from : ℕ → SessionState → Tele

@@ -42,8 +42,15 @@ InTurn (e ∷ es) j = IsNextAt e j × InTurn es (happens e j)
 abbrev pub EndsEarly : History → History → Type 0
 EndsEarly h peer = (phase : Phase) → h.ended_in ≡ Some phase → (is_early phase ≡ true) × (peer.put ≡ [])
 
+-- two new sessions
+abbrev pub joined : Addressing → ℕ → Addressing → List ℕ → List ℕ → Joined
+joined il version fe versions checksum = record { il = begun il (Interlocking version); fe = begun fe (Field versions checksum) }
+
+-- what both have gone through after events in turn
+abbrev pub EndEarly : Joined → Type 0
+EndEarly j = EndsEarly j.il j.fe × EndsEarly j.fe j.il
+
 -- the phase law, of any settings, also of some that do not fit
 abbrev pub PhaseLaw : Type 0
 PhaseLaw = (il fe : Addressing) (version : ℕ) (versions checksum : List ℕ) → length checksum ≤ CHECKSUM_MAX → (es : List JoinedEvent)
-    → let start = record { il = begun il (Interlocking version); fe = begun fe (Field versions checksum) } in
-    InTurn es start → EndsEarly (happen es start).il (happen es start).fe × EndsEarly (happen es start).fe (happen es start).il
+    → InTurn es (joined il version fe versions checksum) → EndEarly (happen es (joined il version fe versions checksum))

@@ -95,10 +95,14 @@ QueueLaw = (addressing : Addressing) (role : Role) (es : List Event) → let h =
 abbrev pub IsItem : SessionState → Tele → Type 0
 IsItem s t = (is_reserved t.kind ≡ false) × (t ≡ telegram s.addressing t.kind t.payload)
 
+abbrev pub is_established : Phase → Bool
+is_established Established = true
+is_established phase = false
+
+-- one of the phases is Established
 abbrev pub was_established : List Phase → Bool
 was_established [] = false
-was_established (Established ∷ phases) = true
-was_established (phase ∷ phases) = was_established phases
+was_established (phase ∷ phases) = if is_established phase then true else was_established phases
 
 -- the queue of an interlocking: nothing; its version; or that, the request, and then commands, of which there are some only if
 -- it was Established

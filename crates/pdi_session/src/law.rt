@@ -1,6 +1,6 @@
 //! What the tables promise of any session, and over every list of its events.
 
-ghost use Rattle.pdi_session.specs.Laws.{GoesLaw, MessageLaw, OwnLaw, PutLaw, QueueLaw, RoomLaw, StandsLaw, TakenLaw, TakesLaw};
+ghost use Rattle.pdi_session.specs.Laws.{FieldLaw, GoesLaw, InterlockingLaw, MessageLaw, OwnLaw, PutLaw, QueueLaw, RoomLaw, StandsLaw, TakenLaw, TakesLaw};
 
 /// The laws of the session's step, which do nothing when they are called.
 pub fn session_law()
@@ -31,4 +31,11 @@ pub fn session_law()
 
     // What was put in is the commands or status of the queue.
     ensures queue { QueueLaw }
+
+    // The queue of an interlocking: nothing, 0024, or 0024 and 0021 followed by commands.
+    ensures interlocking { InterlockingLaw }
+
+    // The queue of a field element: nothing, 0025, or 0025 and 0022 followed by status, with at most one
+    // 0023 among them.
+    ensures field { FieldLaw }
 {}

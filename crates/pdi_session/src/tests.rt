@@ -390,9 +390,8 @@ fn opens_two_sessions(rt: HostRuntime) -> Result<(), Fail> {
 fn carry(rt: &impl Abort, from: &mut Seat, to: &mut Seat, octets: &[u8]) -> Result<(), Fail> {
     let unit = pack(&mut from.waiting, 1).ok_or("a message")?;
     let messages = unpack(&unit)?;
-    let message = messages.get(0).ok_or("a message")?;
-    assert!(rt; **message == *octets);
-    let answer = hear(to, &decode(message)?).ok_or("room")?;
+    assert!(rt; messages.get(0) == Some(&octets));
+    let answer = hear(to, &decode(octets)?).ok_or("room")?;
     assert!(rt; answer.is_ok());
     Ok(())
 }

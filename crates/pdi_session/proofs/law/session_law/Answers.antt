@@ -1,7 +1,7 @@
 use Rattle.pdi_session.proofs.Growing.{stands_on}
 use Rattle.pdi_session.proofs.Added.{message_law}
 use Rattle.pdi_session.proofs.ItemLists.{queue_law, taken_law}
-use Rattle.pdi_session.proofs.IlSteps.{il_step}
+use Rattle.pdi_session.proofs.Queues.{field_law, interlocking_law}
 use Rattle.pdi_session.proofs.RowLaws.{takes_law, goes_law, own_law, put_law, room_law}
 use Rattle.pdi_session.proofs.law.session_law.Goals as goal
 
@@ -31,3 +31,9 @@ returns-clause-taken c = taken_law
 
 pub returns-clause-queue : goal.returns-clause-queue
 returns-clause-queue c = queue_law
+
+pub returns-clause-interlocking : goal.returns-clause-interlocking
+returns-clause-interlocking c = interlocking_law
+
+pub returns-clause-field : goal.returns-clause-field
+returns-clause-field c = field_law
