@@ -67,40 +67,38 @@ fe_up s queue js Ended at = fe_still (base s) Ended queue js at
 
 fe_equal : (s : SessionState) (queue js : List Tele) (t : Tele) (version : ℕ) → is_addressed s.addressing t ≡ true → form_of t.kind t.payload ≡ Notifies (notice.VersionCheck version) → FeAt s AwaitCheck queue js
     → FeAt s AwaitRequest (queue ++ equal_from version s ∷ []) (js ++ t ∷ [])
-fe_equal s queue js t version from says at =
-    (
-      record {
-        version = version;
-        is = ap (λ xs. xs ++ equal_from version s ∷ []) at.0;
-        heard = record { first = t; others = []; is = ap (λ xs. xs ++ t ∷ []) at.1; says = says; from = from };
-      },
-      ap (λ xs. length (xs ++ t ∷ [])) at.1,
-    )
+fe_equal s queue js t version from says at = (
+  record {
+    version = version;
+    is = ap (λ xs. xs ++ equal_from version s ∷ []) at.0;
+    heard = record { first = t; others = []; is = ap (λ xs. xs ++ t ∷ []) at.1; says = says; from = from };
+  },
+  ap (λ xs. length (xs ++ t ∷ [])) at.1,
+)
 
 fe_differs : (s : SessionState) (queue js : List Tele) (t : Tele) (version other : ℕ) → is_addressed s.addressing t ≡ true → form_of t.kind t.payload ≡ Notifies (notice.VersionCheck version) → FeAt s AwaitCheck queue js
     → FeAt s Refused (queue ++ differs_from other s ∷ []) (js ++ t ∷ [])
-fe_differs s queue js t version other from says at =
-    (
-      record {
-        asked = version;
-        version = other;
-        is = ap (λ xs. xs ++ differs_from other s ∷ []) at.0;
-        heard = record { first = t; others = []; is = ap (λ xs. xs ++ t ∷ []) at.1; says = says; from = from };
-      },
-      ap (λ xs. length (xs ++ t ∷ [])) at.1,
-    )
+fe_differs s queue js t version other from says at = (
+  record {
+    asked = version;
+    version = other;
+    is = ap (λ xs. xs ++ differs_from other s ∷ []) at.0;
+    heard = record { first = t; others = []; is = ap (λ xs. xs ++ t ∷ []) at.1; says = says; from = from };
+  },
+  ap (λ xs. length (xs ++ t ∷ [])) at.1,
+)
 
 fe_asked : (s : SessionState) (queue js : List Tele) (t : Tele) → FeAt s AwaitRequest queue js → FeInitialising s (queue ++ start_from s ∷ []) (js ++ t ∷ [])
 fe_asked s queue js t at =
     record {
       starts = record {
-          version = at.0.version;
-          status = [];
-          is = ap (λ xs. xs ++ start_from s ∷ []) at.0.is;
-          each = tt;
-          most = omega arith;
-          heard = heard_more at.0.version s js (t ∷ []) at.0.heard;
-        };
+        version = at.0.version;
+        status = [];
+        is = ap (λ xs. xs ++ start_from s ∷ []) at.0.is;
+        each = tt;
+        most = omega arith;
+        heard = heard_more at.0.version s js (t ∷ []) at.0.heard;
+      };
       unfinished = refl;
       two = omega (arith, at.1, length-append js (t ∷ []));
     }
@@ -184,13 +182,13 @@ fe_done s queue js at =
     let t : Tele = notice_tele s notice.InitialisationCompleted in
     record {
       starts = record {
-          version = at.starts.version;
-          status = at.starts.status ++ t ∷ [];
-          is = ap (λ xs. xs ++ t ∷ []) at.starts.is;
-          each = All-append (IsStatus s) at.starts.status (t ∷ []) at.starts.each (inr refl, tt);
-          most = omega (arith, at.unfinished, completions-append at.starts.status (t ∷ []));
-          heard = heard_more at.starts.version s js [] at.starts.heard;
-        };
+        version = at.starts.version;
+        status = at.starts.status ++ t ∷ [];
+        is = ap (λ xs. xs ++ t ∷ []) at.starts.is;
+        each = All-append (IsStatus s) at.starts.status (t ∷ []) at.starts.each (inr refl, tt);
+        most = omega (arith, at.unfinished, completions-append at.starts.status (t ∷ []));
+        heard = heard_more at.starts.version s js [] at.starts.heard;
+      };
       some = omega (arith, at.two, length-append js []);
     }
 

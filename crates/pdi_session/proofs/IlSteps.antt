@@ -99,12 +99,12 @@ il_equal : (version : ℕ) (s : SessionState) (queue js : List Tele) (t : Tele) 
 il_equal version s queue js t says at =
     record {
       asked = record {
-          commands = [];
-          is = ap (λ xs. xs ++ request_from s ∷ []) at.0;
-          each = tt;
-          told = record { first = t; others = []; is = ap (λ xs. xs ++ t ∷ []) at.1; says = says };
-          late = λ some. absurd (some refl);
-        };
+        commands = [];
+        is = ap (λ xs. xs ++ request_from s ∷ []) at.0;
+        each = tt;
+        told = record { first = t; others = []; is = ap (λ xs. xs ++ t ∷ []) at.1; says = says };
+        late = λ some. absurd (some refl);
+      };
       none = refl;
       one = ap (λ xs. length (xs ++ t ∷ [])) at.1;
     }
@@ -218,12 +218,12 @@ il_puts : (version : ℕ) (s : SessionState) (queue js : List Tele) (kind : ℕ)
 il_puts version s queue js kind payload free at =
     record {
       asked = record {
-          commands = at.asked.commands ++ telegram s.addressing kind payload ∷ [];
-          is = ap (λ xs. xs ++ telegram s.addressing kind payload ∷ []) at.asked.is;
-          each = All-append (IsItem s) at.asked.commands (telegram s.addressing kind payload ∷ []) at.asked.each ((free, refl), tt);
-          told = told_more version js [] at.asked.told;
-          late = λ _. (omega (arith, at.some, length-append js []), omega (arith, at.done, completions-append js []));
-        };
+        commands = at.asked.commands ++ telegram s.addressing kind payload ∷ [];
+        is = ap (λ xs. xs ++ telegram s.addressing kind payload ∷ []) at.asked.is;
+        each = All-append (IsItem s) at.asked.commands (telegram s.addressing kind payload ∷ []) at.asked.each ((free, refl), tt);
+        told = told_more version js [] at.asked.told;
+        late = λ _. (omega (arith, at.some, length-append js []), omega (arith, at.done, completions-append js []));
+      };
       some = omega (arith, at.some, length-append js []);
       done = omega (arith, at.done, completions-append js []);
     }

@@ -8,3 +8,6 @@ pub mod Shapes
 pub mod IlSteps
 pub mod FeSteps
 pub mod Queues
+pub mod PhaseLemma
+pub mod PhaseFails
+pub mod JointSteps

@@ -111,8 +111,8 @@ IsInterlockingQueue version h =
     (h.queue ≡ [])
     ⊎ (h.queue ≡ notice_tele h.state (notice.VersionCheck version) ∷ [])
     ⊎ ((commands : List Tele)
-       × (h.queue ≡ notice_tele h.state (notice.VersionCheck version) ∷ notice_tele h.state notice.InitialisationRequest ∷ commands)
-       × AllByRecursion (IsItem h.state) commands × (commands ≢ [] → was_established h.phases ≡ true))
+    × (h.queue ≡ notice_tele h.state (notice.VersionCheck version) ∷ notice_tele h.state notice.InitialisationRequest ∷ commands)
+    × AllByRecursion (IsItem h.state) commands × (commands ≢ [] → was_established h.phases ≡ true))
 
 abbrev pub InterlockingLaw : Type 0
 InterlockingLaw = (addressing : Addressing) (version : ℕ) (es : List Event)
@@ -135,8 +135,8 @@ IsFieldQueue h =
     ⊎ ((version : ℕ) × (h.queue ≡ notice_tele h.state (notice.VersionDiffers version) ∷ []))
     ⊎ ((version : ℕ) × (h.queue ≡ notice_tele h.state (notice.VersionEqual version) ∷ []))
     ⊎ ((version : ℕ) × (status : List Tele)
-       × (h.queue ≡ notice_tele h.state (notice.VersionEqual version) ∷ notice_tele h.state notice.StartInitialisation ∷ status)
-       × AllByRecursion (IsStatus h.state) status × (completions status ≤ 1))
+    × (h.queue ≡ notice_tele h.state (notice.VersionEqual version) ∷ notice_tele h.state notice.StartInitialisation ∷ status)
+    × AllByRecursion (IsStatus h.state) status × (completions status ≤ 1))
 
 abbrev pub FieldLaw : Type 0
 FieldLaw = (addressing : Addressing) (versions checksum : List ℕ) (es : List Event)

@@ -1,5 +1,6 @@
 //! What the tables promise of any session, and over every list of its events.
 
+ghost use Rattle.pdi_session.specs.JoinedSessions.{PhaseLaw};
 ghost use Rattle.pdi_session.specs.Laws.{FieldLaw, GoesLaw, InterlockingLaw, MessageLaw, OwnLaw, PutLaw, QueueLaw, RoomLaw, StandsLaw, TakenLaw, TakesLaw};
 
 /// The laws of the session's step, which do nothing when they are called.
@@ -38,4 +39,8 @@ pub fn session_law()
     // The queue of a field element: nothing, 0025, or 0025 and 0022 followed by status, with at most one
     // 0023 among them.
     ensures field { FieldLaw }
+
+    // Of two sessions, each handed the other's queue in turn, a telegram ends one in its establishment
+    // alone, and then its peer has put nothing in.
+    ensures phases { PhaseLaw }
 {}

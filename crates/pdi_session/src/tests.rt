@@ -1,6 +1,6 @@
 use crate::{
-    Detail, FieldConfig, InitFault, InterlockingConfig, Parties, Phase, PutFault, Session, SessionEnd,
-    Taker, are_versions,
+    Detail, FieldConfig, InitFault, InterlockingConfig, Parties, Phase, PutFault, Session,
+    SessionEnd, Taker, are_versions,
 };
 use arrayvec::ArrayVec;
 use packing::{WAITING_MAX, Waiting, pack, unpack};
@@ -62,9 +62,13 @@ fn interlocking(rt: &HostRuntime, version: u8) -> Result<Seat, Fail> {
 
 fn field(rt: &HostRuntime, list: &[u8], sum: &[u8]) -> Result<Seat, Fail> {
     let mut versions = ArrayVec::new();
-    versions.try_extend_from_slice(list).map_err(|_| Fail::from("versions"))?;
+    versions
+        .try_extend_from_slice(list)
+        .map_err(|_| Fail::from("versions"))?;
     let mut checksum = ArrayVec::new();
-    checksum.try_extend_from_slice(sum).map_err(|_| Fail::from("checksum"))?;
+    checksum
+        .try_extend_from_slice(sum)
+        .map_err(|_| Fail::from("checksum"))?;
     if !are_versions(&versions) {
         return Err(Fail::from("a list of versions"));
     }
@@ -94,7 +98,11 @@ fn hear(seat: &mut Seat, telegram: &Telegram<'_>) -> Option<Result<(), SessionEn
     if seat.waiting.len() >= WAITING_MAX {
         return None;
     }
-    let Seat { session, waiting, log } = seat;
+    let Seat {
+        session,
+        waiting,
+        log,
+    } = seat;
     Some(session.arrive(telegram, waiting, log))
 }
 
@@ -182,14 +190,24 @@ const TELEGRAMS: [(u16, &[u8]); 22] = [
     (0x24, &[3, 0]),
     (0x25, &[2, 3, 0]),
     (0x25, &[2, 3, 1, 9]),
-    (0x25, &[2, 3, 16, 1, 2, 3, 4, 5, 6, 7, 8, 9, 10, 11, 12, 13, 14, 15, 16]),
+    (
+        0x25,
+        &[
+            2, 3, 16, 1, 2, 3, 4, 5, 6, 7, 8, 9, 10, 11, 12, 13, 14, 15, 16,
+        ],
+    ),
     (0x25, &[2, 4, 0]),
     (0x25, &[1, 3, 0]),
     (0x25, &[3, 3, 0]),
     (0x25, &[2, 3]),
     (0x25, &[2, 3, 1]),
     (0x25, &[2, 3, 0, 9]),
-    (0x25, &[2, 3, 17, 1, 2, 3, 4, 5, 6, 7, 8, 9, 10, 11, 12, 13, 14, 15, 16, 17]),
+    (
+        0x25,
+        &[
+            2, 3, 17, 1, 2, 3, 4, 5, 6, 7, 8, 9, 10, 11, 12, 13, 14, 15, 16, 17,
+        ],
+    ),
     (0x21, &[]),
     (0x21, &[0]),
     (0x22, &[]),
@@ -211,14 +229,30 @@ fn row_of(rows: &[Row], phase: Phase, place: usize) -> Row {
             return *row;
         }
     }
-    (phase, place, place, Some(Detail::OutOfOrder), Phase::Ended, 0, 0)
+    (
+        phase,
+        place,
+        place,
+        Some(Detail::OutOfOrder),
+        Phase::Ended,
+        0,
+        0,
+    )
 }
 
 #[test]
 fn makes_the_table_of_the_interlocking(rt: HostRuntime) -> Result<(), Fail> {
     let rows: [Row; 6] = [
         (Phase::Checking, 4, 6, None, Phase::Requesting, 1, 0),
-        (Phase::Checking, 8, 8, Some(Detail::VersionDiffers), Phase::Ended, 0, 0),
+        (
+            Phase::Checking,
+            8,
+            8,
+            Some(Detail::VersionDiffers),
+            Phase::Ended,
+            0,
+            0,
+        ),
         (Phase::Requesting, 16, 16, None, Phase::Initialising, 0, 0),
         (Phase::Initialising, 20, 21, None, Phase::Initialising, 0, 1),
         (Phase::Initialising, 18, 18, None, Phase::Established, 0, 0),
@@ -310,7 +344,13 @@ fn tests_the_parties_first(rt: HostRuntime) -> Result<(), Fail> {
         Phase::Established,
         Phase::Ended,
     ];
-    let names = [["FE2", "IL1"], ["FE1", "IL2"], ["IL1", "FE1"], ["FE", "IL1"], ["FE1", "IL11"]];
+    let names = [
+        ["FE2", "IL1"],
+        ["FE1", "IL2"],
+        ["IL1", "FE1"],
+        ["FE", "IL1"],
+        ["FE1", "IL11"],
+    ];
     for phase in phases {
         for (kind, payload) in TELEGRAMS {
             for pair in names {
@@ -328,7 +368,9 @@ fn tests_the_parties_first(rt: HostRuntime) -> Result<(), Fail> {
                 receiver: Name::new("IL1")?,
                 payload,
             };
-            let end = SessionEnd { detail: Detail::NotOfThisPair };
+            let end = SessionEnd {
+                detail: Detail::NotOfThisPair,
+            };
             assert!(rt; hear(&mut il, &telegram) == Some(Err(end)));
         }
     }
@@ -371,13 +413,28 @@ fn opens_two_sessions(rt: HostRuntime) -> Result<(), Fail> {
     assert_eq!(rt; fe.session.phase(), Phase::Established);
     assert!(rt; fe.session.put(0x0202, &[], &mut fe.waiting).is_ok());
     assert!(rt; il.session.put(0x0100, &[0x0a], &mut il.waiting) == Err(PutFault::NotEstablished));
-    carry(&rt, &mut fe, &mut il, b"\x01\x01\x02FE1_________________IL1_________________\x01\x02")?;
+    carry(
+        &rt,
+        &mut fe,
+        &mut il,
+        b"\x01\x01\x02FE1_________________IL1_________________\x01\x02",
+    )?;
     assert_eq!(rt; il.session.phase(), Phase::Initialising);
     carry(&rt, &mut fe, &mut il, done)?;
     assert_eq!(rt; il.session.phase(), Phase::Established);
-    carry(&rt, &mut fe, &mut il, b"\x01\x02\x02FE1_________________IL1_________________")?;
+    carry(
+        &rt,
+        &mut fe,
+        &mut il,
+        b"\x01\x02\x02FE1_________________IL1_________________",
+    )?;
     assert!(rt; il.session.put(0x0100, &[0x0a], &mut il.waiting).is_ok());
-    carry(&rt, &mut il, &mut fe, b"\x01\x00\x01IL1_________________FE1_________________\x0a")?;
+    carry(
+        &rt,
+        &mut il,
+        &mut fe,
+        b"\x01\x00\x01IL1_________________FE1_________________\x0a",
+    )?;
     assert_eq!(rt; il.log.kinds.as_slice(), [0x0201, 0x0202].as_slice());
     assert_eq!(rt; il.log.octets.as_slice(), [1, 2].as_slice());
     assert_eq!(rt; fe.log.kinds.as_slice(), [0x0100].as_slice());
@@ -386,12 +443,17 @@ fn opens_two_sessions(rt: HostRuntime) -> Result<(), Fail> {
     Ok(())
 }
 
+fn are_equal(octets: &[u8], others: &[u8]) -> bool {
+    octets == others
+}
+
 // Hands the first message over, which has these octets and ends no session.
 fn carry(rt: &impl Abort, from: &mut Seat, to: &mut Seat, octets: &[u8]) -> Result<(), Fail> {
     let unit = pack(&mut from.waiting, 1).ok_or("a message")?;
     let messages = unpack(&unit)?;
-    assert!(rt; messages.get(0) == Some(&octets));
-    let answer = hear(to, &decode(octets)?).ok_or("room")?;
+    let message = messages.get(0).ok_or("a message")?;
+    assert!(rt; are_equal(message, octets));
+    let answer = hear(to, &decode(message)?).ok_or("room")?;
     assert!(rt; answer.is_ok());
     Ok(())
 }
@@ -412,7 +474,9 @@ fn refuses_another_version(rt: HostRuntime) -> Result<(), Fail> {
         let telegram = decode(messages.get(0).ok_or("an answer")?)?;
         assert_eq!(rt; telegram.kind, 0x25);
         assert_eq!(rt; telegram.payload, [1, 4, 0].as_slice());
-        let end = SessionEnd { detail: Detail::VersionDiffers };
+        let end = SessionEnd {
+            detail: Detail::VersionDiffers,
+        };
         assert!(rt; hear(&mut il, &telegram) == Some(Err(end)));
         assert_eq!(rt; il.session.phase(), Phase::Ended);
         let refused = il.session.put(0x0100, &[0x0a], &mut il.waiting);
@@ -430,8 +494,14 @@ fn refuses_puts(rt: HostRuntime) -> Result<(), Fail> {
     let mut il = interlocking_in(&rt, Phase::Established)?;
     let _unit = pack(&mut il.waiting, 3);
     let long = [7; 358];
-    assert_eq!(rt; il.session.put(0x0100, &long[..357], &mut il.waiting), Ok(()));
-    assert_eq!(rt; il.session.put(0x0100, &long, &mut il.waiting), Err(PutFault::TooLong));
+    assert_eq!(rt;
+        il.session.put(0x0100, &long[..357], &mut il.waiting),
+        Ok(())
+    );
+    assert_eq!(rt;
+        il.session.put(0x0100, &long, &mut il.waiting),
+        Err(PutFault::TooLong)
+    );
     for kind in [0x21, 0x22, 0x23, 0x24, 0x25] {
         let refused = il.session.put(kind, &long, &mut il.waiting);
         assert_eq!(rt; refused, Err(PutFault::ReservedType));
@@ -440,8 +510,14 @@ fn refuses_puts(rt: HostRuntime) -> Result<(), Fail> {
     for _ in 0..63 {
         assert_eq!(rt; il.session.put(0x0100, &[], &mut il.waiting), Ok(()));
     }
-    assert_eq!(rt; il.session.put(0x0100, &[], &mut il.waiting), Err(PutFault::Full));
-    assert_eq!(rt; il.session.put(0x23, &long, &mut il.waiting), Err(PutFault::Full));
+    assert_eq!(rt;
+        il.session.put(0x0100, &[], &mut il.waiting),
+        Err(PutFault::Full)
+    );
+    assert_eq!(rt;
+        il.session.put(0x23, &long, &mut il.waiting),
+        Err(PutFault::Full)
+    );
     assert_eq!(rt; il.waiting.len(), WAITING_MAX);
     il.session.end();
     let refused = il.session.put(0x23, &long, &mut il.waiting);
@@ -476,7 +552,12 @@ fn accepts_by_phase(rt: HostRuntime) -> Result<(), Fail> {
             assert!(rt; fe.waiting.len() == before);
         }
     }
-    for phase in [Phase::Idle, Phase::Checking, Phase::Requesting, Phase::Initialising] {
+    for phase in [
+        Phase::Idle,
+        Phase::Checking,
+        Phase::Requesting,
+        Phase::Initialising,
+    ] {
         let mut il = interlocking_in(&rt, phase)?;
         let refused = il.session.put(0x0100, &[], &mut il.waiting);
         assert!(rt; refused == Err(PutFault::NotEstablished));
@@ -498,7 +579,10 @@ fn refuses_the_end_of_initialisation_while_full(rt: HostRuntime) -> Result<(), F
     let _unit = pack(&mut fe.waiting, 1);
     assert_eq!(rt; fe.session.init_done(&mut fe.waiting), Ok(()));
     assert_eq!(rt; fe.session.phase(), Phase::Established);
-    assert_eq!(rt; fe.session.init_done(&mut fe.waiting), Err(InitFault::NotInitialising));
+    assert_eq!(rt;
+        fe.session.init_done(&mut fe.waiting),
+        Err(InitFault::NotInitialising)
+    );
     Ok(())
 }
 

@@ -2,6 +2,7 @@ use Rattle.pdi_session.proofs.Growing.{stands_on}
 use Rattle.pdi_session.proofs.Added.{message_law}
 use Rattle.pdi_session.proofs.ItemLists.{queue_law, taken_law}
 use Rattle.pdi_session.proofs.Queues.{field_law, interlocking_law}
+use Rattle.pdi_session.proofs.JointSteps.{phase_law}
 use Rattle.pdi_session.proofs.RowLaws.{takes_law, goes_law, own_law, put_law, room_law}
 use Rattle.pdi_session.proofs.law.session_law.Goals as goal
 
@@ -37,3 +38,6 @@ returns-clause-interlocking c = interlocking_law
 
 pub returns-clause-field : goal.returns-clause-field
 returns-clause-field c = field_law
+
+pub returns-clause-phases : goal.returns-clause-phases
+returns-clause-phases c = phase_law
