@@ -17,11 +17,11 @@ use Rattle.pdi_session.specs.declared.Notice.TheVariants as notice
 use Rattle.pdi_session.specs.declared.Verdict.{Verdict}
 use Rattle.pdi_session.specs.declared.Verdict.TheVariants.{Takes, Goes, Answers, Ends}
 use Rattle.pdi_session.specs.declared.PutFault.TheVariants as fault
-use Rattle.pdi_session.specs.Settings.{checksum_of}
+use Rattle.pdi_session.specs.Settings.{AreSettings, checksum_of}
 use Rattle.pdi_session.specs.Telegrams.{is_reserved, kind_of, payload_of, telegram}
 use Rattle.pdi_session.specs.Tables.{may_put}
 use Rattle.pdi_session.specs.SessionStep.{Event, Up, Arrives, Puts, InitDone, Closes, SessionState, added_by, at_init_done, judged, init_refusal, notice_tele, put_refusal, sent_by}
-use Rattle.pdi_session.specs.Laws.{AreSettings, HasKind, HasMessage, MessageLaw}
+use Rattle.pdi_session.specs.Laws.{HasKind, HasMessage, MessageLaw}
 use Rattle.pdi_session.proofs.TableLemmas.{by_cond}
 
 length-tele_text : (t : Tele) → TeleText t (tele_text t) → length (tele_text t) ≡ 43 + length t.payload
@@ -37,7 +37,7 @@ length-tele_text t text =
       length-filled t.receiver text.receiver,
     )
 
-has_message : (s : SessionState) (kind : ℕ) (payload : List ℕ) → AreSettings s → kind < 256 ^ 2 → length payload ≤ PAYLOAD_MAX → HasMessage (telegram s.addressing kind payload)
+has_message : (s : SessionState) (kind : ℕ) (payload : List ℕ) → AreSettings s.addressing s.role → kind < 256 ^ 2 → length payload ≤ PAYLOAD_MAX → HasMessage (telegram s.addressing kind payload)
 has_message s kind payload set small short =
     let t : Tele = telegram s.addressing kind payload in
     let text : TeleText t (tele_text t) = record { protocol = set.protocol; kind = small; sender = set.own; receiver = set.peer; payload = short; spelled = refl } in
@@ -60,7 +60,7 @@ notice_payload checksum notice.InitialisationRequest short = omega arith
 notice_payload checksum notice.StartInitialisation short = omega arith
 notice_payload checksum notice.InitialisationCompleted short = omega arith
 
-sent_messages : (s : SessionState) (verdict : Verdict) → AreSettings s → AllByRecursion HasMessage (sent_by s verdict)
+sent_messages : (s : SessionState) (verdict : Verdict) → AreSettings s.addressing s.role → AllByRecursion HasMessage (sent_by s verdict)
 sent_messages s Takes set = tt
 sent_messages s (Goes next) set = tt
 sent_messages s (Answers next n) set = (has_message s (kind_of n) (payload_of (checksum_of s.role) n) set (notice_kind n) (notice_payload (checksum_of s.role) n set.checksum), tt)

@@ -11,3 +11,4 @@ pub mod Queues
 pub mod PhaseLemma
 pub mod PhaseFails
 pub mod JointSteps
+pub mod Sides

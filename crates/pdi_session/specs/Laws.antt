@@ -4,7 +4,6 @@ use Rattle.std.specs.List.{AllByRecursion}
 use Rattle.octets.specs.declared.limits.TheConstants.{PAYLOAD_MAX}
 use Rattle.packing.specs.UnitText.{IsMessage}
 use Rattle.packing.specs.declared.TheConstants.{WAITING_MAX}
-use Rattle.sci_telegram.specs.Names.{IsName}
 use Rattle.sci_telegram.specs.Places.{tele_seen}
 use Rattle.sci_telegram.specs.Tele.{Tele}
 use Rattle.sci_telegram.specs.TeleText.{tele_text}
@@ -12,17 +11,10 @@ use Rattle.pdi_session.specs.declared.TheConstants.{CHECKSUM_MAX, INITIALISATION
 use Rattle.pdi_session.specs.declared.Phase.{Phase}
 use Rattle.pdi_session.specs.declared.Phase.TheVariants.{Established}
 use Rattle.pdi_session.specs.declared.Notice.TheVariants as notice
-use Rattle.pdi_session.specs.Settings.{Addressing, Role, Interlocking, Field, checksum_of}
+use Rattle.pdi_session.specs.Settings.{Addressing, AreSettings, Role, Interlocking, Field}
 use Rattle.pdi_session.specs.Telegrams.{is_reserved, telegram}
 use Rattle.pdi_session.specs.SessionStep.{Event, Up, Arrives, Puts, InitDone, FewWait, HasRoom, Item, SessionState, added_by, after, end_of, item_of, judged, notice_tele, opened, put_refusal, taken_by, texts}
 use Rattle.pdi_session.specs.Histories.{History, StandsFor, begun, grown, grown_along, is_ended}
-
--- settings as the code keeps them
-pub record AreSettings (s : SessionState) : Type 0 where
-  pub protocol : s.addressing.protocol < 256
-  pub own : IsName s.addressing.own
-  pub peer : IsName s.addressing.peer
-  pub checksum : length (checksum_of s.role) ≤ CHECKSUM_MAX
 
 -- each of them has a kind of the establishment
 abbrev pub AreReserved : List Tele → Type 0
@@ -59,7 +51,7 @@ HasKind e = ⊤
 
 -- each message that is added has 43 to 400 octets and is read as its telegram
 abbrev pub MessageLaw : Type 0
-MessageLaw = (s : SessionState) (e : Event) → AreSettings s → HasKind e → AllByRecursion HasMessage (added_by e s)
+MessageLaw = (s : SessionState) (e : Event) → AreSettings s.addressing s.role → HasKind e → AllByRecursion HasMessage (added_by e s)
 
 -- the fact by which a caller keeps its condition: it holds of a new session while nothing waits, gives the condition, and stays
 -- when messages leave

@@ -1,10 +1,11 @@
 -- What a session is told before it begins (SCI session layer; the rules are the profile's, docs/SESSION.md).
-use Rattle.std.specs.Prelude.{◌≡◌, ◌==◌, ◌≤◌, ℕ, Bool, true, ◌&&◌, not, nat_le, IsTrue, List, [], ◌∷◌, length, ⊤}
+use Rattle.std.specs.Prelude.{◌≡◌, ◌==◌, ◌<◌, ◌≤◌, ℕ, Bool, true, ◌&&◌, not, nat_le, IsTrue, List, [], ◌∷◌, length, ⊤}
 use Rattle.std.specs.List.{list_any}
 use Rattle.pdi_session.specs.declared.TheConstants.{CHECKSUM_MAX, VERSIONS_MAX}
 use Rattle.pdi_session.specs.declared.Parties.{Parties}
 use Rattle.pdi_session.specs.declared.Side.{Side}
 use Rattle.pdi_session.specs.declared.Side.TheVariants as side
+use Rattle.sci_telegram.specs.Names.{IsName}
 use Rattle.sci_telegram.specs.Tele.{owned_characters}
 
 -- what every telegram of the session bears: the protocol type and the characters of both names
@@ -39,6 +40,13 @@ first_version (version ∷ versions) = version
 abbrev pub checksum_of : Role → List ℕ
 checksum_of (Interlocking version) = []
 checksum_of (Field versions checksum) = checksum
+
+-- settings that a session can have
+pub record AreSettings (addressing : Addressing) (role : Role) : Type 0 where
+  pub protocol : addressing.protocol < 256
+  pub own : IsName addressing.own
+  pub peer : IsName addressing.peer
+  pub checksum : length (checksum_of role) ≤ CHECKSUM_MAX
 
 -- the settings, without where they lie in memory
 abbrev pub addressing_of : Parties → Addressing

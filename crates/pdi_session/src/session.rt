@@ -5,7 +5,7 @@ ghost use Rattle.std.specs.List.{FoldsTo};
 ghost use Rattle.sci_telegram.specs.Tele.{tele_of};
 ghost use Rattle.sci_telegram.specs.TeleText.{tele_text};
 ghost use Rattle.packing.specs.declared.TheConstants.{WAITING_MAX};
-ghost use Rattle.pdi_session.specs.Settings.{AreVersions, Interlocking, Field, addressing_of, are_different, are_versions};
+ghost use Rattle.pdi_session.specs.Settings.{AreSettings, AreVersions, Interlocking, Field, addressing_of, are_different, are_versions};
 ghost use Rattle.pdi_session.specs.Tables.{may_put, is_initialising};
 ghost use Rattle.pdi_session.specs.Telegrams.{is_addressed};
 ghost use Rattle.pdi_session.specs.Histories.{History, StandsFor, grown};
@@ -38,6 +38,7 @@ pub struct Session {
 }
 
 impl Model for Session {
+    ghost use Rattle.std.specs.Prelude.{◌<◌};
     ghost use Rattle.pdi_session.specs.Settings.{addressing_of, role_of, IsSide};
     ghost use Rattle.pdi_session.specs.SessionStep.{SessionState};
 
@@ -49,13 +50,14 @@ impl Model for Session {
       phase = a.phase;
     } };
 
-    ghost invariant = { λ a. IsSide a.side };
+    ghost invariant = { λ a. (a.parties.protocol < 256) × IsSide a.side };
 }
 
 impl Session {
     /// A new session of an interlocking.
     pub fn interlocking(config: InterlockingConfig) -> Self
-        ensures { result ≡ opened (addressing_of config.parties) (Interlocking config.version) }
+        ensures opened { result ≡ opened (addressing_of config.parties) (Interlocking config.version) }
+        ensures settings { AreSettings result.addressing result.role }
     {
         Session {
             parties: config.parties,
@@ -68,7 +70,8 @@ impl Session {
     /// different ones (`are_versions`).
     pub fn field(config: FieldConfig) -> Self
         requires { AreVersions config.versions.items }
-        ensures { result ≡ opened (addressing_of config.parties) (Field config.versions.items config.checksum.items) }
+        ensures opened { result ≡ opened (addressing_of config.parties) (Field config.versions.items config.checksum.items) }
+        ensures settings { AreSettings result.addressing result.role }
     {
         Session {
             parties: config.parties,
@@ -79,9 +82,11 @@ impl Session {
 
     /// How far the session is.
     pub fn phase(&self) -> Phase
-        ensures { result ≡ self.now.phase }
+        ensures phase { result ≡ self.now.phase }
+        ensures settings { AreSettings self.now.addressing self.now.role }
     {
-        self.phase
+        let Session { phase, .. } = self;
+        *phase
     }
 
     /// The connection is up: an interlocking sends its version, a field element waits for one. In

@@ -44,7 +44,7 @@ pub(crate) fn interlocking_verdict(own: u8, phase: Phase, form: Form) -> Verdict
         (Phase::Requesting, Form::Notifies(Notice::StartInitialisation)) => {
             Verdict::Goes(Phase::Initialising)
         }
-        (Phase::Initialising, Form::Item) | (Phase::Established, Form::Item) => Verdict::Takes,
+        (Phase::Initialising | Phase::Established, Form::Item) => Verdict::Takes,
         (Phase::Initialising, Form::Notifies(Notice::InitialisationCompleted)) => {
             Verdict::Goes(Phase::Established)
         }
