@@ -377,6 +377,31 @@ fn tests_the_parties_first(rt: HostRuntime) -> Result<(), Fail> {
     Ok(())
 }
 
+// The same at a field element, of a telegram that has a row there or has none.
+#[test]
+fn tests_the_parties_of_a_command_first(rt: HostRuntime) -> Result<(), Fail> {
+    let phases = [
+        Phase::Idle,
+        Phase::AwaitCheck,
+        Phase::AwaitRequest,
+        Phase::Refused,
+        Phase::Initialising,
+        Phase::Established,
+        Phase::Ended,
+    ];
+    for phase in phases {
+        for names in [["IL2", "FE1"], ["IL1", "FE2"], ["FE1", "IL1"]] {
+            for (kind, payload) in [(0x24, [3].as_slice()), (0x21, &[]), (0x0100, &[])] {
+                let mut fe = field_in(&rt, phase)?;
+                let answer = tell(&mut fe, names, kind, payload)?;
+                assert!(rt; answer == Some(Detail::NotOfThisPair));
+                assert!(rt; fe.session.phase() == Phase::Ended && fe.log.kinds.is_empty());
+            }
+        }
+    }
+    Ok(())
+}
+
 #[test]
 fn numbers_the_details(rt: HostRuntime) {
     assert_eq!(rt; Detail::VersionDiffers.number(), 1);
