@@ -1,0 +1,14 @@
+pub mod TableLemmas
+pub mod Growing
+pub mod Rows
+pub mod RowLaws
+pub mod Added
+pub mod ItemLists
+pub mod Shapes
+pub mod IlSteps
+pub mod FeSteps
+pub mod Queues
+pub mod PhaseLemma
+pub mod PhaseFails
+pub mod JointSteps
+pub mod Sides

@@ -1,0 +1,43 @@
+use Rattle.pdi_session.proofs.Growing.{stands_on}
+use Rattle.pdi_session.proofs.Added.{message_law}
+use Rattle.pdi_session.proofs.ItemLists.{queue_law, taken_law}
+use Rattle.pdi_session.proofs.Queues.{field_law, interlocking_law}
+use Rattle.pdi_session.proofs.JointSteps.{phase_law}
+use Rattle.pdi_session.proofs.RowLaws.{takes_law, goes_law, own_law, put_law, room_law}
+use Rattle.pdi_session.proofs.law.session_law.Goals as goal
+
+pub returns-clause-stands : goal.returns-clause-stands
+returns-clause-stands c = stands_on
+
+pub returns-clause-takes : goal.returns-clause-takes
+returns-clause-takes c = takes_law
+
+pub returns-clause-goes : goal.returns-clause-goes
+returns-clause-goes c = goes_law
+
+pub returns-clause-own : goal.returns-clause-own
+returns-clause-own c = own_law
+
+pub returns-clause-puts : goal.returns-clause-puts
+returns-clause-puts c = put_law
+
+pub returns-clause-messages : goal.returns-clause-messages
+returns-clause-messages c = message_law
+
+pub returns-clause-room : goal.returns-clause-room
+returns-clause-room c = room_law
+
+pub returns-clause-taken : goal.returns-clause-taken
+returns-clause-taken c = taken_law
+
+pub returns-clause-queue : goal.returns-clause-queue
+returns-clause-queue c = queue_law
+
+pub returns-clause-interlocking : goal.returns-clause-interlocking
+returns-clause-interlocking c = interlocking_law
+
+pub returns-clause-field : goal.returns-clause-field
+returns-clause-field c = field_law
+
+pub returns-clause-phases : goal.returns-clause-phases
+returns-clause-phases c = phase_law

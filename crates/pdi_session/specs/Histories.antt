@@ -1,0 +1,64 @@
+-- What a session has gone through: its state, and the lists that its events make longer.
+use Rattle.std.specs.Prelude.{◌≡◌, ℕ, Bool, true, false, not, ◌&&◌, if◌then◌else◌, List, [], ◌∷◌, ◌++◌, Option, Some, None, is_none}
+use Rattle.sci_telegram.specs.Tele.{Tele}
+use Rattle.pdi_session.specs.declared.Phase.{Phase}
+use Rattle.pdi_session.specs.declared.Phase.TheVariants.{Idle, Ended}
+use Rattle.pdi_session.specs.Settings.{Addressing, Role}
+use Rattle.pdi_session.specs.SessionStep.{Event, Up, Arrives, Puts, InitDone, Closes, Item, SessionState, added_by, after, end_of, init_refusal, judged, opened, phase_after, put_refusal, taken_by, texts}
+
+pub record History : Type 0 where
+  pub state : SessionState
+  pub phases : List Phase  -- those that it was in, the first first
+  pub queue : List Tele  -- all telegrams that it added, sent or not
+  pub judged : List Tele  -- those that it was handed
+  pub put : List Item  -- the commands or status that were put in
+  pub taken : List Item  -- those that the application took
+  pub ended_in : Option Phase  -- the phase in which a telegram ended it, if one did
+
+-- a new session
+abbrev pub begun : Addressing → Role → History
+begun addressing role =
+    record { state = opened addressing role; phases = Idle ∷ []; queue = []; judged = []; put = []; taken = []; ended_in = None }
+
+-- the telegram that an event hands it
+abbrev pub handed_by : Event → List Tele
+handed_by (Arrives t) = t ∷ []
+handed_by e = []
+
+-- the command or status that an event puts in
+abbrev pub put_by : Event → SessionState → List Item
+put_by (Puts kind payload waits) s = if is_none (put_refusal s kind payload waits) then (kind, payload) ∷ [] else []
+put_by e s = []
+
+abbrev pub is_ended : Phase → Bool
+is_ended Ended = true
+is_ended phase = false
+
+-- a telegram ends a session that is not over
+abbrev pub ends_by : Event → SessionState → Bool
+ends_by (Arrives t) s = not (is_ended s.phase) && not (is_none (end_of (judged s t)))
+ends_by e s = false
+
+-- the history made longer by an event
+abbrev pub grown : Event → History → History
+grown e h =
+    record {
+      state = after e h.state;
+      phases = h.phases ++ phase_after e h.state ∷ [];
+      queue = h.queue ++ added_by e h.state;
+      judged = h.judged ++ handed_by e;
+      put = h.put ++ put_by e h.state;
+      taken = h.taken ++ taken_by e h.state;
+      ended_in = if ends_by e h.state then Some h.state.phase else h.ended_in;
+    }
+
+-- the history after a list of events
+abbrev pub grown_along : List Event → History → History
+grown_along [] h = h
+grown_along (e ∷ es) h = grown_along es (grown e h)
+
+-- a session and the messages that wait stand for a history: the state is its, and what waits is the end of its queue
+pub record StandsFor (s : SessionState) (waiting : List (List ℕ)) (h : History) : Type 0 where
+  pub state : h.state ≡ s
+  pub gone : List (List ℕ)
+  pub queue : texts h.queue ≡ gone ++ waiting

@@ -1,0 +1,56 @@
+-- Two sessions, each of which is handed the other's telegrams in the order of their queue.
+use Rattle.std.specs.Prelude.{◌≡◌, ◌≤◌, ℕ, true, false, List, [], ◌∷◌, ◌++◌, length, Some, ⊤}
+use Rattle.pdi_session.specs.declared.TheConstants.{CHECKSUM_MAX}
+use Rattle.pdi_session.specs.declared.Phase.{Phase}
+use Rattle.pdi_session.specs.Settings.{Addressing, Interlocking, Field}
+use Rattle.pdi_session.specs.Tables.{is_early}
+use Rattle.pdi_session.specs.SessionStep.{Event, Arrives}
+use Rattle.pdi_session.specs.Histories.{History, begun, grown, is_ended}
+use Rattle.pdi_session.specs.Laws.{IsBeginning}
+
+pub record Joined : Type 0 where
+  pub il : History
+  pub fe : History
+
+-- an event at one of them
+pub data JoinedEvent : Type 0 where
+  AtIl : (event : Event) → JoinedEvent
+  AtFe : (event : Event) → JoinedEvent
+
+abbrev pub happens : JoinedEvent → Joined → Joined
+happens (AtIl e) j = record { il = grown e j.il; fe = j.fe }
+happens (AtFe e) j = record { il = j.il; fe = grown e j.fe }
+
+abbrev pub happen : List JoinedEvent → Joined → Joined
+happen [] j = j
+happen (e ∷ es) j = happen es (happens e j)
+
+-- what a session is handed is the next telegram of its peer's queue, and nothing once it is over
+abbrev pub IsNext : Event → History → History → Type 0
+IsNext (Arrives t) h peer = (is_ended h.state.phase ≡ false) × IsBeginning (h.judged ++ t ∷ []) peer.queue
+IsNext e h peer = ⊤
+
+abbrev pub IsNextAt : JoinedEvent → Joined → Type 0
+IsNextAt (AtIl e) j = IsNext e j.il j.fe
+IsNextAt (AtFe e) j = IsNext e j.fe j.il
+
+abbrev pub InTurn : List JoinedEvent → Joined → Type 0
+InTurn [] j = ⊤
+InTurn (e ∷ es) j = IsNextAt e j × InTurn es (happens e j)
+
+-- a telegram ends a session in its establishment alone, and then its peer has put nothing in, and never will
+abbrev pub EndsEarly : History → History → Type 0
+EndsEarly h peer = (phase : Phase) → h.ended_in ≡ Some phase → (is_early phase ≡ true) × (peer.put ≡ [])
+
+-- two new sessions
+abbrev pub joined : Addressing → ℕ → Addressing → List ℕ → List ℕ → Joined
+joined il version fe versions checksum = record { il = begun il (Interlocking version); fe = begun fe (Field versions checksum) }
+
+-- what both have gone through after events in turn
+abbrev pub EndEarly : Joined → Type 0
+EndEarly j = EndsEarly j.il j.fe × EndsEarly j.fe j.il
+
+-- the phase law, of any settings, also of some that do not fit
+abbrev pub PhaseLaw : Type 0
+PhaseLaw = (il fe : Addressing) (version : ℕ) (versions checksum : List ℕ) → length checksum ≤ CHECKSUM_MAX → (es : List JoinedEvent)
+    → InTurn es (joined il version fe versions checksum) → EndEarly (happen es (joined il version fe versions checksum))

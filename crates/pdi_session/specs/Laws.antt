@@ -1,0 +1,135 @@
+-- What the tables promise, row by row, and over every list of a session's events.
+use Rattle.std.specs.Prelude.{◌≡◌, ◌≢◌, ◌==◌, ◌⊎◌, ◌<◌, ◌≤◌, ◌^◌, ℕ, ◌+◌, Bool, true, false, if◌then◌else◌, List, [], ◌∷◌, ◌++◌, length, Option, Some, None, Ok, ⊤}
+use Rattle.std.specs.List.{AllByRecursion}
+use Rattle.octets.specs.declared.limits.TheConstants.{PAYLOAD_MAX}
+use Rattle.packing.specs.UnitText.{IsMessage}
+use Rattle.packing.specs.declared.TheConstants.{WAITING_MAX}
+use Rattle.sci_telegram.specs.Places.{tele_seen}
+use Rattle.sci_telegram.specs.Tele.{Tele}
+use Rattle.sci_telegram.specs.TeleText.{tele_text}
+use Rattle.pdi_session.specs.declared.TheConstants.{CHECKSUM_MAX, INITIALISATION_COMPLETED}
+use Rattle.pdi_session.specs.declared.Phase.{Phase}
+use Rattle.pdi_session.specs.declared.Phase.TheVariants.{Established}
+use Rattle.pdi_session.specs.declared.Notice.TheVariants as notice
+use Rattle.pdi_session.specs.Settings.{Addressing, AreSettings, Role, Interlocking, Field}
+use Rattle.pdi_session.specs.Telegrams.{is_reserved, telegram}
+use Rattle.pdi_session.specs.SessionStep.{Event, Up, Arrives, Puts, InitDone, FewWait, HasRoom, Item, SessionState, added_by, after, end_of, item_of, judged, notice_tele, opened, put_refusal, taken_by, texts}
+use Rattle.pdi_session.specs.Histories.{History, StandsFor, begun, grown, grown_along, is_ended}
+
+-- each of them has a kind of the establishment
+abbrev pub AreReserved : List Tele → Type 0
+AreReserved ts = AllByRecursion (λ t. is_reserved t.kind ≡ true) ts
+
+-- a telegram's message has 43 to 400 octets, and is read as that telegram
+pub record HasMessage (t : Tele) : Type 0 where
+  pub sized : IsMessage (tele_text t)
+  pub read : tele_seen (tele_text t) ≡ Ok t
+
+-- a telegram that is taken has no kind of the establishment, and is taken as it is
+abbrev pub TakesLaw : Type 0
+TakesLaw = (s : SessionState) (t : Tele) → taken_by (Arrives t) s ≢ [] → (is_reserved t.kind ≡ false) × (taken_by (Arrives t) s ≡ item_of t ∷ [])
+
+-- one for which the session goes on without taking it has such a kind, and so has what it answers
+abbrev pub GoesLaw : Type 0
+GoesLaw = (s : SessionState) (t : Tele) → end_of (judged s t) ≡ None → taken_by (Arrives t) s ≡ []
+    → (is_reserved t.kind ≡ true) × AreReserved (added_by (Arrives t) s)
+
+-- what a session adds by itself is of the establishment
+abbrev pub OwnLaw : Type 0
+OwnLaw = (s : SessionState) → AreReserved (added_by Up s) × ((waits : ℕ) → AreReserved (added_by (InitDone waits) s))
+    × ((t : Tele) → AreReserved (added_by (Arrives t) s))
+
+-- an accepted put adds one telegram, with what was put, and it is not of the establishment
+abbrev pub PutLaw : Type 0
+PutLaw = (s : SessionState) (kind : ℕ) (payload : List ℕ) (waits : ℕ) → put_refusal s kind payload waits ≡ None
+    → (is_reserved kind ≡ false) × (added_by (Puts kind payload waits) s ≡ telegram s.addressing kind payload ∷ [])
+
+-- a kind that is put in has two octets
+abbrev pub HasKind : Event → Type 0
+HasKind (Puts kind payload waits) = kind < 256 ^ 2
+HasKind e = ⊤
+
+-- each message that is added has 43 to 400 octets and is read as its telegram
+abbrev pub MessageLaw : Type 0
+MessageLaw = (s : SessionState) (e : Event) → AreSettings s.addressing s.role → HasKind e → AllByRecursion HasMessage (added_by e s)
+
+-- the fact by which a caller keeps its condition: it holds of a new session while nothing waits, gives the condition, and stays
+-- when messages leave
+abbrev pub RoomLaw : Type 0
+RoomLaw = ((addressing : Addressing) (role : Role) → FewWait (opened addressing role) [])
+    × ((s : SessionState) (waiting : List (List ℕ)) → FewWait s waiting → HasRoom s waiting)
+    × ((s : SessionState) (gone waiting : List (List ℕ)) → FewWait s (gone ++ waiting) → FewWait s waiting)
+
+-- what a call leaves stands for the history made longer by its event
+abbrev pub StandsLaw : Type 0
+StandsLaw = (e : Event) (s left : SessionState) (old new : List (List ℕ)) (h : History) → left ≡ after e s → new ≡ old ++ texts (added_by e s)
+    → StandsFor s old h → StandsFor left new (grown e h)
+
+-- the commands or status among telegrams
+abbrev pub items_of : List Tele → List Item
+items_of [] = []
+items_of (t ∷ ts) = if is_reserved t.kind then items_of ts else item_of t ∷ items_of ts
+
+abbrev pub IsBeginning : {X : Type 0} → List X → List X → Type 0
+IsBeginning {X} front whole = (rest : List X) × (front ++ rest ≡ whole)
+
+-- what is taken is a beginning of the commands or status judged, and all of it while the session is not over
+abbrev pub TakenLaw : Type 0
+TakenLaw = (addressing : Addressing) (role : Role) (es : List Event) → let h = grown_along es (begun addressing role) in
+    IsBeginning h.taken (items_of h.judged) × (is_ended h.state.phase ≡ false → h.taken ≡ items_of h.judged)
+
+-- what was put in is the commands or status of the queue: all else in it is of the establishment
+abbrev pub QueueLaw : Type 0
+QueueLaw = (addressing : Addressing) (role : Role) (es : List Event) → let h = grown_along es (begun addressing role) in
+    items_of h.queue ≡ h.put
+
+-- a command or status from this session
+abbrev pub IsItem : SessionState → Tele → Type 0
+IsItem s t = (is_reserved t.kind ≡ false) × (t ≡ telegram s.addressing t.kind t.payload)
+
+abbrev pub is_established : Phase → Bool
+is_established Established = true
+is_established phase = false
+
+-- one of the phases is Established
+abbrev pub was_established : List Phase → Bool
+was_established [] = false
+was_established (phase ∷ phases) = if is_established phase then true else was_established phases
+
+-- the queue of an interlocking: nothing; its version; or that, the request, and then commands, of which there are some only if
+-- it was Established
+abbrev pub IsInterlockingQueue : ℕ → History → Type 0
+IsInterlockingQueue version h =
+    (h.queue ≡ [])
+    ⊎ (h.queue ≡ notice_tele h.state (notice.VersionCheck version) ∷ [])
+    ⊎ ((commands : List Tele)
+    × (h.queue ≡ notice_tele h.state (notice.VersionCheck version) ∷ notice_tele h.state notice.InitialisationRequest ∷ commands)
+    × AllByRecursion (IsItem h.state) commands × (commands ≢ [] → was_established h.phases ≡ true))
+
+abbrev pub InterlockingLaw : Type 0
+InterlockingLaw = (addressing : Addressing) (version : ℕ) (es : List Event)
+    → IsInterlockingQueue version (grown_along es (begun addressing (Interlocking version)))
+
+-- how many ends of the initialisation there are
+abbrev pub completions : List Tele → ℕ
+completions [] = 0
+completions (t ∷ ts) = if t.kind == INITIALISATION_COMPLETED then completions ts + 1 else completions ts
+
+-- a status, or the end of the initialisation
+abbrev pub IsStatus : SessionState → Tele → Type 0
+IsStatus s t = IsItem s t ⊎ (t ≡ notice_tele s notice.InitialisationCompleted)
+
+-- the queue of a field element: nothing; a refusal; an answer of equal versions; or that, the start of the initialisation, and
+-- then status with at most one end of the initialisation among them
+abbrev pub IsFieldQueue : History → Type 0
+IsFieldQueue h =
+    (h.queue ≡ [])
+    ⊎ ((version : ℕ) × (h.queue ≡ notice_tele h.state (notice.VersionDiffers version) ∷ []))
+    ⊎ ((version : ℕ) × (h.queue ≡ notice_tele h.state (notice.VersionEqual version) ∷ []))
+    ⊎ ((version : ℕ) × (status : List Tele)
+    × (h.queue ≡ notice_tele h.state (notice.VersionEqual version) ∷ notice_tele h.state notice.StartInitialisation ∷ status)
+    × AllByRecursion (IsStatus h.state) status × (completions status ≤ 1))
+
+abbrev pub FieldLaw : Type 0
+FieldLaw = (addressing : Addressing) (versions checksum : List ℕ) (es : List Event)
+    → IsFieldQueue (grown_along es (begun addressing (Field versions checksum)))

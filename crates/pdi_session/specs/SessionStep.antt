@@ -1,0 +1,146 @@
+-- SessionStep: what a session does, in words of the state that its calls change and of the lists that they make longer.
+use Rattle.std.specs.Prelude.{◌≡◌, ◌<◌, ◌≤◌, ℕ, Bool, true, is_none, not, nat_le, nat_lt, if◌then◌else◌, List, [], ◌∷◌, ◌++◌, length, map, Option, Some, None, Result, Ok, Err}
+use Rattle.octets.specs.declared.limits.TheConstants.{PAYLOAD_MAX}
+use Rattle.packing.specs.declared.TheConstants.{WAITING_MAX}
+use Rattle.sci_telegram.specs.Tele.{Tele}
+use Rattle.sci_telegram.specs.TeleText.{tele_text}
+use Rattle.pdi_session.specs.declared.Phase.{Phase}
+use Rattle.pdi_session.specs.declared.Phase.TheVariants.{Idle, Checking, Requesting, AwaitCheck, AwaitRequest, Refused, Initialising, Established, Ended}
+use Rattle.pdi_session.specs.declared.Detail.{Detail}
+use Rattle.pdi_session.specs.declared.Detail.TheVariants as detail
+use Rattle.pdi_session.specs.declared.Notice.{Notice}
+use Rattle.pdi_session.specs.declared.Notice.TheVariants as notice
+use Rattle.pdi_session.specs.declared.Verdict.{Verdict}
+use Rattle.pdi_session.specs.declared.Verdict.TheVariants.{Takes, Goes, Answers, Ends}
+use Rattle.pdi_session.specs.declared.PutFault.{PutFault}
+use Rattle.pdi_session.specs.declared.PutFault.TheVariants as put_fault
+use Rattle.pdi_session.specs.declared.InitFault.{InitFault}
+use Rattle.pdi_session.specs.declared.InitFault.TheVariants as init_fault
+use Rattle.pdi_session.specs.Settings.{Addressing, Role, checksum_of}
+use Rattle.pdi_session.specs.Telegrams.{form_of, is_addressed, is_reserved, kind_of, payload_of, telegram}
+use Rattle.pdi_session.specs.Tables.{at_up, is_early, is_initialising, may_put, table}
+
+-- a session: its settings and its phase
+pub record SessionState : Type 0 where
+  pub addressing : Addressing
+  pub role : Role
+  pub phase : Phase
+
+-- a new session
+abbrev pub opened : Addressing → Role → SessionState
+opened addressing role = record { addressing = addressing; role = role; phase = Idle }
+
+-- a command or status: kind and payload
+abbrev pub Item : Type 0
+Item = ℕ × List ℕ
+
+abbrev pub item_of : Tele → Item
+item_of t = (t.kind, t.payload)
+
+-- what comes to a session; a put and the end of the initialisation come while so many messages wait
+pub data Event : Type 0 where
+  Up : Event
+  Arrives : (telegram : Tele) → Event
+  Puts : (kind : ℕ) → (payload : List ℕ) → (waits : ℕ) → Event
+  InitDone : (waits : ℕ) → Event
+  Closes : Event
+
+-- what is decided on a telegram: who it is from and for comes before the phase
+abbrev pub judged : SessionState → Tele → Verdict
+judged s t = if is_addressed s.addressing t then table s.role s.phase (form_of t.kind t.payload) else Ends detail.NotOfThisPair
+
+-- the lowest refusal of a put that holds
+abbrev pub put_refusal : SessionState → ℕ → List ℕ → ℕ → Option PutFault
+put_refusal s kind payload waits =
+    if not (may_put s.role s.phase) then Some put_fault.NotEstablished
+    else if nat_le WAITING_MAX waits then Some put_fault.Full
+    else if is_reserved kind then Some put_fault.ReservedType
+    else if nat_lt PAYLOAD_MAX (length payload) then Some put_fault.TooLong
+    else None
+
+-- the lowest refusal of the end of the initialisation that holds
+abbrev pub init_refusal : SessionState → ℕ → Option InitFault
+init_refusal s waits =
+    if not (is_initialising s.role s.phase) then Some init_fault.NotInitialising
+    else if nat_le WAITING_MAX waits then Some init_fault.Full
+    else None
+
+-- what a verdict does to the phase
+abbrev pub phase_by : Phase → Verdict → Phase
+phase_by phase Takes = phase
+phase_by phase (Goes next) = next
+phase_by phase (Answers next notice) = next
+phase_by phase (Ends why) = Ended
+
+-- a telegram of the establishment from this session
+abbrev pub notice_tele : SessionState → Notice → Tele
+notice_tele s n = telegram s.addressing (kind_of n) (payload_of (checksum_of s.role) n)
+
+-- what it sends
+abbrev pub sent_by : SessionState → Verdict → List Tele
+sent_by s (Answers next n) = notice_tele s n ∷ []
+sent_by s verdict = []
+
+-- what the application takes
+abbrev pub taken_as : Tele → Verdict → List Item
+taken_as t Takes = item_of t ∷ []
+taken_as t verdict = []
+
+-- what the call answers
+abbrev pub end_of : Verdict → Option Detail
+end_of (Ends why) = Some why
+end_of verdict = None
+
+-- what the accepted end of the initialisation decides
+abbrev pub at_init_done : Verdict
+at_init_done = Answers Established notice.InitialisationCompleted
+
+-- the phase that an event leaves
+abbrev pub phase_after : Event → SessionState → Phase
+phase_after Up s = phase_by s.phase (at_up s.role s.phase)
+phase_after (Arrives t) s = phase_by s.phase (judged s t)
+phase_after (Puts kind payload waits) s = s.phase
+phase_after (InitDone waits) s = if is_none (init_refusal s waits) then phase_by s.phase at_init_done else s.phase
+phase_after Closes s = Ended
+
+-- a session in this phase: the settings stay
+abbrev pub with_phase : Phase → SessionState → SessionState
+with_phase phase s = record { addressing = s.addressing; role = s.role; phase = phase }
+
+-- the state that an event leaves
+abbrev pub after : Event → SessionState → SessionState
+after e s = with_phase (phase_after e s) s
+
+-- the telegrams that it adds to those that wait
+abbrev pub added_by : Event → SessionState → List Tele
+added_by Up s = sent_by s (at_up s.role s.phase)
+added_by (Arrives t) s = sent_by s (judged s t)
+added_by (Puts kind payload waits) s = if is_none (put_refusal s kind payload waits) then telegram s.addressing kind payload ∷ [] else []
+added_by (InitDone waits) s = if is_none (init_refusal s waits) then sent_by s at_init_done else []
+added_by Closes s = []
+
+-- what the application takes at it
+abbrev pub taken_by : Event → SessionState → List Item
+taken_by (Arrives t) s = taken_as t (judged s t)
+taken_by e s = []
+
+-- the messages of telegrams
+abbrev pub texts : List Tele → List (List ℕ)
+texts ts = map tele_text ts
+
+-- the caller's condition: room for one message in the phases before Initialising
+abbrev pub HasRoom : SessionState → List (List ℕ) → Type 0
+HasRoom s waiting = is_early s.phase ≡ true → length waiting < WAITING_MAX
+
+-- what makes it keepable: so many messages wait at most, since before Initialising the session itself adds all that there are
+abbrev pub most_waiting : Phase → ℕ
+most_waiting Idle = 0
+most_waiting Checking = 1
+most_waiting Requesting = 2
+most_waiting AwaitCheck = 0
+most_waiting AwaitRequest = 1
+most_waiting Refused = 1
+most_waiting phase = WAITING_MAX
+
+abbrev pub FewWait : SessionState → List (List ℕ) → Type 0
+FewWait s waiting = length waiting ≤ most_waiting s.phase

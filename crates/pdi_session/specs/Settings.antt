@@ -1,0 +1,62 @@
+-- What a session is told before it begins (SCI session layer; the rules are the profile's, docs/SESSION.md).
+use Rattle.std.specs.Prelude.{◌≡◌, ◌==◌, ◌<◌, ◌≤◌, ℕ, Bool, true, ◌&&◌, not, nat_le, IsTrue, List, [], ◌∷◌, length, ⊤}
+use Rattle.std.specs.List.{list_any}
+use Rattle.pdi_session.specs.declared.TheConstants.{CHECKSUM_MAX, VERSIONS_MAX}
+use Rattle.pdi_session.specs.declared.Parties.{Parties}
+use Rattle.pdi_session.specs.declared.Side.{Side}
+use Rattle.pdi_session.specs.declared.Side.TheVariants as side
+use Rattle.sci_telegram.specs.Names.{IsName}
+use Rattle.sci_telegram.specs.Tele.{owned_characters}
+
+-- what every telegram of the session bears: the protocol type and the characters of both names
+pub record Addressing : Type 0 where
+  pub protocol : ℕ
+  pub own : List ℕ
+  pub peer : List ℕ
+
+-- which end it is: an interlocking with its version, or a field element with the versions that it takes and its checksum
+pub data Role : Type 0 where
+  Interlocking : (version : ℕ) → Role
+  Field : (versions checksum : List ℕ) → Role
+
+-- no two are equal
+abbrev pub are_different : List ℕ → Bool
+are_different [] = true
+are_different (version ∷ versions) = not (list_any (λ other. other == version) versions) && are_different versions
+
+-- one to four versions, no two of them equal
+abbrev pub are_versions : List ℕ → Bool
+are_versions versions = nat_le 1 (length versions) && nat_le (length versions) VERSIONS_MAX && are_different versions
+
+abbrev pub AreVersions : List ℕ → Type 0
+AreVersions versions = IsTrue (are_versions versions)
+
+-- the version that a field element names to a peer of another one
+abbrev pub first_version : List ℕ → ℕ
+first_version [] = 0
+first_version (version ∷ versions) = version
+
+-- the checksum that it answers with
+abbrev pub checksum_of : Role → List ℕ
+checksum_of (Interlocking version) = []
+checksum_of (Field versions checksum) = checksum
+
+-- settings that a session can have
+pub record AreSettings (addressing : Addressing) (role : Role) : Type 0 where
+  pub protocol : addressing.protocol < 256
+  pub own : IsName addressing.own
+  pub peer : IsName addressing.peer
+  pub checksum : length (checksum_of role) ≤ CHECKSUM_MAX
+
+-- the settings, without where they lie in memory
+abbrev pub addressing_of : Parties → Addressing
+addressing_of p = record { protocol = p.protocol; own = owned_characters p.own; peer = owned_characters p.peer }
+
+abbrev pub role_of : Side → Role
+role_of (side.Interlocking version) = Interlocking version
+role_of (side.Field versions checksum) = Field versions.items checksum.items
+
+-- a field element's versions are versions, and its checksum is short enough
+abbrev pub IsSide : Side → Type 0
+IsSide (side.Interlocking version) = ⊤
+IsSide (side.Field versions checksum) = AreVersions versions.items × (length checksum.items ≤ CHECKSUM_MAX)

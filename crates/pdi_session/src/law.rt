@@ -1,0 +1,46 @@
+//! What the tables promise of any session, and over every list of its events.
+
+ghost use Rattle.pdi_session.specs.JoinedSessions.{PhaseLaw};
+ghost use Rattle.pdi_session.specs.Laws.{FieldLaw, GoesLaw, InterlockingLaw, MessageLaw, OwnLaw, PutLaw, QueueLaw, RoomLaw, StandsLaw, TakenLaw, TakesLaw};
+
+/// The laws of the session's step, which do nothing when they are called.
+pub fn session_law()
+    // What a call leaves stands for the history made longer by its event.
+    ensures stands { StandsLaw }
+
+    // A telegram that is taken has no kind of the establishment.
+    ensures takes { TakesLaw }
+
+    // One for which the session goes on without taking it has such a kind, and so has what it answers.
+    ensures goes { GoesLaw }
+
+    // What a session adds by itself is of the establishment.
+    ensures own { OwnLaw }
+
+    // An accepted put adds one telegram, with what was put, and it is not of the establishment.
+    ensures puts { PutLaw }
+
+    // Each message that is added has 43 to 400 octets, and is read as its telegram.
+    ensures messages { MessageLaw }
+
+    // Before Initialising two messages wait at most, so there is room for one more.
+    ensures room { RoomLaw }
+
+    // What is taken is a beginning of the commands or status judged, and all of it while the session is
+    // not over.
+    ensures taken { TakenLaw }
+
+    // What was put in is the commands or status of the queue.
+    ensures queue { QueueLaw }
+
+    // The queue of an interlocking: nothing, 0024, or 0024 and 0021 followed by commands.
+    ensures interlocking { InterlockingLaw }
+
+    // The queue of a field element: nothing, 0025, or 0025 and 0022 followed by status, with at most one
+    // 0023 among them.
+    ensures field { FieldLaw }
+
+    // Of two sessions, each handed the other's queue in turn, a telegram ends one in its establishment
+    // alone, and then its peer has put nothing in.
+    ensures phases { PhaseLaw }
+{}

@@ -1,0 +1,93 @@
+//! Putting a telegram behind the messages that wait.
+
+ghost use Rattle.std.specs.Prelude.{◌≡◌, ◌<◌, ◌≤◌, [], ◌∷◌, ◌++◌, length};
+ghost use Rattle.sci_telegram.specs.TeleText.{tele_text};
+ghost use Rattle.packing.specs.declared.TheConstants.{WAITING_MAX};
+ghost use Rattle.pdi_session.specs.Settings.{addressing_of};
+ghost use Rattle.pdi_session.specs.Telegrams.{kind_of, payload_of, telegram};
+
+use super::{
+    CHECKSUM_MAX, DIFFERENT, EQUAL, INITIALISATION_COMPLETED, INITIALISATION_REQUEST, Notice,
+    Parties, START_INITIALISATION, VERSION_ANSWER, VERSION_CHECK,
+};
+use arrayvec::ArrayVec;
+use octets::limits::{MESSAGE_MAX, PAYLOAD_MAX};
+use packing::Waiting;
+use sci_telegram::{Telegram, encode};
+use std::alloc::Allocator;
+
+/// The longest answer to a version check: result, version, length, checksum.
+const ANSWER_MAX: usize = 3 + CHECKSUM_MAX;
+
+/// Puts a telegram of this kind and payload behind the messages that wait.
+pub(crate) fn add_telegram<A: Allocator>(
+    parties: &Parties,
+    kind: u16,
+    payload: &[u8],
+    waiting: &mut Waiting<A>,
+)
+    requires fits { length payload.now ≤ PAYLOAD_MAX }
+    requires room { length waiting.old < WAITING_MAX }
+    ensures { waiting.new ≡ waiting.old ++ tele_text (telegram (addressing_of parties.now) kind payload.now) ∷ [] }
+{
+    let telegram = Telegram {
+        protocol: parties.protocol,
+        kind,
+        sender: parties.own.name(),
+        receiver: parties.peer.name(),
+        payload,
+    };
+    let mut buffer = [0; MESSAGE_MAX];
+    let size = encode(&telegram, &mut buffer);
+    waiting.add(&buffer[..size]).unwrap();
+}
+
+/// Puts a telegram of the establishment behind the messages that wait.
+pub(crate) fn add_notice<A: Allocator>(
+    parties: &Parties,
+    checksum: &[u8],
+    notice: Notice,
+    waiting: &mut Waiting<A>,
+)
+    requires fits { length checksum.now ≤ CHECKSUM_MAX }
+    requires room { length waiting.old < WAITING_MAX }
+    ensures { waiting.new ≡ waiting.old
+        ++ tele_text (telegram (addressing_of parties.now) (kind_of notice) (payload_of checksum.now notice)) ∷ [] }
+{
+    match notice {
+        Notice::VersionCheck(version) => {
+            add_telegram(parties, VERSION_CHECK, &[version], waiting);
+        }
+        Notice::VersionEqual(version) => add_equal(parties, checksum, version, waiting),
+        Notice::VersionDiffers(version) => {
+            add_telegram(parties, VERSION_ANSWER, &[DIFFERENT, version, 0], waiting);
+        }
+        Notice::InitialisationRequest => {
+            add_telegram(parties, INITIALISATION_REQUEST, &[], waiting);
+        }
+        Notice::StartInitialisation => add_telegram(parties, START_INITIALISATION, &[], waiting),
+        Notice::InitialisationCompleted => {
+            add_telegram(parties, INITIALISATION_COMPLETED, &[], waiting);
+        }
+    }
+}
+
+/// Puts the answer of equal versions behind the messages that wait.
+fn add_equal<A: Allocator>(
+    parties: &Parties,
+    checksum: &[u8],
+    version: u8,
+    waiting: &mut Waiting<A>,
+)
+    requires fits { length checksum.now ≤ CHECKSUM_MAX }
+    requires room { length waiting.old < WAITING_MAX }
+    ensures { waiting.new ≡ waiting.old
+        ++ tele_text (telegram (addressing_of parties.now) (kind_of (Notice.VersionEqual version)) (payload_of checksum.now (Notice.VersionEqual version))) ∷ [] }
+{
+    let mut payload = ArrayVec::<u8, ANSWER_MAX>::new();
+    payload
+        .try_extend_from_slice(&[EQUAL, version, checksum.len() as u8])
+        .unwrap();
+    payload.try_extend_from_slice(checksum).unwrap();
+    add_telegram(parties, VERSION_ANSWER, &payload, waiting);
+}

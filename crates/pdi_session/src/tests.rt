@@ -1,0 +1,630 @@
+use crate::{
+    Detail, FieldConfig, InitFault, InterlockingConfig, Parties, Phase, PutFault, Session,
+    SessionEnd, Taker, are_versions,
+};
+use arrayvec::ArrayVec;
+use packing::{WAITING_MAX, Waiting, pack, unpack};
+use sci_telegram::{Name, NameFault, OwnedName, Telegram, decode};
+use std::process::Abort;
+use std::test::Fail;
+
+// What an application took: the kinds, and the octets of the payloads one after the other.
+#[derive(Drop)]
+struct Log {
+    kinds: ArrayVec<u16, 100>,
+    octets: ArrayVec<u8, 1000>,
+}
+
+impl Log {
+    fn new() -> Self {
+        Log {
+            kinds: ArrayVec::new(),
+            octets: ArrayVec::new(),
+        }
+    }
+}
+
+impl Taker for Log {
+    ghost use Rattle.std.specs.Prelude.{⊤};
+
+    ghost takes = { λ _ _ _. ⊤ };
+
+    fn take(&mut self, kind: u16, payload: &[u8]) {
+        let _kept = self.kinds.try_push(kind);
+        let _kept = self.octets.try_extend_from_slice(payload);
+    }
+}
+
+// One end in memory: its session, the messages that wait, and what its application took.
+#[derive(Drop)]
+struct Seat {
+    session: Session,
+    waiting: Waiting,
+    log: Log,
+}
+
+fn parties(own: &str, peer: &str) -> Result<Parties, NameFault> {
+    Ok(Parties {
+        protocol: 1,
+        own: OwnedName::new(Name::new(own)?),
+        peer: OwnedName::new(Name::new(peer)?),
+    })
+}
+
+fn interlocking(rt: &HostRuntime, version: u8) -> Result<Seat, Fail> {
+    let parties = parties("IL1", "FE1")?;
+    Ok(Seat {
+        session: Session::interlocking(InterlockingConfig { parties, version }),
+        waiting: Waiting::new(rt.alloc())?,
+        log: Log::new(),
+    })
+}
+
+fn field(rt: &HostRuntime, list: &[u8], sum: &[u8]) -> Result<Seat, Fail> {
+    let mut versions = ArrayVec::new();
+    versions
+        .try_extend_from_slice(list)
+        .map_err(|_| Fail::from("versions"))?;
+    let mut checksum = ArrayVec::new();
+    checksum
+        .try_extend_from_slice(sum)
+        .map_err(|_| Fail::from("checksum"))?;
+    if !are_versions(&versions) {
+        return Err(Fail::from("a list of versions"));
+    }
+    let parties = parties("FE1", "IL1")?;
+    Ok(Seat {
+        session: Session::field(FieldConfig {
+            parties,
+            versions,
+            checksum,
+        }),
+        waiting: Waiting::new(rt.alloc())?,
+        log: Log::new(),
+    })
+}
+
+// The connection is up at this end.
+fn up(seat: &mut Seat) -> Option<()> {
+    if seat.waiting.len() >= WAITING_MAX {
+        return None;
+    }
+    seat.session.up(&mut seat.waiting);
+    Some(())
+}
+
+// Hands a telegram over. None where there is no room for an answer.
+fn hear(seat: &mut Seat, telegram: &Telegram<'_>) -> Option<Result<(), SessionEnd>> {
+    if seat.waiting.len() >= WAITING_MAX {
+        return None;
+    }
+    let Seat {
+        session,
+        waiting,
+        log,
+    } = seat;
+    Some(session.arrive(telegram, waiting, log))
+}
+
+// Hands a telegram of the peer over. The first name is the peer's.
+fn tell(
+    seat: &mut Seat,
+    names: [&str; 2],
+    kind: u16,
+    payload: &[u8],
+) -> Result<Option<Detail>, Fail> {
+    let telegram = Telegram {
+        protocol: 1,
+        kind,
+        sender: Name::new(names[0])?,
+        receiver: Name::new(names[1])?,
+        payload,
+    };
+    let answer = hear(seat, &telegram).ok_or("room")?;
+    Ok(answer.err().map(|end| end.detail))
+}
+
+// Hands the first message that waits at one end to the other.
+fn deliver(from: &mut Waiting, to: &mut Seat) -> Result<Option<Detail>, Fail> {
+    let unit = pack(from, 1).ok_or("a message")?;
+    let messages = unpack(&unit)?;
+    let message = messages.get(0).ok_or("a message")?;
+    let telegram = decode(message)?;
+    let answer = hear(to, &telegram).ok_or("room")?;
+    Ok(answer.err().map(|end| end.detail))
+}
+
+// An interlocking of version 3 in a phase.
+fn interlocking_in(rt: &HostRuntime, phase: Phase) -> Result<Seat, Fail> {
+    let mut il = interlocking(rt, 3)?;
+    if phase == Phase::Idle {
+        return Ok(il);
+    }
+    up(&mut il).ok_or("up")?;
+    let way: [(u16, &[u8]); 3] = [(0x25, &[2, 3, 0]), (0x22, &[]), (0x23, &[])];
+    for (kind, payload) in way {
+        if il.session.phase() == phase {
+            return Ok(il);
+        }
+        tell(&mut il, ["FE1", "IL1"], kind, payload)?;
+    }
+    if phase == Phase::Ended {
+        il.session.end();
+    }
+    Ok(il)
+}
+
+// A field element of the versions 4 and 3 in a phase.
+fn field_in(rt: &HostRuntime, phase: Phase) -> Result<Seat, Fail> {
+    let mut fe = field(rt, &[4, 3], &[])?;
+    if phase == Phase::Idle {
+        return Ok(fe);
+    }
+    up(&mut fe).ok_or("up")?;
+    if phase == Phase::Refused {
+        tell(&mut fe, ["IL1", "FE1"], 0x24, &[5])?;
+        return Ok(fe);
+    }
+    let way: [(u16, &[u8]); 2] = [(0x24, &[3]), (0x21, &[])];
+    for (kind, payload) in way {
+        if fe.session.phase() == phase {
+            return Ok(fe);
+        }
+        tell(&mut fe, ["IL1", "FE1"], kind, payload)?;
+    }
+    if phase == Phase::Established {
+        let done = fe.session.init_done(&mut fe.waiting);
+        done.map_err(|_| Fail::from("the end of the initialisation"))?;
+    }
+    if phase == Phase::Ended {
+        fe.session.end();
+    }
+    Ok(fe)
+}
+
+// Telegrams of every form, and for each form some that are just not of it.
+const TELEGRAMS: [(u16, &[u8]); 22] = [
+    (0x24, &[3]),
+    (0x24, &[5]),
+    (0x24, &[]),
+    (0x24, &[3, 0]),
+    (0x25, &[2, 3, 0]),
+    (0x25, &[2, 3, 1, 9]),
+    (
+        0x25,
+        &[
+            2, 3, 16, 1, 2, 3, 4, 5, 6, 7, 8, 9, 10, 11, 12, 13, 14, 15, 16,
+        ],
+    ),
+    (0x25, &[2, 4, 0]),
+    (0x25, &[1, 3, 0]),
+    (0x25, &[3, 3, 0]),
+    (0x25, &[2, 3]),
+    (0x25, &[2, 3, 1]),
+    (0x25, &[2, 3, 0, 9]),
+    (
+        0x25,
+        &[
+            2, 3, 17, 1, 2, 3, 4, 5, 6, 7, 8, 9, 10, 11, 12, 13, 14, 15, 16, 17,
+        ],
+    ),
+    (0x21, &[]),
+    (0x21, &[0]),
+    (0x22, &[]),
+    (0x22, &[0]),
+    (0x23, &[]),
+    (0x23, &[0]),
+    (0x0100, &[0x0a]),
+    (0x2400, &[]),
+];
+
+// What a row says: phase, places in TELEGRAMS from and to, answer, next phase, how many messages are
+// added and how many telegrams are taken.
+type Row = (Phase, usize, usize, Option<Detail>, Phase, usize, usize);
+
+// A telegram without a row.
+fn row_of(rows: &[Row], phase: Phase, place: usize) -> Row {
+    for row in rows {
+        if row.0 == phase && row.1 <= place && place <= row.2 {
+            return *row;
+        }
+    }
+    (
+        phase,
+        place,
+        place,
+        Some(Detail::OutOfOrder),
+        Phase::Ended,
+        0,
+        0,
+    )
+}
+
+#[test]
+fn makes_the_table_of_the_interlocking(rt: HostRuntime) -> Result<(), Fail> {
+    let rows: [Row; 6] = [
+        (Phase::Checking, 4, 6, None, Phase::Requesting, 1, 0),
+        (
+            Phase::Checking,
+            8,
+            8,
+            Some(Detail::VersionDiffers),
+            Phase::Ended,
+            0,
+            0,
+        ),
+        (Phase::Requesting, 16, 16, None, Phase::Initialising, 0, 0),
+        (Phase::Initialising, 20, 21, None, Phase::Initialising, 0, 1),
+        (Phase::Initialising, 18, 18, None, Phase::Established, 0, 0),
+        (Phase::Established, 20, 21, None, Phase::Established, 0, 1),
+    ];
+    let phases = [
+        Phase::Idle,
+        Phase::Checking,
+        Phase::Requesting,
+        Phase::Initialising,
+        Phase::Established,
+        Phase::Ended,
+    ];
+    for phase in phases {
+        for (place, (kind, payload)) in TELEGRAMS.iter().enumerate() {
+            let mut il = interlocking_in(&rt, phase)?;
+            assert!(rt; il.session.phase() == phase);
+            let before = il.waiting.len();
+            let answer = tell(&mut il, ["FE1", "IL1"], *kind, payload)?;
+            let row = row_of(&rows, phase, place);
+            assert!(rt; answer == row.3, "{place}");
+            assert!(rt; il.session.phase() == row.4, "{place}");
+            assert!(rt; il.waiting.len().wrapping_sub(before) == row.5, "{place}");
+            assert!(rt; il.log.kinds.len() == row.6, "{place}");
+        }
+    }
+    Ok(())
+}
+
+#[test]
+fn makes_the_table_of_the_field_element(rt: HostRuntime) -> Result<(), Fail> {
+    let rows: [Row; 4] = [
+        (Phase::AwaitCheck, 0, 0, None, Phase::AwaitRequest, 1, 0),
+        (Phase::AwaitCheck, 1, 1, None, Phase::Refused, 1, 0),
+        (Phase::AwaitRequest, 14, 14, None, Phase::Initialising, 1, 0),
+        (Phase::Established, 20, 21, None, Phase::Established, 0, 1),
+    ];
+    let phases = [
+        Phase::Idle,
+        Phase::AwaitCheck,
+        Phase::AwaitRequest,
+        Phase::Refused,
+        Phase::Initialising,
+        Phase::Established,
+        Phase::Ended,
+    ];
+    for phase in phases {
+        for (place, (kind, payload)) in TELEGRAMS.iter().enumerate() {
+            let mut fe = field_in(&rt, phase)?;
+            assert!(rt; fe.session.phase() == phase);
+            let before = fe.waiting.len();
+            let answer = tell(&mut fe, ["IL1", "FE1"], *kind, payload)?;
+            let row = row_of(&rows, phase, place);
+            assert!(rt; answer == row.3, "{place}");
+            assert!(rt; fe.session.phase() == row.4, "{place}");
+            assert!(rt; fe.waiting.len().wrapping_sub(before) == row.5, "{place}");
+            assert!(rt; fe.log.kinds.len() == row.6, "{place}");
+        }
+    }
+    Ok(())
+}
+
+// `up` begins an idle session and leaves any other as it is.
+#[test]
+fn begins_once(rt: HostRuntime) -> Result<(), Fail> {
+    for phase in [Phase::Checking, Phase::Established, Phase::Ended] {
+        let mut il = interlocking_in(&rt, phase)?;
+        let before = il.waiting.len();
+        up(&mut il).ok_or("up")?;
+        assert!(rt; il.session.phase() == phase && il.waiting.len() == before);
+    }
+    for phase in [Phase::AwaitCheck, Phase::Refused, Phase::Initialising] {
+        let mut fe = field_in(&rt, phase)?;
+        let before = fe.waiting.len();
+        up(&mut fe).ok_or("up")?;
+        assert!(rt; fe.session.phase() == phase && fe.waiting.len() == before);
+    }
+    Ok(())
+}
+
+// Protocol type and both names are tested before the phase and the payload.
+#[test]
+fn tests_the_parties_first(rt: HostRuntime) -> Result<(), Fail> {
+    let phases = [
+        Phase::Idle,
+        Phase::Checking,
+        Phase::Requesting,
+        Phase::Initialising,
+        Phase::Established,
+        Phase::Ended,
+    ];
+    let names = [
+        ["FE2", "IL1"],
+        ["FE1", "IL2"],
+        ["IL1", "FE1"],
+        ["FE", "IL1"],
+        ["FE1", "IL11"],
+    ];
+    for phase in phases {
+        for (kind, payload) in TELEGRAMS {
+            for pair in names {
+                let mut il = interlocking_in(&rt, phase)?;
+                let answer = tell(&mut il, pair, kind, payload)?;
+                assert!(rt; answer == Some(Detail::NotOfThisPair));
+                assert!(rt; il.session.phase() == Phase::Ended);
+                assert!(rt; il.log.kinds.is_empty());
+            }
+            let mut il = interlocking_in(&rt, phase)?;
+            let telegram = Telegram {
+                protocol: 2,
+                kind,
+                sender: Name::new("FE1")?,
+                receiver: Name::new("IL1")?,
+                payload,
+            };
+            let end = SessionEnd {
+                detail: Detail::NotOfThisPair,
+            };
+            assert!(rt; hear(&mut il, &telegram) == Some(Err(end)));
+        }
+    }
+    Ok(())
+}
+
+// The same at a field element, of a telegram that has a row there or has none.
+#[test]
+fn tests_the_parties_of_a_command_first(rt: HostRuntime) -> Result<(), Fail> {
+    let phases = [
+        Phase::Idle,
+        Phase::AwaitCheck,
+        Phase::AwaitRequest,
+        Phase::Refused,
+        Phase::Initialising,
+        Phase::Established,
+        Phase::Ended,
+    ];
+    for phase in phases {
+        for names in [["IL2", "FE1"], ["IL1", "FE2"], ["FE1", "IL1"]] {
+            for (kind, payload) in [(0x24, [3].as_slice()), (0x21, &[]), (0x0100, &[])] {
+                let mut fe = field_in(&rt, phase)?;
+                let answer = tell(&mut fe, names, kind, payload)?;
+                assert!(rt; answer == Some(Detail::NotOfThisPair));
+                assert!(rt; fe.session.phase() == Phase::Ended && fe.log.kinds.is_empty());
+            }
+        }
+    }
+    Ok(())
+}
+
+#[test]
+fn numbers_the_details(rt: HostRuntime) {
+    assert_eq!(rt; Detail::VersionDiffers.number(), 1);
+    assert_eq!(rt; Detail::OutOfOrder.number(), 2);
+    assert_eq!(rt; Detail::NotOfThisPair.number(), 3);
+}
+
+// The opening of two sessions, with the phases of each step and every octet that is sent. The field
+// element takes version 3 although its list begins with 4.
+#[test]
+fn opens_two_sessions(rt: HostRuntime) -> Result<(), Fail> {
+    let mut il = interlocking(&rt, 3)?;
+    let mut fe = field(&rt, &[4, 3], &[0xc0, 0xde])?;
+    up(&mut il).ok_or("up")?;
+    assert_eq!(rt; il.session.phase(), Phase::Checking);
+    up(&mut fe).ok_or("up")?;
+    assert_eq!(rt; fe.session.phase(), Phase::AwaitCheck);
+    let check = b"\x01\x24\x00IL1_________________FE1_________________\x03";
+    let answer = b"\x01\x25\x00FE1_________________IL1_________________\x02\x03\x02\xc0\xde";
+    let request = b"\x01\x21\x00IL1_________________FE1_________________";
+    let start = b"\x01\x22\x00FE1_________________IL1_________________";
+    let done = b"\x01\x23\x00FE1_________________IL1_________________";
+    carry(&rt, &mut il, &mut fe, check)?;
+    assert_eq!(rt; fe.session.phase(), Phase::AwaitRequest);
+    carry(&rt, &mut fe, &mut il, answer)?;
+    assert_eq!(rt; il.session.phase(), Phase::Requesting);
+    carry(&rt, &mut il, &mut fe, request)?;
+    assert_eq!(rt; fe.session.phase(), Phase::Initialising);
+    carry(&rt, &mut fe, &mut il, start)?;
+    assert_eq!(rt; il.session.phase(), Phase::Initialising);
+    // Initial status waits in front of the end of the initialisation, and is taken before it.
+    assert!(rt; fe.session.put(0x0201, &[1, 2], &mut fe.waiting).is_ok());
+    assert!(rt; fe.session.init_done(&mut fe.waiting).is_ok());
+    assert_eq!(rt; fe.session.phase(), Phase::Established);
+    assert!(rt; fe.session.put(0x0202, &[], &mut fe.waiting).is_ok());
+    assert!(rt; il.session.put(0x0100, &[0x0a], &mut il.waiting) == Err(PutFault::NotEstablished));
+    carry(
+        &rt,
+        &mut fe,
+        &mut il,
+        b"\x01\x01\x02FE1_________________IL1_________________\x01\x02",
+    )?;
+    assert_eq!(rt; il.session.phase(), Phase::Initialising);
+    carry(&rt, &mut fe, &mut il, done)?;
+    assert_eq!(rt; il.session.phase(), Phase::Established);
+    carry(
+        &rt,
+        &mut fe,
+        &mut il,
+        b"\x01\x02\x02FE1_________________IL1_________________",
+    )?;
+    assert!(rt; il.session.put(0x0100, &[0x0a], &mut il.waiting).is_ok());
+    carry(
+        &rt,
+        &mut il,
+        &mut fe,
+        b"\x01\x00\x01IL1_________________FE1_________________\x0a",
+    )?;
+    assert_eq!(rt; il.log.kinds.as_slice(), [0x0201, 0x0202].as_slice());
+    assert_eq!(rt; il.log.octets.as_slice(), [1, 2].as_slice());
+    assert_eq!(rt; fe.log.kinds.as_slice(), [0x0100].as_slice());
+    assert_eq!(rt; fe.log.octets.as_slice(), [0x0a].as_slice());
+    assert!(rt; il.waiting.is_empty() && fe.waiting.is_empty());
+    Ok(())
+}
+
+fn are_equal(octets: &[u8], others: &[u8]) -> bool {
+    octets == others
+}
+
+// Hands the first message over, which has these octets and ends no session.
+fn carry(rt: &impl Abort, from: &mut Seat, to: &mut Seat, octets: &[u8]) -> Result<(), Fail> {
+    let unit = pack(&mut from.waiting, 1).ok_or("a message")?;
+    let messages = unpack(&unit)?;
+    let message = messages.get(0).ok_or("a message")?;
+    assert!(rt; are_equal(message, octets));
+    let answer = hear(to, &decode(message)?).ok_or("room")?;
+    assert!(rt; answer.is_ok());
+    Ok(())
+}
+
+// A field element of other versions names its first one and refuses; the interlocking then ends.
+#[test]
+fn refuses_another_version(rt: HostRuntime) -> Result<(), Fail> {
+    let lists: [&[u8]; 2] = [&[4], &[4, 5]];
+    for list in lists {
+        let mut il = interlocking(&rt, 3)?;
+        let mut fe = field(&rt, list, &[0xc0, 0xde])?;
+        up(&mut il).ok_or("up")?;
+        up(&mut fe).ok_or("up")?;
+        assert_eq!(rt; deliver(&mut il.waiting, &mut fe)?, None);
+        assert_eq!(rt; fe.session.phase(), Phase::Refused);
+        let unit = pack(&mut fe.waiting, 1).ok_or("an answer")?;
+        let messages = unpack(&unit)?;
+        let telegram = decode(messages.get(0).ok_or("an answer")?)?;
+        assert_eq!(rt; telegram.kind, 0x25);
+        assert_eq!(rt; telegram.payload, [1, 4, 0].as_slice());
+        let end = SessionEnd {
+            detail: Detail::VersionDiffers,
+        };
+        assert!(rt; hear(&mut il, &telegram) == Some(Err(end)));
+        assert_eq!(rt; il.session.phase(), Phase::Ended);
+        let refused = il.session.put(0x0100, &[0x0a], &mut il.waiting);
+        assert!(rt; refused == Err(PutFault::NotEstablished));
+        fe.session.end();
+        assert_eq!(rt; fe.session.phase(), Phase::Ended);
+    }
+    Ok(())
+}
+
+// The longest payload is put in, one more is refused, and so is a kind of the establishment; then
+// the queue is filled.
+#[test]
+fn refuses_puts(rt: HostRuntime) -> Result<(), Fail> {
+    let mut il = interlocking_in(&rt, Phase::Established)?;
+    let _unit = pack(&mut il.waiting, 3);
+    let long = [7; 358];
+    assert_eq!(rt;
+        il.session.put(0x0100, &long[..357], &mut il.waiting),
+        Ok(())
+    );
+    assert_eq!(rt;
+        il.session.put(0x0100, &long, &mut il.waiting),
+        Err(PutFault::TooLong)
+    );
+    for kind in [0x21, 0x22, 0x23, 0x24, 0x25] {
+        let refused = il.session.put(kind, &long, &mut il.waiting);
+        assert_eq!(rt; refused, Err(PutFault::ReservedType));
+    }
+    assert_eq!(rt; il.waiting.len(), 1);
+    for _ in 0..63 {
+        assert_eq!(rt; il.session.put(0x0100, &[], &mut il.waiting), Ok(()));
+    }
+    assert_eq!(rt;
+        il.session.put(0x0100, &[], &mut il.waiting),
+        Err(PutFault::Full)
+    );
+    assert_eq!(rt;
+        il.session.put(0x23, &long, &mut il.waiting),
+        Err(PutFault::Full)
+    );
+    assert_eq!(rt; il.waiting.len(), WAITING_MAX);
+    il.session.end();
+    let refused = il.session.put(0x23, &long, &mut il.waiting);
+    assert_eq!(rt; refused, Err(PutFault::NotEstablished));
+    assert_eq!(rt; il.waiting.len(), WAITING_MAX);
+    Ok(())
+}
+
+// In which phases a put and the end of the initialisation are accepted.
+#[test]
+fn accepts_by_phase(rt: HostRuntime) -> Result<(), Fail> {
+    let phases = [
+        Phase::Idle,
+        Phase::AwaitCheck,
+        Phase::AwaitRequest,
+        Phase::Refused,
+        Phase::Initialising,
+        Phase::Established,
+        Phase::Ended,
+    ];
+    for phase in phases {
+        let mut fe = field_in(&rt, phase)?;
+        let puts = phase == Phase::Initialising || phase == Phase::Established;
+        assert!(rt; fe.session.put(0x0201, &[], &mut fe.waiting).is_ok() == puts);
+        let before = fe.waiting.len();
+        let done = fe.session.init_done(&mut fe.waiting);
+        if phase == Phase::Initialising {
+            assert!(rt; done.is_ok() && fe.session.phase() == Phase::Established);
+            assert!(rt; fe.waiting.len().wrapping_sub(before) == 1);
+        } else {
+            assert!(rt; done == Err(InitFault::NotInitialising) && fe.session.phase() == phase);
+            assert!(rt; fe.waiting.len() == before);
+        }
+    }
+    for phase in [
+        Phase::Idle,
+        Phase::Checking,
+        Phase::Requesting,
+        Phase::Initialising,
+    ] {
+        let mut il = interlocking_in(&rt, phase)?;
+        let refused = il.session.put(0x0100, &[], &mut il.waiting);
+        assert!(rt; refused == Err(PutFault::NotEstablished));
+        let done = il.session.init_done(&mut il.waiting);
+        assert!(rt; done == Err(InitFault::NotInitialising));
+    }
+    Ok(())
+}
+
+#[test]
+fn refuses_the_end_of_initialisation_while_full(rt: HostRuntime) -> Result<(), Fail> {
+    let mut fe = field_in(&rt, Phase::Initialising)?;
+    for _ in 0..64 {
+        let _put = fe.session.put(0x0201, &[], &mut fe.waiting);
+    }
+    assert_eq!(rt; fe.waiting.len(), WAITING_MAX);
+    assert_eq!(rt; fe.session.init_done(&mut fe.waiting), Err(InitFault::Full));
+    assert_eq!(rt; fe.session.phase(), Phase::Initialising);
+    let _unit = pack(&mut fe.waiting, 1);
+    assert_eq!(rt; fe.session.init_done(&mut fe.waiting), Ok(()));
+    assert_eq!(rt; fe.session.phase(), Phase::Established);
+    assert_eq!(rt;
+        fe.session.init_done(&mut fe.waiting),
+        Err(InitFault::NotInitialising)
+    );
+    Ok(())
+}
+
+#[test]
+fn tells_lists_of_versions(rt: HostRuntime) {
+    let cases: [(&[u8], bool); 9] = [
+        (&[], false),
+        (&[3], true),
+        (&[4, 3], true),
+        (&[0, 255, 1, 254], true),
+        (&[1, 2, 3, 4, 5], false),
+        (&[3, 3], false),
+        (&[1, 2, 1], false),
+        (&[1, 2, 3, 2], false),
+        (&[1, 2, 3, 3], false),
+    ];
+    for (versions, want) in cases {
+        assert_eq!(rt; are_versions(versions), want);
+    }
+}
