@@ -10,7 +10,7 @@ use Rattle.sci_telegram.specs.Names.{filled}
 use Rattle.sci_telegram.specs.Tele.{Tele}
 use Rattle.sci_telegram.specs.TeleText.{TeleText, tele_text}
 use Rattle.sci_telegram.proofs.TeleLemmas.{length-filled, tele_read}
-use Rattle.packing.specs.declared.TheConstants.{WAITING_MAX}
+use Rattle.octets.specs.declared.limits.TheConstants.{WAITING_MAX}
 use Rattle.pdi_session.specs.declared.TheConstants.{CHECKSUM_MAX}
 use Rattle.pdi_session.specs.declared.Notice.{Notice}
 use Rattle.pdi_session.specs.declared.Notice.TheVariants as notice

@@ -5,7 +5,7 @@ use Rattle.std.specs.List.{AllByRecursion}
 use Rattle.std.proofs.lemmas.Bool.{eqb-true, false≢true, true≢false}
 use Rattle.std.proofs.lemmas.List.{append-nil, length-append}
 use Rattle.octets.specs.declared.limits.TheConstants.{PAYLOAD_MAX}
-use Rattle.packing.specs.declared.TheConstants.{WAITING_MAX}
+use Rattle.octets.specs.declared.limits.TheConstants.{WAITING_MAX}
 use Rattle.sci_telegram.specs.Tele.{Tele}
 use Rattle.pdi_session.specs.declared.TheConstants.{INITIALISATION_COMPLETED, VERSION_ANSWER}
 use Rattle.pdi_session.specs.declared.Phase.{Phase}

@@ -2,7 +2,7 @@
 use Rattle.std.proofs.Common.{◌≡◌, ℕ, ◌+◌, ◌≤◌, ◌==◌, Bool, true, false, cond, List, [], ◌∷◌, ◌++◌, length, refl, sym, ap, ◌∙◌, arith, subst}
 use Rattle.std.proofs.lemmas.List.{length-append}
 use Rattle.std.specs.List.{list_any}
-use Rattle.packing.specs.declared.TheConstants.{WAITING_MAX}
+use Rattle.octets.specs.declared.limits.TheConstants.{WAITING_MAX}
 use Rattle.sci_telegram.specs.Tele.{Tele}
 use Rattle.pdi_session.specs.declared.Phase.{Phase}
 use Rattle.pdi_session.specs.declared.Phase.TheVariants.{Idle, Checking, Requesting, AwaitCheck, AwaitRequest, Refused, Initialising, Established, Ended}

@@ -3,7 +3,7 @@ use Rattle.std.specs.Prelude.{◌≡◌, ◌≢◌, ◌==◌, ◌⊎◌, ◌<◌
 use Rattle.std.specs.List.{AllByRecursion}
 use Rattle.octets.specs.declared.limits.TheConstants.{PAYLOAD_MAX}
 use Rattle.packing.specs.UnitText.{IsMessage}
-use Rattle.packing.specs.declared.TheConstants.{WAITING_MAX}
+use Rattle.octets.specs.declared.limits.TheConstants.{WAITING_MAX}
 use Rattle.sci_telegram.specs.Places.{tele_seen}
 use Rattle.sci_telegram.specs.Tele.{Tele}
 use Rattle.sci_telegram.specs.TeleText.{tele_text}

@@ -2,7 +2,7 @@
 
 ghost use Rattle.std.specs.Prelude.{◌≡◌, ◌<◌, ◌≤◌, [], ◌∷◌, ◌++◌, length};
 ghost use Rattle.sci_telegram.specs.TeleText.{tele_text};
-ghost use Rattle.packing.specs.declared.TheConstants.{WAITING_MAX};
+ghost use Rattle.octets.specs.declared.limits.TheConstants.{WAITING_MAX};
 ghost use Rattle.pdi_session.specs.Settings.{addressing_of};
 ghost use Rattle.pdi_session.specs.Telegrams.{kind_of, payload_of, telegram};
 

@@ -4,7 +4,7 @@ ghost use Rattle.std.specs.Prelude.{◌≡◌, ◌≢◌, ◌<◌, ℕ, List, []
 ghost use Rattle.std.specs.List.{FoldsTo};
 ghost use Rattle.sci_telegram.specs.Tele.{tele_of};
 ghost use Rattle.sci_telegram.specs.TeleText.{tele_text};
-ghost use Rattle.packing.specs.declared.TheConstants.{WAITING_MAX};
+ghost use Rattle.octets.specs.declared.limits.TheConstants.{WAITING_MAX};
 ghost use Rattle.pdi_session.specs.Settings.{AreSettings, AreVersions, Interlocking, Field, addressing_of, are_different, are_versions};
 ghost use Rattle.pdi_session.specs.Tables.{may_put, is_initialising};
 ghost use Rattle.pdi_session.specs.Telegrams.{is_addressed};
