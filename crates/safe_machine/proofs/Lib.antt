@@ -35,3 +35,4 @@ pub mod OrderPairs
 pub mod OrderApart
 pub mod OrderLaw
 pub mod OrderRow
+pub mod Views

@@ -12,3 +12,4 @@ pub mod InOrder
 pub mod Ring
 pub mod Moves
 pub mod Octets
+pub mod View
