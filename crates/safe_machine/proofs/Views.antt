@@ -173,3 +173,12 @@ guard-is now m s h =
 
 pub heartbeat-is : (now : ℕ) (m : View) (s : State) → StandsFor m s → heartbeat now s ≡ (if beat_due now m then make Heartbeat [] now s else s)
 heartbeat-is now m s h = ap (λ v. if beat_due now v then make Heartbeat [] now s else s) (sym h)
+
+-- how far numbers lie ahead, by their low 32 bits
+pub ahead-bits : (from to : ℕ) → from < 4294967296 → (to + (4294967296 - from)) % 4294967296 ≡ ahead from to
+unfolding ahead
+ahead-bits from to h = omega arith
+
+pub ahead-low : (from to : ℕ) → ahead (from % 4294967296) to ≡ ahead from to
+unfolding ahead
+ahead-low from to = omega arith

@@ -13,3 +13,4 @@ pub mod Ring
 pub mod Moves
 pub mod Octets
 pub mod View
+pub mod Course

@@ -64,7 +64,7 @@ impl<A: Allocator> Model for Endpoint<A> {
 }
 
 /// The number with the low 32 bits of a count.
-fn low(count: u64) -> u32
+pub(crate) fn low(count: u64) -> u32
     ensures { result ≡ count % 2 ^ 32 }
 {
     (count % (1 << 32)) as u32

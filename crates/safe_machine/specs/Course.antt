@@ -1,0 +1,58 @@
+-- What the machine's own words for its decisions mean.
+use Rattle.std.specs.Prelude.{ℕ, ◌-◌, ◌+◌, nat_lt, nat_le, Bool, if◌then◌else◌}
+use Rattle.safe_machine.specs.declared.decisions.Course.{Course}
+use Rattle.safe_machine.specs.declared.decisions.Course.TheVariants.{Nothing as NothingToDo, Drops as DropsIt, Shuts as ShutsDown, Leaves as LeavesNow, Rejects as RejectsIt, Accepts as AcceptsIt, Connects as ConnectsNow, Takes as TakesIt, Asks as AsksAgain, Resumes as ResumesNow, AnswersNext as AnswersInTurn, AnswersEarly as AnswersAhead}
+use Rattle.safe_machine.specs.declared.decisions.Entry.{Entry}
+use Rattle.safe_machine.specs.declared.decisions.Entry.TheVariants.{Take as TakeIt, Ask as AskAgain, Answer as AnswerIt, Resume as ResumeNow, Refuse as RefuseIt, Skip as SkipIt}
+use Rattle.safe_machine.specs.Table.{Cell}
+use Rattle.safe_machine.specs.Table.Cell.{Take, Ask, Answer, Resume, Refuse, Skip}
+use Rattle.safe_machine.specs.Decision.{Decision}
+use Rattle.safe_machine.specs.Decision.Decision.{Nothing, Drops, Shuts, Leaves, Rejects, Accepts, Connects, Takes, Asks, Resumes, AnswersNext, AnswersEarly}
+use Rattle.safe_machine.specs.declared.DropCause.TheVariants.{Below}
+use Rattle.safe_machine.specs.declared.Reason.TheVariants.{RetransmissionImpossible}
+use Rattle.safe_machine.specs.declared.Detail.TheVariants.{Unspecified}
+use Rattle.safe_machine.specs.Numbers.{sn_of, ahead}
+use Rattle.safe_machine.specs.View.{View}
+
+abbrev pub meaning : Course → Decision
+meaning NothingToDo = Nothing
+meaning (DropsIt cause) = Drops cause
+meaning ShutsDown = Shuts
+meaning (LeavesNow reason detail) = Leaves reason detail
+meaning RejectsIt = Rejects
+meaning AcceptsIt = Accepts
+meaning ConnectsNow = Connects
+meaning (TakesIt connection) = Takes connection
+meaning AsksAgain = Asks
+meaning ResumesNow = Resumes
+meaning AnswersInTurn = AnswersNext
+meaning AnswersAhead = AnswersEarly
+
+abbrev pub says : Entry → Cell
+says (TakeIt connection) = Take connection
+says AskAgain = Ask
+says AnswerIt = Answer
+says ResumeNow = Resume
+says (RefuseIt reason) = Refuse reason
+says SkipIt = Skip
+
+-- how far numbers of a PDU lie ahead of what is kept
+abbrev pub sn_ahead : View → ℕ → ℕ
+sn_ahead v sn = ahead (v.last_sn + 1) sn
+
+abbrev pub cs_ahead : View → ℕ → ℕ
+cs_ahead v cs = ahead (sn_of v.first v.confirmed) cs
+
+abbrev pub cts_ahead : View → ℕ → ℕ
+cts_ahead v cts = ahead v.confirmed_at cts
+
+-- the confirmation tests on them
+abbrev pub cs_in : View → ℕ → Bool
+cs_in v cs = nat_lt (cs_ahead v cs) (v.made - v.confirmed)
+
+abbrev pub cts_in : View → ℕ → ℕ → Bool
+cts_in v cts now = nat_le (cts_ahead v cts) (now - v.confirmed_at)
+
+-- what becomes of a RetrReq that confirms nothing that awaits it
+abbrev pub for_unfit : View → ℕ → Decision
+for_unfit v cs = if nat_le 0x8000_0000 (cs_ahead v cs) then Drops Below else Leaves RetransmissionImpossible Unspecified
