@@ -1,5 +1,5 @@
 -- What the machine's own words for its decisions mean.
-use Rattle.std.specs.Prelude.{ℕ, ◌-◌, ◌+◌, nat_lt, nat_le, Bool, if◌then◌else◌}
+use Rattle.std.specs.Prelude.{ℕ, ◌-◌, ◌+◌, nat_lt, nat_le, Bool, if◌then◌else◌, List, [], ◌∷◌}
 use Rattle.safe_machine.specs.declared.decisions.Course.{Course}
 use Rattle.safe_machine.specs.declared.decisions.Course.TheVariants.{Nothing as NothingToDo, Drops as DropsIt, Shuts as ShutsDown, Leaves as LeavesNow, Rejects as RejectsIt, Accepts as AcceptsIt, Connects as ConnectsNow, Takes as TakesIt, Asks as AsksAgain, Resumes as ResumesNow, AnswersNext as AnswersInTurn, AnswersEarly as AnswersAhead}
 use Rattle.safe_machine.specs.declared.decisions.Entry.{Entry}
@@ -11,6 +11,8 @@ use Rattle.safe_machine.specs.Decision.Decision.{Nothing, Drops, Shuts, Leaves, 
 use Rattle.safe_machine.specs.declared.DropCause.TheVariants.{Below}
 use Rattle.safe_machine.specs.declared.Reason.TheVariants.{RetransmissionImpossible}
 use Rattle.safe_machine.specs.declared.Detail.TheVariants.{Unspecified}
+use Rattle.safe_pdu.specs.Pdu.{Pdu}
+use Rattle.safe_machine.specs.Made.{carries}
 use Rattle.safe_machine.specs.Numbers.{sn_of, ahead}
 use Rattle.safe_machine.specs.View.{View}
 
@@ -56,3 +58,12 @@ cts_in v cts now = nat_le (cts_ahead v cts) (now - v.confirmed_at)
 -- what becomes of a RetrReq that confirms nothing that awaits it
 abbrev pub for_unfit : View → ℕ → Decision
 for_unfit v cs = if nat_le 0x8000_0000 (cs_ahead v cs) then Drops Below else Leaves RetransmissionImpossible Unspecified
+
+-- the unit that a PDU carries
+abbrev pub carried : Pdu → List (List ℕ)
+carried p = if carries p.kind then p.body ∷ [] else []
+
+-- the units that a decision hands up
+abbrev pub handed_by : Decision → Pdu → List (List ℕ)
+handed_by (Takes connection) p = carried p
+handed_by _ p = []

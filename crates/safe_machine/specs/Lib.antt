@@ -14,3 +14,4 @@ pub mod Moves
 pub mod Octets
 pub mod View
 pub mod Course
+pub mod Reached

@@ -1,5 +1,5 @@
 -- What a machine keeps of a state: each list as its count, and the unconfirmed units.
-use Rattle.std.specs.Prelude.{◌≡◌, ℕ, ◌+◌, ◌&&◌, nat_lt, nat_le, if◌then◌else◌, Bool, true, false, Option, Some, None, List, [], ◌∷◌, ◌++◌, length, drop, map}
+use Rattle.std.specs.Prelude.{◌≡◌, ℕ, ◌+◌, ◌&&◌, nat_lt, nat_le, if◌then◌else◌, Bool, true, false, Option, Some, None, List, [], ◌∷◌, ◌++◌, length, drop, map, All, ◌<◌}
 use Rattle.std.specs.List.{FoldsTo}
 use Rattle.octets.specs.declared.limits.TheConstants.{WINDOW_MAX}
 use Rattle.retrans.specs.Units.{Numbered}
@@ -7,6 +7,7 @@ use Rattle.safe_pdu.specs.declared.Kind.{Kind}
 use Rattle.safe_pdu.specs.declared.Kind.TheVariants.{RetrResp, Data, RetrData}
 use Rattle.safe_pdu.specs.declared.CodeRule.{CodeRule}
 use Rattle.safe_pdu.specs.Pdu.{Pdu}
+use Rattle.safe_pdu.specs.Bodies.{IsBody}
 use Rattle.safe_pdu.specs.SafeText.{safe_text}
 use Rattle.safe_machine.specs.declared.ConnectionState.{ConnectionState}
 use Rattle.safe_machine.specs.declared.Role.{Role}
@@ -14,9 +15,9 @@ use Rattle.safe_machine.specs.declared.Role.TheVariants.{Client, Server}
 use Rattle.safe_machine.specs.declared.MachineConfig.{MachineConfig}
 use Rattle.safe_machine.specs.Made.{Made}
 use Rattle.safe_machine.specs.Settings.{Settings}
-use Rattle.safe_machine.specs.State.{State}
+use Rattle.safe_machine.specs.State.{State, reply, note_request, confirm_units}
 use Rattle.safe_machine.specs.Step.{last_time, is_live, is_connected}
-use Rattle.safe_machine.specs.Decision.{in_turn}
+use Rattle.safe_machine.specs.Decision.{in_turn, distance}
 use Rattle.safe_machine.specs.declared.Reason.{Reason}
 use Rattle.safe_machine.specs.declared.Reason.TheVariants.{Timeout, ProtocolError}
 use Rattle.safe_machine.specs.declared.Detail.{Detail}
@@ -128,3 +129,19 @@ beat_due now v = is_connected v.connection && nat_le (v.last_made + v.settings.t
 -- a unit may be sent
 abbrev pub has_room : View → Bool
 has_room v = in_turn v.connection && nat_lt (length v.ring) v.window
+
+-- the same of a change that makes nothing
+abbrev pub Turns : (State → State) → View → View → Type 0
+Turns step m n = (s : State) → StandsFor m s → StandsFor n (step s)
+
+-- each number below one
+abbrev pub AllBelow : ℕ → List Numbered → Type 0
+AllBelow number units = All (λ (u : Numbered). u.number < number) units
+
+-- each with the octets of a unit
+abbrev pub AllUnits : List Numbered → Type 0
+AllUnits units = All (λ (u : Numbered). IsBody RetrData u.octets) units
+
+-- what is done first with a RetrReq that is not the next PDU
+abbrev pub answered_ahead : Pdu → ℕ → State → State
+answered_ahead p now s = reply now (note_request (distance s p) (confirm_units p s))

@@ -79,7 +79,7 @@ impl<A: Allocator> Endpoint<A> {
     }
 
     /// Hands out a PDU, before it is counted.
-    fn hand_out<O: PduOut>(&self, kind: Kind, body: &[u8], now: u64, out: &mut O)
+    pub(crate) fn hand_out<O: PduOut>(&self, kind: Kind, body: &[u8], now: u64, out: &mut O)
         requires body { IsBody kind body.now }
         ensures { (ring : List Numbered) (s : State) → self.now ≡ beside ring s
             → O.makes out.old (safe_text s.settings.rule (next_made s kind body.now now).pdu) out.new }
@@ -100,7 +100,7 @@ impl<A: Allocator> Endpoint<A> {
     }
 
     /// Counts a PDU that was handed out.
-    fn count(&mut self, now: u64)
+    pub(crate) fn count(&mut self, now: u64)
         requires few { self.old.made < 2 ^ 40 }
         ensures { self.new ≡ record self.old { made = self.old.made + 1; last_made = now; since = 0 } }
     {
@@ -110,22 +110,21 @@ impl<A: Allocator> Endpoint<A> {
     }
 
     /// Makes a PDU: hands it out and counts it.
-    fn make<O: PduOut>(&mut self, kind: Kind, body: &[u8], now: u64, out: &mut O)
+    pub(crate) fn make<O: PduOut>(&mut self, kind: Kind, body: &[u8], now: u64, out: &mut O)
         requires body { IsBody kind body.now }
         requires few { self.old.made < 2 ^ 40 }
         ensures left { (ring : List Numbered) (s : State) → self.old ≡ beside ring s
             → self.new ≡ beside ring (make kind body.now now s) }
         ensures made { (ring : List Numbered) (s : State) → self.old ≡ beside ring s
             → O.makes out.old (safe_text s.settings.rule (next_made s kind body.now now).pdu) out.new }
-        ensures ring { self.new.ring ≡ self.old.ring }
-        ensures few { self.new.made ≡ self.old.made + 1 }
+        ensures counted { self.new ≡ record self.old { made = self.old.made + 1; last_made = now; since = 0 } }
     {
         self.hand_out(kind, body, now, out);
         self.count(now);
     }
 
     /// Makes a PDU that leaves the unconfirmed units as they are.
-    fn say<O: PduOut>(&mut self, kind: Kind, body: &[u8], now: u64, out: &mut O)
+    pub(crate) fn say<O: PduOut>(&mut self, kind: Kind, body: &[u8], now: u64, out: &mut O)
         requires body { IsBody kind body.now }
         requires plain { leaves_units kind ≡ true }
         requires few { self.old.made < 2 ^ 40 }
@@ -136,7 +135,7 @@ impl<A: Allocator> Endpoint<A> {
     }
 
     /// Says that the end leaves.
-    fn goodbye<O: PduOut>(&mut self, reason: Reason, detail: Detail, now: u64, out: &mut O)
+    pub(crate) fn goodbye<O: PduOut>(&mut self, reason: Reason, detail: Detail, now: u64, out: &mut O)
         requires few { self.old.made < 2 ^ 40 }
         ensures does { Does O.makes (make Kind.DiscReq (leaving_body reason detail) now) self.old out.old self.new out.new }
         ensures few { self.new.made ≤ self.old.made + 1 }
@@ -146,7 +145,7 @@ impl<A: Allocator> Endpoint<A> {
     }
 
     /// Goes to another state of the connection.
-    fn move_to(&mut self, connection: ConnectionState)
+    pub(crate) fn move_to(&mut self, connection: ConnectionState)
         ensures { self.new ≡ record self.old { connection = connection } }
     {
         self.connection = connection;
@@ -203,7 +202,7 @@ impl<A: Allocator> Endpoint<A> {
     }
 
     /// Makes a heartbeat.
-    fn beat<O: PduOut>(&mut self, now: u64, out: &mut O)
+    pub(crate) fn beat<O: PduOut>(&mut self, now: u64, out: &mut O)
         requires few { self.old.made < 2 ^ 40 }
         ensures does { Does O.makes (make Kind.Heartbeat [] now) self.old out.old self.new out.new }
         ensures few { self.new.made ≤ self.old.made + 1 }
@@ -278,7 +277,7 @@ fn leaving_octets(reason: Reason, detail: Detail) -> [u8; 4]
 }
 
 /// The body of a ConnReq or ConnResp: the version, N_sendmax and zeros.
-fn opening_octets(n_sendmax: u16) -> [u8; 14]
+pub(crate) fn opening_octets(n_sendmax: u16) -> [u8; 14]
     ensures { result ≡ opening_body n_sendmax }
 {
     let mut body = [0x30, 0x33, 0x30, 0x33, 0, 0, 0, 0, 0, 0, 0, 0, 0, 0];

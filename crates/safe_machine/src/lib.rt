@@ -7,6 +7,7 @@
 ghost use Rattle.std.specs.Prelude.{◌≡◌};
 ghost use Rattle.safe_machine.specs.Leaving.{detail_number, reason_number};
 
+mod branches;
 mod decisions;
 mod endpoint;
 mod law;
