@@ -36,3 +36,4 @@ pub mod OrderApart
 pub mod OrderLaw
 pub mod OrderRow
 pub mod Views
+pub mod Arriving

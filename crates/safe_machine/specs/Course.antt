@@ -1,5 +1,5 @@
 -- What the machine's own words for its decisions mean.
-use Rattle.std.specs.Prelude.{ℕ, ◌-◌, ◌+◌, nat_lt, nat_le, Bool, if◌then◌else◌, List, [], ◌∷◌}
+use Rattle.std.specs.Prelude.{◌≡◌, ◌<◌, ◌≤◌, ℕ, ◌-◌, ◌+◌, nat_lt, nat_le, Bool, if◌then◌else◌, List, [], ◌∷◌}
 use Rattle.safe_machine.specs.declared.decisions.Course.{Course}
 use Rattle.safe_machine.specs.declared.decisions.Course.TheVariants.{Nothing as NothingToDo, Drops as DropsIt, Shuts as ShutsDown, Leaves as LeavesNow, Rejects as RejectsIt, Accepts as AcceptsIt, Connects as ConnectsNow, Takes as TakesIt, Asks as AsksAgain, Resumes as ResumesNow, AnswersNext as AnswersInTurn, AnswersEarly as AnswersAhead}
 use Rattle.safe_machine.specs.declared.decisions.Entry.{Entry}
@@ -12,6 +12,8 @@ use Rattle.safe_machine.specs.declared.DropCause.TheVariants.{Below}
 use Rattle.safe_machine.specs.declared.Reason.TheVariants.{RetransmissionImpossible}
 use Rattle.safe_machine.specs.declared.Detail.TheVariants.{Unspecified}
 use Rattle.safe_pdu.specs.Pdu.{Pdu}
+use Rattle.safe_pdu.specs.Bodies.{IsBody}
+use Rattle.safe_pdu.specs.declared.Kind.TheVariants.{ConnReq}
 use Rattle.safe_machine.specs.Made.{carries}
 use Rattle.safe_machine.specs.Numbers.{sn_of, ahead}
 use Rattle.safe_machine.specs.View.{View}
@@ -67,3 +69,16 @@ carried p = if carries p.kind then p.body ∷ [] else []
 abbrev pub handed_by : Decision → Pdu → List (List ℕ)
 handed_by (Takes connection) p = carried p
 handed_by _ p = []
+
+-- what a branch relies on
+abbrev pub Passes : View → Pdu → ℕ → Type 0
+Passes v p now = (cs_ahead v p.cs < v.made - v.confirmed) × (cts_ahead v p.cts ≤ now - v.confirmed_at)
+
+abbrev pub Allows : View → Pdu → ℕ → Decision → Type 0
+Allows v p now Accepts = IsBody ConnReq p.body × (v.ring ≡ [])
+Allows v p now Connects = IsBody ConnReq p.body × Passes v p now
+Allows v p now (Takes connection) = Passes v p now
+Allows v p now Resumes = Passes v p now
+Allows v p now AnswersNext = Passes v p now
+Allows v p now AnswersEarly = cs_ahead v p.cs < v.made - v.confirmed
+Allows v p now _ = Unit {0}

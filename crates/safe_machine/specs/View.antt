@@ -145,3 +145,7 @@ AllUnits units = All (λ (u : Numbered). IsBody RetrData u.octets) units
 -- what is done first with a RetrReq that is not the next PDU
 abbrev pub answered_ahead : Pdu → ℕ → State → State
 answered_ahead p now s = reply now (note_request (distance s p) (confirm_units p s))
+
+-- The units that were taken between two states were handed up, in order.
+abbrev pub HandsUp : {U : Type 0} → (U → List ℕ → U → Type 0) → U → State → State → U → Type 0
+HandsUp takes before s t after = FoldsTo takes before (drop (length s.taken) t.taken) after

@@ -1,6 +1,6 @@
 //! What an end does by its decision, each branch apart.
 
-ghost use Rattle.std.specs.Prelude.{◌≡◌, ◌+◌, ◌-◌, ◌<◌, ◌≤◌, ◌^◌, ℕ, List, [], ◌∷◌, ◌++◌, length, Some, slice_get, true, IfSome};
+ghost use Rattle.std.specs.Prelude.{◌≡◌, ◌+◌, ◌-◌, ◌<◌, ◌≤◌, ◌^◌, ℕ, List, [], ◌∷◌, ◌++◌, length, Some, Err, slice_get, true, IfSome};
 ghost use Rattle.octets.specs.declared.limits.TheConstants.{UNIT_MAX, WINDOW_MAX};
 ghost use Rattle.retrans.specs.Units.{Numbered, above, octets_of, renumbered};
 ghost use Rattle.std.specs.List.{FoldsTo};
@@ -9,17 +9,20 @@ ghost use Rattle.safe_pdu.specs.SafeText.{safe_text};
 ghost use Rattle.safe_pdu.specs.Bodies.{IsBody, window_of};
 ghost use Rattle.safe_machine.specs.Made.{carries, opening_body};
 ghost use Rattle.safe_machine.specs.State.{State, ask, make, next_made, note_request, pass, reply, resend};
-ghost use Rattle.safe_machine.specs.Decision.{Decision};
+ghost use Rattle.safe_machine.specs.Decision.{Decision, answer_of, decide};
+ghost use Rattle.safe_machine.specs.Octets.{heard_answer};
+ghost use Rattle.safe_machine.specs.Reached.{Known, Sound};
 ghost use Rattle.safe_machine.specs.Decision.Decision.{Accepts, AnswersEarly, AnswersNext, Asks, Connects, Rejects, Resumes, Takes};
-ghost use Rattle.safe_machine.specs.Step.{beat, carry_out, take_unit, set_window, tests_passed};
-ghost use Rattle.safe_machine.specs.Course.{cs_ahead, cts_ahead, carried, sn_ahead};
-ghost use Rattle.safe_machine.specs.View.{AllBelow, AllUnits, Does, Hands, StandsFor, Turns, answered_ahead, beside, leaves_units};
+ghost use Rattle.safe_machine.specs.Step.{arrive, arrive_answer, beat, carry_out, guard, receive, take_unit, set_window, tests_passed};
+ghost use Rattle.safe_machine.specs.Course.{Allows, cs_ahead, handed_by, meaning, cts_ahead, carried, sn_ahead};
+ghost use Rattle.safe_machine.specs.View.{AllBelow, AllUnits, Does, Hands, HandsUp, StandsFor, Turns, answered_ahead, beside, leaves_units};
 
+use super::decisions::Course;
 use super::endpoint::{Endpoint, opening_octets};
-use super::{ConnectionState, Detail, PduOut, Reason, UnitIn};
+use super::{ConnectionState, Detail, DropCause, PduOut, Reason, Step, UnitIn};
 use octets::limits::UNIT_MAX;
 use retrans::Unit;
-use safe_pdu::{Kind, SafePdu, read_opening};
+use safe_pdu::{Kind, SafeFault, SafePdu, read_opening};
 use std::alloc::Allocator;
 
 /// Whether a PDU of this type carries a unit.
@@ -384,5 +387,105 @@ impl<A: Allocator> Endpoint<A> {
         self.say_opening(Kind::ConnResp, now, out);
         self.confirm_to(index, now);
         self.move_to(ConnectionState::Start);
+    }
+
+    /// Does what was decided.
+    fn carry_out<O: PduOut, U: UnitIn>(
+        &mut self,
+        course: Course,
+        pdu: &SafePdu<'_>,
+        now: u64,
+        out: &mut O,
+        units: &mut U,
+    )
+        requires sound { Sound self.old }
+        requires reach { self.old.expected < 2 ^ 62 }
+        requires allows { Allows self.old (pdu_of pdu.now) now (meaning course) }
+        requires ready { U.ready units.old }
+        ensures does { Does O.makes (carry_out (pdu_of pdu.now) now (meaning course)) self.old out.old self.new out.new }
+        ensures taken { FoldsTo U.takes units.old (handed_by (meaning course) (pdu_of pdu.now)) units.new }
+        ensures ready { U.ready units.new }
+    {
+        match course {
+            Course::Nothing | Course::Drops(_) => {}
+            Course::Shuts => self.move_to(ConnectionState::Closed),
+            Course::Leaves(reason, detail) => self.leave(reason, detail, now, out),
+            Course::Rejects => self.rejects(pdu, now, out),
+            Course::Accepts => self.accepts(pdu, now, out),
+            Course::Connects => self.connects(pdu, now, out),
+            Course::Takes(connection) => self.takes(pdu, now, connection, out, units),
+            Course::Asks => self.asks(now, out),
+            Course::Resumes => self.resumes(pdu, now),
+            Course::AnswersNext => self.answers_next(pdu, now, out),
+            Course::AnswersEarly => self.answers_early(pdu, now, out),
+        }
+    }
+
+    /// Receives a PDU, where the guard has passed.
+    fn receive<O: PduOut, U: UnitIn>(&mut self, pdu: &SafePdu<'_>, now: u64, out: &mut O, units: &mut U) -> Step
+        requires sound { Sound self.old }
+        requires body { IsBody pdu.now.kind pdu.now.body.now }
+        requires reach { self.old.expected < 2 ^ 62 }
+        requires known { Known self.old }
+        requires ready { U.ready units.old }
+        ensures does { Does O.makes (receive (pdu_of pdu.now) now) self.old out.old self.new out.new }
+        ensures taken { (s : State) → StandsFor self.old s → HandsUp U.takes units.old s (receive (pdu_of pdu.now) now s) units.new }
+        ensures answer { (s : State) → StandsFor self.old s → result ≡ answer_of (decide s (pdu_of pdu.now) now) }
+        ensures ready { U.ready units.new }
+    {
+        let course = self.decide(pdu, now);
+        self.carry_out(course, pdu, now, out, units);
+        course.answer()
+    }
+
+    /// The guard, and then what a PDU brings.
+    pub(crate) fn arrive<O: PduOut, U: UnitIn>(&mut self, pdu: &SafePdu<'_>, now: u64, out: &mut O, units: &mut U) -> Step
+        requires sound { Sound self.old }
+        requires body { IsBody pdu.now.kind pdu.now.body.now }
+        requires reach { self.old.expected < 2 ^ 62 }
+        requires known { Known self.old }
+        requires ready { U.ready units.old }
+        ensures does { Does O.makes (arrive (pdu_of pdu.now) now) self.old out.old self.new out.new }
+        ensures taken { (s : State) → StandsFor self.old s → HandsUp U.takes units.old s (arrive (pdu_of pdu.now) now s) units.new }
+        ensures answer { (s : State) → StandsFor self.old s → result ≡ arrive_answer (pdu_of pdu.now) now s }
+        ensures ready { U.ready units.new }
+    {
+        if let Some((reason, detail)) = self.overdue(now) {
+            self.leave(reason, detail, now, out);
+            return Step::Left(reason, detail);
+        }
+        self.receive(pdu, now, out, units)
+    }
+
+    /// The guard, and then what octets bring that are no PDU.
+    pub(crate) fn arrive_fault<O: PduOut>(&mut self, fault: SafeFault, now: u64, out: &mut O) -> Step
+        requires few { self.old.made < 2 ^ 40 }
+        ensures does { Does O.makes (guard now) self.old out.old self.new out.new }
+        ensures answer { (s : State) → StandsFor self.old s → result ≡ heard_answer (Err fault) now s }
+    {
+        if let Some((reason, detail)) = self.overdue(now) {
+            self.leave(reason, detail, now, out);
+            return Step::Left(reason, detail);
+        }
+        if self.connection == ConnectionState::Closed {
+            return Step::Nothing;
+        }
+        Step::Dropped(DropCause::Fault(fault))
+    }
+}
+
+impl Course {
+    /// What a decision is told as.
+    fn answer(self) -> Step
+        ensures { result ≡ answer_of (meaning self) }
+    {
+        match self {
+            Course::Nothing | Course::Shuts => Step::Nothing,
+            Course::Drops(cause) => Step::Dropped(cause),
+            Course::Leaves(reason, detail) => Step::Left(reason, detail),
+            Course::Rejects => Step::Left(Reason::WrongVersion, Detail::Unspecified),
+            Course::Asks => Step::Gap,
+            _ => Step::Taken,
+        }
     }
 }
