@@ -38,3 +38,5 @@ pub mod OrderPairs
 pub mod OrderApart
 pub mod OrderLaw
 pub mod OrderRow
+pub mod Views
+pub mod Arriving

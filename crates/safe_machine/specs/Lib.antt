@@ -12,3 +12,6 @@ pub mod InOrder
 pub mod Ring
 pub mod Moves
 pub mod Octets
+pub mod View
+pub mod Course
+pub mod Reached

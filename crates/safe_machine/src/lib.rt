@@ -7,9 +7,14 @@
 ghost use Rattle.std.specs.Prelude.{◌≡◌};
 ghost use Rattle.safe_machine.specs.Leaving.{detail_number, reason_number};
 
+mod branches;
+mod decisions;
+mod endpoint;
 mod law;
+mod machine;
 
 pub use law::unit_law;
+pub use machine::{PduOut, UnitIn};
 
 /// The states of a connection.
 #[derive(Clone, Copy, Debug, PartialEq, Eq)]
@@ -35,6 +40,27 @@ pub enum Role {
     Client,
     /// Grants it: the field element.
     Server,
+}
+
+/// The settings of one end.
+#[derive(Clone, Copy, Debug, PartialEq, Eq)]
+pub struct MachineConfig {
+    /// The own identifier.
+    pub own: u32,
+    /// The identifier of the peer, another one.
+    pub peer: u32,
+    /// How many units the peer may have unconfirmed, 1 to 32.
+    pub n_sendmax: u16,
+    /// How old what was last confirmed may get, in milliseconds, 100 to 60,000.
+    pub t_max: u64,
+    /// How long after its last sending a connected end sends a heartbeat, in milliseconds, 10 to t_max minus 1.
+    pub t_h: u64,
+    /// After how many units taken without a sending it sends one, 1 to 16.
+    pub mwa: u64,
+    /// How many PDUs one connection may have, 100 to 4,294,901,760.
+    pub pdu_limit: u64,
+    /// The safety code, of 8 or 16 octets.
+    pub rule: safe_pdu::CodeRule,
 }
 
 /// Why an end leaves a connection, as its DiscReq says it.

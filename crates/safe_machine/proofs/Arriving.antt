@@ -1,0 +1,97 @@
+-- What a decision allows its branch to rely on, and what an arrival hands up.
+use Rattle.std.proofs.Common.{◌≡◌, ◌≢◌, ℕ, ◌+◌, ◌-◌, ◌<◌, ◌≤◌, List, [], ◌∷◌, ◌++◌, length, drop, Bool, true, false, refl, sym, ap, subst, ◌∙◌, arith, append-nil}
+use Rattle.std.specs.Prelude.{if◌then◌else◌, ◌&&◌, nat_le, Option, Some, None}
+use Rattle.std.specs.List.{FoldsTo}
+use Rattle.std.proofs.lemmas.Bool.{ltb-true, leb-true}
+use Rattle.safe_pdu.specs.declared.Kind.TheVariants.{ConnReq, DiscReq, RetrResp, RetrData, Heartbeat}
+use Rattle.safe_pdu.specs.Pdu.{Pdu}
+use Rattle.safe_pdu.specs.Bodies.{IsBody}
+use Rattle.safe_machine.specs.declared.ConnectionState.TheVariants.{Down}
+use Rattle.safe_machine.specs.declared.Reason.{Reason}
+use Rattle.safe_machine.specs.declared.Detail.{Detail}
+use Rattle.safe_machine.specs.Made.{carries, leaving_body}
+use Rattle.safe_machine.specs.State.{State, make, move_to, pass, confirm_units, note_request, resend, reply, unconfirmed, hand_up, leave, says_goodbye, ask}
+use Rattle.safe_machine.specs.Decision.{Decision, decide, in_turn, distance}
+use Rattle.safe_machine.specs.Decision.Decision.{Nothing, Drops, Shuts, Leaves, Rejects, Accepts, Connects, Takes, Asks, Resumes, AnswersNext, AnswersEarly}
+use Rattle.safe_machine.specs.Step.{carry_out, receive, arrive, guard, take_unit, beat, tests_passed}
+use Rattle.safe_machine.specs.Course.{Allows, Passes, cs_ahead, carried, handed_by}
+use Rattle.safe_machine.specs.View.{View, StandsFor, HandsUp, overdue}
+use Rattle.safe_machine.proofs.Cases.{if_both}
+use Rattle.safe_machine.proofs.Deciding.{Fits, Tested}
+use Rattle.safe_machine.proofs.Views.{guard-is, left_by}
+
+passes-from : (v : View) (s : State) (p : Pdu) (now : ℕ) → StandsFor v s → Tested s p now → Passes v p now
+passes-from v s p now h t =
+    subst (λ (w : View). Passes w p now) (sym h)
+    (ltb-true _ (length s.made - s.confirmed) t.cs, leb-true _ (now - s.confirmed_at) t.cts)
+
+pub allowed : (v : View) (s : State) (p : Pdu) (now : ℕ) (d : Decision) → StandsFor v s → IsBody p.kind p.body → (v.connection ≡ Down → v.ring ≡ []) → Fits s p now d → Allows v p now d
+allowed v s p now Nothing h body down f = tt
+allowed v s p now (Drops cause) h body down f = tt
+allowed v s p now Shuts h body down f = tt
+allowed v s p now (Leaves reason detail) h body down f = tt
+allowed v s p now Rejects h body down f = tt
+allowed v s p now Accepts h body down (is_down, is) = (subst (λ k. IsBody k p.body) is body, down (ap (λ (w : View). w.connection) h ∙ is_down))
+allowed v s p now Connects h body down (start, client, is, passed) = (subst (λ k. IsBody k p.body) is body, passes-from v s p now h passed)
+allowed v s p now (Takes to) h body down f = passes-from v s p now h f.passed
+allowed v s p now Asks h body down f = tt
+allowed v s p now Resumes h body down f = passes-from v s p now h f.passed
+allowed v s p now AnswersNext h body down (f, none, turn, cts) = passes-from v s p now h (record { cs = f.cs; cts = cts })
+allowed v s p now AnswersEarly h body down f =
+    subst (λ (w : View). cs_ahead w p.cs < w.made - w.confirmed) (sym h) (ltb-true _ (length s.made - s.confirmed) f.cs)
+
+-- what is handed up
+resend-taken : (us : List (List ℕ)) (now : ℕ) (s : State) → (resend us now s).taken ≡ s.taken
+resend-taken [] now s = refl
+resend-taken (u ∷ us) now s = resend-taken us now (make RetrData u now s)
+
+same-taken : (s t : State) → t.taken ≡ s.taken → t.taken ≡ s.taken ++ []
+same-taken s t e = e ∙ sym (append-nil s.taken)
+
+leave-taken : (reason : Reason) (detail : Detail) (now : ℕ) (s : State) → (leave reason detail now s).taken ≡ s.taken
+leave-taken reason detail now s = if_both (λ (t : State). t.taken ≡ s.taken) (says_goodbye s.connection) (make DiscReq (leaving_body reason detail) now s) s (λ _. refl) (λ _. refl)
+
+beat-taken : (now : ℕ) (s : State) → (beat now s).taken ≡ s.taken
+beat-taken now s = if_both (λ (t : State). t.taken ≡ s.taken) (nat_le s.settings.mwa s.since) (make Heartbeat [] now s) s (λ _. refl) (λ _. refl)
+
+unit-taken : (p : Pdu) (now : ℕ) (s : State) (b : Bool) → (if b then beat now (hand_up p s) else s).taken ≡ s.taken ++ (if b then p.body ∷ [] else [])
+unit-taken p now s true = beat-taken now (hand_up p s)
+unit-taken p now s false = sym (append-nil s.taken)
+
+pub decided-taken : (p : Pdu) (now : ℕ) (d : Decision) (s : State) → (carry_out p now d s).taken ≡ s.taken ++ handed_by d p
+decided-taken p now Nothing s = sym (append-nil s.taken)
+decided-taken p now (Drops cause) s = sym (append-nil s.taken)
+decided-taken p now Shuts s = sym (append-nil s.taken)
+decided-taken p now (Leaves reason detail) s = same-taken s (leave reason detail now s) (leave-taken reason detail now s)
+decided-taken p now Rejects s = sym (append-nil s.taken)
+decided-taken p now Accepts s = sym (append-nil s.taken)
+decided-taken p now Connects s = sym (append-nil s.taken)
+decided-taken p now (Takes to) s = unit-taken p now (move_to to (pass p 0 (tests_passed p s))) (carries p.kind)
+decided-taken p now Asks s = sym (append-nil s.taken)
+decided-taken p now Resumes s = sym (append-nil s.taken)
+decided-taken p now AnswersNext s =
+    let z = pass p 0 (note_request 0 (tests_passed p s)) in
+    same-taken s (reply now z) (resend-taken (unconfirmed z) now (make RetrResp [] now z))
+decided-taken p now AnswersEarly s =
+    let z = note_request (distance s p) (confirm_units p s) in
+    let t = reply now z in
+    let e : t.taken ≡ s.taken = resend-taken (unconfirmed z) now (make RetrResp [] now z) in
+    if_both (λ (u : State). u.taken ≡ s.taken ++ []) (in_turn s.connection) (ask now t) t (λ _. same-taken s (ask now t) e) (λ _. same-taken s t e)
+
+drop-front : (xs ys : List (List ℕ)) → drop (length xs) (xs ++ ys) ≡ ys
+drop-front [] ys = refl
+drop-front (x ∷ xs) ys = drop-front xs ys
+
+pub hands-up : {U : Type 0} (takes : U → List ℕ → U → Type 0) (a b : U) (p : Pdu) (now : ℕ) (d : Decision) (s : State) → decide s p now ≡ d → FoldsTo takes a (handed_by d p) b →
+    HandsUp takes a s (receive p now s) b
+hands-up takes a b p now d s is h =
+    let more : drop (length s.taken) (receive p now s).taken ≡ handed_by d p =
+    ap (λ e. drop (length s.taken) (carry_out p now e s).taken) is ∙ (ap (drop (length s.taken)) (decided-taken p now d s) ∙ drop-front s.taken (handed_by d p)) in
+    subst (λ us. FoldsTo takes a us b) (sym more) h
+
+-- the guard leaves, or it does nothing
+pub arrive-left : (p : Pdu) (now : ℕ) (m : View) (s : State) (reason : Reason) (detail : Detail) → StandsFor m s → overdue now m ≡ Some (reason, detail) → arrive p now s ≡ leave reason detail now s
+arrive-left p now m s reason detail h e = ap (receive p now) (guard-is now m s h ∙ ap (λ o. left_by now o s) e)
+
+pub arrive-goes : (p : Pdu) (now : ℕ) (m : View) (s : State) → StandsFor m s → overdue now m ≡ None → arrive p now s ≡ receive p now s
+arrive-goes p now m s h e = ap (receive p now) (guard-is now m s h ∙ ap (λ o. left_by now o s) e)

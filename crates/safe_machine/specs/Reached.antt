@@ -1,0 +1,51 @@
+-- What every machine has: it stands for a state that moves lead to from an opening.
+use Rattle.std.specs.Prelude.{◌≡◌, ◌<◌, ◌≤◌, ◌^◌, ℕ, true, length, List, [], ◌∷◌}
+use Rattle.safe_pdu.specs.Pdu.{Pdu}
+use Rattle.safe_pdu.specs.Bodies.{IsBody}
+use Rattle.safe_pdu.specs.SafeText.{HasNumbers}
+use Rattle.safe_machine.specs.Settings.{Settings, is_legal}
+use Rattle.safe_machine.specs.State.{State, opened}
+use Rattle.safe_machine.specs.Moves.{Move, moved, IsUnitSized}
+use Rattle.safe_machine.specs.Moves.Move.{Hears, Sends}
+use Rattle.safe_machine.specs.View.{View, StandsFor, AllUnits, AllBelow}
+use Rattle.octets.specs.declared.limits.TheConstants.{WINDOW_MAX}
+use Rattle.safe_pdu.specs.declared.Kind.TheVariants.{ConnReq}
+use Rattle.safe_machine.specs.declared.ConnectionState.TheVariants.{Down}
+use Rattle.safe_machine.specs.Made.{opening_body}
+use Rattle.safe_machine.specs.Step.{is_live}
+
+-- what arrives has numbers of 32 bits and a body that fits its type, and what is sent has the size of a unit
+abbrev pub IsRead : Move → Type 0
+IsRead (Hears p now) = HasNumbers p × IsBody p.kind p.body
+IsRead (Sends unit now) = IsUnitSized unit
+IsRead _ = Unit {0}
+
+abbrev pub AreRead : List Move → Type 0
+AreRead [] = Unit {0}
+AreRead (m ∷ ms) = IsRead m × AreRead ms
+
+pub record IsReached (v : View) : Type 0 where
+  pub settings : Settings
+  pub first : ℕ
+  pub began : ℕ
+  pub moves : List Move
+  pub legal : is_legal settings ≡ true
+  pub read : AreRead moves
+  pub stands : StandsFor v (moved moves (opened settings first began))
+
+-- the bounds that every machine keeps
+pub record Sound (v : View) : Type 0 where
+  pub few : v.made < 2 ^ 33
+  pub window : v.window ≤ WINDOW_MAX
+  pub room : v.room ≡ WINDOW_MAX
+  pub short : length v.ring ≤ WINDOW_MAX
+  pub sized : AllUnits v.ring
+  pub below : AllBelow v.made v.ring
+  pub live : is_live v.connection ≡ true → v.confirmed < v.made
+  pub since : v.since < 2 ^ 33
+  pub down : v.connection ≡ Down → v.ring ≡ []
+  pub opening : IsBody ConnReq (opening_body v.settings.n_sendmax)
+
+-- it stands for some state
+abbrev pub Known : View → Type 0
+Known v = (s : State) × StandsFor v s

@@ -1,0 +1,151 @@
+-- What a machine keeps of a state: each list as its count, and the unconfirmed units.
+use Rattle.std.specs.Prelude.{◌≡◌, ℕ, ◌+◌, ◌&&◌, nat_lt, nat_le, if◌then◌else◌, Bool, true, false, Option, Some, None, List, [], ◌∷◌, ◌++◌, length, drop, map, All, ◌<◌}
+use Rattle.std.specs.List.{FoldsTo}
+use Rattle.octets.specs.declared.limits.TheConstants.{WINDOW_MAX}
+use Rattle.retrans.specs.Units.{Numbered}
+use Rattle.safe_pdu.specs.declared.Kind.{Kind}
+use Rattle.safe_pdu.specs.declared.Kind.TheVariants.{RetrResp, Data, RetrData}
+use Rattle.safe_pdu.specs.declared.CodeRule.{CodeRule}
+use Rattle.safe_pdu.specs.Pdu.{Pdu}
+use Rattle.safe_pdu.specs.Bodies.{IsBody}
+use Rattle.safe_pdu.specs.SafeText.{safe_text}
+use Rattle.safe_machine.specs.declared.ConnectionState.{ConnectionState}
+use Rattle.safe_machine.specs.declared.Role.{Role}
+use Rattle.safe_machine.specs.declared.Role.TheVariants.{Client, Server}
+use Rattle.safe_machine.specs.declared.MachineConfig.{MachineConfig}
+use Rattle.safe_machine.specs.Made.{Made}
+use Rattle.safe_machine.specs.Settings.{Settings}
+use Rattle.safe_machine.specs.State.{State, reply, note_request, confirm_units}
+use Rattle.safe_machine.specs.Step.{last_time, is_live, is_connected}
+use Rattle.safe_machine.specs.Decision.{in_turn, distance}
+use Rattle.safe_machine.specs.declared.Reason.{Reason}
+use Rattle.safe_machine.specs.declared.Reason.TheVariants.{Timeout, ProtocolError}
+use Rattle.safe_machine.specs.declared.Detail.{Detail}
+use Rattle.safe_machine.specs.declared.Detail.TheVariants.{Unspecified, Limit}
+use Rattle.safe_machine.specs.Ring.{ring_of}
+
+-- the settings of an end in a role
+abbrev pub is_client : Role → Bool
+is_client Client = true
+is_client Server = false
+
+abbrev pub settings_of : Role → MachineConfig → Settings
+settings_of role config =
+    record {
+      client = is_client role;
+      own = config.own;
+      peer = config.peer;
+      n_sendmax = config.n_sendmax;
+      t_max = config.t_max;
+      t_h = config.t_h;
+      mwa = config.mwa;
+      pdu_limit = config.pdu_limit;
+      rule = config.rule;
+    }
+
+-- what a machine keeps
+pub record View : Type 0 where
+  pub settings : Settings
+  pub first : ℕ
+  pub connection : ConnectionState
+  pub made : ℕ  -- how many PDUs were made
+  pub last_made : ℕ  -- the time of the last of them
+  pub since : ℕ
+  pub expected : ℕ
+  pub last_sn : ℕ
+  pub last_ts : ℕ
+  pub confirmed : ℕ
+  pub confirmed_at : ℕ
+  pub answered : ℕ
+  pub window : ℕ
+  pub ring : List Numbered  -- the units that it holds for another sending
+  pub room : ℕ  -- for so many
+
+-- what is kept of a state, beside these units
+abbrev pub beside : List Numbered → State → View
+beside ring s =
+    record {
+      settings = s.settings;
+      first = s.first;
+      connection = s.connection;
+      made = length s.made;
+      last_made = last_time s.made 0;
+      since = s.since;
+      expected = s.expected;
+      last_sn = s.last_sn;
+      last_ts = s.last_ts;
+      confirmed = s.confirmed;
+      confirmed_at = s.confirmed_at;
+      answered = s.answered;
+      window = s.window;
+      ring = ring;
+      room = WINDOW_MAX;
+    }
+
+-- The value stands for the state: each field is what the state computes to.
+abbrev pub StandsFor : View → State → Type 0
+StandsFor m s = m ≡ beside (ring_of s) s
+
+-- the texts of PDUs made
+abbrev pub texts : CodeRule → List Made → List (List ℕ)
+texts rule ms = map (λ (m : Made). safe_text rule m.pdu) ms
+
+-- The octets of what was made between two states were handed out, in order.
+abbrev pub HandsOut : {O : Type 0} → (O → List ℕ → O → Type 0) → O → State → State → O → Type 0
+HandsOut makes before s t after = FoldsTo makes before (texts s.settings.rule (drop (length s.made) t.made)) after
+
+-- the same by the PDUs that came behind the others
+pub record Hands {O : Type 0} (makes : O → List ℕ → O → Type 0) (before : O) (s t : State) (after : O) : Type 0 where
+  pub more : List Made
+  pub grown : t.made ≡ s.made ++ more
+  pub same : t.settings ≡ s.settings
+  pub handed : FoldsTo makes before (texts s.settings.rule more) after
+
+-- For each state that the value stood for it now stands for the step of it, and what the step makes was handed out.
+abbrev pub Does : {O : Type 0} → (O → List ℕ → O → Type 0) → (State → State) → View → O → View → O → Type 0
+Does makes step m before n after =
+    (s : State) → StandsFor m s → StandsFor n (step s) × Hands makes before s (step s) after
+
+-- a PDU that leaves the unconfirmed units as they are
+abbrev pub leaves_units : Kind → Bool
+leaves_units RetrResp = false
+leaves_units Data = false
+leaves_units RetrData = false
+leaves_units _ = true
+
+-- why the guard leaves, if it does
+abbrev pub overdue : ℕ → View → Option (Reason × Detail)
+overdue now v =
+    if is_live v.connection
+    then (if nat_le (v.confirmed_at + v.settings.t_max) now then Some (Timeout, Unspecified)
+    else if nat_le v.settings.pdu_limit v.made then Some (ProtocolError, Limit)
+    else None)
+    else None
+
+-- a heartbeat is due by time
+abbrev pub beat_due : ℕ → View → Bool
+beat_due now v = is_connected v.connection && nat_le (v.last_made + v.settings.t_h) now
+
+-- a unit may be sent
+abbrev pub has_room : View → Bool
+has_room v = in_turn v.connection && nat_lt (length v.ring) v.window
+
+-- the same of a change that makes nothing
+abbrev pub Turns : (State → State) → View → View → Type 0
+Turns step m n = (s : State) → StandsFor m s → StandsFor n (step s)
+
+-- each number below one
+abbrev pub AllBelow : ℕ → List Numbered → Type 0
+AllBelow number units = All (λ (u : Numbered). u.number < number) units
+
+-- each with the octets of a unit
+abbrev pub AllUnits : List Numbered → Type 0
+AllUnits units = All (λ (u : Numbered). IsBody RetrData u.octets) units
+
+-- what is done first with a RetrReq that is not the next PDU
+abbrev pub answered_ahead : Pdu → ℕ → State → State
+answered_ahead p now s = reply now (note_request (distance s p) (confirm_units p s))
+
+-- The units that were taken between two states were handed up, in order.
+abbrev pub HandsUp : {U : Type 0} → (U → List ℕ → U → Type 0) → U → State → State → U → Type 0
+HandsUp takes before s t after = FoldsTo takes before (drop (length s.taken) t.taken) after

@@ -1,0 +1,286 @@
+//! What a machine keeps, and the single moves on it.
+
+ghost use Rattle.std.specs.Prelude.{◌≡◌, ℕ, ◌+◌, ◌<◌, ◌≤◌, ◌^◌, ◌%◌, List, [], true};
+ghost use Rattle.retrans.specs.Units.{Numbered};
+ghost use Rattle.safe_pdu.specs.Bodies.{IsBody};
+ghost use Rattle.safe_pdu.specs.SafeText.{safe_text};
+ghost use Rattle.safe_machine.specs.Numbers.{sn_of};
+ghost use Rattle.safe_machine.specs.Made.{leaving_body, opening_body};
+ghost use Rattle.safe_machine.specs.State.{State, next_made, make, leave, says_goodbye};
+ghost use Rattle.safe_machine.specs.Decision.{in_turn};
+ghost use Rattle.safe_machine.specs.Step.{guard, heartbeat, is_connected, is_live, tick};
+ghost use Rattle.safe_machine.specs.View.{Does, beat_due, beside, has_room, leaves_units, overdue};
+
+use super::{ConnectionState, Detail, MachineConfig, PduOut, Reason, Role};
+use octets::limits::SAFE_PDU_MAX;
+use octets::places::put_u16;
+use retrans::Unconfirmed;
+use safe_pdu::{Kind, SafePdu, encode};
+use std::alloc::{Allocator, Global};
+use std::marker::Model;
+
+/// The counters of one end, and the units that it holds for another sending.
+#[derive(Drop)]
+pub(crate) struct Endpoint<A: Allocator = Global> {
+    pub(crate) config: MachineConfig,
+    pub(crate) role: Role,
+    pub(crate) first: u32,
+    pub(crate) connection: ConnectionState,
+    pub(crate) made: u64,
+    pub(crate) last_made: u64,
+    pub(crate) since: u64,
+    pub(crate) expected: u64,
+    pub(crate) last_sn: u32,
+    pub(crate) last_ts: u32,
+    pub(crate) confirmed: u64,
+    pub(crate) confirmed_at: u64,
+    pub(crate) answered: u64,
+    pub(crate) window: u64,
+    pub(crate) ring: Unconfirmed<A>,
+}
+
+impl<A: Allocator> Model for Endpoint<A> {
+    ghost use Rattle.safe_machine.specs.View.{View, settings_of};
+
+    ghost Value = { View };
+
+    ghost view = { λ e. record {
+      settings = settings_of e.role e.config;
+      first = e.first;
+      connection = e.connection;
+      made = e.made;
+      last_made = e.last_made;
+      since = e.since;
+      expected = e.expected;
+      last_sn = e.last_sn;
+      last_ts = e.last_ts;
+      confirmed = e.confirmed;
+      confirmed_at = e.confirmed_at;
+      answered = e.answered;
+      window = e.window;
+      ring = e.ring.units;
+      room = e.ring.room;
+    } };
+}
+
+/// The number with the low 32 bits of a count.
+pub(crate) fn low(count: u64) -> u32
+    ensures { result ≡ count % 2 ^ 32 }
+{
+    (count % (1 << 32)) as u32
+}
+
+impl<A: Allocator> Endpoint<A> {
+    /// The sequence number of the next PDU.
+    fn next_sn(&self) -> u32
+        ensures { result ≡ sn_of self.now.first self.now.made }
+    {
+        self.first.wrapping_add(low(self.made))
+    }
+
+    /// Hands out a PDU, before it is counted.
+    pub(crate) fn hand_out<O: PduOut>(&self, kind: Kind, body: &[u8], now: u64, out: &mut O)
+        requires body { IsBody kind body.now }
+        ensures { (ring : List Numbered) (s : State) → self.now ≡ beside ring s
+            → O.makes out.old (safe_text s.settings.rule (next_made s kind body.now now).pdu) out.new }
+    {
+        let pdu = SafePdu {
+            kind,
+            receiver: self.config.peer,
+            sender: self.config.own,
+            sn: self.next_sn(),
+            cs: self.last_sn,
+            ts: low(now),
+            cts: self.last_ts,
+            body,
+        };
+        let mut buffer = [0; SAFE_PDU_MAX];
+        let size = encode(&pdu, &self.config.rule, &mut buffer);
+        out.made(&buffer[..size]);
+    }
+
+    /// Counts a PDU that was handed out.
+    pub(crate) fn count(&mut self, now: u64)
+        requires few { self.old.made < 2 ^ 40 }
+        ensures { self.new ≡ record self.old { made = self.old.made + 1; last_made = now; since = 0 } }
+    {
+        self.made += 1;
+        self.last_made = now;
+        self.since = 0;
+    }
+
+    /// Makes a PDU: hands it out and counts it.
+    pub(crate) fn make<O: PduOut>(&mut self, kind: Kind, body: &[u8], now: u64, out: &mut O)
+        requires body { IsBody kind body.now }
+        requires few { self.old.made < 2 ^ 40 }
+        ensures left { (ring : List Numbered) (s : State) → self.old ≡ beside ring s
+            → self.new ≡ beside ring (make kind body.now now s) }
+        ensures made { (ring : List Numbered) (s : State) → self.old ≡ beside ring s
+            → O.makes out.old (safe_text s.settings.rule (next_made s kind body.now now).pdu) out.new }
+        ensures counted { self.new ≡ record self.old { made = self.old.made + 1; last_made = now; since = 0 } }
+    {
+        self.hand_out(kind, body, now, out);
+        self.count(now);
+    }
+
+    /// Makes a PDU that leaves the unconfirmed units as they are.
+    pub(crate) fn say<O: PduOut>(&mut self, kind: Kind, body: &[u8], now: u64, out: &mut O)
+        requires body { IsBody kind body.now }
+        requires plain { leaves_units kind ≡ true }
+        requires few { self.old.made < 2 ^ 40 }
+        ensures does { Does O.makes (make kind body.now now) self.old out.old self.new out.new }
+        ensures few { self.new.made ≤ self.old.made + 1 }
+    {
+        self.make(kind, body, now, out);
+    }
+
+    /// Says that the end leaves.
+    pub(crate) fn goodbye<O: PduOut>(&mut self, reason: Reason, detail: Detail, now: u64, out: &mut O)
+        requires few { self.old.made < 2 ^ 40 }
+        ensures does { Does O.makes (make Kind.DiscReq (leaving_body reason detail) now) self.old out.old self.new out.new }
+        ensures few { self.new.made ≤ self.old.made + 1 }
+    {
+        let body = leaving_octets(reason, detail);
+        self.say(Kind::DiscReq, &body, now, out);
+    }
+
+    /// Goes to another state of the connection.
+    pub(crate) fn move_to(&mut self, connection: ConnectionState)
+        ensures { self.new ≡ record self.old { connection = connection } }
+    {
+        self.connection = connection;
+    }
+
+    /// Leaves the connection, from any state.
+    pub(crate) fn leave<O: PduOut>(&mut self, reason: Reason, detail: Detail, now: u64, out: &mut O)
+        requires few { self.old.made < 2 ^ 40 }
+        ensures does { Does O.makes (leave reason detail now) self.old out.old self.new out.new }
+        ensures few { self.new.made ≤ self.old.made + 1 }
+    {
+        if !self.connection.is_live() {
+            self.move_to(ConnectionState::Closed);
+            return;
+        }
+        self.goodbye(reason, detail, now, out);
+        self.move_to(ConnectionState::Closed);
+    }
+
+    /// Why the guard leaves, if it does.
+    pub(crate) fn overdue(&self, now: u64) -> Option<(Reason, Detail)>
+        ensures { result ≡ overdue now self.now }
+    {
+        if !self.connection.is_live() {
+            return None;
+        }
+        if now >= self.confirmed_at && now - self.confirmed_at >= self.config.t_max {
+            return Some((Reason::Timeout, Detail::Unspecified));
+        }
+        if self.made >= self.config.pdu_limit {
+            return Some((Reason::ProtocolError, Detail::Limit));
+        }
+        None
+    }
+
+    /// The guard.
+    pub(crate) fn guard<O: PduOut>(&mut self, now: u64, out: &mut O)
+        requires few { self.old.made < 2 ^ 40 }
+        ensures does { Does O.makes (guard now) self.old out.old self.new out.new }
+        ensures few { self.new.made ≤ self.old.made + 1 }
+    {
+        if let Some((reason, detail)) = self.overdue(now) {
+            self.leave(reason, detail, now, out);
+        }
+    }
+
+    /// Whether a heartbeat is due by time.
+    fn beat_due(&self, now: u64) -> bool
+        ensures { result ≡ beat_due now self.now }
+    {
+        self.connection.is_connected()
+            && now >= self.last_made
+            && now - self.last_made >= self.config.t_h
+    }
+
+    /// Makes a heartbeat.
+    pub(crate) fn beat<O: PduOut>(&mut self, now: u64, out: &mut O)
+        requires few { self.old.made < 2 ^ 40 }
+        ensures does { Does O.makes (make Kind.Heartbeat [] now) self.old out.old self.new out.new }
+        ensures few { self.new.made ≤ self.old.made + 1 }
+    {
+        self.say(Kind::Heartbeat, &[], now, out);
+    }
+
+    /// Makes a heartbeat where one is due by time.
+    fn beat_by_time<O: PduOut>(&mut self, now: u64, out: &mut O)
+        requires few { self.old.made < 2 ^ 40 }
+        ensures does { Does O.makes (heartbeat now) self.old out.old self.new out.new }
+        ensures few { self.new.made ≤ self.old.made + 1 }
+    {
+        if self.beat_due(now) {
+            self.beat(now, out);
+        }
+    }
+
+    /// The guard, and then a heartbeat where one is due by time.
+    pub(crate) fn tick<O: PduOut>(&mut self, now: u64, out: &mut O)
+        requires few { self.old.made < 2 ^ 39 }
+        ensures does { Does O.makes (tick now) self.old out.old self.new out.new }
+        ensures few { self.new.made ≤ self.old.made + 2 }
+    {
+        self.guard(now, out);
+        self.beat_by_time(now, out);
+    }
+
+    /// Whether a unit may be sent.
+    pub(crate) fn may_send(&self) -> bool
+        ensures { result ≡ has_room self.now }
+    {
+        self.connection.in_turn() && (self.ring.len() as u64) < self.window
+    }
+}
+
+impl ConnectionState {
+    /// An end in this state has made something, and its deadlines run.
+    pub(crate) fn is_live(self) -> bool
+        ensures live { result ≡ is_live self }
+        ensures says { result ≡ says_goodbye self }
+    {
+        !matches!(self, ConnectionState::Closed | ConnectionState::Down)
+    }
+
+    /// The connection is there.
+    pub(crate) fn is_connected(self) -> bool
+        ensures { result ≡ is_connected self }
+    {
+        matches!(
+            self,
+            ConnectionState::Up | ConnectionState::RetrReq | ConnectionState::RetrRun
+        )
+    }
+
+    /// Units are taken in their order.
+    pub(crate) fn in_turn(self) -> bool
+        ensures { result ≡ in_turn self }
+    {
+        matches!(self, ConnectionState::Up | ConnectionState::RetrRun)
+    }
+}
+
+/// The body of a DiscReq.
+fn leaving_octets(reason: Reason, detail: Detail) -> [u8; 4]
+    ensures { result ≡ leaving_body reason detail }
+{
+    let mut body = [0; 4];
+    put_u16(&mut body, 0, detail.number());
+    put_u16(&mut body, 2, reason.number());
+    body
+}
+
+/// The body of a ConnReq or ConnResp: the version, N_sendmax and zeros.
+pub(crate) fn opening_octets(n_sendmax: u16) -> [u8; 14]
+    ensures { result ≡ opening_body n_sendmax }
+{
+    let mut body = [0x30, 0x33, 0x30, 0x33, 0, 0, 0, 0, 0, 0, 0, 0, 0, 0];
+    put_u16(&mut body, 4, n_sendmax);
+    body
+}
