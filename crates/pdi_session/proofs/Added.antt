@@ -1,5 +1,5 @@
 -- Each telegram that is added has a message.
-use Rattle.std.proofs.Common.{◌≡◌, ◌≢◌, ℕ, ◌+◌, ◌<◌, ◌≤◌, ◌^◌, ◌==◌, Bool, true, false, not, cond, List, [], ◌∷◌, ◌++◌, length, Option, Some, None, refl, sym, ap, ◌∙◌, arith, subst, nat_le, nat_lt}
+use Rattle.std.proofs.Common.{◌≡◌, ℕ, ◌+◌, ◌<◌, ◌≤◌, ◌^◌, Bool, true, false, not, cond, List, [], ◌∷◌, ◌++◌, length, Some, None, refl, sym, arith, nat_le, nat_lt}
 use Rattle.std.specs.Prelude.{is_none}
 use Rattle.std.specs.List.{AllByRecursion}
 use Rattle.std.proofs.lemmas.Bool.{ltb-false, true≢false}
@@ -20,8 +20,8 @@ use Rattle.pdi_session.specs.declared.PutFault.TheVariants as fault
 use Rattle.pdi_session.specs.Settings.{AreSettings, checksum_of}
 use Rattle.pdi_session.specs.Telegrams.{is_reserved, kind_of, payload_of, telegram}
 use Rattle.pdi_session.specs.Tables.{may_put}
-use Rattle.pdi_session.specs.SessionStep.{Event, Up, Arrives, Puts, InitDone, Closes, SessionState, added_by, at_init_done, judged, init_refusal, notice_tele, put_refusal, sent_by}
-use Rattle.pdi_session.specs.Laws.{HasKind, HasMessage, MessageLaw}
+use Rattle.pdi_session.specs.SessionStep.{Up, Arrives, Puts, InitDone, Closes, SessionState, at_init_done, judged, init_refusal, put_refusal, sent_by}
+use Rattle.pdi_session.specs.Laws.{HasMessage, MessageLaw}
 use Rattle.pdi_session.proofs.TableLemmas.{by_cond}
 
 length-tele_text : (t : Tele) → TeleText t (tele_text t) → length (tele_text t) ≡ 43 + length t.payload

@@ -1,26 +1,22 @@
 -- Each event of a field element keeps what its phase says of queue and judged telegrams.
-use Rattle.std.proofs.Common.{◌≡◌, ◌≢◌, ◌⊎◌, ℕ, ◌+◌, ◌<◌, ◌≤◌, ◌==◌, Bool, true, false, not, cond, List, [], ◌∷◌, ◌++◌, length, Option, Some, None, refl, sym, ap, ◌∙◌, arith, subst, ⊎_elim, inl, inr, append_assoc, nat_le, nat_lt}
+use Rattle.std.proofs.Common.{◌≡◌, ◌⊎◌, ℕ, Bool, true, false, not, cond, List, [], ◌∷◌, ◌++◌, length, Some, None, refl, sym, ap, ◌∙◌, arith, subst, ⊎_elim, inl, inr, nat_le}
 use Rattle.std.specs.Prelude.{is_none}
-use Rattle.std.specs.List.{AllByRecursion}
 use Rattle.std.proofs.lemmas.Bool.{false≢true, true≢false}
 use Rattle.std.proofs.lemmas.List.{append-nil, length-append}
 use Rattle.octets.specs.declared.limits.TheConstants.{WAITING_MAX}
 use Rattle.sci_telegram.specs.Tele.{Tele}
-use Rattle.pdi_session.specs.declared.TheConstants.{INITIALISATION_COMPLETED}
 use Rattle.pdi_session.specs.declared.Phase.{Phase}
 use Rattle.pdi_session.specs.declared.Phase.TheVariants.{Idle, Checking, Requesting, AwaitCheck, AwaitRequest, Refused, Initialising, Established, Ended}
-use Rattle.pdi_session.specs.declared.Detail.TheVariants as detail
 use Rattle.pdi_session.specs.declared.Notice.TheVariants as notice
-use Rattle.pdi_session.specs.declared.Form.TheVariants.{Notifies, Item}
+use Rattle.pdi_session.specs.declared.Form.TheVariants.{Notifies}
 use Rattle.pdi_session.specs.declared.Verdict.{Verdict}
-use Rattle.pdi_session.specs.declared.Verdict.TheVariants.{Takes, Goes, Answers, Ends}
 use Rattle.pdi_session.specs.declared.InitFault.TheVariants as fault
-use Rattle.pdi_session.specs.Settings.{Role, Interlocking, Field, first_version}
+use Rattle.pdi_session.specs.Settings.{Field, first_version}
 use Rattle.pdi_session.specs.Telegrams.{form_of, is_addressed, is_reserved, telegram}
 use Rattle.pdi_session.specs.Tables.{at_up, field_up, is_initialising, may_put, table}
-use Rattle.pdi_session.specs.SessionStep.{Event, Up, Arrives, Puts, InitDone, Closes, SessionState, added_by, at_init_done, init_refusal, judged, notice_tele, phase_after, phase_by, put_refusal, sent_by}
+use Rattle.pdi_session.specs.SessionStep.{Event, Up, Arrives, Puts, InitDone, Closes, SessionState, added_by, at_init_done, init_refusal, notice_tele, phase_after, phase_by, put_refusal, sent_by}
 use Rattle.pdi_session.specs.Histories.{handed_by}
-use Rattle.pdi_session.specs.Laws.{IsItem, IsStatus, completions}
+use Rattle.pdi_session.specs.Laws.{IsStatus}
 use Rattle.pdi_session.proofs.TableLemmas.{by_cond}
 use Rattle.pdi_session.proofs.Rows.{FieldRow, FeOver, FeEqual, FeDiffers, FeAsked, FeCommand, field_row}
 use Rattle.pdi_session.proofs.Shapes.{base, FeAt, FePast, Heard, Refuses, Accepts, Starts, FeInitialising, FeEstablished, equal_from, differs_from, start_from, fe_past, completions-append, All-append}

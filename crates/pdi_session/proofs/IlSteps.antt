@@ -1,35 +1,28 @@
 -- Each event of an interlocking keeps what its phase says of queue and judged telegrams.
-use Rattle.std.proofs.Common.{◌≡◌, ◌≢◌, ◌⊎◌, ℕ, ◌+◌, ◌<◌, ◌≤◌, ◌==◌, Bool, true, false, not, cond, List, [], ◌∷◌, ◌++◌, length, Option, Some, None, refl, sym, ap, ◌∙◌, arith, subst, ⊎_elim, inl, inr, append_assoc, suc, nat_le, nat_lt}
+use Rattle.std.proofs.Common.{◌≡◌, ℕ, ◌==◌, Bool, true, false, not, cond, List, [], ◌∷◌, ◌++◌, length, Some, None, refl, sym, ap, ◌∙◌, arith, subst, ⊎_elim, inl, inr, suc, nat_le, nat_lt}
 use Rattle.std.specs.Prelude.{is_none}
-use Rattle.std.specs.List.{AllByRecursion}
 use Rattle.std.proofs.lemmas.Bool.{eqb-true, false≢true, true≢false}
 use Rattle.std.proofs.lemmas.List.{append-nil, length-append}
 use Rattle.octets.specs.declared.limits.TheConstants.{PAYLOAD_MAX}
 use Rattle.octets.specs.declared.limits.TheConstants.{WAITING_MAX}
 use Rattle.sci_telegram.specs.Tele.{Tele}
-use Rattle.pdi_session.specs.declared.TheConstants.{INITIALISATION_COMPLETED, VERSION_ANSWER}
+use Rattle.pdi_session.specs.declared.TheConstants.{INITIALISATION_COMPLETED}
 use Rattle.pdi_session.specs.declared.Phase.{Phase}
 use Rattle.pdi_session.specs.declared.Phase.TheVariants.{Idle, Checking, Requesting, AwaitCheck, AwaitRequest, Refused, Initialising, Established, Ended}
-use Rattle.pdi_session.specs.declared.Detail.{Detail}
 use Rattle.pdi_session.specs.declared.Detail.TheVariants as detail
 use Rattle.pdi_session.specs.declared.Notice.{Notice}
 use Rattle.pdi_session.specs.declared.Notice.TheVariants as notice
-use Rattle.pdi_session.specs.declared.Form.{Form}
-use Rattle.pdi_session.specs.declared.Form.TheVariants.{Notifies, Item, OtherPayload}
+use Rattle.pdi_session.specs.declared.Form.TheVariants.{Notifies, Item}
 use Rattle.pdi_session.specs.declared.Verdict.{Verdict}
-use Rattle.pdi_session.specs.declared.Verdict.TheVariants.{Takes, Goes, Answers, Ends}
-use Rattle.pdi_session.specs.declared.PutFault.{PutFault}
 use Rattle.pdi_session.specs.declared.PutFault.TheVariants as fault
-use Rattle.pdi_session.specs.declared.InitFault.TheVariants as init_fault
-use Rattle.pdi_session.specs.Settings.{Role, Interlocking, Field}
+use Rattle.pdi_session.specs.Settings.{Interlocking}
 use Rattle.pdi_session.specs.Telegrams.{form_of, is_addressed, is_reserved, kind_of, telegram}
 use Rattle.pdi_session.specs.Tables.{at_up, interlocking_up, is_initialising, may_put, table}
-use Rattle.pdi_session.specs.SessionStep.{Event, Up, Arrives, Puts, InitDone, Closes, SessionState, added_by, at_init_done, init_refusal, judged, notice_tele, phase_after, phase_by, put_refusal, sent_by}
+use Rattle.pdi_session.specs.SessionStep.{Event, Up, Arrives, Puts, InitDone, Closes, SessionState, added_by, judged, phase_after, phase_by, put_refusal, sent_by}
 use Rattle.pdi_session.specs.Histories.{handed_by}
-use Rattle.pdi_session.specs.Laws.{IsItem, IsStatus, completions}
+use Rattle.pdi_session.specs.Laws.{IsItem, completions}
 use Rattle.pdi_session.proofs.TableLemmas.{by_cond}
-use Rattle.pdi_session.proofs.Rows.{form_kind, reserved_of, item_of_form, FormKind, InterlockingRow, IlOver, IlEqual, IlBegins, IlInitial, IlDone, IlStatus, interlocking_row}
-use Rattle.pdi_session.proofs.RowLaws.{put_law}
+use Rattle.pdi_session.proofs.Rows.{form_kind, item_of_form, FormKind, InterlockingRow, IlOver, IlEqual, IlBegins, IlInitial, IlDone, IlStatus, interlocking_row}
 use Rattle.pdi_session.proofs.Shapes.{IlAt, IlPast, Told, Asked, IlRequesting, IlInitialising, IlEstablished, base, check_from, request_from, il_past, completions-append, All-append}
 
 pub by_bool : (P : Bool → Type 0) (b : Bool) → (b ≡ true → P true) → (b ≡ false → P false) → P b

@@ -1,7 +1,6 @@
 -- What is taken, put in and added over every list of events.
-use Rattle.std.proofs.Common.{◌≡◌, ◌≢◌, ◌⊎◌, ℕ, ◌+◌, ◌<◌, ◌≤◌, ◌==◌, Bool, true, false, not, cond, List, [], ◌∷◌, ◌++◌, length, Option, Some, None, refl, sym, ap, ◌∙◌, arith, subst, append_assoc}
+use Rattle.std.proofs.Common.{◌≡◌, Bool, true, false, cond, List, [], ◌∷◌, ◌++◌, Option, Some, None, refl, sym, ap, ◌∙◌, subst, append_assoc}
 use Rattle.std.specs.Prelude.{is_none}
-use Rattle.std.specs.List.{AllByRecursion}
 use Rattle.std.proofs.lemmas.Bool.{false≢true, true≢false}
 use Rattle.std.proofs.lemmas.List.{append-nil}
 use Rattle.sci_telegram.specs.Tele.{Tele}
@@ -12,11 +11,11 @@ use Rattle.pdi_session.specs.declared.Detail.TheVariants as detail
 use Rattle.pdi_session.specs.declared.Form.{Form}
 use Rattle.pdi_session.specs.declared.PutFault.{PutFault}
 use Rattle.pdi_session.specs.declared.Verdict.{Verdict}
-use Rattle.pdi_session.specs.declared.Verdict.TheVariants.{Takes, Goes, Answers, Ends}
+use Rattle.pdi_session.specs.declared.Verdict.TheVariants.{Ends}
 use Rattle.pdi_session.specs.Settings.{Addressing, Role, Interlocking, Field}
 use Rattle.pdi_session.specs.Telegrams.{form_of, is_addressed, is_reserved, telegram}
 use Rattle.pdi_session.specs.Tables.{at_up, is_initialising, may_put, table}
-use Rattle.pdi_session.specs.SessionStep.{Event, Up, Arrives, Puts, InitDone, Closes, Item, SessionState, added_by, after, item_of, judged, phase_after, phase_by, put_refusal, sent_by, taken_as, taken_by}
+use Rattle.pdi_session.specs.SessionStep.{Event, Up, Arrives, Puts, InitDone, Closes, Item, SessionState, added_by, item_of, judged, phase_after, phase_by, put_refusal, taken_as, taken_by}
 use Rattle.pdi_session.specs.Histories.{History, begun, grown, grown_along, handed_by, is_ended, put_by}
 use Rattle.pdi_session.specs.Laws.{AreReserved, IsBeginning, QueueLaw, TakenLaw, items_of}
 use Rattle.pdi_session.proofs.TableLemmas.{by_cond}
@@ -146,7 +145,7 @@ still e h none silent taken =
       whole = λ on. rw (none, silent) (append-nil h.taken ∙ taken.whole (on_before e h.state on) ∙ ap items_of (sym (append-nil h.judged)));
     }
 
-taken_grows : (e : Event) (h : History) → Taken h → Taken (grown e h)
+pub taken_grows : (e : Event) (h : History) → Taken h → Taken (grown e h)
 taken_grows Up h taken = still Up h refl refl taken
 taken_grows (Arrives t) h taken =
     record {
@@ -159,7 +158,17 @@ taken_grows (Puts kind payload waits) h taken = still (Puts kind payload waits) 
 taken_grows (InitDone waits) h taken = still (InitDone waits) h refl refl taken
 taken_grows Closes h taken = still Closes h refl refl taken
 
+-- the commands or status of a beginning are a beginning of the commands or status
+pub items_begin : (xs ys : List Tele) → IsBeginning xs ys → IsBeginning (items_of xs) (items_of ys)
+items_begin xs ys b = (items_of b.0, sym (items-append xs b.0) ∙ ap items_of b.1)
+
+pub begins_through : (a b c : List Item) → IsBeginning a b → IsBeginning b c → IsBeginning a c
+begins_through a b c f g = (f.0 ++ g.0, sym (append_assoc a f.0 g.0) ∙ ap (λ xs. xs ++ g.0) f.1 ∙ g.1)
+
+pub taken_begun : (addressing : Addressing) (role : Role) → Taken (begun addressing role)
+taken_begun addressing role = record { front = ([], refl); whole = λ _. refl }
+
 pub taken_law : TakenLaw
 taken_law addressing role es =
-    let end = along Taken taken_grows es (begun addressing role) (record { front = ([], refl); whole = λ _. refl }) in
+    let end = along Taken taken_grows es (begun addressing role) (taken_begun addressing role) in
     (end.front, end.whole)

@@ -1,13 +1,12 @@
 -- Two sessions keep what the tables say of both, whatever happens in turn: the phase law.
-use Rattle.std.proofs.Common.{◌≡◌, ◌≢◌, ◌⊎◌, ℕ, suc, ◌+◌, ◌<◌, ◌≤◌, ◌==◌, Bool, true, false, not, ◌&&◌, cond, List, [], ◌∷◌, ◌++◌, length, get_or, Option, Some, None, refl, sym, ap, ◌∙◌, arith, subst, ⊎_elim, inl, inr, append_assoc, nat_le}
+use Rattle.std.proofs.Common.{◌≡◌, ◌⊎◌, ℕ, ◌≤◌, Bool, true, false, not, ◌&&◌, cond, List, [], ◌∷◌, ◌++◌, length, get_or, Option, Some, None, refl, sym, ap, ◌∙◌, arith, subst, ⊎_elim, inl, inr}
 use Rattle.std.specs.Prelude.{is_none, unwrap_or}
 use Rattle.std.proofs.lemmas.Bool.{false≢true, true≢false}
-use Rattle.std.proofs.lemmas.List.{append-nil, length-append}
-use Rattle.octets.specs.declared.limits.TheConstants.{WAITING_MAX}
+use Rattle.std.proofs.lemmas.List.{append-nil}
 use Rattle.sci_telegram.specs.Tele.{Tele}
+use Rattle.pdi_session.specs.declared.TheConstants.{CHECKSUM_MAX}
 use Rattle.pdi_session.specs.declared.Phase.{Phase}
 use Rattle.pdi_session.specs.declared.Phase.TheVariants.{Idle, Checking, Requesting, AwaitCheck, AwaitRequest, Refused, Initialising, Established, Ended}
-use Rattle.pdi_session.specs.declared.Detail.{Detail}
 use Rattle.pdi_session.specs.declared.Detail.TheVariants as detail
 use Rattle.pdi_session.specs.declared.Form.{Form}
 use Rattle.pdi_session.specs.declared.Verdict.{Verdict}
@@ -16,15 +15,15 @@ use Rattle.pdi_session.specs.Settings.{Addressing, Role, Interlocking, Field}
 use Rattle.pdi_session.specs.Telegrams.{form_of, is_addressed}
 use Rattle.pdi_session.specs.Tables.{at_up, is_early, is_initialising, may_put, table}
 use Rattle.pdi_session.specs.SessionStep.{Event, Up, Arrives, Puts, InitDone, Closes, SessionState, added_by, end_of, judged, phase_after, phase_by, sent_by}
-use Rattle.pdi_session.specs.Histories.{History, begun, ends_by, grown, handed_by, is_ended}
+use Rattle.pdi_session.specs.Histories.{History, ends_by, grown, grown_along, handed_by, is_ended}
 use Rattle.pdi_session.specs.Laws.{IsBeginning, items_of}
-use Rattle.pdi_session.specs.JoinedSessions.{AtFe, AtIl, EndEarly, EndsEarly, InTurn, IsNext, IsNextAt, Joined, JoinedEvent, PhaseLaw, happen, happens, joined}
+use Rattle.pdi_session.specs.JoinedSessions.{AtFe, AtIl, EndsEarly, InTurn, IsNext, IsNextAt, Joined, JoinedEvent, OneMoreLaw, PhaseLaw, TakesFrontLaw, happen, happens, joined}
 use Rattle.pdi_session.proofs.TableLemmas.{by_cond}
-use Rattle.pdi_session.proofs.ItemLists.{PutIsQueue, is_over, phase_over, put_grows}
-use Rattle.pdi_session.proofs.Shapes.{Accepts, Asked, FeAt, FePast, IlAt, IlPast, Refuses, Starts, base, differs_from, equal_from, fe_past, il_past}
+use Rattle.pdi_session.proofs.ItemLists.{PutIsQueue, Taken, begins_through, items_begin, phase_over, put_grows, taken_begun, taken_grows}
+use Rattle.pdi_session.proofs.Shapes.{FeAt, base, differs_from, equal_from, fe_past, il_past}
 use Rattle.pdi_session.proofs.IlSteps.{by_bool, il_step}
 use Rattle.pdi_session.proofs.FeSteps.{fe_step}
-use Rattle.pdi_session.proofs.PhaseLemma.{Joint, begins_longer, first_same, is_equal, none_begins}
+use Rattle.pdi_session.proofs.PhaseLemma.{Joint, begins_longer, none_begins}
 use Rattle.pdi_session.proofs.PhaseFails.{Fails, IlFailed, fe_fails, il_fails}
 
 -- a session that does nothing more
@@ -75,6 +74,8 @@ record Both (version : ℕ) (versions checksum : List ℕ) (x y : History) : Typ
   joint : Joint version versions checksum x y
   il_items : PutIsQueue x
   fe_items : PutIsQueue y
+  il_taken : Taken x
+  fe_taken : Taken y
   il_ended : (phase : Phase) → x.ended_in ≡ Some phase → IlFailed phase y
   fe_ended : (phase : Phase) → y.ended_in ≡ Some phase → (is_early phase ≡ true) × (y.queue ≡ [])
   fe_over : (phase : Phase) → y.ended_in ≡ Some phase → y.state.phase ≡ Ended
@@ -119,6 +120,8 @@ il_event version versions checksum e x y next b =
       };
       il_items = put_grows e x b.il_items;
       fe_items = b.fe_items;
+      il_taken = taken_grows e x b.il_taken;
+      fe_taken = b.fe_taken;
       il_ended = ended_by (λ phase. IlFailed phase y) e x
           (λ t same fails.
           let n : IsNext (Arrives t) x y = subst (λ f. IsNext f x y) same next in
@@ -155,6 +158,8 @@ fe_event version versions checksum e x y next b =
       };
       il_items = b.il_items;
       fe_items = put_grows e y b.fe_items;
+      il_taken = b.il_taken;
+      fe_taken = taken_grows e y b.fe_taken;
       il_ended = λ phase is.
           (let before = b.il_ended phase is in
           let none : added_by e y.state ≡ [] =
@@ -203,15 +208,53 @@ ends_early version versions checksum x y b = (
 some_none : (phase : Phase) → ◌≡◌ {A = Option Phase} None (Some phase) → ⊥
 some_none phase e = cc
 
-pub phase_law : PhaseLaw
-phase_law il fe version versions checksum short es turn =
-    let start : Joined = joined il version fe versions checksum in
-    ends_early version versions checksum (happen es start).il (happen es start).fe
-    (both_along version versions checksum es start turn (record {
+-- two new sessions keep it
+both_joined : (il fe : Addressing) (version : ℕ) (versions checksum : List ℕ) → length checksum ≤ CHECKSUM_MAX
+    → Both version versions checksum (joined il version fe versions checksum).il (joined il version fe versions checksum).fe
+both_joined il fe version versions checksum short =
+    record {
       joint = record { il_role = refl; fe_role = refl; short = short; il_at = (refl, refl); fe_at = (refl, refl); il_hears = ([], refl); fe_hears = ([], refl) };
       il_items = refl;
       fe_items = refl;
+      il_taken = taken_begun il (Interlocking version);
+      fe_taken = taken_begun fe (Field versions checksum);
       il_ended = λ phase is. absurd (some_none phase is);
       fe_ended = λ phase is. absurd (some_none phase is);
       fe_over = λ phase is. absurd (some_none phase is);
-    }))
+    }
+
+-- and after all events
+both_after : (il fe : Addressing) (version : ℕ) (versions checksum : List ℕ) → length checksum ≤ CHECKSUM_MAX → (es : List JoinedEvent) → InTurn es (joined il version fe versions checksum)
+    → Both version versions checksum (happen es (joined il version fe versions checksum)).il (happen es (joined il version fe versions checksum)).fe
+both_after il fe version versions checksum short es turn =
+    both_along version versions checksum es (joined il version fe versions checksum) turn (both_joined il fe version versions checksum short)
+
+pub phase_law : PhaseLaw
+phase_law il fe version versions checksum short es turn = ends_early version versions checksum _ _ (both_after il fe version versions checksum short es turn)
+
+-- what is taken is a beginning of what the peer has put in
+takes_front : (h peer : History) → Taken h → IsBeginning h.judged peer.queue → PutIsQueue peer → IsBeginning h.taken peer.put
+takes_front h peer taken hears items =
+    subst (IsBeginning h.taken) items (begins_through h.taken (items_of h.judged) (items_of peer.queue) taken.front (items_begin h.judged peer.queue hears))
+
+pub fronts_law : TakesFrontLaw
+fronts_law il fe version versions checksum short es turn =
+    let end : Joined = happen es (joined il version fe versions checksum) in
+    let b : Both version versions checksum end.il end.fe = both_after il fe version versions checksum short es turn in
+    (takes_front end.il end.fe b.il_taken b.joint.il_hears b.fe_items, takes_front end.fe end.il b.fe_taken b.joint.fe_hears b.il_items)
+
+-- one event more, at the end
+grown_more : (es : List Event) (e : Event) (h : History) → grown_along (es ++ e ∷ []) h ≡ grown e (grown_along es h)
+grown_more [] e h = refl
+grown_more (x ∷ es) e h = grown_more es e (grown x h)
+
+happen_more : (es : List JoinedEvent) (e : JoinedEvent) (j : Joined) → happen (es ++ e ∷ []) j ≡ happens e (happen es j)
+happen_more [] e j = refl
+happen_more (x ∷ es) e j = happen_more es e (happens x j)
+
+turn_more : (es : List JoinedEvent) (e : JoinedEvent) (j : Joined) → InTurn es j → IsNextAt e (happen es j) → InTurn (es ++ e ∷ []) j
+turn_more [] e j turn next = (next, tt)
+turn_more (x ∷ es) e j turn next = (turn.0, turn_more es e (happens x j) turn.1 next)
+
+pub one_more_law : OneMoreLaw
+one_more_law = (grown_more, happen_more, turn_more)

@@ -1,25 +1,23 @@
 -- In which phases a telegram of the peer's queue can end a session.
-use Rattle.std.proofs.Common.{◌≡◌, ◌≢◌, ◌⊎◌, ℕ, suc, ◌+◌, ◌<◌, ◌≤◌, ◌==◌, Bool, true, false, not, ◌&&◌, cond, List, [], ◌∷◌, ◌++◌, length, drop, get_or, Option, Some, None, refl, sym, ap, ◌∙◌, arith, subst, ⊎_elim, inl, inr, append_assoc, nat_le}
+use Rattle.std.proofs.Common.{◌≡◌, ◌⊎◌, ℕ, suc, ◌≤◌, ◌==◌, true, false, List, [], ◌∷◌, ◌++◌, length, refl, sym, ap, ◌∙◌, arith, subst, ⊎_elim, inl, inr}
 use Rattle.std.specs.Prelude.{is_none}
-use Rattle.std.proofs.lemmas.Bool.{eq-eqb, false≢true, true≢false}
-use Rattle.std.proofs.lemmas.List.{append-nil, length-append}
+use Rattle.std.proofs.lemmas.Bool.{eq-eqb, true≢false}
+use Rattle.std.proofs.lemmas.List.{length-append}
 use Rattle.sci_telegram.specs.Tele.{Tele}
 use Rattle.pdi_session.specs.declared.Phase.{Phase}
 use Rattle.pdi_session.specs.declared.Phase.TheVariants.{Idle, Checking, Requesting, AwaitCheck, AwaitRequest, Refused, Initialising, Established, Ended}
 use Rattle.pdi_session.specs.declared.Notice.TheVariants as notice
-use Rattle.pdi_session.specs.declared.Form.{Form}
 use Rattle.pdi_session.specs.declared.Form.TheVariants.{Notifies, Item}
-use Rattle.pdi_session.specs.declared.Verdict.{Verdict}
-use Rattle.pdi_session.specs.declared.Verdict.TheVariants.{Takes, Goes, Answers, Ends}
-use Rattle.pdi_session.specs.Settings.{Addressing, Role, Interlocking, Field}
-use Rattle.pdi_session.specs.Telegrams.{form_of, is_addressed, is_reserved, telegram}
-use Rattle.pdi_session.specs.Tables.{interlocking_table, is_early, table}
+use Rattle.pdi_session.specs.declared.Verdict.TheVariants.{Takes, Goes, Answers}
+use Rattle.pdi_session.specs.Settings.{Interlocking, Field}
+use Rattle.pdi_session.specs.Telegrams.{form_of, is_addressed}
+use Rattle.pdi_session.specs.Tables.{interlocking_table, is_early}
 use Rattle.pdi_session.specs.SessionStep.{SessionState, end_of, judged, notice_tele}
 use Rattle.pdi_session.specs.Histories.{History, is_ended}
 use Rattle.pdi_session.specs.Laws.{IsBeginning, IsItem, IsStatus, completions}
-use Rattle.pdi_session.proofs.Shapes.{Accepts, Asked, FeAt, FePast, Heard, IlAt, IlPast, Refuses, Starts, Told, base, check_from, completions-append, differs_from, equal_from, fe_past, il_past, request_from, start_from}
+use Rattle.pdi_session.proofs.Shapes.{Accepts, Asked, FeAt, FePast, Heard, IlAt, IlPast, Refuses, Starts, Told, base, check_from, completions-append, differs_from, equal_from, request_from, start_from}
 use Rattle.pdi_session.proofs.IlSteps.{counted}
-use Rattle.pdi_session.proofs.PhaseLemma.{Crossed, Joint, Met, checked, decides, equal_says, first_same, free_form, goes_on, is_equal, later_has, met, none_begins, second_is, to_field, to_interlocking}
+use Rattle.pdi_session.proofs.PhaseLemma.{Joint, decides, equal_says, first_same, free_form, goes_on, is_equal, later_has, met, none_begins, second_is, to_field, to_interlocking}
 
 -- a telegram ends the session
 abbrev pub Fails : History → Tele → Type 0

@@ -1,30 +1,25 @@
 -- Of two sessions that are handed one another's queues, none ends by a telegram once its peer has put something in.
-use Rattle.std.proofs.Common.{◌≡◌, ◌≢◌, ◌⊎◌, ℕ, suc, ◌+◌, ◌<◌, ◌≤◌, ◌==◌, Bool, true, false, not, ◌&&◌, cond, List, [], ◌∷◌, ◌++◌, length, drop, get_or, Option, Some, None, refl, sym, ap, ◌∙◌, arith, subst, ⊎_elim, inl, inr, append_assoc, nat_le}
+use Rattle.std.proofs.Common.{◌≡◌, ℕ, suc, ◌≤◌, ◌==◌, Bool, true, false, ◌&&◌, List, [], ◌∷◌, ◌++◌, length, drop, get_or, refl, sym, ap, ◌∙◌, arith, subst, ⊎_elim, append_assoc, nat_le}
 use Rattle.std.specs.Prelude.{is_none}
 use Rattle.std.specs.Str.{bytes_eq}
 use Rattle.std.specs.List.{AllByRecursion}
 use Rattle.std.proofs.lemmas.Bool.{eqb-true, eq-eqb, le-leb, false≢true, true≢false}
-use Rattle.std.proofs.lemmas.List.{append-nil, length-append}
 use Rattle.std.proofs.lemmas.Slice.Eq.{bytes_eq-Decides}
 use Rattle.sci_telegram.specs.Tele.{Tele}
 use Rattle.pdi_session.specs.declared.TheConstants.{CHECKSUM_MAX}
 use Rattle.pdi_session.specs.declared.Phase.{Phase}
-use Rattle.pdi_session.specs.declared.Phase.TheVariants.{Idle, Checking, Requesting, AwaitCheck, AwaitRequest, Refused, Initialising, Established, Ended}
 use Rattle.pdi_session.specs.declared.Notice.TheVariants as notice
 use Rattle.pdi_session.specs.declared.Form.{Form}
 use Rattle.pdi_session.specs.declared.Form.TheVariants.{Notifies, Item, OtherPayload}
 use Rattle.pdi_session.specs.declared.Verdict.{Verdict}
-use Rattle.pdi_session.specs.declared.Verdict.TheVariants.{Takes, Goes, Answers, Ends}
 use Rattle.pdi_session.specs.Settings.{Addressing, Role, Interlocking, Field, checksum_of}
 use Rattle.pdi_session.specs.Telegrams.{form_of, is_addressed, is_reserved, kind_of, payload_of, telegram}
-use Rattle.pdi_session.specs.Tables.{field_table, interlocking_table, is_early, table}
-use Rattle.pdi_session.specs.SessionStep.{Event, Up, Arrives, Puts, InitDone, Closes, SessionState, end_of, judged, notice_tele}
-use Rattle.pdi_session.specs.Histories.{History, is_ended}
-use Rattle.pdi_session.specs.Laws.{IsBeginning, IsItem, IsStatus, completions}
-use Rattle.pdi_session.proofs.TableLemmas.{by_cond}
+use Rattle.pdi_session.specs.Tables.{table}
+use Rattle.pdi_session.specs.SessionStep.{SessionState, end_of, judged}
+use Rattle.pdi_session.specs.Histories.{History}
+use Rattle.pdi_session.specs.Laws.{IsBeginning}
 use Rattle.pdi_session.proofs.Rows.{FormKind, form_kind, reserved_notice}
-use Rattle.pdi_session.proofs.Shapes.{Accepts, All-next, Asked, FeAt, FePast, Heard, IlAt, IlPast, Refuses, Starts, Told, base, check_from, completions-append, differs_from, equal_from, fe_past, il_past, request_from, start_from}
-use Rattle.pdi_session.proofs.IlSteps.{by_bool, counted}
+use Rattle.pdi_session.proofs.Shapes.{All-next, FeAt, Heard, IlAt, IlPast, base, check_from, equal_from, il_past, request_from}
 
 -- the settings of two ends fit one another
 pub record Crossed (a b : Addressing) : Type 0 where

@@ -1,22 +1,19 @@
 -- What the queue of a session is over every list of events.
-use Rattle.std.proofs.Common.{◌≡◌, ◌≢◌, ◌⊎◌, ℕ, ◌+◌, ◌<◌, ◌≤◌, ◌==◌, Bool, true, false, not, cond, List, [], ◌∷◌, ◌++◌, length, Option, Some, None, refl, sym, ap, ◌∙◌, arith, subst, ⊎_elim, inl, inr, append_assoc}
+use Rattle.std.proofs.Common.{◌≡◌, ◌≢◌, ℕ, true, cond, List, [], ◌∷◌, ◌++◌, refl, sym, ap, ◌∙◌, subst, ⊎_elim, inl, inr}
 use Rattle.std.specs.Prelude.{is_none}
 use Rattle.std.specs.List.{AllByRecursion}
-use Rattle.std.proofs.lemmas.Bool.{false≢true, true≢false}
+use Rattle.std.proofs.lemmas.Bool.{false≢true}
 use Rattle.std.proofs.lemmas.List.{append-nil}
 use Rattle.sci_telegram.specs.Tele.{Tele}
 use Rattle.pdi_session.specs.declared.Phase.{Phase}
 use Rattle.pdi_session.specs.declared.Phase.TheVariants.{Idle, Checking, Requesting, AwaitCheck, AwaitRequest, Refused, Initialising, Established, Ended}
-use Rattle.pdi_session.specs.declared.Notice.TheVariants as notice
-use Rattle.pdi_session.specs.Settings.{Addressing, Role, Interlocking, Field}
-use Rattle.pdi_session.specs.Telegrams.{is_reserved}
+use Rattle.pdi_session.specs.Settings.{Interlocking, Field}
 use Rattle.pdi_session.specs.Tables.{may_put}
-use Rattle.pdi_session.specs.SessionStep.{Event, Up, Arrives, Puts, InitDone, Closes, Item, SessionState, item_of, notice_tele, phase_after, put_refusal}
+use Rattle.pdi_session.specs.SessionStep.{Event, Up, Arrives, Puts, InitDone, Closes, SessionState, item_of, phase_after, put_refusal}
 use Rattle.pdi_session.specs.Histories.{History, begun, grown, grown_along, put_by}
-use Rattle.pdi_session.specs.Laws.{FieldLaw, InterlockingLaw, IsFieldQueue, IsInterlockingQueue, IsItem, IsStatus, is_established, items_of, was_established}
-use Rattle.pdi_session.proofs.TableLemmas.{by_cond}
+use Rattle.pdi_session.specs.Laws.{FieldLaw, InterlockingLaw, IsFieldQueue, IsInterlockingQueue, IsItem, is_established, items_of, was_established}
 use Rattle.pdi_session.proofs.ItemLists.{PutIsQueue, along, put_grows}
-use Rattle.pdi_session.proofs.Shapes.{Accepts, Asked, FeAt, FePast, IlAt, IlPast, Refuses, Starts, base, check_from, fe_past, il_past}
+use Rattle.pdi_session.proofs.Shapes.{FeAt, FePast, IlAt, IlPast, base, fe_past, il_past}
 use Rattle.pdi_session.proofs.IlSteps.{by_bool, il_may_put, il_step, put_open}
 use Rattle.pdi_session.proofs.FeSteps.{fe_step}
 

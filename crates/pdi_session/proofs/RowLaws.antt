@@ -1,7 +1,7 @@
 -- The laws of the session's rows.
-use Rattle.std.proofs.Common.{◌≡◌, ◌≢◌, ◌⊎◌, ℕ, ◌+◌, ◌<◌, ◌≤◌, ◌^◌, ◌==◌, Bool, true, false, not, cond, List, [], ◌∷◌, ◌++◌, length, Option, Some, None, refl, sym, ap, ◌∙◌, arith, subst, nat_le, nat_lt}
-use Rattle.std.specs.Prelude.{All, is_none}
-use Rattle.std.proofs.lemmas.Bool.{false≢true, true≢false}
+use Rattle.std.proofs.Common.{◌≡◌, ◌≢◌, ℕ, ◌<◌, Bool, true, false, not, cond, List, [], ◌∷◌, length, Some, None, refl, sym, ap, ◌∙◌, arith, nat_le, nat_lt}
+use Rattle.std.specs.Prelude.{is_none}
+use Rattle.std.proofs.lemmas.Bool.{false≢true}
 use Rattle.std.proofs.lemmas.List.{length-append}
 use Rattle.sci_telegram.specs.Tele.{Tele}
 use Rattle.octets.specs.declared.limits.TheConstants.{WAITING_MAX}
@@ -11,14 +11,14 @@ use Rattle.pdi_session.specs.declared.Detail.{Detail}
 use Rattle.pdi_session.specs.declared.Detail.TheVariants as detail
 use Rattle.pdi_session.specs.declared.Notice.{Notice}
 use Rattle.pdi_session.specs.declared.Notice.TheVariants as notice
-use Rattle.pdi_session.specs.declared.Form.TheVariants.{Notifies, Item, OtherPayload}
+use Rattle.pdi_session.specs.declared.Form.TheVariants.{Notifies, Item}
 use Rattle.pdi_session.specs.declared.Verdict.{Verdict}
 use Rattle.pdi_session.specs.declared.Verdict.TheVariants.{Takes, Goes, Answers, Ends}
 use Rattle.pdi_session.specs.declared.PutFault.TheVariants as fault
-use Rattle.pdi_session.specs.Settings.{Addressing, Role, Interlocking, Field}
-use Rattle.pdi_session.specs.Telegrams.{form_of, is_addressed, is_reserved, telegram}
-use Rattle.pdi_session.specs.Tables.{table, interlocking_table, field_table, may_put, is_early}
-use Rattle.pdi_session.specs.SessionStep.{Event, Up, Arrives, Puts, InitDone, FewWait, HasRoom, SessionState, added_by, at_init_done, end_of, item_of, judged, notice_tele, opened, put_refusal, init_refusal, sent_by, taken_by, taken_as, most_waiting}
+use Rattle.pdi_session.specs.Settings.{Role, Interlocking, Field}
+use Rattle.pdi_session.specs.Telegrams.{form_of, is_addressed, is_reserved}
+use Rattle.pdi_session.specs.Tables.{table, may_put, is_early}
+use Rattle.pdi_session.specs.SessionStep.{InitDone, SessionState, added_by, at_init_done, end_of, item_of, judged, notice_tele, init_refusal, sent_by, taken_as, most_waiting}
 use Rattle.pdi_session.specs.Laws.{AreReserved, TakesLaw, GoesLaw, OwnLaw, PutLaw, RoomLaw}
 use Rattle.pdi_session.proofs.TableLemmas.{by_cond}
 use Rattle.pdi_session.proofs.Rows.{InterlockingRow, IlOver, IlEqual, IlBegins, IlInitial, IlDone, IlStatus, FieldRow, FeOver, FeEqual, FeDiffers, FeAsked, FeCommand, interlocking_row, field_row, reserved_of, item_of_form, reserved_notice}

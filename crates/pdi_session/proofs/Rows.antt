@@ -1,8 +1,7 @@
 -- The laws of the tables, row by row.
-use Rattle.std.proofs.Common.{◌≡◌, ◌≢◌, ◌⊎◌, ℕ, ◌+◌, ◌<◌, ◌≤◌, ◌==◌, Bool, true, false, ◌&&◌, nat_le, cond, List, [], ◌∷◌, ◌++◌, length, Some, None, All, refl, sym, ap, ◌∙◌, arith, subst, ⊎_elim}
+use Rattle.std.proofs.Common.{◌≡◌, ℕ, ◌==◌, true, false, ◌&&◌, nat_le, List, [], ◌∷◌, length, refl, ap, ◌∙◌, subst}
 use Rattle.std.proofs.lemmas.Bool.{eqb-true}
 use Rattle.std.specs.List.{list_any}
-use Rattle.sci_telegram.specs.Tele.{Tele}
 use Rattle.pdi_session.specs.declared.TheConstants.{VERSION_CHECK, VERSION_ANSWER, INITIALISATION_REQUEST, START_INITIALISATION, INITIALISATION_COMPLETED, CHECKSUM_MAX, EQUAL, DIFFERENT}
 use Rattle.pdi_session.specs.declared.Phase.{Phase}
 use Rattle.pdi_session.specs.declared.Phase.TheVariants.{Idle, Checking, Requesting, AwaitCheck, AwaitRequest, Refused, Initialising, Established, Ended}
@@ -14,10 +13,9 @@ use Rattle.pdi_session.specs.declared.Form.{Form}
 use Rattle.pdi_session.specs.declared.Form.TheVariants.{Notifies, Item, OtherPayload}
 use Rattle.pdi_session.specs.declared.Verdict.{Verdict}
 use Rattle.pdi_session.specs.declared.Verdict.TheVariants.{Takes, Goes, Answers, Ends}
-use Rattle.pdi_session.specs.Settings.{Role, Interlocking, Field, first_version}
-use Rattle.pdi_session.specs.Telegrams.{form_of, is_addressed, is_reserved, check_form, answer_form, bare_form, kind_of, result_form}
-use Rattle.pdi_session.specs.Tables.{table, interlocking_table, field_table}
-use Rattle.pdi_session.specs.SessionStep.{SessionState, judged}
+use Rattle.pdi_session.specs.Settings.{first_version}
+use Rattle.pdi_session.specs.Telegrams.{form_of, is_reserved, check_form, answer_form, bare_form, kind_of}
+use Rattle.pdi_session.specs.Tables.{interlocking_table, field_table}
 use Rattle.pdi_session.proofs.TableLemmas.{by_cond}
 
 -- the rows of the interlocking: in which phase and on what each verdict is

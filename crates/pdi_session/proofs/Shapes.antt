@@ -1,28 +1,16 @@
 -- What the queue of a session and the telegrams it judged look like in each phase.
-use Rattle.std.proofs.Common.{◌≡◌, ◌≢◌, ◌⊎◌, ℕ, ◌+◌, ◌<◌, ◌≤◌, ◌==◌, Bool, true, false, not, cond, List, [], ◌∷◌, ◌++◌, length, Option, Some, None, refl, sym, ap, ◌∙◌, arith, subst, ⊎_elim, inl, inr, append_assoc}
-use Rattle.std.specs.Prelude.{is_none}
+use Rattle.std.proofs.Common.{◌≡◌, ◌≢◌, ◌⊎◌, ℕ, ◌+◌, ◌≤◌, ◌==◌, true, cond, List, [], ◌∷◌, ◌++◌, length, arith, inl, inr}
 use Rattle.std.specs.List.{AllByRecursion}
-use Rattle.std.proofs.lemmas.Bool.{false≢true, true≢false}
-use Rattle.std.proofs.lemmas.List.{append-nil, length-append}
 use Rattle.sci_telegram.specs.Tele.{Tele}
-use Rattle.octets.specs.declared.limits.TheConstants.{WAITING_MAX}
 use Rattle.pdi_session.specs.declared.TheConstants.{INITIALISATION_COMPLETED}
 use Rattle.pdi_session.specs.declared.Phase.{Phase}
 use Rattle.pdi_session.specs.declared.Phase.TheVariants.{Idle, Checking, Requesting, AwaitCheck, AwaitRequest, Refused, Initialising, Established, Ended}
-use Rattle.pdi_session.specs.declared.Detail.{Detail}
-use Rattle.pdi_session.specs.declared.Detail.TheVariants as detail
-use Rattle.pdi_session.specs.declared.Notice.{Notice}
 use Rattle.pdi_session.specs.declared.Notice.TheVariants as notice
-use Rattle.pdi_session.specs.declared.Form.{Form}
-use Rattle.pdi_session.specs.declared.Form.TheVariants.{Notifies, Item, OtherPayload}
-use Rattle.pdi_session.specs.declared.Verdict.{Verdict}
-use Rattle.pdi_session.specs.declared.Verdict.TheVariants.{Takes, Goes, Answers, Ends}
-use Rattle.pdi_session.specs.Settings.{Role, Interlocking, Field}
-use Rattle.pdi_session.specs.Telegrams.{form_of, is_addressed, is_reserved, kind_of, telegram}
-use Rattle.pdi_session.specs.SessionStep.{SessionState, notice_tele, phase_by, sent_by, with_phase}
+use Rattle.pdi_session.specs.declared.Form.TheVariants.{Notifies}
+use Rattle.pdi_session.specs.Telegrams.{form_of, is_addressed}
+use Rattle.pdi_session.specs.SessionStep.{SessionState, notice_tele, with_phase}
 use Rattle.pdi_session.specs.Laws.{IsItem, IsStatus, completions}
 use Rattle.pdi_session.proofs.TableLemmas.{by_cond}
-use Rattle.pdi_session.proofs.Rows.{form_kind, reserved_of, item_of_form, FormKind}
 
 -- a session but for its phase
 abbrev pub base : SessionState → SessionState

@@ -1,5 +1,5 @@
 -- The settings that a session holds.
-use Rattle.std.proofs.Common.{ℕ, ◌≤◌, List, length, arith}
+use Rattle.std.proofs.Common.{◌≤◌, length, arith}
 use Rattle.pdi_session.specs.declared.TheConstants.{CHECKSUM_MAX}
 use Rattle.pdi_session.specs.declared.Side.{Side}
 use Rattle.pdi_session.specs.declared.Side.TheVariants as side

@@ -4,7 +4,7 @@ use Rattle.sci_telegram.specs.Tele.{Tele}
 use Rattle.pdi_session.specs.declared.Phase.{Phase}
 use Rattle.pdi_session.specs.declared.Phase.TheVariants.{Idle, Ended}
 use Rattle.pdi_session.specs.Settings.{Addressing, Role}
-use Rattle.pdi_session.specs.SessionStep.{Event, Up, Arrives, Puts, InitDone, Closes, Item, SessionState, added_by, after, end_of, init_refusal, judged, opened, phase_after, put_refusal, taken_by, texts}
+use Rattle.pdi_session.specs.SessionStep.{Event, Arrives, Puts, Item, SessionState, added_by, after, end_of, judged, opened, phase_after, put_refusal, taken_by, texts}
 
 pub record History : Type 0 where
   pub state : SessionState

@@ -5,7 +5,7 @@ use Rattle.pdi_session.specs.declared.Phase.{Phase}
 use Rattle.pdi_session.specs.Settings.{Addressing, Interlocking, Field}
 use Rattle.pdi_session.specs.Tables.{is_early}
 use Rattle.pdi_session.specs.SessionStep.{Event, Arrives}
-use Rattle.pdi_session.specs.Histories.{History, begun, grown, is_ended}
+use Rattle.pdi_session.specs.Histories.{History, begun, grown, grown_along, is_ended}
 use Rattle.pdi_session.specs.Laws.{IsBeginning}
 
 pub record Joined : Type 0 where
@@ -54,3 +54,15 @@ EndEarly j = EndsEarly j.il j.fe × EndsEarly j.fe j.il
 abbrev pub PhaseLaw : Type 0
 PhaseLaw = (il fe : Addressing) (version : ℕ) (versions checksum : List ℕ) → length checksum ≤ CHECKSUM_MAX → (es : List JoinedEvent)
     → InTurn es (joined il version fe versions checksum) → EndEarly (happen es (joined il version fe versions checksum))
+
+-- what each application takes is a beginning of what the other has put in
+abbrev pub TakesFrontLaw : Type 0
+TakesFrontLaw = (il fe : Addressing) (version : ℕ) (versions checksum : List ℕ) → length checksum ≤ CHECKSUM_MAX → (es : List JoinedEvent)
+    → InTurn es (joined il version fe versions checksum) → let end = happen es (joined il version fe versions checksum) in
+    IsBeginning end.il.taken end.fe.put × IsBeginning end.fe.taken end.il.put
+
+-- one event more, at the end of a list
+abbrev pub OneMoreLaw : Type 0
+OneMoreLaw = ((es : List Event) (e : Event) (h : History) → grown_along (es ++ e ∷ []) h ≡ grown e (grown_along es h))
+    × ((es : List JoinedEvent) (e : JoinedEvent) (j : Joined) → happen (es ++ e ∷ []) j ≡ happens e (happen es j))
+    × ((es : List JoinedEvent) (e : JoinedEvent) (j : Joined) → InTurn es j → IsNextAt e (happen es j) → InTurn (es ++ e ∷ []) j)

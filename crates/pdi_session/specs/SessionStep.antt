@@ -1,11 +1,11 @@
 -- SessionStep: what a session does, in words of the state that its calls change and of the lists that they make longer.
-use Rattle.std.specs.Prelude.{◌≡◌, ◌<◌, ◌≤◌, ℕ, Bool, true, is_none, not, nat_le, nat_lt, if◌then◌else◌, List, [], ◌∷◌, ◌++◌, length, map, Option, Some, None, Result, Ok, Err}
+use Rattle.std.specs.Prelude.{◌≡◌, ◌<◌, ◌≤◌, ℕ, true, is_none, not, nat_le, nat_lt, if◌then◌else◌, List, [], ◌∷◌, length, map, Option, Some, None}
 use Rattle.octets.specs.declared.limits.TheConstants.{PAYLOAD_MAX}
 use Rattle.octets.specs.declared.limits.TheConstants.{WAITING_MAX}
 use Rattle.sci_telegram.specs.Tele.{Tele}
 use Rattle.sci_telegram.specs.TeleText.{tele_text}
 use Rattle.pdi_session.specs.declared.Phase.{Phase}
-use Rattle.pdi_session.specs.declared.Phase.TheVariants.{Idle, Checking, Requesting, AwaitCheck, AwaitRequest, Refused, Initialising, Established, Ended}
+use Rattle.pdi_session.specs.declared.Phase.TheVariants.{Idle, Checking, Requesting, AwaitCheck, AwaitRequest, Refused, Established, Ended}
 use Rattle.pdi_session.specs.declared.Detail.{Detail}
 use Rattle.pdi_session.specs.declared.Detail.TheVariants as detail
 use Rattle.pdi_session.specs.declared.Notice.{Notice}

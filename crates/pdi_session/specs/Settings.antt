@@ -1,5 +1,5 @@
 -- What a session is told before it begins (SCI session layer; the rules are the profile's, docs/SESSION.md).
-use Rattle.std.specs.Prelude.{◌≡◌, ◌==◌, ◌<◌, ◌≤◌, ℕ, Bool, true, ◌&&◌, not, nat_le, IsTrue, List, [], ◌∷◌, length, ⊤}
+use Rattle.std.specs.Prelude.{◌==◌, ◌<◌, ◌≤◌, ℕ, Bool, true, ◌&&◌, not, nat_le, IsTrue, List, [], ◌∷◌, length, ⊤}
 use Rattle.std.specs.List.{list_any}
 use Rattle.pdi_session.specs.declared.TheConstants.{CHECKSUM_MAX, VERSIONS_MAX}
 use Rattle.pdi_session.specs.declared.Parties.{Parties}

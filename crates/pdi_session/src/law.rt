@@ -1,6 +1,6 @@
 //! What the tables promise of any session, and over every list of its events.
 
-ghost use Rattle.pdi_session.specs.JoinedSessions.{PhaseLaw};
+ghost use Rattle.pdi_session.specs.JoinedSessions.{OneMoreLaw, PhaseLaw, TakesFrontLaw};
 ghost use Rattle.pdi_session.specs.Laws.{FieldLaw, GoesLaw, InterlockingLaw, MessageLaw, OwnLaw, PutLaw, QueueLaw, RoomLaw, StandsLaw, TakenLaw, TakesLaw};
 
 /// The laws of the session's step, which do nothing when they are called.
@@ -43,4 +43,10 @@ pub fn session_law()
     // Of two sessions, each handed the other's queue in turn, a telegram ends one in its establishment
     // alone, and then its peer has put nothing in.
     ensures phases { PhaseLaw }
+
+    // And what each application takes is a beginning of what the other has put in.
+    ensures fronts { TakesFrontLaw }
+
+    // How histories grow with one event more.
+    ensures one_more { OneMoreLaw }
 {}

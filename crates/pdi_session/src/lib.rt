@@ -175,7 +175,7 @@ enum Side {
 
 /// A telegram of the establishment.
 #[derive(Clone, Copy, Debug, PartialEq, Eq)]
-enum Notice {
+pub enum Notice {
     /// The interlocking has this version.
     VersionCheck(u8),
     /// The field element takes this version.
@@ -192,7 +192,7 @@ enum Notice {
 
 /// What a telegram says by its kind and payload.
 #[derive(Clone, Copy, Debug, PartialEq, Eq)]
-enum Form {
+pub enum Form {
     /// It is a telegram of the establishment.
     Notifies(Notice),
     /// It is a command or status.
@@ -203,7 +203,7 @@ enum Form {
 
 /// What a session decides.
 #[derive(Clone, Copy, Debug, PartialEq, Eq)]
-enum Verdict {
+pub enum Verdict {
     /// The application takes the telegram; the phase stays.
     Takes,
     /// The phase is this one.

@@ -2,7 +2,7 @@ use Rattle.pdi_session.proofs.Growing.{stands_on}
 use Rattle.pdi_session.proofs.Added.{message_law}
 use Rattle.pdi_session.proofs.ItemLists.{queue_law, taken_law}
 use Rattle.pdi_session.proofs.Queues.{field_law, interlocking_law}
-use Rattle.pdi_session.proofs.JointSteps.{phase_law}
+use Rattle.pdi_session.proofs.JointSteps.{fronts_law, one_more_law, phase_law}
 use Rattle.pdi_session.proofs.RowLaws.{takes_law, goes_law, own_law, put_law, room_law}
 use Rattle.pdi_session.proofs.law.session_law.Goals as goal
 
@@ -41,3 +41,9 @@ returns-clause-field c = field_law
 
 pub returns-clause-phases : goal.returns-clause-phases
 returns-clause-phases c = phase_law
+
+pub returns-clause-fronts : goal.returns-clause-fronts
+returns-clause-fronts c = fronts_law
+
+pub returns-clause-one_more : goal.returns-clause-one_more
+returns-clause-one_more c = one_more_law
