@@ -18,8 +18,8 @@ use super::{
 use crate::forms::{form_of, is_reserved};
 use crate::messages::{add_notice, add_telegram};
 use crate::tables::{field_up, field_verdict, interlocking_up, interlocking_verdict};
-use octets::limits::PAYLOAD_MAX;
-use packing::{WAITING_MAX, Waiting};
+use octets::limits::{PAYLOAD_MAX, WAITING_MAX};
+use packing::Waiting;
 use sci_telegram::Telegram;
 use std::alloc::Allocator;
 use std::marker::Model;
