@@ -17,6 +17,7 @@ use Rattle.safe_machine.specs.Step.{carry_out, receive, arrive, guard, take_unit
 use Rattle.safe_machine.specs.Course.{Allows, Passes, cs_ahead, carried, handed_by}
 use Rattle.safe_machine.specs.View.{View, StandsFor, HandsUp, overdue}
 use Rattle.safe_machine.proofs.Cases.{if_both}
+use Rattle.safe_machine.proofs.OneMachine.{plain-guard}
 use Rattle.safe_machine.proofs.Deciding.{Fits, Tested}
 use Rattle.safe_machine.proofs.Views.{guard-is, left_by}
 
@@ -95,3 +96,10 @@ arrive-left p now m s reason detail h e = ap (receive p now) (guard-is now m s h
 
 pub arrive-goes : (p : Pdu) (now : ℕ) (m : View) (s : State) → StandsFor m s → overdue now m ≡ None → arrive p now s ≡ receive p now s
 arrive-goes p now m s h e = ap (receive p now) (guard-is now m s h ∙ ap (λ o. left_by now o s) e)
+
+-- the guard hands up nothing
+pub hands-nothing : {U : Type 0} (takes : U → List ℕ → U → Type 0) (a : U) (now : ℕ) (s : State) → HandsUp takes a s (guard now s) a
+hands-nothing takes a now s =
+    let none : drop (length s.taken) (guard now s).taken ≡ [] =
+    ap (drop (length s.taken)) ((plain-guard now s).taken ∙ sym (append-nil s.taken)) ∙ drop-front s.taken [] in
+    subst (λ us. FoldsTo takes a us a) (sym none) refl

@@ -40,3 +40,4 @@ pub mod OrderLaw
 pub mod OrderRow
 pub mod Views
 pub mod Arriving
+pub mod Reaching

@@ -64,7 +64,7 @@ texts-push : (ms : List Made) (m : Made) → HaveTexts ms → HasText m.pdu → 
 texts-push [] m h k = (k, tt)
 texts-push (a ∷ ms) m h k = (h.0, texts-push ms m h.1 k)
 
-texts-make : (kind : Kind) (body : List ℕ) (now : ℕ) (s : State) → IsBody kind body → length body ≤ UNIT_MAX → Texts s → Texts (make kind body now s)
+pub texts-make : (kind : Kind) (body : List ℕ) (now : ℕ) (s : State) → IsBody kind body → length body ≤ UNIT_MAX → Texts s → Texts (make kind body now s)
 texts-make kind body now s fits small h =
     let m = next_made s kind body now in
     record {
@@ -86,7 +86,7 @@ texts-make kind body now s fits small h =
     }
 
 -- the units that PDUs with texts carry have the size of units
-abbrev AllSized : List (List ℕ) → Type 0
+abbrev pub AllSized : List (List ℕ) → Type 0
 AllSized [] = Unit {0}
 AllSized (u ∷ us) = IsBody Data u × AllSized us
 
@@ -104,11 +104,11 @@ sized-after RetrReq body run k h = h
 sized-after DiscReq body run k h = h
 sized-after Heartbeat body run k h = h
 
-sized-run : (run : List (List ℕ)) (ms : List Made) → HaveTexts ms → AllSized run → AllSized (run_after run ms)
+pub sized-run : (run : List (List ℕ)) (ms : List Made) → HaveTexts ms → AllSized run → AllSized (run_after run ms)
 sized-run run [] h k = k
 sized-run run (m ∷ ms) h k = sized-run (after_pdu m.pdu.kind m.pdu.body run) ms h.1 (sized-after m.pdu.kind m.pdu.body run (h.0 (record { length = Eight; initial_value = [] })).body k)
 
-texts-drop : (n : ℕ) (ms : List Made) → HaveTexts ms → HaveTexts (drop n ms)
+pub texts-drop : (n : ℕ) (ms : List Made) → HaveTexts ms → HaveTexts (drop n ms)
 texts-drop zero ms h = h
 texts-drop (suc n) [] h = tt
 texts-drop (suc n) (m ∷ ms) h = texts-drop n ms h.1
@@ -141,7 +141,7 @@ unit-body : (unit : List ℕ) → IsUnitSized unit → IsBody Data unit
 unit-body unit sized =
     ap (λ (x : Bool). x && nat_le (length unit) UNIT_MAX) (le-leb UNIT_MIN (length unit) sized.0) ∙ le-leb (length unit) UNIT_MAX sized.1
 
-kept-texts : Kept HasNumbers IsUnitSized Texts
+pub kept-texts : Kept HasNumbers IsUnitSized Texts
 kept-texts =
     record {
       silent = λ s t same h.

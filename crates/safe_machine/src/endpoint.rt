@@ -1,21 +1,25 @@
 //! What a machine keeps, and the single moves on it.
 
-ghost use Rattle.std.specs.Prelude.{◌≡◌, ℕ, ◌+◌, ◌<◌, ◌≤◌, ◌^◌, ◌%◌, List, [], true};
+ghost use Rattle.std.specs.Prelude.{◌≡◌, ℕ, ◌+◌, ◌<◌, ◌≤◌, ◌^◌, ◌%◌, List, [], true, ◌&&◌, nat_le, nat_lt, length};
+ghost use Rattle.std.specs.List.{FoldsTo};
+ghost use Rattle.octets.specs.declared.limits.TheConstants.{WINDOW_MAX};
 ghost use Rattle.retrans.specs.Units.{Numbered};
+ghost use Rattle.safe_machine.specs.Settings.{are_two, in_range, is_coded, is_legal};
+ghost use Rattle.safe_machine.specs.declared.Role.TheVariants.{Client};
 ghost use Rattle.safe_pdu.specs.Bodies.{IsBody};
 ghost use Rattle.safe_pdu.specs.SafeText.{safe_text};
 ghost use Rattle.safe_machine.specs.Numbers.{sn_of};
 ghost use Rattle.safe_machine.specs.Made.{leaving_body, opening_body};
-ghost use Rattle.safe_machine.specs.State.{State, next_made, make, leave, says_goodbye};
+ghost use Rattle.safe_machine.specs.State.{State, fresh, next_made, make, leave, opened, says_goodbye};
 ghost use Rattle.safe_machine.specs.Decision.{in_turn};
 ghost use Rattle.safe_machine.specs.Step.{guard, heartbeat, is_connected, is_live, tick};
-ghost use Rattle.safe_machine.specs.View.{Does, beat_due, beside, has_room, leaves_units, overdue};
+ghost use Rattle.safe_machine.specs.View.{Does, StandsFor, beat_due, beside, has_room, leaves_units, overdue, settings_of, texts};
 
 use super::{ConnectionState, Detail, MachineConfig, PduOut, Reason, Role};
 use octets::limits::SAFE_PDU_MAX;
 use octets::places::put_u16;
 use retrans::Unconfirmed;
-use safe_pdu::{Kind, SafePdu, encode};
+use safe_pdu::{CodeLength, CodeRule, Kind, SafePdu, encode};
 use std::alloc::{Allocator, Global};
 use std::marker::Model;
 
@@ -231,11 +235,153 @@ impl<A: Allocator> Endpoint<A> {
         self.beat_by_time(now, out);
     }
 
+    /// The rule of the safety code.
+    pub(crate) fn rule(&self) -> CodeRule
+        ensures { result ≡ self.now.settings.rule }
+    {
+        self.config.rule
+    }
+
+    /// How many units are kept.
+    pub(crate) fn kept_units(&self) -> usize
+        ensures { result ≡ length self.now.ring }
+    {
+        self.ring.len()
+    }
+
     /// Whether a unit may be sent.
     pub(crate) fn may_send(&self) -> bool
         ensures { result ≡ has_room self.now }
     {
         self.connection.in_turn() && (self.ring.len() as u64) < self.window
+    }
+}
+
+/// An end as it is opened, before it says anything.
+fn fresh<A: Allocator>(
+    config: MachineConfig,
+    role: Role,
+    first: u32,
+    now: u64,
+    connection: ConnectionState,
+    ring: Unconfirmed<A>,
+) -> Endpoint<A>
+    requires room { ring ≡ record { room = WINDOW_MAX; units = [] } }
+    ensures { result ≡ beside [] (fresh (settings_of role config) first now connection) }
+{
+    Endpoint {
+        config,
+        role,
+        first,
+        connection,
+        made: 0,
+        last_made: 0,
+        since: 0,
+        expected: 0,
+        last_sn: 0,
+        last_ts: 0,
+        confirmed: 0,
+        confirmed_at: now,
+        answered: 0,
+        window: 0,
+        ring,
+    }
+}
+
+/// An end as it is opened: the client asks for the connection.
+pub(crate) fn begin<A: Allocator, O: PduOut>(
+    config: MachineConfig,
+    role: Role,
+    first: u32,
+    now: u64,
+    ring: Unconfirmed<A>,
+    out: &mut O,
+) -> Endpoint<A>
+    requires room { ring ≡ record { room = WINDOW_MAX; units = [] } }
+    requires body { IsBody Kind.ConnReq (opening_body config.n_sendmax) }
+    ensures stands { StandsFor result (opened (settings_of role config) first now) }
+    ensures made { FoldsTo O.makes out.old (texts config.rule (opened (settings_of role config) first now).made) out.new }
+{
+    match role {
+        Role::Client => begin_client(config, first, now, ring, out),
+        Role::Server => fresh(config, role, first, now, ConnectionState::Down, ring),
+    }
+}
+
+/// A client as it is opened.
+fn begin_client<A: Allocator, O: PduOut>(
+    config: MachineConfig,
+    first: u32,
+    now: u64,
+    ring: Unconfirmed<A>,
+    out: &mut O,
+) -> Endpoint<A>
+    requires room { ring ≡ record { room = WINDOW_MAX; units = [] } }
+    requires body { IsBody Kind.ConnReq (opening_body config.n_sendmax) }
+    ensures stands { StandsFor result (opened (settings_of Client config) first now) }
+    ensures made { FoldsTo O.makes out.old (texts config.rule (opened (settings_of Client config) first now).made) out.new }
+{
+    let mut end = fresh(config, Role::Client, first, now, ConnectionState::Start, ring);
+    end.say_opening(Kind::ConnReq, now, out);
+    end
+}
+
+/// Whether a code of this length may be used by an end.
+fn is_coded(length: CodeLength) -> bool
+    ensures { result ≡ is_coded length }
+{
+    !matches!(length, CodeLength::Zero)
+}
+
+impl MachineConfig {
+    /// Whether an end may be opened with these settings.
+    pub(crate) fn is_legal(&self, role: Role) -> bool
+        ensures { result ≡ is_legal (settings_of role self.now) }
+    {
+        if !self.in_range(role) {
+            return false;
+        }
+        if !self.are_two(role) {
+            return false;
+        }
+        is_coded(self.rule.length)
+    }
+
+    fn are_two(&self, role: Role) -> bool
+        ensures { result ≡ are_two (settings_of role self.now) }
+    {
+        let _role = role;
+        let own = self.own;
+        let peer = self.peer;
+        own != peer
+    }
+
+    fn in_range(&self, role: Role) -> bool
+        ensures { result ≡ in_range (settings_of role self.now) }
+    {
+        let _role = role;
+        self.has_window() && self.has_times() && self.has_limits()
+    }
+
+    fn has_window(&self) -> bool
+        ensures { result ≡ nat_le 1 self.now.n_sendmax && nat_le self.now.n_sendmax 32 }
+    {
+        1 <= self.n_sendmax && self.n_sendmax <= 32
+    }
+
+    fn has_times(&self) -> bool
+        ensures { result ≡ (nat_le 100 self.now.t_max && nat_le self.now.t_max 60000) && (nat_le 10 self.now.t_h && nat_lt self.now.t_h self.now.t_max) }
+    {
+        100 <= self.t_max && self.t_max <= 60_000 && 10 <= self.t_h && self.t_h < self.t_max
+    }
+
+    fn has_limits(&self) -> bool
+        ensures { result ≡ (nat_le 1 self.now.mwa && nat_le self.now.mwa 16) && (nat_le 100 self.now.pdu_limit && nat_le self.now.pdu_limit 4294901760) }
+    {
+        1 <= self.mwa
+            && self.mwa <= 16
+            && 100 <= self.pdu_limit
+            && self.pdu_limit <= 4_294_901_760
     }
 }
 

@@ -14,7 +14,7 @@ mod law;
 mod machine;
 
 pub use law::unit_law;
-pub use machine::{PduOut, UnitIn};
+pub use machine::{Machine, PduOut, UnitIn};
 
 /// The states of a connection.
 #[derive(Clone, Copy, Debug, PartialEq, Eq)]
@@ -61,6 +61,24 @@ pub struct MachineConfig {
     pub pdu_limit: u64,
     /// The safety code, of 8 or 16 octets.
     pub rule: safe_pdu::CodeRule,
+}
+
+/// Why a machine was not opened.
+#[derive(Clone, Copy, Debug, PartialEq, Eq)]
+pub enum MachineFault {
+    /// The settings are not those of an end.
+    BadConfig,
+    /// There was no memory for the units that await their confirmation.
+    Memory,
+}
+
+/// Why a unit was not sent.
+#[derive(Clone, Copy, Debug, PartialEq, Eq)]
+pub enum SendFault {
+    /// The state is neither Up nor RetrRun.
+    NotUp,
+    /// As many units are unconfirmed as the peer's window has.
+    Window,
 }
 
 /// Why an end leaves a connection, as its DiscReq says it.

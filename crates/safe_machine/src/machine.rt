@@ -1,8 +1,24 @@
 //! One end of a connection.
 
-ghost use Rattle.std.specs.Prelude.{ℕ, List};
+ghost use Rattle.std.specs.Prelude.{◌≡◌, ◌<◌, ◌≤◌, ◌^◌, ◌↔◌, ℕ, List, [], true, false, length, Err, IfOk, IsOk, OnOk, OnErr, if◌then◌else◌};
+ghost use Rattle.std.specs.List.{FoldsTo};
+ghost use Rattle.safe_machine.specs.Settings.{is_legal};
+ghost use Rattle.safe_machine.specs.State.{State, leave, opened, unconfirmed};
+ghost use Rattle.safe_machine.specs.Decision.{in_turn};
+ghost use Rattle.safe_machine.specs.Step.{guard, may_send, send, tick};
+ghost use Rattle.safe_machine.specs.Octets.{arrive_octets, octets_answer};
+ghost use Rattle.safe_machine.specs.Moves.{IsUnitSized};
+ghost use Rattle.safe_machine.specs.declared.SendFault.TheVariants.{NotUp, Window};
+ghost use Rattle.safe_machine.specs.declared.MachineFault.TheVariants.{BadConfig};
+ghost use Rattle.safe_machine.specs.View.{HandsOut, HandsUp, StandsFor, settings_of, texts};
 
-use safe_pdu::CodeRule;
+use super::endpoint::{Endpoint, begin};
+use super::{ConnectionState, Detail, MachineConfig, MachineFault, Reason, Role, SendFault, Step};
+use octets::limits::WINDOW_MAX;
+use retrans::{Unconfirmed, Unit};
+use safe_pdu::decode;
+use std::alloc::{Allocator, Global};
+use std::marker::Model;
 
 /// What takes the PDUs that a machine makes.
 pub trait PduOut {
@@ -27,4 +43,139 @@ pub trait UnitIn {
         requires { ready self.old }
         ensures taken { takes self.old unit.now self.new }
         ensures ready { ready self.new };
+}
+
+/// One end of a connection: the state machine of the safety and retransmission layer.
+///
+/// All its memory is taken when it is opened. Times are whole milliseconds of one clock.
+#[derive(Drop)]
+pub struct Machine<A: Allocator = Global> {
+    end: Endpoint<A>,
+}
+
+impl<A: Allocator> Model for Machine<A> {
+    ghost use Rattle.safe_machine.specs.View.{View};
+    ghost use Rattle.safe_machine.specs.Reached.{IsReached};
+
+    ghost Value = { View };
+
+    ghost view = { λ m. m.end };
+
+    ghost invariant = { λ m. IsReached m.end };
+}
+
+impl<A: Allocator> Machine<A> {
+    /// Opens an end. A client asks for the connection at once; a server waits. It is the only call that takes memory.
+    ///
+    /// Refused, and the first that holds is named: `BadConfig`, `Memory`.
+    pub fn open<O: PduOut>(
+        alloc: A,
+        config: MachineConfig,
+        role: Role,
+        first_sn: u32,
+        now: u64,
+        out: &mut O,
+    ) -> Result<Self, MachineFault>
+        ensures bad_config { (result ≡ Err BadConfig) ↔ (is_legal (settings_of role config) ≡ false) }
+        ensures stands { IfOk result (λ machine. StandsFor machine (opened (settings_of role config) first_sn now)) }
+        ensures made { OnOk result (FoldsTo O.makes out.old (texts config.rule (opened (settings_of role config) first_sn now).made) out.new) }
+        ensures nothing_made { OnErr result (out.new ≡ out.old) }
+    {
+        if !config.is_legal(role) {
+            return Err(MachineFault::BadConfig);
+        }
+        match Unconfirmed::new(alloc, WINDOW_MAX) {
+            Ok(ring) => {
+                let end = begin(config, role, first_sn, now, ring, out);
+                Ok(Machine { end })
+            }
+            Err(_) => Err(MachineFault::Memory),
+        }
+    }
+
+    /// The guard alone: leaves where nothing recent was confirmed, or where as many PDUs were made as one connection
+    /// may have.
+    pub fn guard<O: PduOut>(&mut self, now: u64, out: &mut O)
+        ensures stands { (s : State) → StandsFor self.old s → StandsFor self.new (guard now s) }
+        ensures made { (s : State) → StandsFor self.old s → HandsOut O.makes out.old s (guard now s) out.new }
+    {
+        self.end.guard(now, out);
+    }
+
+    /// The guard, and then a heartbeat where one is due.
+    pub fn tick<O: PduOut>(&mut self, now: u64, out: &mut O)
+        ensures stands { (s : State) → StandsFor self.old s → StandsFor self.new (tick now s) }
+        ensures made { (s : State) → StandsFor self.old s → HandsOut O.makes out.old s (tick now s) out.new }
+    {
+        self.end.tick(now, out);
+    }
+
+    /// Leaves the connection, and says so, where there is one.
+    pub fn close<O: PduOut>(&mut self, reason: Reason, detail: Detail, now: u64, out: &mut O)
+        ensures stands { (s : State) → StandsFor self.old s → StandsFor self.new (leave reason detail now s) }
+        ensures made { (s : State) → StandsFor self.old s → HandsOut O.makes out.old s (leave reason detail now s) out.new }
+    {
+        self.end.leave(reason, detail, now, out);
+    }
+
+    /// The state of the connection.
+    pub fn state(&self) -> ConnectionState
+        ensures { (s : State) → StandsFor self.now s → result ≡ s.connection }
+    {
+        self.end.connection
+    }
+
+    /// How many units are unconfirmed.
+    pub fn unconfirmed(&self) -> usize
+        ensures { (s : State) → StandsFor self.now s → result ≡ length (unconfirmed s) }
+    {
+        self.end.kept_units()
+    }
+
+    /// Whether a unit may be sent: the connection is there, no answer is awaited, and the peer's window is open.
+    pub fn may_send(&self) -> bool
+        ensures { (s : State) → StandsFor self.now s → result ≡ may_send s }
+    {
+        self.end.may_send()
+    }
+
+    /// Takes the octets of a PDU, after the guard.
+    pub fn arrive<O: PduOut, U: UnitIn>(&mut self, octets: &[u8], now: u64, out: &mut O, units: &mut U) -> Step
+        requires reach { self.old.expected < 2 ^ 62 }
+        requires ready { U.ready units.old }
+        ensures stands { (s : State) → StandsFor self.old s → StandsFor self.new (arrive_octets octets.now now s) }
+        ensures made { (s : State) → StandsFor self.old s → HandsOut O.makes out.old s (arrive_octets octets.now now s) out.new }
+        ensures taken { (s : State) → StandsFor self.old s → HandsUp U.takes units.old s (arrive_octets octets.now now s) units.new }
+        ensures answer { (s : State) → StandsFor self.old s → result ≡ octets_answer octets.now now s }
+        ensures ready { U.ready units.new }
+    {
+        let rule = self.end.rule();
+        match decode(octets, &rule) {
+            Ok(pdu) => self.end.arrive(&pdu, now, out, units),
+            Err(fault) => self.end.arrive_fault(fault, now, out),
+        }
+    }
+
+    /// Sends a unit of 45 to 1,206 octets.
+    ///
+    /// Refused, and the first that holds is named: `NotUp`, where the state is neither Up nor RetrRun; `Window`, where as many
+    /// units are unconfirmed as the peer's window has.
+    pub fn send<O: PduOut>(&mut self, unit: &Unit, now: u64, out: &mut O) -> Result<(), SendFault>
+        requires size { IsUnitSized unit.now.items }
+        ensures stands { (s : State) → StandsFor self.old s → StandsFor self.new (send unit.now.items now s) }
+        ensures made { (s : State) → StandsFor self.old s → HandsOut O.makes out.old s (send unit.now.items now s) out.new }
+        ensures sent { (s : State) → StandsFor self.old s → IsOk result ↔ (may_send s ≡ true) }
+        ensures not_up { (s : State) → StandsFor self.old s → (result ≡ Err NotUp) ↔ (in_turn s.connection ≡ false) }
+        ensures unchanged { OnErr result (self.new ≡ self.old) }
+        ensures nothing_made { OnErr result (out.new ≡ out.old) }
+    {
+        if !self.end.connection.in_turn() {
+            return Err(SendFault::NotUp);
+        }
+        if !self.end.may_send() {
+            return Err(SendFault::Window);
+        }
+        self.end.send_unit(unit.as_slice(), now, out);
+        Ok(())
+    }
 }

@@ -1,0 +1,379 @@
+-- What holds of every machine, since it stands for a state that moves lead to from an opening.
+use Rattle.std.proofs.Common.{◌≡◌, ◌≢◌, ℕ, zero, suc, ◌+◌, ◌-◌, ◌<◌, ◌≤◌, ◌^◌, List, [], ◌∷◌, ◌++◌, length, drop, Bool, true, false, refl, sym, ap, subst, ◌∙◌, arith, ◌⊎◌, inl, inr, ⊎_elim}
+use Rattle.std.specs.Prelude.{if◌then◌else◌, ◌&&◌, ◌==◌, nat_le, nat_lt}
+use Rattle.std.specs.List.{list_all}
+use Rattle.std.proofs.lemmas.Bool.{leb-true, ltb-true, false≢true}
+use Rattle.std.proofs.lemmas.List.{length-drop}
+use Rattle.std.proofs.lemmas.List.Elements.{All-nil, All-cons, All-push, All-weaker}
+use Rattle.retrans.specs.Units.{Numbered, octets_of}
+use Rattle.safe_machine.specs.Ring.{after_at, carried_at, ring_of}
+use Rattle.safe_machine.proofs.Ring.{ring_of-units}
+use Rattle.safe_pdu.specs.declared.Kind.{Kind}
+use Rattle.safe_pdu.specs.declared.Kind.TheVariants.{ConnReq, ConnResp, RetrReq, RetrResp, DiscReq, Heartbeat, Data, RetrData}
+use Rattle.safe_pdu.specs.Pdu.{Pdu}
+use Rattle.safe_pdu.specs.Bodies.{IsBody, window_of, version_of, is_digit, is_zero}
+use Rattle.safe_pdu.specs.SafeText.{HasNumbers}
+use Rattle.safe_machine.specs.declared.ConnectionState.{ConnectionState}
+use Rattle.safe_machine.specs.declared.ConnectionState.TheVariants.{Closed, Down, Start, Up, RetrReq as Requesting, RetrRun}
+use Rattle.safe_machine.specs.declared.Reason.{Reason}
+use Rattle.safe_machine.specs.declared.Reason.TheVariants.{Timeout, ProtocolError}
+use Rattle.safe_machine.specs.declared.Detail.{Detail}
+use Rattle.safe_machine.specs.declared.Detail.TheVariants.{Unspecified, Limit}
+use Rattle.safe_machine.specs.Made.{Made, carries, leaving_body, opening_body}
+use Rattle.safe_machine.specs.Settings.{Settings, is_legal, in_range, are_two, is_coded}
+use Rattle.safe_machine.specs.Decision.{Decision, decide, distance, in_turn}
+use Rattle.safe_machine.specs.Decision.Decision.{Nothing, Drops, Shuts, Leaves, Rejects, Accepts, Connects, Takes, Asks, Resumes, AnswersNext, AnswersEarly}
+use Rattle.safe_machine.specs.Step.{last_time, beat, take_unit, tests_passed, carry_out, is_live, guard, receive, is_connected, heartbeat, send, may_send}
+use Rattle.safe_machine.specs.Moves.{Move, move, moved, IsUnitSized}
+use Rattle.safe_machine.specs.Moves.Move.{Guards, Hears, Ticks, Sends, Leaves as LeavesNow}
+use Rattle.safe_machine.specs.State.{State, opened, fresh, make, move_to, pass, confirm_units, note_request, resend, reply, unconfirmed, hand_up, leave, says_goodbye, ask}
+use Rattle.safe_machine.proofs.Cases.{if_both, and-parts, leb-false}
+use Rattle.safe_machine.proofs.Invariant.{is_opening}
+use Rattle.safe_machine.proofs.Moves.{resend-connection}
+use Rattle.safe_machine.proofs.Deciding.{Fits, decide-fits}
+use Rattle.safe_machine.proofs.Lone.{arrive-by}
+use Rattle.safe_machine.proofs.Counting.{Bounded, resend-settings, bounded-guard, bounded-receive, bounded-heartbeat, bounded-send, bounded-leave}
+use Rattle.safe_machine.proofs.Kept.{Kept, AllowsMove, kept-move}
+use Rattle.safe_machine.proofs.Texts.{Texts, Own, own-legal, kept-texts, texts-make, AllSized, sized-run, texts-drop}
+use Rattle.safe_machine.specs.Reached.{IsRead, AreRead, IsReached, Sound}
+use Rattle.safe_machine.specs.View.{View, StandsFor, Turns, AllUnits, AllBelow, has_room}
+
+moved-snoc : (ms : List Move) (m : Move) (s : State) → moved (ms ++ m ∷ []) s ≡ move m (moved ms s)
+moved-snoc [] m s = refl
+moved-snoc (n ∷ ms) m s = moved-snoc ms m (move n s)
+
+read-snoc : (ms : List Move) (m : Move) → AreRead ms → IsRead m → AreRead (ms ++ m ∷ [])
+read-snoc [] m h k = (k, tt)
+read-snoc (n ∷ ms) m h k = (h.0, read-snoc ms m h.1 k)
+
+-- one move more
+pub reached-move : (m : Move) (v w : View) → IsReached v → IsRead m → Turns (move m) v w → IsReached w
+reached-move m v w r read turns =
+    record {
+      settings = r.settings;
+      first = r.first;
+      began = r.began;
+      moves = r.moves ++ m ∷ [];
+      legal = r.legal;
+      read = read-snoc r.moves m r.read read;
+      stands =
+          subst (λ t. StandsFor w t) (sym (moved-snoc r.moves m (opened r.settings r.first r.began)))
+          (turns (moved r.moves (opened r.settings r.first r.began)) r.stands);
+    }
+
+
+-- bounds of a state, that every move keeps
+pub record Sure (s : State) : Type 0 where
+  pub bounded : Bounded s
+  pub down : s.connection ≡ Down → s.made ≡ []
+  pub since : s.since < s.settings.mwa
+
+opening-small : (body : List ℕ) → IsBody ConnReq body → window_of body ≤ 32
+opening-small body b =
+    let a = and-parts (length body == 14) (nat_le 1 (window_of body) && (nat_le (window_of body) 32 && (list_all is_digit (version_of body) && list_all is_zero (drop 6 body)))) b in
+    let d = and-parts (nat_le 1 (window_of body)) (nat_le (window_of body) 32 && (list_all is_digit (version_of body) && list_all is_zero (drop 6 body))) a.1 in
+    leb-true (window_of body) 32 (and-parts (nat_le (window_of body) 32) (list_all is_digit (version_of body) && list_all is_zero (drop 6 body)) d.1).0
+
+opening-window : (kind : Kind) (body : List ℕ) → IsBody kind body → 1 ≤ is_opening kind → window_of body ≤ 32
+opening-window ConnReq body b h = opening-small body b
+opening-window ConnResp body b h = opening-small body b
+opening-window RetrReq body b h = absurd (omega arith)
+opening-window RetrResp body b h = absurd (omega arith)
+opening-window DiscReq body b h = absurd (omega arith)
+opening-window Heartbeat body b h = absurd (omega arith)
+opening-window Data body b h = absurd (omega arith)
+opening-window RetrData body b h = absurd (omega arith)
+
+abbrev Waits : State → Type 0
+Waits s = (s.connection ≡ Down → s.made ≡ []) × (s.since < s.settings.mwa)
+
+waits-leave : (reason : Reason) (detail : Detail) (now : ℕ) (s : State) → Waits s → Waits (leave reason detail now s)
+waits-leave reason detail now s h =
+    if_both (λ (t : State). Waits (move_to Closed t)) (says_goodbye s.connection) (make DiscReq (leaving_body reason detail) now s) s
+    (λ _. (λ e. cc, omega (arith, h.1))) (λ _. (λ e. cc, h.1))
+
+waits-guard : (now : ℕ) (s : State) → Waits s → Waits (guard now s)
+waits-guard now s h =
+    let late = nat_le (s.confirmed_at + s.settings.t_max) now in
+    let full = nat_le s.settings.pdu_limit (length s.made) in
+    let inner : State = if full then leave ProtocolError Limit now s else s in
+    if_both Waits (is_live s.connection) (if late then leave Timeout Unspecified now s else inner) s
+    (λ _. if_both Waits late (leave Timeout Unspecified now s) inner (λ _. waits-leave Timeout Unspecified now s h)
+    (λ _. if_both Waits full (leave ProtocolError Limit now s) s (λ _. waits-leave ProtocolError Limit now s h) (λ _. h)))
+    (λ _. h)
+
+connected-not-down : (c : ConnectionState) → is_connected c ≡ true → c ≢ Down
+connected-not-down Up h = λ e. cc
+connected-not-down Requesting h = λ e. cc
+connected-not-down RetrRun h = λ e. cc
+connected-not-down Closed h = cc
+connected-not-down Down h = cc
+connected-not-down Start h = cc
+
+turn-connected : (c : ConnectionState) → in_turn c ≡ true → is_connected c ≡ true
+turn-connected Up h = refl
+turn-connected RetrRun h = refl
+turn-connected Requesting h = cc
+turn-connected Closed h = cc
+turn-connected Down h = cc
+turn-connected Start h = cc
+
+-- a connected end that has made a PDU
+waits-made : (kind : Kind) (body : List ℕ) (now : ℕ) (s : State) → is_connected s.connection ≡ true → s.since < s.settings.mwa → Waits (make kind body now s)
+waits-made kind body now s on h = (λ e. absurd (connected-not-down s.connection on e), omega (arith, h))
+
+waits-reply : (now : ℕ) (s : State) → is_connected s.connection ≡ true → s.since < s.settings.mwa → Waits (reply now s)
+waits-reply now s on h =
+    let a = make RetrResp [] now s in
+    let us = unconfirmed s in
+    let same : (resend us now a).connection ≡ s.connection = resend-connection us now a in
+    let kept : (resend us now a).settings.mwa ≡ s.settings.mwa = ap (λ (k : Settings). k.mwa) (resend-settings us now a) in
+    (λ e. absurd (connected-not-down s.connection on (sym same ∙ e)), omega (arith, h, kept))
+
+waits-unit : (p : Pdu) (now : ℕ) (s : State) → is_connected s.connection ≡ true → s.since < s.settings.mwa → Waits (take_unit p now s)
+waits-unit p now s on h =
+    let u = hand_up p s in
+    if_both Waits (carries p.kind) (beat now u) s
+    (λ _. if_both Waits (nat_le s.settings.mwa (s.since + 1)) (make Heartbeat [] now u) u
+    (λ _. (λ e. absurd (connected-not-down s.connection on e), omega (arith, h)))
+    (λ few. (λ e. absurd (connected-not-down s.connection on e), leb-false s.settings.mwa (s.since + 1) few)))
+    (λ _. (λ e. absurd (connected-not-down s.connection on e), h))
+
+waits-decided : (p : Pdu) (now : ℕ) (d : Decision) (s : State) → Fits s p now d → Waits s → Waits (carry_out p now d s)
+waits-decided p now Nothing s f h = h
+waits-decided p now (Drops cause) s f h = h
+waits-decided p now Shuts s f h = (λ e. cc, h.1)
+waits-decided p now (Leaves reason detail) s f h = waits-leave reason detail now s h
+waits-decided p now Rejects s f h = (λ e. cc, omega (arith, h.1))
+waits-decided p now Accepts s f h = (λ e. cc, omega (arith, h.1))
+waits-decided p now Connects s f h = (λ e. cc, omega (arith, h.1))
+waits-decided p now (Takes to) s f h = waits-unit p now (move_to to (pass p 0 (tests_passed p s))) f.connected h.1
+waits-decided p now Asks s f h = (λ e. cc, omega (arith, h.1))
+waits-decided p now Resumes s f h = (λ e. cc, h.1)
+waits-decided p now AnswersNext s (f, none, turn, cts) h = waits-reply now (pass p 0 (note_request 0 (tests_passed p s))) f.connected h.1
+waits-decided p now AnswersEarly s f h =
+    let z = note_request (distance s p) (confirm_units p s) in
+    let t = reply now z in
+    let w : Waits t = waits-reply now z f.connected h.1 in
+    if_both Waits (in_turn s.connection) (ask now t) t (λ _. (λ e. cc, omega (arith, w.1))) (λ _. w)
+
+waits-tick : (now : ℕ) (s : State) → Waits s → Waits (heartbeat now s)
+waits-tick now s h =
+    if_both Waits (is_connected s.connection && nat_le (last_time s.made 0 + s.settings.t_h) now) (make Heartbeat [] now s) s
+    (λ both. waits-made Heartbeat [] now s (and-parts (is_connected s.connection) (nat_le (last_time s.made 0 + s.settings.t_h) now) both).0 h.1) (λ _. h)
+
+waits-send : (unit : List ℕ) (now : ℕ) (s : State) → Waits s → Waits (send unit now s)
+waits-send unit now s h =
+    if_both Waits (may_send s) (make Data unit now s) s
+    (λ both. waits-made Data unit now s (turn-connected s.connection (and-parts (in_turn s.connection) (nat_lt (length (unconfirmed s)) s.window) both).0) h.1) (λ _. h)
+
+sure : (s : State) → Bounded s → Waits s → Sure s
+sure s b w = record { bounded = b; down = w.0; since = w.1 }
+
+waits : (s : State) → Sure s → Waits s
+waits s h = (h.down, h.since)
+
+sure-move : (m : Move) (s : State) → IsRead m → Sure s → Sure (move m s)
+sure-move (Guards now) s a h = sure (guard now s) (bounded-guard now s h.bounded).0 (waits-guard now s (waits s h))
+sure-move (Hears p now) s a h =
+    let g = guard now s in
+    let b = bounded-guard now s h.bounded in
+    let w = waits-guard now s (waits s h) in
+    arrive-by Sure p now s (sure g b.0 w)
+    (λ _ _. sure (receive p now g) (bounded-receive now p g b.0 b.1 w.0 (opening-window p.kind p.body a.1)) (waits-decided p now (decide g p now) g (decide-fits g p now) w))
+sure-move (Ticks now) s a h =
+    let g = guard now s in
+    let b = bounded-guard now s h.bounded in
+    sure (heartbeat now g) (bounded-heartbeat now g b.0 b.1) (waits-tick now g (waits-guard now s (waits s h)))
+sure-move (Sends unit now) s a h = sure (send unit now s) (bounded-send unit now s h.bounded) (waits-send unit now s (waits s h))
+sure-move (LeavesNow reason detail now) s a h = sure (leave reason detail now s) (bounded-leave reason detail now s h.bounded) (waits-leave reason detail now s (waits s h))
+
+sure-moved : (ms : List Move) (s : State) → AreRead ms → Sure s → Sure (moved ms s)
+sure-moved [] s a h = h
+sure-moved (m ∷ ms) s a h = sure-moved ms (move m s) a.1 (sure-move m s a.0 h)
+
+legal-kept : Kept (λ p. Unit {0}) (λ u. Unit {0}) (λ (s : State). is_legal s.settings ≡ true)
+legal-kept =
+    record {
+      silent = λ s t same h. ap is_legal same.0 ∙ h;
+      plain = λ kind body now s is fits h. h;
+      passes = λ p d s a h. h;
+      confirms = λ p s fits h. h;
+      accepts = λ now s h. h;
+      sends = λ unit now s a h. h;
+      replies = λ now s h. ap is_legal (resend-settings (unconfirmed s) now (make RetrResp [] now s)) ∙ h;
+    }
+
+any-move : (m : Move) → AllowsMove (λ p. Unit {0}) (λ u. Unit {0}) m
+any-move (Guards now) = tt
+any-move (Hears p now) = tt
+any-move (Ticks now) = tt
+any-move (Sends unit now) = tt
+any-move (LeavesNow reason detail now) = tt
+
+legal-moved : (ms : List Move) (s : State) → is_legal s.settings ≡ true → is_legal (moved ms s).settings ≡ true
+legal-moved [] s h = h
+legal-moved (m ∷ ms) s h = legal-moved ms (move m s) (kept-move (λ p. Unit {0}) (λ u. Unit {0}) (λ (t : State). is_legal t.settings ≡ true) legal-kept m s (any-move m) h)
+
+read-allows : (m : Move) → IsRead m → AllowsMove HasNumbers IsUnitSized m
+read-allows (Guards now) h = tt
+read-allows (Hears p now) h = h.0
+read-allows (Ticks now) h = tt
+read-allows (Sends unit now) h = h
+read-allows (LeavesNow reason detail now) h = tt
+
+texts-moved : (ms : List Move) (s : State) → AreRead ms → Texts s → Texts (moved ms s)
+texts-moved [] s a h = h
+texts-moved (m ∷ ms) s a h = texts-moved ms (move m s) a.1 (kept-move HasNumbers IsUnitSized Texts kept-texts m s (read-allows m a.0) h)
+
+-- what legal settings say
+record Ranges (s : Settings) : Type 0 where
+  small : s.n_sendmax ≤ 32
+  mwa_least : 1 ≤ s.mwa
+  mwa_most : s.mwa ≤ 16
+  limit : s.pdu_limit ≤ 4294901760
+
+ranges-legal : (s : Settings) → is_legal s ≡ true → Ranges s
+ranges-legal s e =
+    let both = and-parts (in_range s) (are_two s && is_coded s.rule.length) e in
+    let a = nat_le 1 s.n_sendmax && nat_le s.n_sendmax 32 in
+    let b = nat_le 100 s.t_max && nat_le s.t_max 60000 in
+    let c = nat_le 10 s.t_h && nat_lt s.t_h s.t_max in
+    let d = nat_le 1 s.mwa && nat_le s.mwa 16 in
+    let l = nat_le 100 s.pdu_limit && nat_le s.pdu_limit 4294901760 in
+    let p1 = and-parts (a && b && c && d) l both.0 in
+    let p2 = and-parts (a && b && c) d p1.0 in
+    let p3 = and-parts (a && b) c p2.0 in
+    let p4 = and-parts a b p3.0 in
+    let n = and-parts (nat_le 1 s.n_sendmax) (nat_le s.n_sendmax 32) p4.0 in
+    let m = and-parts (nat_le 1 s.mwa) (nat_le s.mwa 16) p2.1 in
+    let k = and-parts (nat_le 100 s.pdu_limit) (nat_le s.pdu_limit 4294901760) p1.1 in
+    record { small = leb-true s.n_sendmax 32 n.1; mwa_least = leb-true 1 s.mwa m.0; mwa_most = leb-true s.mwa 16 m.1; limit = leb-true s.pdu_limit 4294901760 k.1 }
+
+opened-sure : (settings : Settings) (first now : ℕ) → is_legal settings ≡ true → Sure (opened settings first now)
+opened-sure settings first now legal =
+    let r = ranges-legal settings legal in
+    let begun : State = fresh settings first now Start in
+    let m = make ConnReq (opening_body settings.n_sendmax) now begun in
+    if_both Sure settings.client m (fresh settings first now Down)
+    (λ _. record {
+      bounded = record {
+        small = r.small; limit = r.limit; few = omega arith; few_live = λ live. omega arith; window_small = omega arith; unconfirmed_small = omega arith;
+        confirmed_made = λ live. omega arith;
+      };
+      down = λ e. cc;
+      since = r.mwa_least;
+    })
+    (λ _. record {
+      bounded = record {
+        small = r.small; limit = r.limit; few = omega arith; few_live = λ live. omega arith; window_small = omega arith; unconfirmed_small = omega arith;
+        confirmed_made = λ live. absurd (false≢true live);
+      };
+      down = λ e. refl;
+      since = r.mwa_least;
+    })
+
+opened-texts : (settings : Settings) (first now : ℕ) → is_legal settings ≡ true → Texts (opened settings first now)
+opened-texts settings first now legal =
+    let own = own-legal settings legal in
+    let begun : State = fresh settings first now Start in
+    let before : Texts begun = record { own = own; sn = omega arith; ts = omega arith; texts = tt } in
+    if_both Texts settings.client (make ConnReq (opening_body settings.n_sendmax) now begun) (fresh settings first now Down)
+    (λ _. texts-make ConnReq (opening_body settings.n_sendmax) now begun own.window (omega arith) before)
+    (λ _. record { own = own; sn = omega arith; ts = omega arith; texts = tt })
+
+opened-legal : (settings : Settings) (first now : ℕ) → is_legal settings ≡ true → is_legal (opened settings first now).settings ≡ true
+opened-legal settings first now legal =
+    if_both (λ (s : State). is_legal s.settings ≡ true) settings.client (make ConnReq (opening_body settings.n_sendmax) now (fresh settings first now Start)) (fresh settings first now Down)
+    (λ _. legal) (λ _. legal)
+
+-- the ring of a state
+pub length-octets : (us : List Numbered) → length (octets_of us) ≡ length us
+length-octets [] = refl
+length-octets (u ∷ us) = ap (λ n. suc n) (length-octets us)
+
+units-of : (us : List Numbered) → AllSized (octets_of us) → AllUnits us
+units-of [] h = All-nil (λ (u : Numbered). IsBody RetrData u.octets)
+units-of (u ∷ us) h = All-cons (λ (u : Numbered). IsBody RetrData u.octets) u us h.0 (units-of us h.1)
+
+below-more : (n m : ℕ) (us : List Numbered) → n ≤ m → AllBelow n us → AllBelow m us
+below-more n m us le h = All-weaker (λ (u : Numbered). u.number < n) (λ (u : Numbered). u.number < m) (λ u k. omega (arith, k, le)) us h
+
+below-push : (n : ℕ) (us : List Numbered) (body : List ℕ) → AllBelow n us → AllBelow (n + 1) (us ++ record { number = n; octets = body } ∷ [])
+below-push n us body h = All-push (λ (u : Numbered). u.number < n + 1) us (record { number = n; octets = body }) (below-more n (n + 1) us (omega arith) h) (omega arith)
+
+below-after : (kind : Kind) (body : List ℕ) (n : ℕ) (us : List Numbered) → AllBelow n us → AllBelow (n + 1) (after_at kind body n us)
+below-after Data body n us h = below-push n us body h
+below-after RetrData body n us h = below-push n us body h
+below-after RetrResp body n us h = All-nil (λ (u : Numbered). u.number < n + 1)
+below-after ConnReq body n us h = below-more n (n + 1) us (omega arith) h
+below-after ConnResp body n us h = below-more n (n + 1) us (omega arith) h
+below-after RetrReq body n us h = below-more n (n + 1) us (omega arith) h
+below-after DiscReq body n us h = below-more n (n + 1) us (omega arith) h
+below-after Heartbeat body n us h = below-more n (n + 1) us (omega arith) h
+
+below-carried : (n end : ℕ) (us : List Numbered) (ms : List Made) → n + length ms ≤ end → AllBelow n us → AllBelow end (carried_at n us ms)
+below-carried n end us [] h k = below-more n end us (omega arith) k
+below-carried n end us (m ∷ ms) h k = below-carried (n + 1) end (after_at m.pdu.kind m.pdu.body n us) ms (omega arith) (below-after m.pdu.kind m.pdu.body n us k)
+
+drop-long : (n : ℕ) (ms : List Made) → length ms ≤ n → drop n ms ≡ []
+drop-long zero [] h = refl
+drop-long (suc n) [] h = refl
+drop-long zero (m ∷ ms) h = absurd (omega arith)
+drop-long (suc n) (m ∷ ms) h = drop-long n ms (omega arith)
+
+le_total : (a b : ℕ) → (a ≤ b) ⊎ (b ≤ a)
+le_total zero b = inl (omega arith)
+le_total (suc a) zero = inr (omega arith)
+le_total (suc a) (suc b) = ⊎_elim (λ h. inl (omega arith)) (λ h. inr (omega arith)) (le_total a b)
+
+below-ring : (s : State) → AllBelow (length s.made) (ring_of s)
+below-ring s =
+    ⊎_elim
+    (λ (inside : s.confirmed + 1 ≤ length s.made).
+    below-carried (s.confirmed + 1) (length s.made) [] (drop (s.confirmed + 1) s.made) (omega (arith, length-drop (s.confirmed + 1) s.made)) (All-nil (λ (u : Numbered). u.number < s.confirmed + 1)))
+    (λ (past : length s.made ≤ s.confirmed + 1).
+    subst (AllBelow (length s.made)) (sym (ap (carried_at (s.confirmed + 1) []) (drop-long (s.confirmed + 1) s.made past))) (All-nil (λ (u : Numbered). u.number < length s.made)))
+    (le_total (s.confirmed + 1) (length s.made))
+
+pub reached-sound : (v : View) → IsReached v → Sound v
+reached-sound v r =
+    let s : State = opened r.settings r.first r.began in
+    let t : State = moved r.moves s in
+    let h : Sure t = sure-moved r.moves s r.read (opened-sure r.settings r.first r.began r.legal) in
+    let legal : is_legal t.settings ≡ true = legal-moved r.moves s (opened-legal r.settings r.first r.began r.legal) in
+    let texts : Texts t = texts-moved r.moves s r.read (opened-texts r.settings r.first r.began r.legal) in
+    let ranges = ranges-legal t.settings legal in
+    let same : octets_of (ring_of t) ≡ unconfirmed t = ring_of-units t in
+    let sized : AllSized (unconfirmed t) = sized-run [] (drop (t.confirmed + 1) t.made) (texts-drop (t.confirmed + 1) t.made texts.texts) tt in
+    subst Sound (sym r.stands)
+    (record {
+      few = omega (arith, h.bounded.few);
+      window = h.bounded.window_small;
+      room = refl;
+      short = omega (arith, ap length same, length-octets (ring_of t), h.bounded.unconfirmed_small);
+      sized = units-of (ring_of t) (subst AllSized (sym same) sized);
+      below = below-ring t;
+      live = h.bounded.confirmed_made;
+      since = omega (arith, h.since, ranges.mwa_most);
+      down = λ e. ap (carried_at (t.confirmed + 1) []) (drop-long (t.confirmed + 1) t.made (omega (arith, ap length (h.down e))));
+      opening = (own-legal t.settings legal).window;
+    })
+
+-- whether a unit may be sent
+pub room-is : (v : View) (s : State) → StandsFor v s → has_room v ≡ may_send s
+room-is v s h =
+    ap has_room h
+    ∙ ap (λ (n : ℕ). in_turn s.connection && nat_lt n s.window) (sym (length-octets (ring_of s)) ∙ ap length (ring_of-units s))
+
+pub units-count : (v : View) (s : State) → StandsFor v s → length v.ring ≡ length (unconfirmed s)
+units-count v s h = ap (λ (w : View). length w.ring) h ∙ (sym (length-octets (ring_of s)) ∙ ap length (ring_of-units s))
+
+pub send-sends : (unit : List ℕ) (now : ℕ) (v : View) (s : State) → StandsFor v s → has_room v ≡ true → send unit now s ≡ make Data unit now s
+send-sends unit now v s h e = ap (λ (b : Bool). if b then make Data unit now s else s) (sym (room-is v s h) ∙ e)
+
+pub send-refuses : (unit : List ℕ) (now : ℕ) (v : View) (s : State) → StandsFor v s → has_room v ≡ false → send unit now s ≡ s
+send-refuses unit now v s h e = ap (λ (b : Bool). if b then make Data unit now s else s) (sym (room-is v s h) ∙ e)
+
+pub send-turns : (unit : List ℕ) (now : ℕ) (v w : View) → has_room v ≡ true → Turns (make Data unit now) v w → Turns (send unit now) v w
+send-turns unit now v w e turns s h = subst (λ t. StandsFor w t) (sym (send-sends unit now v s h e)) (turns s h)

@@ -1,0 +1,45 @@
+use Rattle.std.proofs.Common.{◌≡◌, length, sym, subst, refl, ap, ◌∙◌, arith}
+use Rattle.std.specs.Prelude.{Ok}
+use Rattle.safe_pdu.specs.Pdu.{pdu_of}
+use Rattle.safe_pdu.specs.Places.{safe_seen}
+use Rattle.safe_machine.specs.Moves.{move}
+use Rattle.safe_machine.specs.Moves.Move.{Guards, Hears}
+use Rattle.safe_machine.specs.Octets.{heard}
+use Rattle.safe_machine.specs.Step.{arrive, guard}
+use Rattle.safe_machine.specs.View.{View, StandsFor, HandsOut, HandsUp}
+use Rattle.safe_machine.proofs.Views.{hands-out}
+use Rattle.safe_machine.proofs.Arriving.{hands-nothing}
+use Rattle.safe_machine.proofs.Reaching.{reached-move, reached-sound}
+use Rattle.safe_machine.proofs.machine.Machine.arrive.Goals as goal
+
+pub arrive-requires-clause-sound : goal.arrive-requires-clause-sound
+arrive-requires-clause-sound g c = reached-sound c.self.inside.end c.self.invariant
+
+pub arrive_fault-requires : goal.arrive_fault-requires
+arrive_fault-requires g c = record { few = omega (arith, (reached-sound c.self.inside.end c.self.invariant).few) }
+
+pub invariant_of-self : goal.invariant_of-self
+invariant_of-self g c =
+    reached-move (Hears (pdu_of c.in-Ok.pdu) c.args.now) c.self.inside.end c.arrive.new.self c.self.invariant (c.in-Ok.ensures.found.numbers, c.in-Ok.ensures.found.body)
+    (λ s h. (c.arrive.ensures.does s h).0)
+
+pub invariant_of-self-in-Err : goal.invariant_of-self-in-Err
+invariant_of-self-in-Err g c = reached-move (Guards c.args.now) c.self.inside.end c.arrive_fault.new.self c.self.invariant tt (λ s h. (c.arrive_fault.ensures.does s h).0)
+
+pub returns-in-Ok-clause-made : goal.returns-in-Ok-clause-made
+returns-in-Ok-clause-made g c s h =
+    let third : c.self.inside.end.settings.rule ≡ s.settings.rule = ap (λ (v : View). v.settings.rule) (c.self.view_is ∙ h) in
+    let rule = c.rule-rule.ensures ∙ third in
+    let whole : StandsFor c.self.inside.end s = c.self.view_is ∙ h in
+    let p = pdu_of c.in-Ok.pdu in
+    let seen = c.in-Ok.ensures.exact ∙ ap (λ r. safe_seen r c.args.octets.now) rule in
+    subst (λ t. HandsOut g.O.PduOut.makes c.args.out.now s t c.arrive.new.out) (ap (λ r. move (heard r c.args.now) s) seen)
+    (hands-out g.O.PduOut.makes c.args.out.now c.arrive.new.out s (arrive p c.args.now s) (c.arrive.ensures.does s whole).1)
+
+pub returns-in-Err-clause-taken : goal.returns-in-Err-clause-taken
+returns-in-Err-clause-taken g c s h =
+    let third : c.self.inside.end.settings.rule ≡ s.settings.rule = ap (λ (v : View). v.settings.rule) (c.self.view_is ∙ h) in
+    let rule = c.rule-rule.ensures ∙ third in
+    let whole : StandsFor c.self.inside.end s = c.self.view_is ∙ h in
+    let seen = c.in-Err.ensures.exact ∙ ap (λ r. safe_seen r c.args.octets.now) rule in
+    subst (λ t. HandsUp g.U.UnitIn.takes c.args.units.now s t c.args.units.now) (ap (λ r. move (heard r c.args.now) s) seen) (hands-nothing g.U.UnitIn.takes c.args.units.now c.args.now s)
