@@ -50,7 +50,6 @@ AllowsMove A U (Sends unit now) = U unit
 AllowsMove A U _ = Unit {0}
 
 module _ (A : Pdu → Type 0) (U : List ℕ → Type 0) (P : State → Type 0) (k : Kept A U P) where
-
   kept-leave : (reason : Reason) (detail : Detail) (now : ℕ) (s : State) → P s → P (leave reason detail now s)
   kept-leave reason detail now s h =
       let m = make DiscReq (leaving_body reason detail) now s in

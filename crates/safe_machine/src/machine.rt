@@ -140,7 +140,13 @@ impl<A: Allocator> Machine<A> {
     }
 
     /// Takes the octets of a PDU, after the guard.
-    pub fn arrive<O: PduOut, U: UnitIn>(&mut self, octets: &[u8], now: u64, out: &mut O, units: &mut U) -> Step
+    pub fn arrive<O: PduOut, U: UnitIn>(
+        &mut self,
+        octets: &[u8],
+        now: u64,
+        out: &mut O,
+        units: &mut U,
+    ) -> Step
         requires reach { self.old.expected < 2 ^ 62 }
         requires ready { U.ready units.old }
         ensures stands { (s : State) → StandsFor self.old s → StandsFor self.new (arrive_octets octets.now now s) }
