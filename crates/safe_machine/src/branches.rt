@@ -61,6 +61,7 @@ impl<A: Allocator> Endpoint<A> {
         requires above { AllBelow self.old.made self.old.ring }
         requires made { self.old.confirmed < self.old.made }
         ensures does { Does O.makes (make Kind.Data unit.now now) self.old out.old self.new out.new }
+        ensures ring { self.new.ring ≡ self.old.ring ++ record { number = self.old.made; octets = unit.now } ∷ [] }
     {
         let number = self.made;
         self.make(Kind::Data, unit, now, out);
