@@ -61,7 +61,6 @@ reached-move m v w r read turns =
           (turns (moved r.moves (opened r.settings r.first r.began)) r.stands);
     }
 
-
 -- bounds of a state, that every move keeps
 pub record Sure (s : State) : Type 0 where
   pub bounded : Bounded s
@@ -258,7 +257,12 @@ opened-sure settings first now legal =
     if_both Sure settings.client m (fresh settings first now Down)
     (λ _. record {
       bounded = record {
-        small = r.small; limit = r.limit; few = omega arith; few_live = λ live. omega arith; window_small = omega arith; unconfirmed_small = omega arith;
+        small = r.small;
+        limit = r.limit;
+        few = omega arith;
+        few_live = λ live. omega arith;
+        window_small = omega arith;
+        unconfirmed_small = omega arith;
         confirmed_made = λ live. omega arith;
       };
       down = λ e. cc;
@@ -266,7 +270,12 @@ opened-sure settings first now legal =
     })
     (λ _. record {
       bounded = record {
-        small = r.small; limit = r.limit; few = omega arith; few_live = λ live. omega arith; window_small = omega arith; unconfirmed_small = omega arith;
+        small = r.small;
+        limit = r.limit;
+        few = omega arith;
+        few_live = λ live. omega arith;
+        window_small = omega arith;
+        unconfirmed_small = omega arith;
         confirmed_made = λ live. absurd (false≢true live);
       };
       down = λ e. refl;

@@ -131,11 +131,10 @@ pub say-does : {O : Type 0} (makes : O → List ℕ → O → Type 0) (m n : Vie
     ((ring : List Numbered) (s : State) → m ≡ beside ring s → n ≡ beside ring (make kind body now s)) →
     ((ring : List Numbered) (s : State) → m ≡ beside ring s → makes a (safe_text s.settings.rule (next_made s kind body now).pdu) b) →
     Does makes (make kind body now) m a n b
-say-does makes m n a b kind body now plain left handed s h =
-    (
-      left (ring_of s) s h ∙ ap (λ r. beside r (make kind body now s)) (sym (plain-ring kind body now s plain)),
-      hands-one makes a b kind body now s (handed (ring_of s) s h),
-    )
+say-does makes m n a b kind body now plain left handed s h = (
+  left (ring_of s) s h ∙ ap (λ r. beside r (make kind body now s)) (sym (plain-ring kind body now s plain)),
+  hands-one makes a b kind body now s (handed (ring_of s) s h),
+)
 
 -- another step that is the same where the value stands for the state
 pub does-as : {O : Type 0} (makes : O → List ℕ → O → Type 0) (f g : State → State) (m n : View) (a b : O) → ((s : State) → StandsFor m s → g s ≡ f s) → Does makes f m a n b → Does makes g m a n b
@@ -207,10 +206,9 @@ pub send-does : {O : Type 0} (makes : O → List ℕ → O → Type 0) (m mid n 
 send-does makes m mid n a b unit now inside left handed e s h =
     let made : m.made ≡ length s.made = ap (λ (v : View). v.made) h in
     let confirmed : m.confirmed ≡ s.confirmed = ap (λ (v : View). v.confirmed) h in
-    let t = make Data unit now s in
-    (
+    let t = make Data unit now s in (
       e ∙ (ap (λ (v : View). record v { ring = v.ring ++ record { number = m.made; octets = unit } ∷ [] }) (left (ring_of s) s h)
-      ∙ (ap (λ (k : ℕ). beside (ring_of s ++ record { number = k; octets = unit } ∷ []) t) made ∙ ap (λ r. beside r t) (sym (data-ring unit now s (omega arith))))),
+          ∙ (ap (λ (k : ℕ). beside (ring_of s ++ record { number = k; octets = unit } ∷ []) t) made ∙ ap (λ r. beside r t) (sym (data-ring unit now s (omega arith))))),
       hands-one makes a b Data unit now s (handed (ring_of s) s h),
     )
 
@@ -446,10 +444,9 @@ accepts-does makes p now m a b c d n o q empty ea eb h ed en s k =
     let none : ring_of s ≡ [] = sym (ap (λ (v : View). v.ring) k) ∙ empty in
     let was : ring_of t ≡ [] = plain-ring ConnResp body now u refl ∙ none in
     let grown : length t.made ≡ length s.made + 1 = length-append s.made (next_made u ConnResp body now ∷ []) in
-    let is : ring_of z ≡ [] = ap (carried_at (length s.made + 1) []) (drop-past (length s.made + 1) t.made (omega arith)) in
-    (
+    let is : ring_of z ≡ [] = ap (carried_at (length s.made + 1) []) (drop-past (length s.made + 1) t.made (omega arith)) in (
       en ∙ (ap (λ (v : View). record v { connection = Start }) (ed ∙ (ap (λ (v : View). record v { confirmed = m.made; confirmed_at = now }) one.0
-      ∙ (ap (λ (i : ℕ). record (beside (ring_of t) t) { confirmed = i; confirmed_at = now }) made ∙ ap (λ r. beside r z) (was ∙ sym is))))),
+          ∙ (ap (λ (i : ℕ). record (beside (ring_of t) t) { confirmed = i; confirmed_at = now }) made ∙ ap (λ r. beside r z) (was ∙ sym is))))),
       record { more = one.1.more; grown = one.1.grown; same = one.1.same; handed = one.1.handed },
     )
 

@@ -61,6 +61,7 @@ impl<A: Allocator> Endpoint<A> {
         requires above { AllBelow self.old.made self.old.ring }
         requires made { self.old.confirmed < self.old.made }
         ensures does { Does O.makes (make Kind.Data unit.now now) self.old out.old self.new out.new }
+        ensures ring { self.new.ring ≡ self.old.ring ++ record { number = self.old.made; octets = unit.now } ∷ [] }
     {
         let number = self.made;
         self.make(Kind::Data, unit, now, out);
@@ -204,7 +205,13 @@ impl<A: Allocator> Endpoint<A> {
     }
 
     /// Hands up the unit of a PDU that was taken, if it carries one.
-    fn take_unit<O: PduOut, U: UnitIn>(&mut self, pdu: &SafePdu<'_>, now: u64, out: &mut O, units: &mut U)
+    fn take_unit<O: PduOut, U: UnitIn>(
+        &mut self,
+        pdu: &SafePdu<'_>,
+        now: u64,
+        out: &mut O,
+        units: &mut U,
+    )
         requires few { self.old.made < 2 ^ 40 }
         requires since { self.old.since < 2 ^ 40 }
         requires ready { U.ready units.old }
@@ -422,7 +429,13 @@ impl<A: Allocator> Endpoint<A> {
     }
 
     /// Receives a PDU, where the guard has passed.
-    fn receive<O: PduOut, U: UnitIn>(&mut self, pdu: &SafePdu<'_>, now: u64, out: &mut O, units: &mut U) -> Step
+    fn receive<O: PduOut, U: UnitIn>(
+        &mut self,
+        pdu: &SafePdu<'_>,
+        now: u64,
+        out: &mut O,
+        units: &mut U,
+    ) -> Step
         requires sound { Sound self.old }
         requires body { IsBody pdu.now.kind pdu.now.body.now }
         requires reach { self.old.expected < 2 ^ 62 }
@@ -439,7 +452,13 @@ impl<A: Allocator> Endpoint<A> {
     }
 
     /// The guard, and then what a PDU brings.
-    pub(crate) fn arrive<O: PduOut, U: UnitIn>(&mut self, pdu: &SafePdu<'_>, now: u64, out: &mut O, units: &mut U) -> Step
+    pub(crate) fn arrive<O: PduOut, U: UnitIn>(
+        &mut self,
+        pdu: &SafePdu<'_>,
+        now: u64,
+        out: &mut O,
+        units: &mut U,
+    ) -> Step
         requires sound { Sound self.old }
         requires body { IsBody pdu.now.kind pdu.now.body.now }
         requires reach { self.old.expected < 2 ^ 62 }
@@ -458,7 +477,12 @@ impl<A: Allocator> Endpoint<A> {
     }
 
     /// The guard, and then what octets bring that are no PDU.
-    pub(crate) fn arrive_fault<O: PduOut>(&mut self, fault: SafeFault, now: u64, out: &mut O) -> Step
+    pub(crate) fn arrive_fault<O: PduOut>(
+        &mut self,
+        fault: SafeFault,
+        now: u64,
+        out: &mut O,
+    ) -> Step
         requires few { self.old.made < 2 ^ 40 }
         ensures does { Does O.makes (guard now) self.old out.old self.new out.new }
         ensures answer { (s : State) → StandsFor self.old s → result ≡ heard_answer (Err fault) now s }

@@ -139,7 +139,13 @@ impl<A: Allocator> Endpoint<A> {
     }
 
     /// Says that the end leaves.
-    pub(crate) fn goodbye<O: PduOut>(&mut self, reason: Reason, detail: Detail, now: u64, out: &mut O)
+    pub(crate) fn goodbye<O: PduOut>(
+        &mut self,
+        reason: Reason,
+        detail: Detail,
+        now: u64,
+        out: &mut O,
+    )
         requires few { self.old.made < 2 ^ 40 }
         ensures does { Does O.makes (make Kind.DiscReq (leaving_body reason detail) now) self.old out.old self.new out.new }
         ensures few { self.new.made ≤ self.old.made + 1 }
@@ -321,7 +327,14 @@ fn begin_client<A: Allocator, O: PduOut>(
     ensures stands { StandsFor result (opened (settings_of Client config) first now) }
     ensures made { FoldsTo O.makes out.old (texts config.rule (opened (settings_of Client config) first now).made) out.new }
 {
-    let mut end = fresh(config, Role::Client, first, now, ConnectionState::Start, ring);
+    let mut end = fresh(
+        config,
+        Role::Client,
+        first,
+        now,
+        ConnectionState::Start,
+        ring,
+    );
     end.say_opening(Kind::ConnReq, now, out);
     end
 }
@@ -378,10 +391,7 @@ impl MachineConfig {
     fn has_limits(&self) -> bool
         ensures { result ≡ (nat_le 1 self.now.mwa && nat_le self.now.mwa 16) && (nat_le 100 self.now.pdu_limit && nat_le self.now.pdu_limit 4294901760) }
     {
-        1 <= self.mwa
-            && self.mwa <= 16
-            && 100 <= self.pdu_limit
-            && self.pdu_limit <= 4_294_901_760
+        1 <= self.mwa && self.mwa <= 16 && 100 <= self.pdu_limit && self.pdu_limit <= 4_294_901_760
     }
 }
 

@@ -1,6 +1,6 @@
 //! One end of a connection.
 
-ghost use Rattle.std.specs.Prelude.{◌≡◌, ◌<◌, ◌≤◌, ◌^◌, ◌↔◌, ℕ, List, [], true, false, length, Err, IfOk, IsOk, OnOk, OnErr, if◌then◌else◌};
+ghost use Rattle.std.specs.Prelude.{◌≡◌, ◌<◌, ◌≤◌, ◌^◌, ◌↔◌, ℕ, List, [], true, false, length, Err, ◌++◌, ◌∷◌, IfOk, IsOk, OnOk, OnErr, if◌then◌else◌};
 ghost use Rattle.std.specs.List.{FoldsTo};
 ghost use Rattle.safe_machine.specs.Settings.{is_legal};
 ghost use Rattle.safe_machine.specs.State.{State, leave, opened, unconfirmed};
@@ -140,7 +140,13 @@ impl<A: Allocator> Machine<A> {
     }
 
     /// Takes the octets of a PDU, after the guard.
-    pub fn arrive<O: PduOut, U: UnitIn>(&mut self, octets: &[u8], now: u64, out: &mut O, units: &mut U) -> Step
+    pub fn arrive<O: PduOut, U: UnitIn>(
+        &mut self,
+        octets: &[u8],
+        now: u64,
+        out: &mut O,
+        units: &mut U,
+    ) -> Step
         requires reach { self.old.expected < 2 ^ 62 }
         requires ready { U.ready units.old }
         ensures stands { (s : State) → StandsFor self.old s → StandsFor self.new (arrive_octets octets.now now s) }
@@ -166,6 +172,8 @@ impl<A: Allocator> Machine<A> {
         ensures made { (s : State) → StandsFor self.old s → HandsOut O.makes out.old s (send unit.now.items now s) out.new }
         ensures sent { (s : State) → StandsFor self.old s → IsOk result ↔ (may_send s ≡ true) }
         ensures not_up { (s : State) → StandsFor self.old s → (result ≡ Err NotUp) ↔ (in_turn s.connection ≡ false) }
+        // No unit stops being unconfirmed.
+        ensures kept { OnOk result (self.new.ring ≡ self.old.ring ++ record { number = self.old.made; octets = unit.now.items } ∷ []) }
         ensures unchanged { OnErr result (self.new ≡ self.old) }
         ensures nothing_made { OnErr result (out.new ≡ out.old) }
     {

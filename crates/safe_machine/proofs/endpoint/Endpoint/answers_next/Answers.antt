@@ -7,9 +7,11 @@ use Rattle.safe_machine.proofs.Views.{next-does}
 use Rattle.safe_machine.proofs.endpoint.Endpoint.answers_next.Goals as goal
 
 pub returns : goal.returns
-returns g c = record { does =
-    next-does g.O.PduOut.makes (pdu_of c.args.pdu.now) c.args.now c.args.self.now c.tests_passed.new.self c.note_request.new.self c.pass.new.self c.reply.new.self c.args.out.now c.reply.new.out
-    c.requires.number c.tests_passed.ensures.left c.note_request.ensures.left c.pass.ensures.left c.reply.ensures.does; }
+returns g c = record {
+  does =
+      next-does g.O.PduOut.makes (pdu_of c.args.pdu.now) c.args.now c.args.self.now c.tests_passed.new.self c.note_request.new.self c.pass.new.self c.reply.new.self c.args.out.now c.reply.new.out
+      c.requires.number c.tests_passed.ensures.left c.note_request.ensures.left c.pass.ensures.left c.reply.ensures.does;
+}
 
 pub reply-requires-clause-short : goal.reply-requires-clause-short
 reply-requires-clause-short g c =

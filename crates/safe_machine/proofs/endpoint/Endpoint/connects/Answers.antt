@@ -3,6 +3,8 @@ use Rattle.safe_machine.proofs.Views.{connects-does}
 use Rattle.safe_machine.proofs.endpoint.Endpoint.connects.Goals as goal
 
 pub returns : goal.returns
-returns g c = record { does =
-    connects-does g.O.PduOut.makes (pdu_of c.args.pdu.now) c.args.now c.args.self.now c.tests_passed.new.self c.pass.new.self c.set_window.new.self c.beat.new.self c.move_to.new.self
-    c.args.out.now c.beat.new.out c.requires.number c.tests_passed.ensures.left c.pass.ensures.left c.set_window.ensures.left c.beat.ensures.does c.move_to.ensures; }
+returns g c = record {
+  does =
+      connects-does g.O.PduOut.makes (pdu_of c.args.pdu.now) c.args.now c.args.self.now c.tests_passed.new.self c.pass.new.self c.set_window.new.self c.beat.new.self c.move_to.new.self
+      c.args.out.now c.beat.new.out c.requires.number c.tests_passed.ensures.left c.pass.ensures.left c.set_window.ensures.left c.beat.ensures.does c.move_to.ensures;
+}

@@ -12,5 +12,12 @@ returns-clause-does g c =
 
 pub renumber-requires : goal.renumber-requires
 renumber-requires g c =
-    omega (arith, ap (λ (v : View). v.made) c.self.view_is, ap (λ (v : View). v.made) c.make.ensures.counted, ap (λ (v : View). length v.ring) c.make.ensures.counted,
-    ap length c.resend_all.ensures.ring, c.requires.short, c.requires.few)
+    omega (
+      arith,
+      ap (λ (v : View). v.made) c.self.view_is,
+      ap (λ (v : View). v.made) c.make.ensures.counted,
+      ap (λ (v : View). length v.ring) c.make.ensures.counted,
+      ap length c.resend_all.ensures.ring,
+      c.requires.short,
+      c.requires.few,
+    )

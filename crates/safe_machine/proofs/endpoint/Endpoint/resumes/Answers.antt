@@ -3,6 +3,8 @@ use Rattle.safe_machine.proofs.Views.{resumes-turn}
 use Rattle.safe_machine.proofs.endpoint.Endpoint.resumes.Goals as goal
 
 pub returns : goal.returns
-returns g c = record { turns =
-    resumes-turn (pdu_of c.args.pdu.now) c.args.now c.distance-distance.result c.args.self.now c.tests_passed.new.self c.pass.new.self c.move_to.new.self c.distance-distance.ensures
-    c.requires.number c.tests_passed.ensures.left c.pass.ensures.left c.move_to.ensures; }
+returns g c = record {
+  turns =
+      resumes-turn (pdu_of c.args.pdu.now) c.args.now c.distance-distance.result c.args.self.now c.tests_passed.new.self c.pass.new.self c.move_to.new.self c.distance-distance.ensures
+      c.requires.number c.tests_passed.ensures.left c.pass.ensures.left c.move_to.ensures;
+}

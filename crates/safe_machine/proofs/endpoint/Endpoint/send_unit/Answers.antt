@@ -11,7 +11,8 @@ keep-requires-clause-above g c =
     subst (λ k. AllBelow k c.make.new.self.ring) (sym (ap (λ (v : View). v.made) c.self.view_is))
     (subst (λ (v : View). AllBelow c.args.self.now.made v.ring) (sym c.make.ensures.counted) c.requires.above)
 
-pub returns : goal.returns
-returns g c = record { does =
+pub returns-clause-does : goal.returns-clause-does
+returns-clause-does g c =
     send-does g.O.PduOut.makes c.args.self.now c.make.new.self c.keep.new.self c.args.out.now c.make.new.out c.args.unit.now c.args.now c.requires.made c.make.ensures.left
-    c.make.ensures.made (c.keep.ensures ∙ ap (λ k. record c.make.new.self { ring = c.make.new.self.ring ++ record { number = k; octets = c.args.unit.now } ∷ [] }) (ap (λ (v : View). v.made) c.self.view_is)); }
+    c.make.ensures.made
+    (c.keep.ensures ∙ ap (λ k. record c.make.new.self { ring = c.make.new.self.ring ++ record { number = k; octets = c.args.unit.now } ∷ [] }) (ap (λ (v : View). v.made) c.self.view_is))
