@@ -1,9 +1,9 @@
 -- What a decision allows its branch to rely on, and what an arrival hands up.
-use Rattle.std.proofs.Common.{◌≡◌, ◌≢◌, ℕ, ◌+◌, ◌-◌, ◌<◌, ◌≤◌, List, [], ◌∷◌, ◌++◌, length, drop, Bool, true, false, refl, sym, ap, subst, ◌∙◌, arith, append-nil}
-use Rattle.std.specs.Prelude.{if◌then◌else◌, ◌&&◌, nat_le, Option, Some, None}
+use Rattle.std.proofs.Common.{◌≡◌, ℕ, ◌-◌, ◌<◌, List, [], ◌∷◌, ◌++◌, length, drop, Bool, true, false, refl, sym, ap, subst, ◌∙◌, append-nil}
+use Rattle.std.specs.Prelude.{if◌then◌else◌, nat_le, Some, None}
 use Rattle.std.specs.List.{FoldsTo}
 use Rattle.std.proofs.lemmas.Bool.{ltb-true, leb-true}
-use Rattle.safe_pdu.specs.declared.Kind.TheVariants.{ConnReq, DiscReq, RetrResp, RetrData, Heartbeat}
+use Rattle.safe_pdu.specs.declared.Kind.TheVariants.{DiscReq, RetrResp, RetrData, Heartbeat}
 use Rattle.safe_pdu.specs.Pdu.{Pdu}
 use Rattle.safe_pdu.specs.Bodies.{IsBody}
 use Rattle.safe_machine.specs.declared.ConnectionState.TheVariants.{Down}
@@ -13,8 +13,8 @@ use Rattle.safe_machine.specs.Made.{carries, leaving_body}
 use Rattle.safe_machine.specs.State.{State, make, move_to, pass, confirm_units, note_request, resend, reply, unconfirmed, hand_up, leave, says_goodbye, ask}
 use Rattle.safe_machine.specs.Decision.{Decision, decide, in_turn, distance}
 use Rattle.safe_machine.specs.Decision.Decision.{Nothing, Drops, Shuts, Leaves, Rejects, Accepts, Connects, Takes, Asks, Resumes, AnswersNext, AnswersEarly}
-use Rattle.safe_machine.specs.Step.{carry_out, receive, arrive, guard, take_unit, beat, tests_passed}
-use Rattle.safe_machine.specs.Course.{Allows, Passes, cs_ahead, carried, handed_by}
+use Rattle.safe_machine.specs.Step.{carry_out, receive, arrive, guard, beat, tests_passed}
+use Rattle.safe_machine.specs.Course.{Allows, Passes, cs_ahead, handed_by}
 use Rattle.safe_machine.specs.View.{View, StandsFor, HandsUp, overdue}
 use Rattle.safe_machine.proofs.Cases.{if_both}
 use Rattle.safe_machine.proofs.OneMachine.{plain-guard}

@@ -14,7 +14,6 @@ use Rattle.safe_machine.specs.State.{State, next_made, make, cs_step, resend, re
 use Rattle.retrans.specs.Units.{Numbered, above, renumbered, octets_of}
 use Rattle.safe_machine.specs.Ring.{after_at, carried_at, is_resent, resent, carried_again, after_carrier, carriers_from, carriers}
 use Rattle.safe_machine.specs.Moves.{Move, moved, move, ReachedState, ReachedLaw}
-use Rattle.safe_machine.specs.Moves.Move.{Guards, Hears, Ticks, Sends, Leaves}
 use Rattle.safe_machine.proofs.Cases.{if_both}
 use Rattle.safe_machine.proofs.Runs.{units-append}
 use Rattle.safe_machine.proofs.OneMachine.{plain-reply}

@@ -11,6 +11,8 @@ pub record Legal (s : Settings) : Type 0 where
   pub window_least : 1 ≤ s.n_sendmax
   pub window_most : s.n_sendmax ≤ 32
   pub t_max_most : s.t_max ≤ 60000
+  pub mwa_least : 1 ≤ s.mwa
+  pub mwa_most : s.mwa ≤ 16
   pub limit_most : s.pdu_limit ≤ 4294901760
 
 pub legal : (s : Settings) → is_legal s ≡ true → Legal s
@@ -28,6 +30,7 @@ legal s e =
     let p2 = and-parts (window && deadline && beat) mwa p1.0 in
     let p3 = and-parts (window && deadline) beat p2.0 in
     let p4 = and-parts window deadline p3.0 in
+    let m = and-parts (nat_le 1 s.mwa) (nat_le s.mwa 16) p2.1 in
     let n = and-parts (nat_le 1 s.n_sendmax) (nat_le s.n_sendmax 32) p4.0 in
     record {
       own = ltb-true s.own (256 ^ 4) id.0;
@@ -35,5 +38,7 @@ legal s e =
       window_least = leb-true 1 s.n_sendmax n.0;
       window_most = leb-true s.n_sendmax 32 n.1;
       t_max_most = leb-true s.t_max 60000 (and-parts (nat_le 100 s.t_max) (nat_le s.t_max 60000) p4.1).1;
+      mwa_least = leb-true 1 s.mwa m.0;
+      mwa_most = leb-true s.mwa 16 m.1;
       limit_most = leb-true s.pdu_limit 4294901760 (and-parts (nat_le 100 s.pdu_limit) (nat_le s.pdu_limit 4294901760) p1.1).1;
     }

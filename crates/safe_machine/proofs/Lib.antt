@@ -41,3 +41,4 @@ pub mod OrderRow
 pub mod Views
 pub mod Arriving
 pub mod Reaching
+pub mod Nearing

@@ -1,8 +1,8 @@
 -- What holds of every machine, since it stands for a state that moves lead to from an opening.
-use Rattle.std.proofs.Common.{◌≡◌, ◌≢◌, ℕ, zero, suc, ◌+◌, ◌-◌, ◌<◌, ◌≤◌, ◌^◌, List, [], ◌∷◌, ◌++◌, length, drop, Bool, true, false, refl, sym, ap, subst, ◌∙◌, arith, ◌⊎◌, inl, inr, ⊎_elim}
+use Rattle.std.proofs.Common.{◌≡◌, ◌≢◌, ℕ, zero, suc, ◌+◌, ◌<◌, ◌≤◌, List, [], ◌∷◌, ◌++◌, length, drop, Bool, true, false, refl, sym, ap, subst, ◌∙◌, arith, ◌⊎◌, inl, inr, ⊎_elim}
 use Rattle.std.specs.Prelude.{if◌then◌else◌, ◌&&◌, ◌==◌, nat_le, nat_lt}
 use Rattle.std.specs.List.{list_all}
-use Rattle.std.proofs.lemmas.Bool.{leb-true, ltb-true, false≢true}
+use Rattle.std.proofs.lemmas.Bool.{leb-true, false≢true}
 use Rattle.std.proofs.lemmas.List.{length-drop}
 use Rattle.std.proofs.lemmas.List.Elements.{All-nil, All-cons, All-push, All-weaker}
 use Rattle.retrans.specs.Units.{Numbered, octets_of}
@@ -20,7 +20,7 @@ use Rattle.safe_machine.specs.declared.Reason.TheVariants.{Timeout, ProtocolErro
 use Rattle.safe_machine.specs.declared.Detail.{Detail}
 use Rattle.safe_machine.specs.declared.Detail.TheVariants.{Unspecified, Limit}
 use Rattle.safe_machine.specs.Made.{Made, carries, leaving_body, opening_body}
-use Rattle.safe_machine.specs.Settings.{Settings, is_legal, in_range, are_two, is_coded}
+use Rattle.safe_machine.specs.Settings.{Settings, is_legal}
 use Rattle.safe_machine.specs.Decision.{Decision, decide, distance, in_turn}
 use Rattle.safe_machine.specs.Decision.Decision.{Nothing, Drops, Shuts, Leaves, Rejects, Accepts, Connects, Takes, Asks, Resumes, AnswersNext, AnswersEarly}
 use Rattle.safe_machine.specs.Step.{last_time, beat, take_unit, tests_passed, carry_out, is_live, guard, receive, is_connected, heartbeat, send, may_send}
@@ -33,8 +33,9 @@ use Rattle.safe_machine.proofs.Moves.{resend-connection}
 use Rattle.safe_machine.proofs.Deciding.{Fits, decide-fits}
 use Rattle.safe_machine.proofs.Lone.{arrive-by}
 use Rattle.safe_machine.proofs.Counting.{Bounded, resend-settings, bounded-guard, bounded-receive, bounded-heartbeat, bounded-send, bounded-leave}
-use Rattle.safe_machine.proofs.Kept.{Kept, AllowsMove, kept-move}
-use Rattle.safe_machine.proofs.Texts.{Texts, Own, own-legal, kept-texts, texts-make, AllSized, sized-run, texts-drop}
+use Rattle.safe_machine.proofs.Kept.{Kept, AllowsMove, Anything, anything, kept-move}
+use Rattle.safe_machine.proofs.Legal.{legal as lawful}
+use Rattle.safe_machine.proofs.Texts.{Texts, own-legal, kept-texts, texts-make, AllSized, sized-run, texts-drop}
 use Rattle.safe_machine.specs.Reached.{IsRead, AreRead, IsReached, Sound}
 use Rattle.safe_machine.specs.View.{View, StandsFor, Turns, AllUnits, AllBelow, has_room}
 
@@ -191,7 +192,7 @@ sure-moved : (ms : List Move) (s : State) → AreRead ms → Sure s → Sure (mo
 sure-moved [] s a h = h
 sure-moved (m ∷ ms) s a h = sure-moved ms (move m s) a.1 (sure-move m s a.0 h)
 
-legal-kept : Kept (λ p. Unit {0}) (λ u. Unit {0}) (λ (s : State). is_legal s.settings ≡ true)
+legal-kept : Kept Anything Anything (λ (s : State). is_legal s.settings ≡ true)
 legal-kept =
     record {
       silent = λ s t same h. ap is_legal same.0 ∙ h;
@@ -203,16 +204,9 @@ legal-kept =
       replies = λ now s h. ap is_legal (resend-settings (unconfirmed s) now (make RetrResp [] now s)) ∙ h;
     }
 
-any-move : (m : Move) → AllowsMove (λ p. Unit {0}) (λ u. Unit {0}) m
-any-move (Guards now) = tt
-any-move (Hears p now) = tt
-any-move (Ticks now) = tt
-any-move (Sends unit now) = tt
-any-move (LeavesNow reason detail now) = tt
-
 legal-moved : (ms : List Move) (s : State) → is_legal s.settings ≡ true → is_legal (moved ms s).settings ≡ true
 legal-moved [] s h = h
-legal-moved (m ∷ ms) s h = legal-moved ms (move m s) (kept-move (λ p. Unit {0}) (λ u. Unit {0}) (λ (t : State). is_legal t.settings ≡ true) legal-kept m s (any-move m) h)
+legal-moved (m ∷ ms) s h = legal-moved ms (move m s) (kept-move Anything Anything (λ (t : State). is_legal t.settings ≡ true) legal-kept m s (anything m) h)
 
 read-allows : (m : Move) → IsRead m → AllowsMove HasNumbers IsUnitSized m
 read-allows (Guards now) h = tt
@@ -225,40 +219,16 @@ texts-moved : (ms : List Move) (s : State) → AreRead ms → Texts s → Texts 
 texts-moved [] s a h = h
 texts-moved (m ∷ ms) s a h = texts-moved ms (move m s) a.1 (kept-move HasNumbers IsUnitSized Texts kept-texts m s (read-allows m a.0) h)
 
--- what legal settings say
-record Ranges (s : Settings) : Type 0 where
-  small : s.n_sendmax ≤ 32
-  mwa_least : 1 ≤ s.mwa
-  mwa_most : s.mwa ≤ 16
-  limit : s.pdu_limit ≤ 4294901760
-
-ranges-legal : (s : Settings) → is_legal s ≡ true → Ranges s
-ranges-legal s e =
-    let both = and-parts (in_range s) (are_two s && is_coded s.rule.length) e in
-    let a = nat_le 1 s.n_sendmax && nat_le s.n_sendmax 32 in
-    let b = nat_le 100 s.t_max && nat_le s.t_max 60000 in
-    let c = nat_le 10 s.t_h && nat_lt s.t_h s.t_max in
-    let d = nat_le 1 s.mwa && nat_le s.mwa 16 in
-    let l = nat_le 100 s.pdu_limit && nat_le s.pdu_limit 4294901760 in
-    let p1 = and-parts (a && b && c && d) l both.0 in
-    let p2 = and-parts (a && b && c) d p1.0 in
-    let p3 = and-parts (a && b) c p2.0 in
-    let p4 = and-parts a b p3.0 in
-    let n = and-parts (nat_le 1 s.n_sendmax) (nat_le s.n_sendmax 32) p4.0 in
-    let m = and-parts (nat_le 1 s.mwa) (nat_le s.mwa 16) p2.1 in
-    let k = and-parts (nat_le 100 s.pdu_limit) (nat_le s.pdu_limit 4294901760) p1.1 in
-    record { small = leb-true s.n_sendmax 32 n.1; mwa_least = leb-true 1 s.mwa m.0; mwa_most = leb-true s.mwa 16 m.1; limit = leb-true s.pdu_limit 4294901760 k.1 }
-
 opened-sure : (settings : Settings) (first now : ℕ) → is_legal settings ≡ true → Sure (opened settings first now)
 opened-sure settings first now legal =
-    let r = ranges-legal settings legal in
+    let r = lawful settings legal in
     let begun : State = fresh settings first now Start in
     let m = make ConnReq (opening_body settings.n_sendmax) now begun in
     if_both Sure settings.client m (fresh settings first now Down)
     (λ _. record {
       bounded = record {
-        small = r.small;
-        limit = r.limit;
+        small = r.window_most;
+        limit = r.limit_most;
         few = omega arith;
         few_live = λ live. omega arith;
         window_small = omega arith;
@@ -270,8 +240,8 @@ opened-sure settings first now legal =
     })
     (λ _. record {
       bounded = record {
-        small = r.small;
-        limit = r.limit;
+        small = r.window_most;
+        limit = r.limit_most;
         few = omega arith;
         few_live = λ live. omega arith;
         window_small = omega arith;
@@ -345,14 +315,17 @@ below-ring s =
     subst (AllBelow (length s.made)) (sym (ap (carried_at (s.confirmed + 1) []) (drop-long (s.confirmed + 1) s.made past))) (All-nil (λ (u : Numbered). u.number < length s.made)))
     (le_total (s.confirmed + 1) (length s.made))
 
+pub legal-reached : (v : View) (r : IsReached v) → is_legal (moved r.moves (opened r.settings r.first r.began)).settings ≡ true
+legal-reached v r = legal-moved r.moves (opened r.settings r.first r.began) (opened-legal r.settings r.first r.began r.legal)
+
 pub reached-sound : (v : View) → IsReached v → Sound v
 reached-sound v r =
     let s : State = opened r.settings r.first r.began in
     let t : State = moved r.moves s in
     let h : Sure t = sure-moved r.moves s r.read (opened-sure r.settings r.first r.began r.legal) in
-    let legal : is_legal t.settings ≡ true = legal-moved r.moves s (opened-legal r.settings r.first r.began r.legal) in
+    let legal : is_legal t.settings ≡ true = legal-reached v r in
     let texts : Texts t = texts-moved r.moves s r.read (opened-texts r.settings r.first r.began r.legal) in
-    let ranges = ranges-legal t.settings legal in
+    let ranges = lawful t.settings legal in
     let same : octets_of (ring_of t) ≡ unconfirmed t = ring_of-units t in
     let sized : AllSized (unconfirmed t) = sized-run [] (drop (t.confirmed + 1) t.made) (texts-drop (t.confirmed + 1) t.made texts.texts) tt in
     subst Sound (sym r.stands)

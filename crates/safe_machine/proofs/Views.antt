@@ -1,5 +1,5 @@
 -- What is kept of a state after a move, by what was kept before it.
-use Rattle.std.proofs.Common.{◌≡◌, ℕ, zero, suc, ◌+◌, ◌-◌, ◌%◌, ◌<◌, ◌≤◌, ◌⊎◌, inl, inr, List, [], ◌∷◌, ◌++◌, length, drop, map, Bool, true, false, refl, sym, ap, subst, ◌∙◌, arith, append_assoc, append-nil, length-append}
+use Rattle.std.proofs.Common.{◌≡◌, ℕ, zero, suc, ◌+◌, ◌-◌, ◌%◌, ◌<◌, ◌≤◌, ◌⊎◌, inl, inr, List, [], ◌∷◌, ◌++◌, length, drop, Bool, true, false, refl, sym, ap, subst, ◌∙◌, arith, append_assoc, append-nil, length-append}
 use Rattle.std.specs.List.{FoldsTo}
 use Rattle.std.proofs.lemmas.List.{drop-append-le, length-drop, take_more}
 use Rattle.std.proofs.lemmas.List.Elements.{All-get_or, All-filter}
@@ -12,12 +12,12 @@ use Rattle.safe_pdu.specs.declared.CodeRule.{CodeRule}
 use Rattle.safe_pdu.specs.Pdu.{Pdu}
 use Rattle.safe_pdu.specs.SafeText.{safe_text}
 use Rattle.retrans.specs.Units.{Numbered, above, renumbered, octets_of}
-use Rattle.safe_machine.specs.Numbers.{wrap, sn_of, ahead}
+use Rattle.safe_machine.specs.Numbers.{sn_of, ahead}
 use Rattle.safe_machine.specs.Made.{Made}
 use Rattle.safe_machine.specs.Settings.{Settings}
-use Rattle.std.specs.Prelude.{if◌then◌else◌, ◌&&◌, nat_le, nat_lt, Option, Some, None, IfSome, slice_get, get_or, take}
+use Rattle.std.specs.Prelude.{if◌then◌else◌, nat_le, nat_lt, Option, Some, None, IfSome, slice_get, get_or, take}
 use Rattle.safe_machine.specs.declared.ConnectionState.{ConnectionState}
-use Rattle.safe_machine.specs.declared.ConnectionState.TheVariants.{Closed, Down, Start, Up, RetrReq as Requesting, RetrRun}
+use Rattle.safe_machine.specs.declared.ConnectionState.TheVariants.{Closed, Start, Up, RetrReq as Requesting, RetrRun}
 use Rattle.safe_machine.specs.declared.Reason.{Reason}
 use Rattle.safe_machine.specs.declared.Reason.TheVariants.{Timeout, ProtocolError, WrongVersion}
 use Rattle.safe_machine.specs.declared.Detail.{Detail}
@@ -26,11 +26,11 @@ use Rattle.safe_machine.specs.Made.{leaving_body, opening_body, carries}
 use Rattle.safe_machine.specs.State.{State, next_made, make, move_to, leave, says_goodbye, pass, confirm_units, note_request, cs_step, resend, reply, unconfirmed, hand_up, ask}
 use Rattle.safe_machine.specs.Step.{last_time, guard, heartbeat, is_live, tests_passed, set_window, carry_out, take_unit, beat, confirm_to}
 use Rattle.safe_machine.specs.Decision.{distance, in_turn}
-use Rattle.safe_machine.specs.Decision.Decision.{Rejects, Accepts, Connects, Takes, Asks, Resumes, AnswersNext, AnswersEarly}
+use Rattle.safe_machine.specs.Decision.Decision.{Rejects, Accepts, Connects, Takes, Resumes, AnswersNext, AnswersEarly}
 use Rattle.safe_pdu.specs.Bodies.{window_of, IsBody}
 use Rattle.safe_machine.specs.Course.{cs_ahead, cts_ahead, sn_ahead}
 use Rattle.safe_machine.specs.Ring.{after_at, carried_at, ring_of}
-use Rattle.safe_machine.specs.View.{View, beside, StandsFor, texts, HandsOut, Hands, Does, leaves_units, overdue, beat_due, Turns, AllBelow, AllUnits, answered_ahead}
+use Rattle.safe_machine.specs.View.{View, beside, StandsFor, texts, HandsOut, Hands, Does, leaves_units, overdue, beat_due, Turns, AllUnits, answered_ahead}
 use Rattle.safe_machine.proofs.Ring.{carried_at-append, ring-confirm, ring-resend, ring_of-units, octets_of-append}
 
 pub next-number : (first made : ℕ) → (first + made % 4294967296) % 4294967296 ≡ sn_of first made

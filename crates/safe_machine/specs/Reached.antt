@@ -1,6 +1,5 @@
 -- What every machine has: it stands for a state that moves lead to from an opening.
 use Rattle.std.specs.Prelude.{◌≡◌, ◌<◌, ◌≤◌, ◌^◌, ℕ, true, length, List, [], ◌∷◌}
-use Rattle.safe_pdu.specs.Pdu.{Pdu}
 use Rattle.safe_pdu.specs.Bodies.{IsBody}
 use Rattle.safe_pdu.specs.SafeText.{HasNumbers}
 use Rattle.safe_machine.specs.Settings.{Settings, is_legal}

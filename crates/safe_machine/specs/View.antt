@@ -1,5 +1,5 @@
 -- What a machine keeps of a state: each list as its count, and the unconfirmed units.
-use Rattle.std.specs.Prelude.{◌≡◌, ℕ, ◌+◌, ◌&&◌, nat_lt, nat_le, if◌then◌else◌, Bool, true, false, Option, Some, None, List, [], ◌∷◌, ◌++◌, length, drop, map, All, ◌<◌}
+use Rattle.std.specs.Prelude.{◌≡◌, ℕ, ◌+◌, ◌&&◌, nat_lt, nat_le, if◌then◌else◌, Bool, true, false, Option, Some, None, List, ◌++◌, length, drop, map, All, ◌<◌}
 use Rattle.std.specs.List.{FoldsTo}
 use Rattle.octets.specs.declared.limits.TheConstants.{WINDOW_MAX}
 use Rattle.retrans.specs.Units.{Numbered}

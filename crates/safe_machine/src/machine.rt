@@ -1,6 +1,6 @@
 //! One end of a connection.
 
-ghost use Rattle.std.specs.Prelude.{◌≡◌, ◌<◌, ◌≤◌, ◌^◌, ◌↔◌, ℕ, List, [], true, false, length, Err, ◌++◌, ◌∷◌, IfOk, IsOk, OnOk, OnErr, if◌then◌else◌};
+ghost use Rattle.std.specs.Prelude.{◌≡◌, ◌+◌, ◌<◌, ◌≤◌, ◌^◌, ◌↔◌, ℕ, List, [], true, false, length, Err, ◌++◌, ◌∷◌, IfOk, IsOk, OnOk, OnErr, if◌then◌else◌};
 ghost use Rattle.std.specs.List.{FoldsTo};
 ghost use Rattle.safe_machine.specs.Settings.{is_legal};
 ghost use Rattle.safe_machine.specs.State.{State, leave, opened, unconfirmed};
@@ -78,6 +78,7 @@ impl<A: Allocator> Machine<A> {
     ) -> Result<Self, MachineFault>
         ensures bad_config { (result ≡ Err BadConfig) ↔ (is_legal (settings_of role config) ≡ false) }
         ensures stands { IfOk result (λ machine. StandsFor machine (opened (settings_of role config) first_sn now)) }
+        ensures near { IfOk result (λ machine. machine.expected ≡ 0) }
         ensures made { OnOk result (FoldsTo O.makes out.old (texts config.rule (opened (settings_of role config) first_sn now).made) out.new) }
         ensures nothing_made { OnErr result (out.new ≡ out.old) }
     {
@@ -97,6 +98,7 @@ impl<A: Allocator> Machine<A> {
     /// may have.
     pub fn guard<O: PduOut>(&mut self, now: u64, out: &mut O)
         ensures stands { (s : State) → StandsFor self.old s → StandsFor self.new (guard now s) }
+        ensures near { self.new.expected ≡ self.old.expected }
         ensures made { (s : State) → StandsFor self.old s → HandsOut O.makes out.old s (guard now s) out.new }
     {
         self.end.guard(now, out);
@@ -105,6 +107,7 @@ impl<A: Allocator> Machine<A> {
     /// The guard, and then a heartbeat where one is due.
     pub fn tick<O: PduOut>(&mut self, now: u64, out: &mut O)
         ensures stands { (s : State) → StandsFor self.old s → StandsFor self.new (tick now s) }
+        ensures near { self.new.expected ≡ self.old.expected }
         ensures made { (s : State) → StandsFor self.old s → HandsOut O.makes out.old s (tick now s) out.new }
     {
         self.end.tick(now, out);
@@ -113,6 +116,7 @@ impl<A: Allocator> Machine<A> {
     /// Leaves the connection, and says so, where there is one.
     pub fn close<O: PduOut>(&mut self, reason: Reason, detail: Detail, now: u64, out: &mut O)
         ensures stands { (s : State) → StandsFor self.old s → StandsFor self.new (leave reason detail now s) }
+        ensures near { self.new.expected ≡ self.old.expected }
         ensures made { (s : State) → StandsFor self.old s → HandsOut O.makes out.old s (leave reason detail now s) out.new }
     {
         self.end.leave(reason, detail, now, out);
@@ -150,6 +154,7 @@ impl<A: Allocator> Machine<A> {
         requires reach { self.old.expected < 2 ^ 62 }
         requires ready { U.ready units.old }
         ensures stands { (s : State) → StandsFor self.old s → StandsFor self.new (arrive_octets octets.now now s) }
+        ensures near { self.new.expected ≤ self.old.expected + 321 }
         ensures made { (s : State) → StandsFor self.old s → HandsOut O.makes out.old s (arrive_octets octets.now now s) out.new }
         ensures taken { (s : State) → StandsFor self.old s → HandsUp U.takes units.old s (arrive_octets octets.now now s) units.new }
         ensures answer { (s : State) → StandsFor self.old s → result ≡ octets_answer octets.now now s }
@@ -169,6 +174,7 @@ impl<A: Allocator> Machine<A> {
     pub fn send<O: PduOut>(&mut self, unit: &Unit, now: u64, out: &mut O) -> Result<(), SendFault>
         requires size { IsUnitSized unit.now.items }
         ensures stands { (s : State) → StandsFor self.old s → StandsFor self.new (send unit.now.items now s) }
+        ensures near { self.new.expected ≡ self.old.expected }
         ensures made { (s : State) → StandsFor self.old s → HandsOut O.makes out.old s (send unit.now.items now s) out.new }
         ensures sent { (s : State) → StandsFor self.old s → IsOk result ↔ (may_send s ≡ true) }
         ensures not_up { (s : State) → StandsFor self.old s → (result ≡ Err NotUp) ↔ (in_turn s.connection ≡ false) }

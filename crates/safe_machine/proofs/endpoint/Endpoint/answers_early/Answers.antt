@@ -2,7 +2,7 @@ use Rattle.std.proofs.Common.{sym, ap, ◌∙◌}
 use Rattle.safe_pdu.specs.Pdu.{pdu_of}
 use Rattle.safe_machine.specs.Decision.{in_turn}
 use Rattle.safe_machine.specs.View.{View}
-use Rattle.safe_machine.proofs.Views.{early-asks, early-stays}
+use Rattle.safe_machine.proofs.Views.{early-asks}
 use Rattle.safe_machine.proofs.endpoint.Endpoint.answers_early.Goals as goal
 
 pub returns-then-misses : goal.returns-then-misses

@@ -1,4 +1,4 @@
-use Rattle.std.proofs.Common.{sym, ◌∙◌}
+use Rattle.std.proofs.Common.{sym}
 use Rattle.safe_pdu.specs.Pdu.{pdu_of}
 use Rattle.safe_machine.specs.State.{leave}
 use Rattle.safe_machine.specs.Step.{arrive, receive}

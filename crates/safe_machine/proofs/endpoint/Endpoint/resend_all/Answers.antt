@@ -1,4 +1,4 @@
-use Rattle.std.proofs.Common.{◌≡◌, ◌+◌, ◌≤◌, length, sym, subst, ap, ◌∙◌, arith, take}
+use Rattle.std.proofs.Common.{◌≡◌, ◌≤◌, length, subst, ap, ◌∙◌, arith}
 use Rattle.retrans.specs.Units.{octets_of}
 use Rattle.safe_machine.specs.State.{resend}
 use Rattle.safe_machine.specs.View.{View, Hands, beside}

@@ -1,5 +1,4 @@
-use Rattle.std.proofs.Common.{ℕ, List, sym, subst, ap}
-use Rattle.safe_machine.specs.View.{View}
+use Rattle.std.proofs.Common.{ℕ, List, subst}
 use Rattle.safe_pdu.specs.SafeText.{safe_text}
 use Rattle.safe_pdu.specs.declared.Kind.TheVariants.{RetrData}
 use Rattle.safe_machine.specs.State.{next_made}

@@ -1,4 +1,4 @@
-use Rattle.std.proofs.Common.{sym, subst, ap, ◌∙◌, ◌<◌, ◌+◌, ◌++◌, ◌∷◌, [], length}
+use Rattle.std.proofs.Common.{sym, subst, ap, ◌∙◌, ◌<◌, ◌++◌, ◌∷◌, [], length}
 use Rattle.safe_machine.specs.View.{View, AllBelow}
 use Rattle.safe_machine.proofs.Views.{send-does}
 use Rattle.safe_machine.proofs.endpoint.Endpoint.send_unit.Goals as goal

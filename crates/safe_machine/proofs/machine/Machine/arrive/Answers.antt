@@ -1,15 +1,15 @@
-use Rattle.std.proofs.Common.{◌≡◌, length, sym, subst, refl, ap, ◌∙◌, arith}
-use Rattle.std.specs.Prelude.{Ok}
+use Rattle.std.proofs.Common.{◌≡◌, subst, ap, ◌∙◌, arith}
 use Rattle.safe_pdu.specs.Pdu.{pdu_of}
 use Rattle.safe_pdu.specs.Places.{safe_seen}
 use Rattle.safe_machine.specs.Moves.{move}
 use Rattle.safe_machine.specs.Moves.Move.{Guards, Hears}
 use Rattle.safe_machine.specs.Octets.{heard}
-use Rattle.safe_machine.specs.Step.{arrive, guard}
+use Rattle.safe_machine.specs.Step.{arrive}
 use Rattle.safe_machine.specs.View.{View, StandsFor, HandsOut, HandsUp}
 use Rattle.safe_machine.proofs.Views.{hands-out}
 use Rattle.safe_machine.proofs.Arriving.{hands-nothing}
 use Rattle.safe_machine.proofs.Reaching.{reached-move, reached-sound}
+use Rattle.safe_machine.proofs.Nearing.{reached-near, reached-still}
 use Rattle.safe_machine.proofs.machine.Machine.arrive.Goals as goal
 
 pub arrive-requires-clause-sound : goal.arrive-requires-clause-sound
@@ -43,3 +43,19 @@ returns-in-Err-clause-taken g c s h =
     let whole : StandsFor c.self.inside.end s = c.self.view_is ∙ h in
     let seen = c.in-Err.ensures.exact ∙ ap (λ r. safe_seen r c.args.octets.now) rule in
     subst (λ t. HandsUp g.U.UnitIn.takes c.args.units.now s t c.args.units.now) (ap (λ r. move (heard r c.args.now) s) seen) (hands-nothing g.U.UnitIn.takes c.args.units.now c.args.now s)
+
+pub returns-in-Ok-clause-near : goal.returns-in-Ok-clause-near
+returns-in-Ok-clause-near g c =
+    omega (
+      arith,
+      reached-near (pdu_of c.in-Ok.pdu) c.args.now c.self.inside.end c.arrive.new.self c.self.invariant (λ s h. (c.arrive.ensures.does s h).0),
+      ap (λ (v : View). v.expected) c.self.view_is,
+    )
+
+pub returns-in-Err-clause-near : goal.returns-in-Err-clause-near
+returns-in-Err-clause-near g c =
+    omega (
+      arith,
+      reached-still c.args.now c.self.inside.end c.arrive_fault.new.self c.self.invariant (λ s h. (c.arrive_fault.ensures.does s h).0),
+      ap (λ (v : View). v.expected) c.self.view_is,
+    )

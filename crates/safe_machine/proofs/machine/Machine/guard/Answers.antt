@@ -1,5 +1,5 @@
 use Rattle.std.proofs.Common.{arith}
-use Rattle.safe_machine.specs.Moves.Move.{Guards, Ticks, Leaves}
+use Rattle.safe_machine.specs.Moves.Move.{Guards}
 use Rattle.safe_machine.proofs.Reaching.{reached-move, reached-sound}
 use Rattle.safe_machine.proofs.machine.Machine.guard.Goals as goal
 

@@ -1,4 +1,4 @@
-use Rattle.std.proofs.Common.{◌≡◌, false, true, refl, sym, ◌∙◌, []}
+use Rattle.std.proofs.Common.{refl, sym, ◌∙◌, []}
 use Rattle.std.proofs.lemmas.Bool.{false≢true}
 use Rattle.safe_machine.specs.View.{settings_of}
 use Rattle.safe_machine.proofs.Texts.{own-legal}

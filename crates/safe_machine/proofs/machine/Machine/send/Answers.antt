@@ -1,12 +1,12 @@
-use Rattle.std.proofs.Common.{◌≡◌, ◌<◌, List, ℕ, length, false, true, refl, sym, subst, ap, ◌∙◌, arith}
-use Rattle.std.specs.Prelude.{◌&&◌, nat_lt}
+use Rattle.std.proofs.Common.{◌≡◌, List, ℕ, length, false, true, refl, sym, subst, ◌∙◌, arith}
+use Rattle.std.specs.Prelude.{nat_lt}
 use Rattle.std.proofs.lemmas.Bool.{ltb-true, false≢true}
 use Rattle.safe_pdu.specs.declared.Kind.TheVariants.{Data}
 use Rattle.safe_machine.specs.Decision.{in_turn}
 use Rattle.safe_machine.specs.State.{make}
-use Rattle.safe_machine.specs.Step.{send, may_send}
+use Rattle.safe_machine.specs.Step.{may_send}
 use Rattle.safe_machine.specs.Moves.Move.{Sends}
-use Rattle.safe_machine.specs.View.{View, StandsFor, Does, HandsOut, has_room}
+use Rattle.safe_machine.specs.View.{View, StandsFor, Does, HandsOut}
 use Rattle.safe_machine.proofs.Cases.{and-parts}
 use Rattle.safe_machine.proofs.Counting.{turn-live}
 use Rattle.safe_machine.proofs.Views.{hands-out, hands-none}

@@ -1,4 +1,4 @@
-use Rattle.std.proofs.Common.{◌≡◌, length, ap, ◌∙◌}
+use Rattle.std.proofs.Common.{length, ap, ◌∙◌}
 use Rattle.safe_machine.specs.View.{View}
 use Rattle.safe_machine.proofs.Reaching.{units-count}
 use Rattle.safe_machine.proofs.machine.Machine.unconfirmed.Goals as goal
