@@ -192,3 +192,6 @@ pub enum Step {
     /// The end was closed before, or a DiscReq closed it.
     Nothing,
 }
+
+#[cfg(test)]
+mod tests;
