@@ -2,9 +2,9 @@ ghost use Rattle.std.specs.Prelude.{◌≡◌, ◌≤◌, ◌<◌, ◌+◌, ◌^
 
 use crate::{ConnectionState, Detail, DropCause, Machine, MachineConfig, MachineFault, PduOut, Reason, Role, SendFault, Step, UnitIn};
 use arrayvec::ArrayVec;
-use octets::limits::SAFE_PDU_MAX;
+use linked_list_allocator::LocalHeap;
 use retrans::Unit;
-use safe_pdu::{CodeLength, CodeRule, Kind, SafePdu, decode, encode};
+use safe_pdu::{CodeLength, CodeRule, SafeFault, decode};
 use std::alloc::Allocator;
 use std::test::Fail;
 
@@ -196,6 +196,33 @@ impl<A: Allocator> Ends<A> {
     }
 }
 
+impl<A: Allocator> Ends<A> {
+    /// The field element hears an answer, and the interlocking likewise: PDUs 7 to 10 of both.
+    fn finish(&mut self)
+        requires il { self.old.il.expected ≤ 2 ^ 40 }
+        requires fe { self.old.fe.expected ≤ 2 ^ 40 }
+    {
+        self.to_fe(7, 50);
+        self.to_fe(8, 50);
+        self.to_fe(9, 50);
+        self.to_fe(10, 50);
+        self.to_il(7, 50);
+        self.to_il(8, 50);
+        self.to_il(9, 50);
+        self.to_il(10, 50);
+    }
+
+    /// The field element hears an answer: PDUs 6 to 9 of the interlocking.
+    fn retransmitted(&mut self)
+        requires fe { self.old.fe.expected ≤ 2 ^ 40 }
+    {
+        self.to_fe(6, 50);
+        self.to_fe(7, 50);
+        self.to_fe(8, 50);
+        self.to_fe(9, 50);
+    }
+}
+
 /// Two ends with these settings and first numbers.
 fn opened<A: Allocator + Copy>(alloc: A, client: MachineConfig, server: MachineConfig, il_first: u32) -> Result<Ends<A>, MachineFault>
     ensures { IfOk result (λ ends. (ends.il.expected ≡ 0) × (ends.fe.expected ≡ 0)) }
@@ -254,5 +281,179 @@ fn lost_unit_is_retransmitted(rt: HostRuntime) -> Result<(), Fail> {
     ends.to_fe(9, 50);
     assert_eq!(rt; ends.fe.state(), ConnectionState::Up);
     assert_eq!(rt; ends.fe_took.units.as_slice(), [201, 203, 0, 1].as_slice());
+    Ok(())
+}
+
+#[test]
+fn both_ends_request_at_once(rt: HostRuntime) -> Result<(), Fail> {
+    let mut ends = established(rt.alloc(), CLIENT, SERVER, 100)?;
+    let _ = ends.il_puts(0);
+    let _ = ends.il_puts(1);
+    let _ = ends.fe_puts(2);
+    let _ = ends.fe_puts(3);
+    assert_eq!(rt; ends.to_fe(5, 50), Step::Gap);
+    assert_eq!(rt; ends.to_il(5, 50), Step::Gap);
+    assert_eq!(rt; ends.fe_made.from(6), [(6212, 506, 103)].as_slice());
+    assert_eq!(rt; ends.il_made.from(6), [(6212, 106, 503)].as_slice());
+    assert_eq!(rt; ends.to_il(6, 50), Step::Taken);
+    assert_eq!(rt; ends.to_fe(6, 50), Step::Taken);
+    assert_eq!(rt; ends.il_made.from(7), [(6213, 107, 503), (6241, 108, 503), (6241, 109, 503), (6220, 110, 503)].as_slice());
+    assert_eq!(rt; ends.fe_made.from(7), [(6213, 507, 103), (6241, 508, 103), (6241, 509, 103), (6220, 510, 103)].as_slice());
+    ends.finish();
+    assert_eq!(rt; ends.il.state(), ConnectionState::Up);
+    assert_eq!(rt; ends.fe.state(), ConnectionState::Up);
+    assert_eq!(rt; ends.il_took.units.as_slice(), [202, 204, 205, 2, 3].as_slice());
+    assert_eq!(rt; ends.fe_took.units.as_slice(), [201, 203, 0, 1].as_slice());
+    Ok(())
+}
+
+#[test]
+fn deadline_reached(rt: HostRuntime) -> Result<(), Fail> {
+    let mut ends = established(rt.alloc(), CLIENT, SERVER, 100)?;
+    let _ = ends.il_puts(0);
+    assert_eq!(rt; ends.to_fe(4, 1_800), Step::Left(Reason::Timeout, Detail::Unspecified));
+    assert_eq!(rt; ends.fe_made.from(4), [(6216, 504, 103)].as_slice());
+    assert_eq!(rt; ends.fe.state(), ConnectionState::Closed);
+    assert_eq!(rt; ends.fe_took.units.as_slice(), [201, 203].as_slice());
+    assert_eq!(rt; ends.to_fe(4, 1_800), Step::Nothing);
+    Ok(())
+}
+
+#[test]
+fn deadline_one_before(rt: HostRuntime) -> Result<(), Fail> {
+    let mut ends = established(rt.alloc(), CLIENT, SERVER, 100)?;
+    let _ = ends.il_puts(0);
+    assert_eq!(rt; ends.to_fe(4, 1_799), Step::Taken);
+    assert_eq!(rt; ends.fe.state(), ConnectionState::Up);
+    assert_eq!(rt; ends.fe_took.units.as_slice(), [201, 203, 0].as_slice());
+    Ok(())
+}
+
+#[test]
+fn sequence_numbers_wrap(rt: HostRuntime) -> Result<(), Fail> {
+    let mut ends = established(rt.alloc(), CLIENT, SERVER, 4_294_967_290)?;
+    let _ = ends.il_puts(0);
+    let _ = ends.il_puts(1);
+    let _ = ends.il_puts(2);
+    assert_eq!(rt; ends.il_made.from(4), [(6240, 4_294_967_294, 503), (6240, 4_294_967_295, 503), (6240, 0, 503)].as_slice());
+    ends.to_fe(4, 0);
+    ends.to_fe(5, 0);
+    ends.to_fe(6, 0);
+    ends.fe.tick(300, &mut ends.fe_made);
+    assert_eq!(rt; ends.fe_took.units.as_slice(), [201, 203, 0, 1, 2].as_slice());
+    assert_eq!(rt; ends.fe_made.from(4), [(6220, 504, 0)].as_slice());
+    Ok(())
+}
+
+#[test]
+fn heartbeat_after_third_unit(rt: HostRuntime) -> Result<(), Fail> {
+    let mut ends = established(rt.alloc(), CLIENT, MachineConfig { mwa: 3, ..SERVER }, 100)?;
+    let _ = ends.il_puts(0);
+    let _ = ends.il_puts(1);
+    let _ = ends.il_puts(2);
+    ends.to_fe(4, 0);
+    ends.to_fe(5, 0);
+    assert_eq!(rt; ends.fe_made.from(4), [].as_slice());
+    ends.to_fe(6, 0);
+    assert_eq!(rt; ends.fe_made.from(4), [(6220, 504, 106)].as_slice());
+    Ok(())
+}
+
+#[test]
+fn window_opens_on_heartbeat(rt: HostRuntime) -> Result<(), Fail> {
+    let mut ends = established(rt.alloc(), CLIENT, MachineConfig { n_sendmax: 2, ..SERVER }, 100)?;
+    assert_eq!(rt; ends.il.unconfirmed(), 0);
+    assert!(rt; ends.il_puts(0).is_ok());
+    assert!(rt; ends.il.may_send());
+    assert!(rt; ends.il_puts(1).is_ok());
+    assert_eq!(rt; ends.il_puts(2), Err(SendFault::Window));
+    assert!(rt; !ends.il.may_send());
+    assert_eq!(rt; ends.to_fe(4, 0), Step::Taken);
+    ends.fe.tick(299, &mut ends.fe_made);
+    assert_eq!(rt; ends.fe_made.from(4), [].as_slice());
+    ends.fe.tick(300, &mut ends.fe_made);
+    assert_eq!(rt; ends.fe_made.from(4), [(6220, 504, 104)].as_slice());
+    assert_eq!(rt; ends.to_il(4, 0), Step::Taken);
+    assert_eq!(rt; ends.il.unconfirmed(), 1);
+    assert!(rt; ends.il_puts(2).is_ok());
+    assert_eq!(rt; ends.il_made.from(6), [(6240, 106, 504)].as_slice());
+    Ok(())
+}
+
+#[test]
+fn both_lengths_of_code(rt: HostRuntime) -> Result<(), Fail> {
+    let client = MachineConfig { rule: LONG_RULE, ..CLIENT };
+    let server = MachineConfig { rule: LONG_RULE, ..SERVER };
+    let mut ends = established(rt.alloc(), client, server, 100)?;
+    assert_eq!(rt; ends.il_took.units.as_slice(), [202, 204, 205].as_slice());
+    assert_eq!(rt; ends.fe_took.units.as_slice(), [201, 203].as_slice());
+    assert_eq!(rt; ends.il_made.from(0), [(6200, 100, 0), (6220, 101, 500), (6240, 102, 500), (6240, 103, 501)].as_slice());
+    assert_eq!(rt; ends.fe_made.from(0), [(6201, 500, 100), (6240, 501, 102), (6240, 502, 103), (6240, 503, 103)].as_slice());
+    let mut mixed = opened(rt.alloc(), client, SERVER, 100)?;
+    assert_eq!(rt; mixed.to_fe(0, 0), Step::Dropped(DropCause::Fault(SafeFault::Code)));
+    assert_eq!(rt; mixed.fe.state(), ConnectionState::Down);
+    Ok(())
+}
+
+#[test]
+fn closing_says_goodbye(rt: HostRuntime) -> Result<(), Fail> {
+    let mut ends = established(rt.alloc(), CLIENT, SERVER, 100)?;
+    ends.il.close(Reason::ServiceNotAllowed, Detail::OutOfOrder, 0, &mut ends.il_made);
+    assert_eq!(rt; ends.il.state(), ConnectionState::Closed);
+    assert_eq!(rt; ends.il_made.from(4), [(6216, 104, 503)].as_slice());
+    assert_eq!(rt; ends.il_puts(0), Err(SendFault::NotUp));
+    assert_eq!(rt; ends.to_fe(4, 0), Step::Nothing);
+    assert_eq!(rt; ends.fe.state(), ConnectionState::Closed);
+    ends.fe.close(Reason::ClosedByUser, Detail::Unspecified, 0, &mut ends.fe_made);
+    assert_eq!(rt; ends.fe_made.from(4), [].as_slice());
+    Ok(())
+}
+
+// Opening answers Memory until there is room; after it nothing more is taken, through a retransmission.
+#[test]
+fn opening_takes_the_only_memory(rt: HostRuntime) -> Result<(), Fail> {
+    let mut refused = false;
+    for step in 0..128usize {
+        let heap = LocalHeap::new(rt.alloc(), 1024 * step)?;
+        match established(&heap, CLIENT, SERVER, 100) {
+            Ok(mut ends) => {
+                let used = heap.used();
+                let _ = ends.il_puts(0);
+                let _ = ends.il_puts(1);
+                ends.to_fe(5, 50);
+                ends.to_il(4, 50);
+                ends.retransmitted();
+                assert_eq!(rt; ends.fe_took.units.as_slice(), [201, 203, 0, 1].as_slice());
+                assert_eq!(rt; heap.used(), used);
+                assert!(rt; refused);
+                return Ok(());
+            }
+            Err(MachineFault::Memory) => refused = true,
+            Err(MachineFault::BadConfig) => return Err("these settings are legal".into()),
+        }
+    }
+    Err("no heap was great enough".into())
+}
+
+#[test]
+fn refuses_bad_settings(rt: HostRuntime) -> Result<(), Fail> {
+    for config in [
+        MachineConfig { peer: 2, ..SERVER },
+        MachineConfig { n_sendmax: 0, ..SERVER },
+        MachineConfig { n_sendmax: 33, ..SERVER },
+        MachineConfig { t_max: 99, t_h: 10, ..SERVER },
+        MachineConfig { t_max: 60_001, ..SERVER },
+        MachineConfig { t_h: 9, ..SERVER },
+        MachineConfig { t_h: 1_800, ..SERVER },
+        MachineConfig { mwa: 0, ..SERVER },
+        MachineConfig { mwa: 17, ..SERVER },
+        MachineConfig { pdu_limit: 99, ..SERVER },
+        MachineConfig { pdu_limit: 4_294_901_761, ..SERVER },
+        MachineConfig { rule: CodeRule { length: CodeLength::Zero, initial_value: [1, 2, 3, 4] }, ..SERVER },
+    ] {
+        let mut made = Wire::new();
+        assert!(rt; matches!(Machine::open(rt.alloc(), config, Role::Client, 0, 0, &mut made), Err(MachineFault::BadConfig)));
+        assert_eq!(rt; made.from(0), [].as_slice());
+    }
     Ok(())
 }
