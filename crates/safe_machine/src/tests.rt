@@ -1,10 +1,14 @@
 ghost use Rattle.std.specs.Prelude.{◌≡◌, ◌≤◌, ◌<◌, ◌+◌, ◌^◌, IfOk};
 
-use crate::{ConnectionState, Detail, DropCause, Machine, MachineConfig, MachineFault, PduOut, Reason, Role, SendFault, Step, UnitIn};
+use crate::{
+    ConnectionState, Detail, DropCause, Machine, MachineConfig, MachineFault, PduOut, Reason, Role,
+    SendFault, Step, UnitIn,
+};
 use arrayvec::ArrayVec;
 use linked_list_allocator::LocalHeap;
+use octets::limits::SAFE_PDU_MAX;
 use retrans::Unit;
-use safe_pdu::{CodeLength, CodeRule, SafeFault, decode};
+use safe_pdu::{CodeLength, CodeRule, Kind, SafeFault, SafePdu, decode, encode};
 use std::alloc::Allocator;
 use std::test::Fail;
 
@@ -103,7 +107,14 @@ impl UnitIn for Taken {
 }
 
 /// Hands a PDU that one end made to the other; Nothing where there is none.
-fn hand<A: Allocator>(to: &mut Machine<A>, from: &Wire, index: usize, now: u64, out: &mut Wire, units: &mut Taken) -> Step
+fn hand<A: Allocator>(
+    to: &mut Machine<A>,
+    from: &Wire,
+    index: usize,
+    now: u64,
+    out: &mut Wire,
+    units: &mut Taken,
+) -> Step
     requires { to.old.expected < 2 ^ 60 }
     ensures { to.new.expected ≤ to.old.expected + 321 }
 {
@@ -114,7 +125,12 @@ fn hand<A: Allocator>(to: &mut Machine<A>, from: &Wire, index: usize, now: u64, 
 }
 
 /// Sends a unit of 45 octets that ends in this one.
-fn put<A: Allocator>(machine: &mut Machine<A>, last: u8, now: u64, out: &mut Wire) -> Result<(), SendFault>
+fn put<A: Allocator>(
+    machine: &mut Machine<A>,
+    last: u8,
+    now: u64,
+    out: &mut Wire,
+) -> Result<(), SendFault>
     ensures { machine.new.expected ≤ machine.old.expected }
 {
     let mut octets = [0; 45];
@@ -144,7 +160,14 @@ impl<A: Allocator> Ends<A> {
         ensures fe { self.new.fe.expected ≤ self.old.fe.expected + 321 }
         ensures il { self.new.il.expected ≡ self.old.il.expected }
     {
-        hand(&mut self.fe, &self.il_made, index, now, &mut self.fe_made, &mut self.fe_took)
+        hand(
+            &mut self.fe,
+            &self.il_made,
+            index,
+            now,
+            &mut self.fe_made,
+            &mut self.fe_took,
+        )
     }
 
     /// Hands the field element's PDU at a place to the interlocking.
@@ -153,7 +176,14 @@ impl<A: Allocator> Ends<A> {
         ensures il { self.new.il.expected ≤ self.old.il.expected + 321 }
         ensures fe { self.new.fe.expected ≡ self.old.fe.expected }
     {
-        hand(&mut self.il, &self.fe_made, index, now, &mut self.il_made, &mut self.il_took)
+        hand(
+            &mut self.il,
+            &self.fe_made,
+            index,
+            now,
+            &mut self.il_made,
+            &mut self.il_took,
+        )
     }
 
     /// The interlocking sends a unit that ends in this octet.
@@ -224,7 +254,12 @@ impl<A: Allocator> Ends<A> {
 }
 
 /// Two ends with these settings and first numbers.
-fn opened<A: Allocator + Copy>(alloc: A, client: MachineConfig, server: MachineConfig, il_first: u32) -> Result<Ends<A>, MachineFault>
+fn opened<A: Allocator + Copy>(
+    alloc: A,
+    client: MachineConfig,
+    server: MachineConfig,
+    il_first: u32,
+) -> Result<Ends<A>, MachineFault>
     ensures { IfOk result (λ ends. (ends.il.expected ≡ 0) × (ends.fe.expected ≡ 0)) }
 {
     let mut il_made = Wire::new();
@@ -242,7 +277,12 @@ fn opened<A: Allocator + Copy>(alloc: A, client: MachineConfig, server: MachineC
 }
 
 /// Two ends that are up and have sent what an establishment sends.
-fn established<A: Allocator + Copy>(alloc: A, client: MachineConfig, server: MachineConfig, il_first: u32) -> Result<Ends<A>, MachineFault>
+fn established<A: Allocator + Copy>(
+    alloc: A,
+    client: MachineConfig,
+    server: MachineConfig,
+    il_first: u32,
+) -> Result<Ends<A>, MachineFault>
     ensures { IfOk result (λ ends. (ends.il.expected ≤ 2000) × (ends.fe.expected ≤ 2000)) }
 {
     let mut ends = opened(alloc, client, server, il_first)?;
@@ -259,7 +299,10 @@ fn two_ends_come_up(rt: HostRuntime) -> Result<(), Fail> {
     assert_eq!(rt; ends.il.state(), ConnectionState::Up);
     assert_eq!(rt; ends.to_fe(1, 0), Step::Taken);
     assert_eq!(rt; ends.fe.state(), ConnectionState::Up);
-    assert_eq!(rt; ends.il_made.from(0), [(6200, 100, 0), (6220, 101, 500)].as_slice());
+    assert_eq!(rt;
+        ends.il_made.from(0),
+        [(6200, 100, 0), (6220, 101, 500)].as_slice()
+    );
     assert_eq!(rt; ends.fe_made.from(0), [(6201, 500, 100)].as_slice());
     Ok(())
 }
@@ -273,7 +316,16 @@ fn lost_unit_is_retransmitted(rt: HostRuntime) -> Result<(), Fail> {
     assert_eq!(rt; ends.fe.state(), ConnectionState::RetrReq);
     assert_eq!(rt; ends.fe_made.from(4), [(6212, 504, 103)].as_slice());
     assert_eq!(rt; ends.to_il(4, 50), Step::Taken);
-    assert_eq!(rt; ends.il_made.from(6), [(6213, 106, 504), (6241, 107, 504), (6241, 108, 504), (6220, 109, 504)].as_slice());
+    assert_eq!(rt;
+        ends.il_made.from(6),
+        [
+            (6213, 106, 504),
+            (6241, 107, 504),
+            (6241, 108, 504),
+            (6220, 109, 504)
+        ]
+        .as_slice()
+    );
     assert_eq!(rt; ends.to_fe(6, 50), Step::Taken);
     assert_eq!(rt; ends.fe.state(), ConnectionState::RetrRun);
     ends.to_fe(7, 50);
@@ -297,12 +349,33 @@ fn both_ends_request_at_once(rt: HostRuntime) -> Result<(), Fail> {
     assert_eq!(rt; ends.il_made.from(6), [(6212, 106, 503)].as_slice());
     assert_eq!(rt; ends.to_il(6, 50), Step::Taken);
     assert_eq!(rt; ends.to_fe(6, 50), Step::Taken);
-    assert_eq!(rt; ends.il_made.from(7), [(6213, 107, 503), (6241, 108, 503), (6241, 109, 503), (6220, 110, 503)].as_slice());
-    assert_eq!(rt; ends.fe_made.from(7), [(6213, 507, 103), (6241, 508, 103), (6241, 509, 103), (6220, 510, 103)].as_slice());
+    assert_eq!(rt;
+        ends.il_made.from(7),
+        [
+            (6213, 107, 503),
+            (6241, 108, 503),
+            (6241, 109, 503),
+            (6220, 110, 503)
+        ]
+        .as_slice()
+    );
+    assert_eq!(rt;
+        ends.fe_made.from(7),
+        [
+            (6213, 507, 103),
+            (6241, 508, 103),
+            (6241, 509, 103),
+            (6220, 510, 103)
+        ]
+        .as_slice()
+    );
     ends.finish();
     assert_eq!(rt; ends.il.state(), ConnectionState::Up);
     assert_eq!(rt; ends.fe.state(), ConnectionState::Up);
-    assert_eq!(rt; ends.il_took.units.as_slice(), [202, 204, 205, 2, 3].as_slice());
+    assert_eq!(rt;
+        ends.il_took.units.as_slice(),
+        [202, 204, 205, 2, 3].as_slice()
+    );
     assert_eq!(rt; ends.fe_took.units.as_slice(), [201, 203, 0, 1].as_slice());
     Ok(())
 }
@@ -311,7 +384,10 @@ fn both_ends_request_at_once(rt: HostRuntime) -> Result<(), Fail> {
 fn deadline_reached(rt: HostRuntime) -> Result<(), Fail> {
     let mut ends = established(rt.alloc(), CLIENT, SERVER, 100)?;
     let _ = ends.il_puts(0);
-    assert_eq!(rt; ends.to_fe(4, 1_800), Step::Left(Reason::Timeout, Detail::Unspecified));
+    assert_eq!(rt;
+        ends.to_fe(4, 1_800),
+        Step::Left(Reason::Timeout, Detail::Unspecified)
+    );
     assert_eq!(rt; ends.fe_made.from(4), [(6216, 504, 103)].as_slice());
     assert_eq!(rt; ends.fe.state(), ConnectionState::Closed);
     assert_eq!(rt; ends.fe_took.units.as_slice(), [201, 203].as_slice());
@@ -335,12 +411,23 @@ fn sequence_numbers_wrap(rt: HostRuntime) -> Result<(), Fail> {
     let _ = ends.il_puts(0);
     let _ = ends.il_puts(1);
     let _ = ends.il_puts(2);
-    assert_eq!(rt; ends.il_made.from(4), [(6240, 4_294_967_294, 503), (6240, 4_294_967_295, 503), (6240, 0, 503)].as_slice());
+    assert_eq!(rt;
+        ends.il_made.from(4),
+        [
+            (6240, 4_294_967_294, 503),
+            (6240, 4_294_967_295, 503),
+            (6240, 0, 503)
+        ]
+        .as_slice()
+    );
     ends.to_fe(4, 0);
     ends.to_fe(5, 0);
     ends.to_fe(6, 0);
     ends.fe.tick(300, &mut ends.fe_made);
-    assert_eq!(rt; ends.fe_took.units.as_slice(), [201, 203, 0, 1, 2].as_slice());
+    assert_eq!(rt;
+        ends.fe_took.units.as_slice(),
+        [201, 203, 0, 1, 2].as_slice()
+    );
     assert_eq!(rt; ends.fe_made.from(4), [(6220, 504, 0)].as_slice());
     Ok(())
 }
@@ -361,7 +448,15 @@ fn heartbeat_after_third_unit(rt: HostRuntime) -> Result<(), Fail> {
 
 #[test]
 fn window_opens_on_heartbeat(rt: HostRuntime) -> Result<(), Fail> {
-    let mut ends = established(rt.alloc(), CLIENT, MachineConfig { n_sendmax: 2, ..SERVER }, 100)?;
+    let mut ends = established(
+        rt.alloc(),
+        CLIENT,
+        MachineConfig {
+            n_sendmax: 2,
+            ..SERVER
+        },
+        100,
+    )?;
     assert_eq!(rt; ends.il.unconfirmed(), 0);
     assert!(rt; ends.il_puts(0).is_ok());
     assert!(rt; ends.il.may_send());
@@ -382,15 +477,42 @@ fn window_opens_on_heartbeat(rt: HostRuntime) -> Result<(), Fail> {
 
 #[test]
 fn both_lengths_of_code(rt: HostRuntime) -> Result<(), Fail> {
-    let client = MachineConfig { rule: LONG_RULE, ..CLIENT };
-    let server = MachineConfig { rule: LONG_RULE, ..SERVER };
+    let client = MachineConfig {
+        rule: LONG_RULE,
+        ..CLIENT
+    };
+    let server = MachineConfig {
+        rule: LONG_RULE,
+        ..SERVER
+    };
     let mut ends = established(rt.alloc(), client, server, 100)?;
     assert_eq!(rt; ends.il_took.units.as_slice(), [202, 204, 205].as_slice());
     assert_eq!(rt; ends.fe_took.units.as_slice(), [201, 203].as_slice());
-    assert_eq!(rt; ends.il_made.from(0), [(6200, 100, 0), (6220, 101, 500), (6240, 102, 500), (6240, 103, 501)].as_slice());
-    assert_eq!(rt; ends.fe_made.from(0), [(6201, 500, 100), (6240, 501, 102), (6240, 502, 103), (6240, 503, 103)].as_slice());
+    assert_eq!(rt;
+        ends.il_made.from(0),
+        [
+            (6200, 100, 0),
+            (6220, 101, 500),
+            (6240, 102, 500),
+            (6240, 103, 501)
+        ]
+        .as_slice()
+    );
+    assert_eq!(rt;
+        ends.fe_made.from(0),
+        [
+            (6201, 500, 100),
+            (6240, 501, 102),
+            (6240, 502, 103),
+            (6240, 503, 103)
+        ]
+        .as_slice()
+    );
     let mut mixed = opened(rt.alloc(), client, SERVER, 100)?;
-    assert_eq!(rt; mixed.to_fe(0, 0), Step::Dropped(DropCause::Fault(SafeFault::Code)));
+    assert_eq!(rt;
+        mixed.to_fe(0, 0),
+        Step::Dropped(DropCause::Fault(SafeFault::Code))
+    );
     assert_eq!(rt; mixed.fe.state(), ConnectionState::Down);
     Ok(())
 }
@@ -398,13 +520,23 @@ fn both_lengths_of_code(rt: HostRuntime) -> Result<(), Fail> {
 #[test]
 fn closing_says_goodbye(rt: HostRuntime) -> Result<(), Fail> {
     let mut ends = established(rt.alloc(), CLIENT, SERVER, 100)?;
-    ends.il.close(Reason::ServiceNotAllowed, Detail::OutOfOrder, 0, &mut ends.il_made);
+    ends.il.close(
+        Reason::ServiceNotAllowed,
+        Detail::OutOfOrder,
+        0,
+        &mut ends.il_made,
+    );
     assert_eq!(rt; ends.il.state(), ConnectionState::Closed);
     assert_eq!(rt; ends.il_made.from(4), [(6216, 104, 503)].as_slice());
     assert_eq!(rt; ends.il_puts(0), Err(SendFault::NotUp));
     assert_eq!(rt; ends.to_fe(4, 0), Step::Nothing);
     assert_eq!(rt; ends.fe.state(), ConnectionState::Closed);
-    ends.fe.close(Reason::ClosedByUser, Detail::Unspecified, 0, &mut ends.fe_made);
+    ends.fe.close(
+        Reason::ClosedByUser,
+        Detail::Unspecified,
+        0,
+        &mut ends.fe_made,
+    );
     assert_eq!(rt; ends.fe_made.from(4), [].as_slice());
     Ok(())
 }
@@ -439,21 +571,272 @@ fn opening_takes_the_only_memory(rt: HostRuntime) -> Result<(), Fail> {
 fn refuses_bad_settings(rt: HostRuntime) -> Result<(), Fail> {
     for config in [
         MachineConfig { peer: 2, ..SERVER },
-        MachineConfig { n_sendmax: 0, ..SERVER },
-        MachineConfig { n_sendmax: 33, ..SERVER },
-        MachineConfig { t_max: 99, t_h: 10, ..SERVER },
-        MachineConfig { t_max: 60_001, ..SERVER },
+        MachineConfig {
+            n_sendmax: 0,
+            ..SERVER
+        },
+        MachineConfig {
+            n_sendmax: 33,
+            ..SERVER
+        },
+        MachineConfig {
+            t_max: 99,
+            t_h: 10,
+            ..SERVER
+        },
+        MachineConfig {
+            t_max: 60_001,
+            ..SERVER
+        },
         MachineConfig { t_h: 9, ..SERVER },
-        MachineConfig { t_h: 1_800, ..SERVER },
+        MachineConfig {
+            t_h: 1_800,
+            ..SERVER
+        },
         MachineConfig { mwa: 0, ..SERVER },
         MachineConfig { mwa: 17, ..SERVER },
-        MachineConfig { pdu_limit: 99, ..SERVER },
-        MachineConfig { pdu_limit: 4_294_901_761, ..SERVER },
-        MachineConfig { rule: CodeRule { length: CodeLength::Zero, initial_value: [1, 2, 3, 4] }, ..SERVER },
+        MachineConfig {
+            pdu_limit: 99,
+            ..SERVER
+        },
+        MachineConfig {
+            pdu_limit: 4_294_901_761,
+            ..SERVER
+        },
+        MachineConfig {
+            rule: CodeRule {
+                length: CodeLength::Zero,
+                initial_value: [1, 2, 3, 4],
+            },
+            ..SERVER
+        },
     ] {
         let mut made = Wire::new();
-        assert!(rt; matches!(Machine::open(rt.alloc(), config, Role::Client, 0, 0, &mut made), Err(MachineFault::BadConfig)));
+        assert!(rt;
+            matches!(
+                Machine::open(rt.alloc(), config, Role::Client, 0, 0, &mut made),
+                Err(MachineFault::BadConfig)
+            )
+        );
         assert_eq!(rt; made.from(0), [].as_slice());
+    }
+    Ok(())
+}
+
+/// A PDU from identifier 1 at the field element: type, number, confirmed number and timestamp, its own timestamp 0.
+#[derive(Clone, Copy, Drop)]
+struct Heard {
+    kind: Kind,
+    sender: u32,
+    sn: u32,
+    cs: u32,
+    cts: u32,
+}
+
+/// Hands it to a machine with identifier 2.
+fn hear<A: Allocator>(
+    machine: &mut Machine<A>,
+    heard: Heard,
+    now: u64,
+    out: &mut Wire,
+    units: &mut Taken,
+) -> Step
+    requires { machine.old.expected < 2 ^ 60 }
+    ensures { machine.new.expected ≤ machine.old.expected + 321 }
+{
+    let opening = [0x30, 0x33, 0x30, 0x33, 20, 0, 0, 0, 0, 0, 0, 0, 0, 0];
+    let unit = [7; 45];
+    let body = match heard.kind {
+        Kind::ConnReq | Kind::ConnResp => opening.as_slice(),
+        Kind::Data | Kind::RetrData => unit.as_slice(),
+        Kind::DiscReq => [0, 0, 0, 0].as_slice(),
+        _ => [].as_slice(),
+    };
+    let pdu = SafePdu {
+        kind: heard.kind,
+        receiver: 2,
+        sender: heard.sender,
+        sn: heard.sn,
+        cs: heard.cs,
+        ts: 0,
+        cts: heard.cts,
+        body,
+    };
+    let mut buffer = [0; SAFE_PDU_MAX];
+    let size = encode(&pdu, &RULE, &mut buffer);
+    machine.arrive(&buffer[..size], now, out, units)
+}
+
+/// A PDU of the peer.
+fn from_peer(kind: Kind, sn: u32, cs: u32) -> Heard {
+    Heard {
+        kind,
+        sender: 1,
+        sn,
+        cs,
+        cts: 0,
+    }
+}
+
+/// A server with first number 500 that took ConnReq 100 and HB 101.
+fn server<A: Allocator>(alloc: A, out: &mut Wire) -> Result<Machine<A>, MachineFault>
+    ensures { IfOk result (λ machine. machine.expected ≤ 642) }
+{
+    let mut units = Taken::new();
+    let mut machine = Machine::open(alloc, SERVER, Role::Server, 500, 0, out)?;
+    hear(
+        &mut machine,
+        from_peer(Kind::ConnReq, 100, 0),
+        0,
+        out,
+        &mut units,
+    );
+    hear(
+        &mut machine,
+        from_peer(Kind::Heartbeat, 101, 500),
+        0,
+        out,
+        &mut units,
+    );
+    Ok(machine)
+}
+
+/// One arrival at a server that is up: what it answers, and what is made.
+fn arrival<A: Allocator>(alloc: A, heard: Heard, now: u64) -> Result<(Step, Wire), MachineFault> {
+    let mut out = Wire::new();
+    let mut machine = server(alloc, &mut out)?;
+    let step = hear(&mut machine, heard, now, &mut out, &mut Taken::new());
+    Ok((step, out))
+}
+
+#[test]
+fn server_up_one_arrival(rt: HostRuntime) -> Result<(), Fail> {
+    let beat = from_peer(Kind::Heartbeat, 102, 500);
+    for (heard, now, step, pdus) in [
+        (
+            from_peer(Kind::Data, 302, 500),
+            0,
+            Step::Gap,
+            [(6212, 501, 101)].as_slice(),
+        ),
+        (
+            from_peer(Kind::Data, 303, 500),
+            0,
+            Step::Dropped(DropCause::Number),
+            [].as_slice(),
+        ),
+        (
+            from_peer(Kind::RetrData, 102, 500),
+            0,
+            Step::Left(Reason::UnexpectedPdu, Detail::Unspecified),
+            [(6216, 501, 101)].as_slice(),
+        ),
+        (
+            from_peer(Kind::Heartbeat, 102, 501),
+            0,
+            Step::Left(Reason::ProtocolError, Detail::ConfirmedNumber),
+            [(6216, 501, 101)].as_slice(),
+        ),
+        (
+            Heard { cts: 1, ..beat },
+            0,
+            Step::Left(Reason::ProtocolError, Detail::ConfirmedTimestamp),
+            [(6216, 501, 101)].as_slice(),
+        ),
+        (
+            Heard { sender: 9, ..beat },
+            0,
+            Step::Dropped(DropCause::Stranger),
+            [].as_slice(),
+        ),
+        (
+            beat,
+            1_800,
+            Step::Left(Reason::Timeout, Detail::Unspecified),
+            [(6216, 501, 101)].as_slice(),
+        ),
+        (beat, 1_799, Step::Taken, [].as_slice()),
+        (
+            from_peer(Kind::DiscReq, 900, 1),
+            0,
+            Step::Nothing,
+            [].as_slice(),
+        ),
+    ] {
+        let (found, out) = arrival(rt.alloc(), heard, now)?;
+        assert_eq!(rt; found, step);
+        assert_eq!(rt; out.from(1), pdus);
+    }
+    Ok(())
+}
+
+/// A request for retransmission at a server that is up and has sent two units, and the same once more.
+fn request<A: Allocator>(alloc: A, sn: u32, cs: u32) -> Result<(Step, Step, Wire), MachineFault> {
+    let mut out = Wire::new();
+    let mut units = Taken::new();
+    let mut machine = server(alloc, &mut out)?;
+    let _ = put(&mut machine, 1, 0, &mut out);
+    let _ = put(&mut machine, 2, 0, &mut out);
+    let first = hear(
+        &mut machine,
+        from_peer(Kind::RetrReq, sn, cs),
+        0,
+        &mut out,
+        &mut units,
+    );
+    let second = hear(
+        &mut machine,
+        from_peer(Kind::RetrReq, sn, cs),
+        0,
+        &mut out,
+        &mut units,
+    );
+    Ok((first, second, out))
+}
+
+#[test]
+fn server_answers_requests(rt: HostRuntime) -> Result<(), Fail> {
+    let below = Step::Dropped(DropCause::Below);
+    for (sn, cs, steps, pdus) in [
+        (
+            102,
+            500,
+            (Step::Taken, Step::Dropped(DropCause::Number)),
+            [
+                (6213, 503, 102),
+                (6241, 504, 102),
+                (6241, 505, 102),
+                (6220, 506, 102),
+            ]
+            .as_slice(),
+        ),
+        (102, 499, (below, below), [].as_slice()),
+        (
+            102,
+            503,
+            (
+                Step::Left(Reason::RetransmissionImpossible, Detail::Unspecified),
+                Step::Nothing,
+            ),
+            [(6216, 503, 101)].as_slice(),
+        ),
+        (
+            105,
+            501,
+            (Step::Taken, Step::Dropped(DropCause::Answered)),
+            [
+                (6213, 503, 101),
+                (6241, 504, 101),
+                (6220, 505, 101),
+                (6212, 506, 101),
+            ]
+            .as_slice(),
+        ),
+    ] {
+        let (first, second, out) = request(rt.alloc(), sn, cs)?;
+        assert_eq!(rt; first, steps.0);
+        assert_eq!(rt; second, steps.1);
+        assert_eq!(rt; out.from(3), pdus);
     }
     Ok(())
 }
