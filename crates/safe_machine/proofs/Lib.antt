@@ -42,3 +42,4 @@ pub mod Views
 pub mod Arriving
 pub mod Reaching
 pub mod Nearing
+pub mod Properties

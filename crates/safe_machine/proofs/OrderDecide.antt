@@ -38,7 +38,7 @@ pub record Passes (s : State) (p : Pdu) (now : ℕ) : Type 0 where
   pub cs : cs_fits s p ≡ true
   pub cts : cts_fits s p now ≡ true
 
-table-takes : (s : State) (p : Pdu) (now : ℕ) → Passes s p now → cell s.connection true p.kind ≡ Take Up → by_table s p now (distance s p) ≡ Takes Up
+pub table-takes : (s : State) (p : Pdu) (now : ℕ) → Passes s p now → cell s.connection true p.kind ≡ Take Up → by_table s p now (distance s p) ≡ Takes Up
 table-takes s p now h e =
     let near : nat_le 0 (10 * s.settings.n_sendmax) ≡ true = le-leb 0 (10 * s.settings.n_sendmax) (omega arith) in
     ap (λ d. by_table s p now d) h.next

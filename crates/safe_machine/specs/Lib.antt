@@ -15,3 +15,4 @@ pub mod Octets
 pub mod View
 pub mod Course
 pub mod Reached
+pub mod Properties

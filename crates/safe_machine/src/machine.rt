@@ -10,6 +10,10 @@ ghost use Rattle.safe_machine.specs.Octets.{arrive_octets, octets_answer};
 ghost use Rattle.safe_machine.specs.Moves.{IsUnitSized};
 ghost use Rattle.safe_machine.specs.declared.SendFault.TheVariants.{NotUp, Window};
 ghost use Rattle.safe_machine.specs.declared.MachineFault.TheVariants.{BadConfig};
+ghost use Rattle.safe_pdu.specs.Places.{safe_seen};
+ghost use Rattle.safe_machine.specs.Properties.{HandsIf, IsNextData, IsRecent};
+ghost use Rattle.safe_pdu.specs.Pdu.{Pdu};
+ghost use Rattle.safe_machine.specs.declared.ConnectionState.TheVariants.{Up};
 ghost use Rattle.safe_machine.specs.View.{HandsOut, HandsUp, StandsFor, settings_of, texts};
 
 use super::endpoint::{Endpoint, begin};
@@ -158,6 +162,11 @@ impl<A: Allocator> Machine<A> {
         ensures made { (s : State) → StandsFor self.old s → HandsOut O.makes out.old s (arrive_octets octets.now now s) out.new }
         ensures taken { (s : State) → StandsFor self.old s → HandsUp U.takes units.old s (arrive_octets octets.now now s) units.new }
         ensures answer { (s : State) → StandsFor self.old s → result ≡ octets_answer octets.now now s }
+        // A Data that is the next PDU of an end in Up, and passes its tests, goes up, and the end stays in Up.
+        ensures passes { (p : Pdu) → IsNextData (safe_seen self.old.settings.rule octets.now) p now self.old
+            → FoldsTo U.takes units.old (p.body ∷ []) units.new × (self.new.connection ≡ Up) }
+        // A unit that went up came with a confirmed timestamp which this end reads as less than T_max old.
+        ensures recent { HandsIf U.takes units.old units.new (IsRecent (safe_seen self.old.settings.rule octets.now) now self.old) }
         ensures ready { U.ready units.new }
     {
         let rule = self.end.rule();

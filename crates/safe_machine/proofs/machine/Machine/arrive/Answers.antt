@@ -1,4 +1,4 @@
-use Rattle.std.proofs.Common.{◌≡◌, subst, ap, ◌∙◌, arith}
+use Rattle.std.proofs.Common.{◌≡◌, [], ◌∷◌, sym, subst, ap, ◌∙◌, arith}
 use Rattle.safe_pdu.specs.Pdu.{pdu_of}
 use Rattle.safe_pdu.specs.Places.{safe_seen}
 use Rattle.safe_machine.specs.Moves.{move}
@@ -10,6 +10,11 @@ use Rattle.safe_machine.proofs.Views.{hands-out}
 use Rattle.safe_machine.proofs.Arriving.{hands-nothing}
 use Rattle.safe_machine.proofs.Reaching.{reached-move, reached-sound}
 use Rattle.safe_machine.proofs.Nearing.{reached-near, reached-still}
+use Rattle.std.specs.List.{FoldsTo}
+use Rattle.safe_pdu.specs.Pdu.{Pdu}
+use Rattle.safe_machine.specs.declared.ConnectionState.TheVariants.{Up}
+use Rattle.safe_machine.specs.Properties.{HandsIf, IsRecent, IsNextData}
+use Rattle.safe_machine.proofs.Properties.{reached-recent, reached-passes, one-read, none-read}
 use Rattle.safe_machine.proofs.machine.Machine.arrive.Goals as goal
 
 pub arrive-requires-clause-sound : goal.arrive-requires-clause-sound
@@ -59,3 +64,33 @@ returns-in-Err-clause-near g c =
       reached-still c.args.now c.self.inside.end c.arrive_fault.new.self c.self.invariant (λ s h. (c.arrive_fault.ensures.does s h).0),
       ap (λ (v : View). v.expected) c.self.view_is,
     )
+
+pub returns-in-Ok-clause-recent : goal.returns-in-Ok-clause-recent
+returns-in-Ok-clause-recent g c =
+    let v : View = c.self.inside.end in
+    let p = pdu_of c.in-Ok.pdu in
+    let seen = c.in-Ok.ensures.exact ∙ ap (λ r. safe_seen r c.args.octets.now) c.rule-rule.ensures in
+    subst (λ (x : View). HandsIf g.U.UnitIn.takes c.args.units.now c.arrive.new.units (IsRecent (safe_seen x.settings.rule c.args.octets.now) c.args.now x)) c.self.view_is
+    (subst (λ r. HandsIf g.U.UnitIn.takes c.args.units.now c.arrive.new.units (IsRecent r c.args.now v)) seen
+    (reached-recent g.U.UnitIn.takes c.args.units.now c.arrive.new.units p c.args.now v c.self.invariant (λ s h. c.arrive.ensures.taken s h)))
+
+pub returns-in-Ok-clause-passes : goal.returns-in-Ok-clause-passes
+returns-in-Ok-clause-passes g c q next =
+    let v : View = c.self.inside.end in
+    let p = pdu_of c.in-Ok.pdu in
+    let seen = c.in-Ok.ensures.exact ∙ ap (λ r. safe_seen r c.args.octets.now) c.rule-rule.ensures in
+    let there : IsNextData (safe_seen v.settings.rule c.args.octets.now) q c.args.now v =
+    subst (λ (x : View). IsNextData (safe_seen x.settings.rule c.args.octets.now) q c.args.now x) (sym c.self.view_is) next in
+    let same : p ≡ q = one-read (safe_seen v.settings.rule c.args.octets.now) p q seen there.reads in
+    subst (λ (x : Pdu). FoldsTo g.U.UnitIn.takes c.args.units.now (x.body ∷ []) c.arrive.new.units × (c.arrive.new.self.connection ≡ Up)) same
+    (reached-passes g.U.UnitIn.takes c.args.units.now c.arrive.new.units (safe_seen v.settings.rule c.args.octets.now) p c.args.now v c.arrive.new.self c.self.invariant
+    (λ s h. (c.arrive.ensures.does s h).0) (λ s h. c.arrive.ensures.taken s h)
+    (subst (λ (x : Pdu). IsNextData (safe_seen v.settings.rule c.args.octets.now) x c.args.now v) (sym same) there))
+
+pub returns-in-Err-clause-passes : goal.returns-in-Err-clause-passes
+returns-in-Err-clause-passes g c q next =
+    let v : View = c.self.inside.end in
+    let seen = c.in-Err.ensures.exact ∙ ap (λ r. safe_seen r c.args.octets.now) c.rule-rule.ensures in
+    let there : IsNextData (safe_seen v.settings.rule c.args.octets.now) q c.args.now v =
+    subst (λ (x : View). IsNextData (safe_seen x.settings.rule c.args.octets.now) q c.args.now x) (sym c.self.view_is) next in
+    absurd (none-read (safe_seen v.settings.rule c.args.octets.now) c.in-Err.fault q seen there.reads)

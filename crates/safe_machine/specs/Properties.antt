@@ -1,0 +1,30 @@
+-- What promises need of an arrival, beside its exact step.
+use Rattle.std.specs.Prelude.{ℕ, ◌+◌, ◌≡◌, ◌≢◌, ◌<◌, true, false, List, [], ◌∷◌, Option, None, Result, Ok, Err}
+use Rattle.std.specs.List.{FoldsTo}
+use Rattle.safe_pdu.specs.declared.Kind.TheVariants.{Data}
+use Rattle.safe_pdu.specs.declared.SafeFault.{SafeFault}
+use Rattle.safe_pdu.specs.Pdu.{Pdu}
+use Rattle.safe_machine.specs.declared.ConnectionState.TheVariants.{Up}
+use Rattle.safe_machine.specs.Course.{cs_in, cts_in, cts_ahead, sn_ahead}
+use Rattle.safe_machine.specs.View.{View, overdue}
+
+-- the confirmed timestamp of what was read, as this end reads it, is less than its T_max old
+abbrev pub IsRecent : Result Pdu SafeFault → ℕ → View → Type 0
+IsRecent (Ok p) now v = now < v.confirmed_at + cts_ahead v p.cts + v.settings.t_max
+IsRecent (Err fault) now v = ⊥
+
+-- what was handed up, if anything, came so
+abbrev pub HandsIf : {U : Type 0} → (U → List ℕ → U → Type 0) → U → U → Type 0 → Type 0
+HandsIf takes before after reason = (more : List (List ℕ)) × FoldsTo takes before more after × (more ≢ [] → reason)
+
+-- a Data of the peer that is the next PDU of an end in Up, while the guard does not leave, and that passes both tests
+pub record IsNextData (read : Result Pdu SafeFault) (p : Pdu) (now : ℕ) (v : View) : Type 0 where
+  pub reads : read ≡ Ok p
+  pub is_up : v.connection ≡ Up
+  pub holds : overdue now v ≡ None
+  pub kind : p.kind ≡ Data
+  pub receiver : p.receiver ≡ v.settings.own
+  pub sender : p.sender ≡ v.settings.peer
+  pub next : sn_ahead v p.sn ≡ 0
+  pub confirms : cs_in v p.cs ≡ true
+  pub timely : cts_in v p.cts now ≡ true
