@@ -271,7 +271,7 @@ length-octets_of : (cs : List Numbered) → length (octets_of cs) ≡ length cs
 length-octets_of [] = refl
 length-octets_of (c ∷ cs) = ap suc (length-octets_of cs)
 
-octets_of-renumbered : (index : ℕ) (us : List (List ℕ)) → octets_of (renumbered index us) ≡ us
+pub octets_of-renumbered : (index : ℕ) (us : List (List ℕ)) → octets_of (renumbered index us) ≡ us
 octets_of-renumbered index [] = refl
 octets_of-renumbered index (u ∷ us) = ap (λ xs. u ∷ xs) (octets_of-renumbered (index + 1) us)
 

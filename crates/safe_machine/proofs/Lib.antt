@@ -43,3 +43,4 @@ pub mod Arriving
 pub mod Reaching
 pub mod Nearing
 pub mod Properties
+pub mod Stopping

@@ -6,7 +6,7 @@ use Rattle.std.proofs.Math.Seq.{drop-append_seam}
 use Rattle.std.proofs.lemmas.Bool.{eq-eqb}
 use Rattle.safe_pdu.specs.declared.SafeFault.{SafeFault}
 use Rattle.safe_pdu.specs.Pdu.{Pdu}
-use Rattle.safe_pdu.specs.declared.Kind.TheVariants.{Data, Heartbeat}
+use Rattle.safe_pdu.specs.declared.Kind.TheVariants.{Heartbeat}
 use Rattle.safe_machine.specs.declared.ConnectionState.TheVariants.{Up}
 use Rattle.safe_machine.specs.Made.{carries}
 use Rattle.safe_machine.specs.Settings.{Settings}
@@ -20,7 +20,7 @@ use Rattle.safe_machine.specs.Moves.{moved}
 use Rattle.safe_machine.specs.Reached.{IsReached}
 use Rattle.safe_machine.specs.View.{View, StandsFor, HandsUp, Turns, beside}
 use Rattle.safe_machine.specs.Course.{handed_by, cts_ahead}
-use Rattle.safe_machine.specs.Properties.{IsRecent, HandsIf, IsNextData}
+use Rattle.safe_machine.specs.Properties.{HandsIf, IsNextData}
 use Rattle.safe_machine.proofs.Cases.{if_both}
 use Rattle.safe_machine.proofs.Deciding.{Fits, decide-fits, listens-live}
 use Rattle.safe_machine.proofs.Lone.{lone-guard, arrive-by}
@@ -63,8 +63,7 @@ recent-arrive p now s =
 pub reached-recent : {U : Type 0} (takes : U → List ℕ → U → Type 0) (a b : U) (p : Pdu) (now : ℕ) (v : View) → IsReached v →
     ((s : State) → StandsFor v s → HandsUp takes a s (arrive p now s) b) → HandsIf takes a b (now < v.confirmed_at + cts_ahead v p.cts + v.settings.t_max)
 reached-recent takes a b p now v r hands =
-    let t = moved r.moves (opened r.settings r.first r.began) in
-    (
+    let t = moved r.moves (opened r.settings r.first r.began) in (
       drop (length t.taken) (arrive p now t).taken,
       hands t r.stands,
       λ some. subst (λ (x : View). now < x.confirmed_at + cts_ahead x p.cts + x.settings.t_max) (sym r.stands) (recent-arrive p now t some),

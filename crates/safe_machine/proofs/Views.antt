@@ -346,7 +346,7 @@ resend-more makes first m n a b d now place inside same e handed before ring s h
     (make-left m n ring RetrData u.octets now t e so_far.0, hands-then makes a b d s t (make RetrData u.octets now t) so_far.1 one)
 
 -- an answer begins the unconfirmed units anew
-answer-ring : (now : ℕ) (s : State) → s.confirmed < length s.made → ring_of (make RetrResp [] now s) ≡ []
+pub answer-ring : (now : ℕ) (s : State) → s.confirmed < length s.made → ring_of (make RetrResp [] now s) ≡ []
 answer-ring now s h =
     let m = next_made s RetrResp [] now in
     ap (carried_at (s.confirmed + 1) []) (drop-append-le (s.confirmed + 1) s.made (m ∷ []) (omega arith))

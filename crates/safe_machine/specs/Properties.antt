@@ -1,11 +1,12 @@
 -- What promises need of an arrival, beside its exact step.
-use Rattle.std.specs.Prelude.{ℕ, ◌+◌, ◌≡◌, ◌≢◌, ◌<◌, true, false, List, [], ◌∷◌, Option, None, Result, Ok, Err}
+use Rattle.std.specs.Prelude.{ℕ, ◌+◌, ◌≡◌, ◌≢◌, ◌<◌, ◌⊎◌, true, List, [], None, Result, Ok, Err}
 use Rattle.std.specs.List.{FoldsTo}
+use Rattle.retrans.specs.Units.{above, octets_of}
 use Rattle.safe_pdu.specs.declared.Kind.TheVariants.{Data}
 use Rattle.safe_pdu.specs.declared.SafeFault.{SafeFault}
 use Rattle.safe_pdu.specs.Pdu.{Pdu}
 use Rattle.safe_machine.specs.declared.ConnectionState.TheVariants.{Up}
-use Rattle.safe_machine.specs.Course.{cs_in, cts_in, cts_ahead, sn_ahead}
+use Rattle.safe_machine.specs.Course.{cs_ahead, cs_in, cts_in, cts_ahead, sn_ahead}
 use Rattle.safe_machine.specs.View.{View, overdue}
 
 -- the confirmed timestamp of what was read, as this end reads it, is less than its T_max old
@@ -28,3 +29,13 @@ pub record IsNextData (read : Result Pdu SafeFault) (p : Pdu) (now : ℕ) (v : V
   pub next : sn_ahead v p.sn ≡ 0
   pub confirms : cs_in v p.cs ≡ true
   pub timely : cts_in v p.cts now ≡ true
+
+-- The units that stop being unconfirmed are none, or those with numbers up to this one; the others stay, in order, also where they
+-- are numbered anew.
+abbrev pub StopsOnly : ℕ → View → View → Type 0
+StopsOnly number v w = (octets_of w.ring ≡ octets_of v.ring) ⊎ (octets_of w.ring ≡ octets_of (above number v.ring))
+
+-- up to the index that the delivered confirmed number stands for; and none, where no PDU was read
+abbrev pub OnlyConfirms : Result Pdu SafeFault → View → View → Type 0
+OnlyConfirms (Ok p) v w = StopsOnly (v.confirmed + cs_ahead v p.cs) v w
+OnlyConfirms (Err fault) v w = octets_of w.ring ≡ octets_of v.ring

@@ -11,7 +11,7 @@ ghost use Rattle.safe_machine.specs.Moves.{IsUnitSized};
 ghost use Rattle.safe_machine.specs.declared.SendFault.TheVariants.{NotUp, Window};
 ghost use Rattle.safe_machine.specs.declared.MachineFault.TheVariants.{BadConfig};
 ghost use Rattle.safe_pdu.specs.Places.{safe_seen};
-ghost use Rattle.safe_machine.specs.Properties.{HandsIf, IsNextData, IsRecent};
+ghost use Rattle.safe_machine.specs.Properties.{HandsIf, IsNextData, IsRecent, OnlyConfirms};
 ghost use Rattle.safe_pdu.specs.Pdu.{Pdu};
 ghost use Rattle.safe_machine.specs.declared.ConnectionState.TheVariants.{Up};
 ghost use Rattle.safe_machine.specs.View.{HandsOut, HandsUp, StandsFor, settings_of, texts};
@@ -162,6 +162,8 @@ impl<A: Allocator> Machine<A> {
         ensures made { (s : State) → StandsFor self.old s → HandsOut O.makes out.old s (arrive_octets octets.now now s) out.new }
         ensures taken { (s : State) → StandsFor self.old s → HandsUp U.takes units.old s (arrive_octets octets.now now s) units.new }
         ensures answer { (s : State) → StandsFor self.old s → result ≡ octets_answer octets.now now s }
+        // The units that stop being unconfirmed are none, or those up to the index that the confirmed number stands for.
+        ensures confirms { OnlyConfirms (safe_seen self.old.settings.rule octets.now) self.old self.new }
         // A Data that is the next PDU of an end in Up, and passes its tests, goes up, and the end stays in Up.
         ensures passes { (p : Pdu) → IsNextData (safe_seen self.old.settings.rule octets.now) p now self.old
             → FoldsTo U.takes units.old (p.body ∷ []) units.new × (self.new.connection ≡ Up) }

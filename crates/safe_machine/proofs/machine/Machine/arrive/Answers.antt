@@ -13,7 +13,8 @@ use Rattle.safe_machine.proofs.Nearing.{reached-near, reached-still}
 use Rattle.std.specs.List.{FoldsTo}
 use Rattle.safe_pdu.specs.Pdu.{Pdu}
 use Rattle.safe_machine.specs.declared.ConnectionState.TheVariants.{Up}
-use Rattle.safe_machine.specs.Properties.{HandsIf, IsRecent, IsNextData}
+use Rattle.safe_machine.specs.Properties.{HandsIf, IsRecent, IsNextData, OnlyConfirms}
+use Rattle.safe_machine.proofs.Stopping.{reached-stops, reached-keeps}
 use Rattle.safe_machine.proofs.Properties.{reached-recent, reached-passes, one-read, none-read}
 use Rattle.safe_machine.proofs.machine.Machine.arrive.Goals as goal
 
@@ -94,3 +95,18 @@ returns-in-Err-clause-passes g c q next =
     let there : IsNextData (safe_seen v.settings.rule c.args.octets.now) q c.args.now v =
     subst (λ (x : View). IsNextData (safe_seen x.settings.rule c.args.octets.now) q c.args.now x) (sym c.self.view_is) next in
     absurd (none-read (safe_seen v.settings.rule c.args.octets.now) c.in-Err.fault q seen there.reads)
+
+pub returns-in-Ok-clause-confirms : goal.returns-in-Ok-clause-confirms
+returns-in-Ok-clause-confirms g c =
+    let v : View = c.self.inside.end in
+    let p = pdu_of c.in-Ok.pdu in
+    let seen = c.in-Ok.ensures.exact ∙ ap (λ r. safe_seen r c.args.octets.now) c.rule-rule.ensures in
+    subst (λ (x : View). OnlyConfirms (safe_seen x.settings.rule c.args.octets.now) x c.arrive.new.self) c.self.view_is
+    (subst (λ r. OnlyConfirms r v c.arrive.new.self) seen (reached-stops p c.args.now v c.arrive.new.self c.self.invariant (λ s h. (c.arrive.ensures.does s h).0)))
+
+pub returns-in-Err-clause-confirms : goal.returns-in-Err-clause-confirms
+returns-in-Err-clause-confirms g c =
+    let v : View = c.self.inside.end in
+    let seen = c.in-Err.ensures.exact ∙ ap (λ r. safe_seen r c.args.octets.now) c.rule-rule.ensures in
+    subst (λ (x : View). OnlyConfirms (safe_seen x.settings.rule c.args.octets.now) x c.arrive_fault.new.self) c.self.view_is
+    (subst (λ r. OnlyConfirms r v c.arrive_fault.new.self) seen (reached-keeps c.args.now v c.arrive_fault.new.self c.self.invariant (λ s h. (c.arrive_fault.ensures.does s h).0)))

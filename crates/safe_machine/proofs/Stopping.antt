@@ -1,0 +1,159 @@
+-- Which units an arrival confirms.
+use Rattle.std.proofs.Common.{◌≡◌, ◌⊎◌, inl, inr, ℕ, ◌+◌, ◌-◌, ◌<◌, List, [], ◌∷◌, ◌++◌, length, drop, true, refl, sym, ap, subst, ◌∙◌, arith, length-append}
+use Rattle.std.specs.Prelude.{if◌then◌else◌, nat_le}
+use Rattle.std.proofs.lemmas.Bool.{ltb-true}
+use Rattle.std.proofs.lemmas.List.{length-drop}
+use Rattle.retrans.specs.Units.{above, octets_of, renumbered}
+use Rattle.safe_pdu.specs.Pdu.{Pdu}
+use Rattle.safe_pdu.specs.Bodies.{window_of}
+use Rattle.safe_pdu.specs.declared.Kind.TheVariants.{ConnResp, RetrResp, RetrReq, Heartbeat, DiscReq}
+use Rattle.safe_machine.specs.declared.ConnectionState.TheVariants.{Closed, Down}
+use Rattle.safe_machine.specs.declared.Reason.{Reason}
+use Rattle.safe_machine.specs.declared.Reason.TheVariants.{Timeout, WrongVersion, ProtocolError}
+use Rattle.safe_machine.specs.declared.Detail.{Detail}
+use Rattle.safe_machine.specs.declared.Detail.TheVariants.{Unspecified, Limit}
+use Rattle.safe_machine.specs.Numbers.{sn_of, ahead}
+use Rattle.safe_machine.specs.Made.{Made, carries, leaving_body, opening_body}
+use Rattle.safe_machine.specs.State.{State, next_made, make, move_to, pass, confirm_units, note_request, cs_step, resend, reply, unconfirmed, hand_up, leave, says_goodbye, ask, opened}
+use Rattle.safe_machine.specs.Decision.{Decision, decide, distance, in_turn, cs_fits}
+use Rattle.safe_machine.specs.Decision.Decision.{Nothing, Drops, Shuts, Leaves, Rejects, Accepts, Connects, Takes, Asks, Resumes, AnswersNext, AnswersEarly}
+use Rattle.safe_machine.specs.Step.{carry_out, arrive, guard, is_live, take_unit, beat, tests_passed, set_window}
+use Rattle.safe_machine.specs.Ring.{carried_at, ring_of}
+use Rattle.safe_machine.specs.Moves.{moved}
+use Rattle.safe_machine.specs.Reached.{IsReached}
+use Rattle.safe_machine.specs.View.{View, Turns, beside}
+use Rattle.safe_machine.specs.Properties.{StopsOnly}
+use Rattle.safe_machine.specs.Course.{cs_ahead}
+use Rattle.safe_machine.proofs.Cases.{if_both}
+use Rattle.safe_machine.proofs.Deciding.{Fits, decide-fits}
+use Rattle.safe_machine.proofs.Lone.{lone-guard, arrive-by}
+use Rattle.safe_machine.proofs.Ring.{ring_of-units, ring-resend}
+use Rattle.safe_machine.proofs.Carriers.{octets_of-renumbered}
+use Rattle.safe_machine.proofs.Views.{plain-ring, ring-step, answer-ring}
+use Rattle.safe_machine.proofs.Reaching.{reached-sound}
+
+abbrev Stops : Pdu → State → State → Type 0
+Stops p s t = (octets_of (ring_of t) ≡ octets_of (ring_of s)) ⊎ (octets_of (ring_of t) ≡ octets_of (above (s.confirmed + cs_step s p) (ring_of s)))
+
+ring-leave : (reason : Reason) (detail : Detail) (now : ℕ) (s : State) → ring_of (leave reason detail now s) ≡ ring_of s
+ring-leave reason detail now s =
+    if_both (λ (t : State). ring_of t ≡ ring_of s) (says_goodbye s.connection) (make DiscReq (leaving_body reason detail) now s) s
+    (λ _. plain-ring DiscReq (leaving_body reason detail) now s refl) (λ _. refl)
+
+ring-guard : (now : ℕ) (s : State) → ring_of (guard now s) ≡ ring_of s
+ring-guard now s =
+    let P : State → Type 0 = λ t. ring_of t ≡ ring_of s in
+    let late = nat_le (s.confirmed_at + s.settings.t_max) now in
+    let full = nat_le s.settings.pdu_limit (length s.made) in
+    let inner : State = if full then leave ProtocolError Limit now s else s in
+    if_both P (is_live s.connection) (if late then leave Timeout Unspecified now s else inner) s
+    (λ _. if_both P late (leave Timeout Unspecified now s) inner (λ _. ring-leave Timeout Unspecified now s)
+    (λ _. if_both P full (leave ProtocolError Limit now s) s (λ _. ring-leave ProtocolError Limit now s) (λ _. refl)))
+    (λ _. refl)
+
+first-leave : (reason : Reason) (detail : Detail) (now : ℕ) (s : State) → (leave reason detail now s).first ≡ s.first
+first-leave reason detail now s =
+    if_both (λ (t : State). t.first ≡ s.first) (says_goodbye s.connection) (make DiscReq (leaving_body reason detail) now s) s (λ _. refl) (λ _. refl)
+
+first-guard : (now : ℕ) (s : State) → (guard now s).first ≡ s.first
+first-guard now s =
+    let P : State → Type 0 = λ t. t.first ≡ s.first in
+    let late = nat_le (s.confirmed_at + s.settings.t_max) now in
+    let full = nat_le s.settings.pdu_limit (length s.made) in
+    let inner : State = if full then leave ProtocolError Limit now s else s in
+    if_both P (is_live s.connection) (if late then leave Timeout Unspecified now s else inner) s
+    (λ _. if_both P late (leave Timeout Unspecified now s) inner (λ _. first-leave Timeout Unspecified now s)
+    (λ _. if_both P full (leave ProtocolError Limit now s) s (λ _. first-leave ProtocolError Limit now s) (λ _. refl)))
+    (λ _. refl)
+
+ring-unit : (p : Pdu) (now : ℕ) (s : State) → ring_of (take_unit p now s) ≡ ring_of s
+ring-unit p now s =
+    let u = hand_up p s in
+    if_both (λ (t : State). ring_of t ≡ ring_of s) (carries p.kind) (beat now u) s
+    (λ _. if_both (λ (t : State). ring_of t ≡ ring_of s) (nat_le u.settings.mwa u.since) (make Heartbeat [] now u) u (λ _. plain-ring Heartbeat [] now u refl) (λ _. refl)) (λ _. refl)
+
+-- an answer keeps the units
+ring-reply : (now : ℕ) (y : State) → y.confirmed < length y.made → octets_of (ring_of (reply now y)) ≡ octets_of (ring_of y)
+ring-reply now y within =
+    let t = make RetrResp [] now y in
+    let us = unconfirmed y in
+    let r = resend us now t in
+    let more : length t.made ≡ length y.made + 1 = length-append y.made (next_made y RetrResp [] now ∷ []) in
+    ap octets_of
+    (plain-ring Heartbeat [] now r refl
+    ∙ (ring-resend us now t (omega arith) ∙ ap (λ cs. cs ++ renumbered (length t.made) us) (answer-ring now y within)))
+    ∙ (octets_of-renumbered (length t.made) us ∙ sym (ring_of-units y))
+
+-- a server that was just opened has no unit, and none when it has answered
+ring-none : (ms : List Made) (m : Made) → carried_at (length ms + 1) [] (drop (length ms + 1) (ms ++ m ∷ [])) ≡ []
+ring-none ms m = go (drop (length ms + 1) (ms ++ m ∷ [])) (length-drop (length ms + 1) (ms ++ m ∷ []) ∙ omega (arith, length-append ms (m ∷ [])))
+  where
+    go : (rest : List Made) → length rest ≡ 0 → carried_at (length ms + 1) [] rest ≡ []
+    go [] e = refl
+    go (a ∷ rest) e = absurd (omega (arith, e))
+
+fits-within : (p : Pdu) (s : State) → cs_fits s p ≡ true → cs_step s p < length s.made - s.confirmed
+fits-within p s e = ltb-true (cs_step s p) (length s.made - s.confirmed) e
+
+confirmed-stops : (p : Pdu) (s t : State) → cs_fits s p ≡ true → octets_of (ring_of t) ≡ octets_of (ring_of (confirm_units p s)) → Stops p s t
+confirmed-stops p s t fits e = inr (e ∙ ap octets_of (sym (ring-step p s (fits-within p s fits))))
+
+stops-decided : (p : Pdu) (now : ℕ) (d : Decision) (s : State) → (s.connection ≡ Down → ring_of s ≡ []) → Fits s p now d → Stops p s (carry_out p now d s)
+stops-decided p now Nothing s down f = inl refl
+stops-decided p now (Drops cause) s down f = inl refl
+stops-decided p now Shuts s down f = inl refl
+stops-decided p now (Leaves reason detail) s down f = inl (ap octets_of (ring-leave reason detail now s))
+stops-decided p now Rejects s down f = inl (ap octets_of (plain-ring DiscReq (leaving_body WrongVersion Unspecified) now (pass p 0 s) refl))
+stops-decided p now Accepts s down f =
+    let y = set_window (window_of p.body) (pass p 0 s) in
+    inl (ap octets_of (ring-none s.made (next_made y ConnResp (opening_body s.settings.n_sendmax) now) ∙ sym (down f.0)))
+stops-decided p now Connects s down f =
+    let y = set_window (window_of p.body) (pass p 0 (tests_passed p s)) in
+    confirmed-stops p s (carry_out p now Connects s) f.3.cs (ap octets_of (plain-ring Heartbeat [] now y refl))
+stops-decided p now (Takes to) s down f =
+    let y = move_to to (pass p 0 (tests_passed p s)) in
+    confirmed-stops p s (carry_out p now (Takes to) s) f.passed.cs (ap octets_of (ring-unit p now y))
+stops-decided p now Asks s down f = inl (ap octets_of (plain-ring RetrReq [] now s refl))
+stops-decided p now Resumes s down f = confirmed-stops p s (carry_out p now Resumes s) f.passed.cs refl
+stops-decided p now AnswersNext s down f =
+    let y = pass p 0 (note_request 0 (tests_passed p s)) in
+    confirmed-stops p s (reply now y) f.0.cs (ring-reply now y (omega (arith, fits-within p s f.0.cs)))
+stops-decided p now AnswersEarly s down f =
+    let y = note_request (distance s p) (confirm_units p s) in
+    let t = reply now y in
+    let same = ring-reply now y (omega (arith, fits-within p s f.cs)) in
+    if_both (Stops p s) (in_turn s.connection) (ask now t) t
+    (λ _. confirmed-stops p s (ask now t) f.cs (ap octets_of (plain-ring RetrReq [] now t refl) ∙ same)) (λ _. confirmed-stops p s t f.cs same)
+
+closed-down : Closed ≡ Down → ⊥
+closed-down e = cc
+
+stops-arrive : (p : Pdu) (now : ℕ) (s : State) → (s.connection ≡ Down → ring_of s ≡ []) → Stops p s (arrive p now s)
+stops-arrive p now s down =
+    let g = guard now s in
+    let l = lone-guard now s in
+    let ring = ring-guard now s in
+    let first : g.first ≡ s.first = (first-guard now s) in
+    let step : cs_step g p ≡ cs_step s p = ap (λ (n : ℕ). ahead (sn_of n g.confirmed) p.cs) first ∙ ap (λ (n : ℕ). ahead (sn_of s.first n) p.cs) l.confirmed in
+    let down_g : g.connection ≡ Down → ring_of g ≡ [] =
+    λ e. ring ∙ down (elim l.connection [ inl same ↦ sym same ∙ e | inr closed ↦ absurd (closed-down (sym closed ∙ e)) ]) in
+    let number : g.confirmed + cs_step g p ≡ s.confirmed + cs_step s p = omega (arith, step, l.confirmed) in
+    arrive-by (Stops p s) p now s (inl (ap octets_of ring))
+    (λ _ _. elim (stops-decided p now (decide g p now) g down_g (decide-fits g p now)) [
+      | inl e ↦ inl (e ∙ ap octets_of ring)
+      | inr e ↦ inr (e ∙ (ap (λ (n : ℕ). octets_of (above n (ring_of g))) number ∙ ap (λ r. octets_of (above (s.confirmed + cs_step s p) r)) ring))
+    ])
+
+-- as a machine has it
+pub reached-stops : (p : Pdu) (now : ℕ) (v w : View) → IsReached v → Turns (arrive p now) v w → StopsOnly (v.confirmed + cs_ahead v p.cs) v w
+reached-stops p now v w r turns =
+    let t = moved r.moves (opened r.settings r.first r.began) in
+    let down : t.connection ≡ Down → ring_of t ≡ [] =
+    λ e. sym (ap (λ (x : View). x.ring) r.stands) ∙ (reached-sound v r).down (ap (λ (x : View). x.connection) r.stands ∙ e) in
+    subst (λ (x : View). StopsOnly (x.confirmed + cs_ahead x p.cs) x w) (sym r.stands)
+    (subst (λ (y : View). StopsOnly (t.confirmed + cs_step t p) (beside (ring_of t) t) y) (sym (turns t r.stands)) (stops-arrive p now t down))
+
+pub reached-keeps : (now : ℕ) (v w : View) → IsReached v → Turns (guard now) v w → octets_of w.ring ≡ octets_of v.ring
+reached-keeps now v w r turns =
+    let t = moved r.moves (opened r.settings r.first r.began) in
+    ap octets_of (ap (λ (x : View). x.ring) (turns t r.stands) ∙ (ring-guard now t ∙ sym (ap (λ (x : View). x.ring) r.stands)))
