@@ -1,6 +1,7 @@
 """The safety step and the world of two machines, as plain and slow as can be, with changes that can be switched on.
 
-A second reading of docs/SAFETY_MACHINE.md, independent of the definitions that are proved. Numbers and times wrap at 2^32.
+It has the rules and the state of docs/SAFETY_MACHINE.md, but for versions and strangers. Nothing proves that it agrees with
+the definitions. Numbers and times wrap at 2^32.
 """
 import copy
 

@@ -194,4 +194,6 @@ pub enum Step {
 }
 
 #[cfg(test)]
+mod server_tests;
+#[cfg(test)]
 mod tests;

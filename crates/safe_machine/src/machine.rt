@@ -147,7 +147,10 @@ impl<A: Allocator> Machine<A> {
         self.end.may_send()
     }
 
-    /// Takes the octets of a PDU, after the guard.
+    /// Takes the octets of a PDU, of any octets, after the guard: hands the PDUs that are made to `out` and the unit that
+    /// goes up to `units`, and tells what was done.
+    ///
+    /// The caller keeps the index of the peer's next PDU below 2^62; a call raises it by 321 at most.
     pub fn arrive<O: PduOut, U: UnitIn>(
         &mut self,
         octets: &[u8],

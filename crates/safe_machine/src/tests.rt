@@ -6,13 +6,12 @@ use crate::{
 };
 use arrayvec::ArrayVec;
 use linked_list_allocator::LocalHeap;
-use octets::limits::SAFE_PDU_MAX;
 use retrans::Unit;
-use safe_pdu::{CodeLength, CodeRule, Kind, SafeFault, SafePdu, decode, encode};
+use safe_pdu::{CodeLength, CodeRule, SafeFault, decode};
 use std::alloc::Allocator;
 use std::test::Fail;
 
-const RULE: CodeRule = CodeRule {
+pub(crate) const RULE: CodeRule = CodeRule {
     length: CodeLength::Eight,
     initial_value: [1, 2, 3, 4],
 };
@@ -22,7 +21,7 @@ const LONG_RULE: CodeRule = CodeRule {
     initial_value: [1, 2, 3, 4],
 };
 
-const SERVER: MachineConfig = MachineConfig {
+pub(crate) const SERVER: MachineConfig = MachineConfig {
     own: 2,
     peer: 1,
     n_sendmax: 20,
@@ -45,17 +44,17 @@ const CLIENT: MachineConfig = MachineConfig {
 };
 
 /// A short PDU.
-type Kept = ArrayVec<u8, 96>;
+pub(crate) type Kept = ArrayVec<u8, 96>;
 
 /// Keeps the PDUs made, and of each its type, sequence number and confirmed sequence number.
 #[derive(Drop)]
-struct Wire {
+pub(crate) struct Wire {
     octets: ArrayVec<Kept, 40>,
     seen: ArrayVec<(u16, u32, u32), 40>,
 }
 
 impl Wire {
-    fn new() -> Wire {
+    pub(crate) fn new() -> Wire {
         Wire {
             octets: ArrayVec::new(),
             seen: ArrayVec::new(),
@@ -63,7 +62,7 @@ impl Wire {
     }
 
     /// What was made from a place on.
-    fn from(&self, place: usize) -> &[(u16, u32, u32)] {
+    pub(crate) fn from(&self, place: usize) -> &[(u16, u32, u32)] {
         self.seen.as_slice().get(place..).unwrap_or(&[])
     }
 }
@@ -84,12 +83,12 @@ impl PduOut for Wire {
 
 /// Keeps the last octet of each unit that goes up.
 #[derive(Drop)]
-struct Taken {
+pub(crate) struct Taken {
     units: ArrayVec<u8, 40>,
 }
 
 impl Taken {
-    fn new() -> Taken {
+    pub(crate) fn new() -> Taken {
         Taken {
             units: ArrayVec::new(),
         }
@@ -125,7 +124,7 @@ fn hand<A: Allocator>(
 }
 
 /// Sends a unit of 45 octets that ends in this one.
-fn put<A: Allocator>(
+pub(crate) fn put<A: Allocator>(
     machine: &mut Machine<A>,
     last: u8,
     now: u64,
@@ -619,224 +618,6 @@ fn refuses_bad_settings(rt: HostRuntime) -> Result<(), Fail> {
             )
         );
         assert_eq!(rt; made.from(0), [].as_slice());
-    }
-    Ok(())
-}
-
-/// A PDU from identifier 1 at the field element: type, number, confirmed number and timestamp, its own timestamp 0.
-#[derive(Clone, Copy, Drop)]
-struct Heard {
-    kind: Kind,
-    sender: u32,
-    sn: u32,
-    cs: u32,
-    cts: u32,
-}
-
-/// Hands it to a machine with identifier 2.
-fn hear<A: Allocator>(
-    machine: &mut Machine<A>,
-    heard: Heard,
-    now: u64,
-    out: &mut Wire,
-    units: &mut Taken,
-) -> Step
-    requires { machine.old.expected < 2 ^ 60 }
-    ensures { machine.new.expected ≤ machine.old.expected + 321 }
-{
-    let opening = [0x30, 0x33, 0x30, 0x33, 20, 0, 0, 0, 0, 0, 0, 0, 0, 0];
-    let unit = [7; 45];
-    let body = match heard.kind {
-        Kind::ConnReq | Kind::ConnResp => opening.as_slice(),
-        Kind::Data | Kind::RetrData => unit.as_slice(),
-        Kind::DiscReq => [0, 0, 0, 0].as_slice(),
-        _ => [].as_slice(),
-    };
-    let pdu = SafePdu {
-        kind: heard.kind,
-        receiver: 2,
-        sender: heard.sender,
-        sn: heard.sn,
-        cs: heard.cs,
-        ts: 0,
-        cts: heard.cts,
-        body,
-    };
-    let mut buffer = [0; SAFE_PDU_MAX];
-    let size = encode(&pdu, &RULE, &mut buffer);
-    machine.arrive(&buffer[..size], now, out, units)
-}
-
-/// A PDU of the peer.
-fn from_peer(kind: Kind, sn: u32, cs: u32) -> Heard {
-    Heard {
-        kind,
-        sender: 1,
-        sn,
-        cs,
-        cts: 0,
-    }
-}
-
-/// A server with first number 500 that took ConnReq 100 and HB 101.
-fn server<A: Allocator>(alloc: A, out: &mut Wire) -> Result<Machine<A>, MachineFault>
-    ensures { IfOk result (λ machine. machine.expected ≤ 642) }
-{
-    let mut units = Taken::new();
-    let mut machine = Machine::open(alloc, SERVER, Role::Server, 500, 0, out)?;
-    hear(
-        &mut machine,
-        from_peer(Kind::ConnReq, 100, 0),
-        0,
-        out,
-        &mut units,
-    );
-    hear(
-        &mut machine,
-        from_peer(Kind::Heartbeat, 101, 500),
-        0,
-        out,
-        &mut units,
-    );
-    Ok(machine)
-}
-
-/// One arrival at a server that is up: what it answers, and what is made.
-fn arrival<A: Allocator>(alloc: A, heard: Heard, now: u64) -> Result<(Step, Wire), MachineFault> {
-    let mut out = Wire::new();
-    let mut machine = server(alloc, &mut out)?;
-    let step = hear(&mut machine, heard, now, &mut out, &mut Taken::new());
-    Ok((step, out))
-}
-
-#[test]
-fn server_up_one_arrival(rt: HostRuntime) -> Result<(), Fail> {
-    let beat = from_peer(Kind::Heartbeat, 102, 500);
-    for (heard, now, step, pdus) in [
-        (
-            from_peer(Kind::Data, 302, 500),
-            0,
-            Step::Gap,
-            [(6212, 501, 101)].as_slice(),
-        ),
-        (
-            from_peer(Kind::Data, 303, 500),
-            0,
-            Step::Dropped(DropCause::Number),
-            [].as_slice(),
-        ),
-        (
-            from_peer(Kind::RetrData, 102, 500),
-            0,
-            Step::Left(Reason::UnexpectedPdu, Detail::Unspecified),
-            [(6216, 501, 101)].as_slice(),
-        ),
-        (
-            from_peer(Kind::Heartbeat, 102, 501),
-            0,
-            Step::Left(Reason::ProtocolError, Detail::ConfirmedNumber),
-            [(6216, 501, 101)].as_slice(),
-        ),
-        (
-            Heard { cts: 1, ..beat },
-            0,
-            Step::Left(Reason::ProtocolError, Detail::ConfirmedTimestamp),
-            [(6216, 501, 101)].as_slice(),
-        ),
-        (
-            Heard { sender: 9, ..beat },
-            0,
-            Step::Dropped(DropCause::Stranger),
-            [].as_slice(),
-        ),
-        (
-            beat,
-            1_800,
-            Step::Left(Reason::Timeout, Detail::Unspecified),
-            [(6216, 501, 101)].as_slice(),
-        ),
-        (beat, 1_799, Step::Taken, [].as_slice()),
-        (
-            from_peer(Kind::DiscReq, 900, 1),
-            0,
-            Step::Nothing,
-            [].as_slice(),
-        ),
-    ] {
-        let (found, out) = arrival(rt.alloc(), heard, now)?;
-        assert_eq!(rt; found, step);
-        assert_eq!(rt; out.from(1), pdus);
-    }
-    Ok(())
-}
-
-/// A request for retransmission at a server that is up and has sent two units, and the same once more.
-fn request<A: Allocator>(alloc: A, sn: u32, cs: u32) -> Result<(Step, Step, Wire), MachineFault> {
-    let mut out = Wire::new();
-    let mut units = Taken::new();
-    let mut machine = server(alloc, &mut out)?;
-    let _ = put(&mut machine, 1, 0, &mut out);
-    let _ = put(&mut machine, 2, 0, &mut out);
-    let first = hear(
-        &mut machine,
-        from_peer(Kind::RetrReq, sn, cs),
-        0,
-        &mut out,
-        &mut units,
-    );
-    let second = hear(
-        &mut machine,
-        from_peer(Kind::RetrReq, sn, cs),
-        0,
-        &mut out,
-        &mut units,
-    );
-    Ok((first, second, out))
-}
-
-#[test]
-fn server_answers_requests(rt: HostRuntime) -> Result<(), Fail> {
-    let below = Step::Dropped(DropCause::Below);
-    for (sn, cs, steps, pdus) in [
-        (
-            102,
-            500,
-            (Step::Taken, Step::Dropped(DropCause::Number)),
-            [
-                (6213, 503, 102),
-                (6241, 504, 102),
-                (6241, 505, 102),
-                (6220, 506, 102),
-            ]
-            .as_slice(),
-        ),
-        (102, 499, (below, below), [].as_slice()),
-        (
-            102,
-            503,
-            (
-                Step::Left(Reason::RetransmissionImpossible, Detail::Unspecified),
-                Step::Nothing,
-            ),
-            [(6216, 503, 101)].as_slice(),
-        ),
-        (
-            105,
-            501,
-            (Step::Taken, Step::Dropped(DropCause::Answered)),
-            [
-                (6213, 503, 101),
-                (6241, 504, 101),
-                (6220, 505, 101),
-                (6212, 506, 101),
-            ]
-            .as_slice(),
-        ),
-    ] {
-        let (first, second, out) = request(rt.alloc(), sn, cs)?;
-        assert_eq!(rt; first, steps.0);
-        assert_eq!(rt; second, steps.1);
-        assert_eq!(rt; out.from(3), pdus);
     }
     Ok(())
 }
