@@ -4,25 +4,29 @@ ghost use Rattle.std.specs.Prelude.{◌≡◌, ◌+◌, ◌-◌, ◌<◌, ◌≤
 ghost use Rattle.octets.specs.declared.limits.TheConstants.{UNIT_MAX, WINDOW_MAX};
 ghost use Rattle.retrans.specs.Units.{Numbered, above, octets_of, renumbered};
 ghost use Rattle.std.specs.List.{FoldsTo};
-ghost use Rattle.safe_pdu.specs.Pdu.{pdu_of};
+ghost use Rattle.safe_pdu.specs.Pdu.{Pdu, pdu_of};
 ghost use Rattle.safe_pdu.specs.SafeText.{safe_text};
 ghost use Rattle.safe_pdu.specs.Bodies.{IsBody, window_of};
 ghost use Rattle.safe_machine.specs.Made.{carries, opening_body};
 ghost use Rattle.safe_machine.specs.State.{State, ask, make, next_made, note_request, pass, reply, resend};
 ghost use Rattle.safe_machine.specs.Decision.{Decision, answer_of, decide};
-ghost use Rattle.safe_machine.specs.Octets.{heard_answer};
-ghost use Rattle.safe_machine.specs.Reached.{Known, Sound};
+ghost use Rattle.safe_machine.specs.Moves.{IsUnitSized};
+ghost use Rattle.safe_machine.specs.Octets.{arrive_octets, heard_answer, octets_answer};
+ghost use Rattle.safe_machine.specs.Properties.{HandsIf, IsNextData, IsRecent, OnlyConfirms};
+ghost use Rattle.safe_machine.specs.Reached.{IsReached, Known, Sound};
+ghost use Rattle.safe_machine.specs.declared.ConnectionState.TheVariants.{Up};
+ghost use Rattle.safe_pdu.specs.Places.{safe_seen};
 ghost use Rattle.safe_machine.specs.Decision.Decision.{Accepts, AnswersEarly, AnswersNext, Asks, Connects, Rejects, Resumes, Takes};
-ghost use Rattle.safe_machine.specs.Step.{arrive, arrive_answer, beat, carry_out, guard, receive, take_unit, set_window, tests_passed};
+ghost use Rattle.safe_machine.specs.Step.{arrive, arrive_answer, beat, carry_out, guard, receive, send, take_unit, set_window, tests_passed};
 ghost use Rattle.safe_machine.specs.Course.{Allows, cs_ahead, handed_by, meaning, cts_ahead, carried, sn_ahead};
-ghost use Rattle.safe_machine.specs.View.{AllBelow, AllUnits, Does, Hands, HandsUp, StandsFor, Turns, answered_ahead, beside, leaves_units};
+ghost use Rattle.safe_machine.specs.View.{AllBelow, AllUnits, Does, Hands, HandsOut, HandsUp, StandsFor, Turns, answered_ahead, beside, has_room, leaves_units};
 
 use super::decisions::Course;
 use super::endpoint::{Endpoint, opening_octets};
 use super::{ConnectionState, Detail, DropCause, PduOut, Reason, Step, UnitIn};
 use octets::limits::UNIT_MAX;
 use retrans::Unit;
-use safe_pdu::{Kind, SafeFault, SafePdu, read_opening};
+use safe_pdu::{Kind, SafeFault, SafePdu, decode, read_opening};
 use std::alloc::Allocator;
 
 /// Whether a PDU of this type carries a unit.
@@ -66,6 +70,19 @@ impl<A: Allocator> Endpoint<A> {
         let number = self.made;
         self.make(Kind::Data, unit, now, out);
         self.keep(number, unit);
+    }
+
+    /// Sends a unit, where one may be sent.
+    pub(crate) fn send<O: PduOut>(&mut self, unit: &[u8], now: u64, out: &mut O)
+        requires reached { IsReached self.old }
+        requires size { IsUnitSized unit.now }
+        requires open { has_room self.old ≡ true }
+        ensures does { Does O.makes (send unit.now now) self.old out.old self.new out.new }
+        ensures reached { IsReached self.new }
+        ensures near { self.new.expected ≡ self.old.expected }
+        ensures kept { self.new.ring ≡ self.old.ring ++ record { number = self.old.made; octets = unit.now } ∷ [] }
+    {
+        self.send_unit(unit, now, out);
     }
 
     /// Counts as confirmed what a PDU confirms.
@@ -487,7 +504,8 @@ impl<A: Allocator> Endpoint<A> {
         ensures does { Does O.makes (guard now) self.old out.old self.new out.new }
         ensures answer { (s : State) → StandsFor self.old s → result ≡ heard_answer (Err fault) now s }
     {
-        if let Some((reason, detail)) = self.overdue(now) {
+        let course = self.overdue(now);
+        if let Some((reason, detail)) = course {
             self.leave(reason, detail, now, out);
             return Step::Left(reason, detail);
         }
@@ -495,6 +513,36 @@ impl<A: Allocator> Endpoint<A> {
             return Step::Nothing;
         }
         Step::Dropped(DropCause::Fault(fault))
+    }
+
+    /// Takes the octets of a PDU, of any octets, after the guard.
+    pub(crate) fn hear<O: PduOut, U: UnitIn>(
+        &mut self,
+        octets: &[u8],
+        now: u64,
+        out: &mut O,
+        units: &mut U,
+    ) -> Step
+        requires reached { IsReached self.old }
+        requires reach { self.old.expected < 2 ^ 62 }
+        requires ready { U.ready units.old }
+        ensures stands { (s : State) → StandsFor self.old s → StandsFor self.new (arrive_octets octets.now now s) }
+        ensures made { (s : State) → StandsFor self.old s → HandsOut O.makes out.old s (arrive_octets octets.now now s) out.new }
+        ensures taken { (s : State) → StandsFor self.old s → HandsUp U.takes units.old s (arrive_octets octets.now now s) units.new }
+        ensures answer { (s : State) → StandsFor self.old s → result ≡ octets_answer octets.now now s }
+        ensures reached { IsReached self.new }
+        ensures near { self.new.expected ≤ self.old.expected + 321 }
+        ensures confirms { OnlyConfirms (safe_seen self.old.settings.rule octets.now) self.old self.new }
+        ensures passes { (p : Pdu) → IsNextData (safe_seen self.old.settings.rule octets.now) p now self.old
+            → FoldsTo U.takes units.old (p.body ∷ []) units.new × (self.new.connection ≡ Up) }
+        ensures recent { HandsIf U.takes units.old units.new (IsRecent (safe_seen self.old.settings.rule octets.now) now self.old) }
+        ensures ready { U.ready units.new }
+    {
+        let rule = self.rule();
+        match decode(octets, &rule) {
+            Ok(pdu) => self.arrive(&pdu, now, out, units),
+            Err(fault) => self.arrive_fault(fault, now, out),
+        }
     }
 }
 

@@ -12,7 +12,7 @@ ghost use Rattle.safe_machine.specs.Numbers.{sn_of};
 ghost use Rattle.safe_machine.specs.Made.{leaving_body, opening_body};
 ghost use Rattle.safe_machine.specs.State.{State, fresh, next_made, make, leave, opened, says_goodbye};
 ghost use Rattle.safe_machine.specs.Decision.{in_turn};
-ghost use Rattle.safe_machine.specs.Step.{guard, heartbeat, is_connected, is_live, tick};
+ghost use Rattle.safe_machine.specs.Step.{guard, heartbeat, is_connected, is_live, may_send, tick};
 ghost use Rattle.safe_machine.specs.View.{Does, StandsFor, beat_due, beside, has_room, leaves_units, overdue, settings_of, texts};
 
 use super::{ConnectionState, Detail, MachineConfig, PduOut, Reason, Role};
@@ -257,6 +257,14 @@ impl<A: Allocator> Endpoint<A> {
 
     /// Whether a unit may be sent.
     pub(crate) fn may_send(&self) -> bool
+        ensures kept { result ≡ has_room self.now }
+        ensures stands { (s : State) → StandsFor self.now s → result ≡ may_send s }
+    {
+        self.has_room()
+    }
+
+    /// Whether units are taken in turn, and the peer's window is open.
+    fn has_room(&self) -> bool
         ensures { result ≡ has_room self.now }
     {
         self.connection.in_turn() && (self.ring.len() as u64) < self.window

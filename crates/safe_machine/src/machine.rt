@@ -20,7 +20,6 @@ use super::endpoint::{Endpoint, begin};
 use super::{ConnectionState, Detail, MachineConfig, MachineFault, Reason, Role, SendFault, Step};
 use octets::limits::WINDOW_MAX;
 use retrans::{Unconfirmed, Unit};
-use safe_pdu::decode;
 use std::alloc::{Allocator, Global};
 use std::marker::Model;
 
@@ -174,11 +173,7 @@ impl<A: Allocator> Machine<A> {
         ensures recent { HandsIf U.takes units.old units.new (IsRecent (safe_seen self.old.settings.rule octets.now) now self.old) }
         ensures ready { U.ready units.new }
     {
-        let rule = self.end.rule();
-        match decode(octets, &rule) {
-            Ok(pdu) => self.end.arrive(&pdu, now, out, units),
-            Err(fault) => self.end.arrive_fault(fault, now, out),
-        }
+        self.end.hear(octets, now, out, units)
     }
 
     /// Sends a unit of 45 to 1,206 octets.
@@ -192,18 +187,19 @@ impl<A: Allocator> Machine<A> {
         ensures made { (s : State) → StandsFor self.old s → HandsOut O.makes out.old s (send unit.now.items now s) out.new }
         ensures sent { (s : State) → StandsFor self.old s → IsOk result ↔ (may_send s ≡ true) }
         ensures not_up { (s : State) → StandsFor self.old s → (result ≡ Err NotUp) ↔ (in_turn s.connection ≡ false) }
+        ensures window { (s : State) → StandsFor self.old s → (result ≡ Err Window) ↔ ((in_turn s.connection ≡ true) × (may_send s ≡ false)) }
         // No unit stops being unconfirmed.
         ensures kept { OnOk result (self.new.ring ≡ self.old.ring ++ record { number = self.old.made; octets = unit.now.items } ∷ []) }
         ensures unchanged { OnErr result (self.new ≡ self.old) }
         ensures nothing_made { OnErr result (out.new ≡ out.old) }
     {
-        if !self.end.connection.in_turn() {
+        if !self.state().in_turn() {
             return Err(SendFault::NotUp);
         }
         if !self.end.may_send() {
             return Err(SendFault::Window);
         }
-        self.end.send_unit(unit.as_slice(), now, out);
+        self.end.send(unit.as_slice(), now, out);
         Ok(())
     }
 }
