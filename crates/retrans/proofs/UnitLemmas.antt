@@ -1,5 +1,5 @@
 -- Units with rising numbers: what is sent stands behind, what is confirmed in front, and how numbers are written anew.
-use Rattle.std.proofs.Common.{◌≡◌, ◌<◌, ◌≤◌, ℕ, zero, suc, ◌+◌, ◌%◌, ◌^◌, true, false, Bool, List, [], ◌∷◌, ◌++◌, take, drop, filter, nat_lt, nat_le, not, refl, ap, arith, Some, None, Result, Ok, Err}
+use Rattle.std.proofs.Common.{◌≡◌, ◌<◌, ◌≤◌, ℕ, zero, suc, ◌+◌, true, false, Bool, List, [], ◌∷◌, ◌++◌, take, drop, nat_lt, nat_le, refl, ap, arith, Some, None, Result, Ok, Err}
 use Rattle.std.specs.List.{All, slice_get, slice_set}
 use Rattle.std.specs.Result.{OnOk, IfErr}
 use Rattle.circular_buffer.specs.Buffer.{Buffer, buffer}
@@ -9,7 +9,6 @@ use Rattle.std.proofs.lemmas.List.{map-append}
 use Rattle.std.proofs.lemmas.List.Elements.{All-nil, All-cons, All-head, All-tail}
 use Rattle.std.proofs.lemmas.List.Kept.{AllPairs-cons, AllPairs-filter}
 use Rattle.std.proofs.lemmas.List.Quantifiers.{all_pairs_push}
-use Rattle.retrans.specs.Circle.{Near, is_confirmed}
 use Rattle.retrans.specs.Units.{Numbered, Rises, above, all_shown, octets_of, renumbered, shown, up_to}
 use Rattle.retrans.specs.declared.NumberedUnit.{NumberedUnit}
 
@@ -80,24 +79,6 @@ front_by number u us h e false gt =
 pub front_first : (number : ℕ) (us : List Numbered) → Rises us → us ≡ up_to number us ++ above number us
 front_first number [] h = refl
 front_first number (u ∷ us) h = front_by number u us h (front_first number us (Rises-tail u us h)) (nat_le u.number number) refl
-
--- two tests that agree on each unit leave the same
-filter_same : (p q : Numbered → Bool) (us : List Numbered) → All (λ (u : Numbered). p u ≡ q u) us → filter p us ≡ filter q us
-filter_same p q [] h = refl
-filter_same p q (u ∷ us) h =
-    let first : p u ≡ q u = All-head (λ (v : Numbered). p v ≡ q v) u us h in
-    let rest : filter p us ≡ filter q us = filter_same p q us (All-tail (λ (v : Numbered). p v ≡ q v) u us h) in
-    rw (first, rest) refl
-
--- on the circle
-circle_same : (number confirmed : ℕ) → Near number confirmed → not (is_confirmed (confirmed % 2 ^ 32) (number % 2 ^ 32)) ≡ nat_lt confirmed number
-circle_same number confirmed near = grind (arith, nat_tests)
-
-pub circle_left : (confirmed : ℕ) (us : List Numbered) → All (λ (u : Numbered). Near u.number confirmed) us
-    → filter (λ (u : Numbered). not (is_confirmed (confirmed % 2 ^ 32) (u.number % 2 ^ 32))) us ≡ above confirmed us
-circle_left confirmed us near =
-    filter_same (λ (u : Numbered). not (is_confirmed (confirmed % 2 ^ 32) (u.number % 2 ^ 32))) (λ (u : Numbered). nat_lt confirmed u.number) us
-    (λ k d within. circle_same _ confirmed (near k d within))
 
 -- one unit less: the first one is confirmed, or none is
 pub first_dropped : (number : ℕ) (us : List NumberedUnit) (u : NumberedUnit) → slice_get us 0 ≡ Some u → u.number ≤ number

@@ -2,16 +2,16 @@
 //! it last.
 //!
 //! The sending side of the safety and retransmission layer of DIN VDE V 0831-200:2015. Numbers are
-//! kept without wrap; a PDU carries the low 32 bits of one, and `true_number` reads them again.
+//! kept without wrap.
 #![tactic(auto)]
 
 use arrayvec::ArrayVec;
 use octets::limits::UNIT_MAX;
 
-mod numbers;
+mod law;
 mod unconfirmed;
 
-pub use numbers::{numbers_law, true_number};
+pub use law::units_law;
 pub use unconfirmed::Unconfirmed;
 
 /// The octets of a unit, in storage of the longest one (1,206 octets).

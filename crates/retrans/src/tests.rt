@@ -1,6 +1,6 @@
 ghost use Rattle.std.specs.Prelude.{◌≡◌, ◌<◌, ◌≤◌, All};
 
-use crate::{NumberedUnit, Unconfirmed, Unit, true_number};
+use crate::{NumberedUnit, Unconfirmed, Unit};
 use linked_list_allocator::LocalHeap;
 use std::alloc::{AllocError, Allocator};
 use std::process::Abort;
@@ -82,38 +82,20 @@ fn numbers_units_anew(rt: HostRuntime) -> Result<(), Fail> {
     Ok(())
 }
 
-// Numbers go on past 2^32, where their 32 bits begin again.
+// Numbers go on past 2^32.
 #[test]
-fn goes_on_where_the_bits_wrap(rt: HostRuntime) -> Result<(), Fail> {
+fn goes_on_past_32_bits(rt: HostRuntime) -> Result<(), Fail> {
     let mut kept = Unconfirmed::new(rt.alloc(), 3)?;
     assert!(rt; kept.sent(4_294_967_294, unit_of(1, 45)).is_ok());
     assert!(rt; kept.sent(4_294_967_296, unit_of(2, 45)).is_ok());
     assert!(rt; kept.sent(4_294_967_299, unit_of(3, 45)).is_ok());
-    kept.confirm(true_number(4_294_967_290, 4_294_967_295));
+    kept.confirm(4_294_967_295);
     assert!(rt; kept.len() == 2 && stands_at(&kept, 0, 4_294_967_296, 2, 45));
-    kept.confirm(true_number(4_294_967_295, 1));
+    kept.confirm(4_294_967_297);
     assert!(rt; kept.len() == 1 && stands_at(&kept, 0, 4_294_967_299, 3, 45));
     kept.renumber(8_589_934_592);
     assert!(rt; stands_at(&kept, 0, 8_589_934_592, 3, 45));
     Ok(())
-}
-
-// The least number at or above the first one, with these 32 bits.
-#[test]
-fn reads_numbers_of_32_bits(rt: HostRuntime) {
-    let cases = [
-        (0, 0, 0),
-        (0, 4_294_967_295, 4_294_967_295),
-        (100, 100, 100),
-        (100, 99, 4_294_967_395),
-        (4_294_967_290, 4_294_967_295, 4_294_967_295),
-        (4_294_967_290, 3, 4_294_967_299),
-        (4_294_967_296, 0, 4_294_967_296),
-        (12_884_901_887, 5, 12_884_901_893),
-    ];
-    for (least, bits, number) in cases {
-        assert_eq!(rt; true_number(least, bits), number, "at {least} {bits}");
-    }
 }
 
 // Keeps longest units under the numbers from `first` on, up to the one before `end`.

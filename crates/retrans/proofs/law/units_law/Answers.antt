@@ -1,8 +1,5 @@
-use Rattle.retrans.proofs.UnitLemmas.{Rises-renumbered, circle_left, front_first, octets-renumbered}
-use Rattle.retrans.proofs.numbers.numbers_law.Goals as goal
-
-pub returns-clause-left : goal.returns-clause-left
-returns-clause-left c = circle_left
+use Rattle.retrans.proofs.UnitLemmas.{Rises-renumbered, front_first, octets-renumbered}
+use Rattle.retrans.proofs.law.units_law.Goals as goal
 
 pub returns-clause-front : goal.returns-clause-front
 returns-clause-front c = front_first
