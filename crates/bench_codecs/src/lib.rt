@@ -1,4 +1,4 @@
-//! MD4 and the decoders for C, as `bench/` times and compares them. No part of the stack.
+//! MD4, the decoders and the layers for C, as `bench/` times and compares them. No part of the stack.
 #![tactic(auto)]
 
 ghost use Rattle.std.specs.Prelude.{◌≡◌, ◌<◌, ◌++◌, length};
@@ -8,6 +8,8 @@ use md4::{INITIAL_VALUE, Md4};
 use red_layer::{RedConfig, RedEvent, RedLayer, Upward};
 use safe_pdu::{CodeLength, CodeRule};
 use std::alloc::Global;
+
+mod machine;
 
 /// The digest of octets, written to 16 octets. C: `bench_md4(const uint8_t *, size_t, uint8_t *, size_t)`.
 #[unsafe(no_mangle)]
@@ -35,19 +37,20 @@ pub extern "C" fn bench_md4_pieces(first: &[u8], second: &[u8], out: &mut [u8])
 /// and 1,000,000 where a decoder refuses. C: `bench_decode(const uint8_t *, size_t, uint32_t)`.
 #[unsafe(no_mangle)]
 pub extern "C" fn bench_decode(datagram: &[u8], code: u32) -> u32 {
+    payload_octets(datagram, &rule_of(code)).unwrap_or(1_000_000)
+}
+
+/// The rule of a code of 16 octets, or else of 8, over the initial value of RFC 1320.
+fn rule_of(code: u32) -> CodeRule {
     let length = if code == 16 {
         CodeLength::Sixteen
     } else {
         CodeLength::Eight
     };
-    payload_octets(
-        datagram,
-        &CodeRule {
-            length,
-            initial_value: INITIAL_VALUE,
-        },
-    )
-    .unwrap_or(1_000_000)
+    CodeRule {
+        length,
+        initial_value: INITIAL_VALUE,
+    }
 }
 
 fn payload_octets(datagram: &[u8], rule: &CodeRule) -> Option<u32> {
