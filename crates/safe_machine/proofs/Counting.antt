@@ -18,6 +18,7 @@ use Rattle.safe_machine.specs.Step.{is_live, is_connected, beat, tests_passed, c
 use Rattle.safe_machine.proofs.Cases.{if_both, leb-false, and-parts}
 use Rattle.safe_machine.proofs.Runs.{run_after-append}
 use Rattle.safe_machine.proofs.Invariant.{is_opening}
+use Rattle.safe_machine.proofs.Moves.{resend-connection}
 use Rattle.safe_machine.proofs.Deciding.{Fits, listens-live, decide-fits}
 use Rattle.safe_machine.specs.declared.Reason.{Reason}
 use Rattle.safe_machine.specs.declared.Reason.TheVariants.{Timeout, WrongVersion, ProtocolError}
@@ -31,7 +32,9 @@ pub record BoundedOf (settings : Settings) (made : List Made) (confirmed : ℕ) 
   -- past the limit only units that are still unconfirmed were sent
   pub few_live : is_live connection ≡ true → length made ≤ 4294901795 + length (run_of (drop (confirmed + 1) made))
   pub window_small : window ≤ 32
-  pub unconfirmed_small : length (run_of (drop (confirmed + 1) made)) ≤ 32
+  pub in_window : length (run_of (drop (confirmed + 1) made)) ≤ window
+  -- where the client's window is set
+  pub none_in_start : connection ≡ Start → length (run_of (drop (confirmed + 1) made)) ≡ 0
   pub confirmed_made : is_live connection ≡ true → confirmed < length made
 
 abbrev pub Bounded : State → Type 0
@@ -76,17 +79,17 @@ run_of-shrinks a b ms h =
     omega (arith, ap length split, ap (λ ds. length (run_of ds)) same)
 
 bounded-low : (t : State) → t.settings.n_sendmax ≤ 32 → t.settings.pdu_limit ≤ 4294901760 → length t.made ≤ 4294901795 → t.window ≤ 32 →
-    length (unconfirmed t) ≤ 32 → (is_live t.connection ≡ true → t.confirmed < length t.made) → Bounded t
-bounded-low t small limit few window unconfirmed made =
-    record { small = small; limit = limit; few = omega arith; few_live = λ live. omega arith; window_small = window; unconfirmed_small = unconfirmed; confirmed_made = made }
+    length (unconfirmed t) ≤ t.window → (t.connection ≡ Start → length (unconfirmed t) ≡ 0) → (is_live t.connection ≡ true → t.confirmed < length t.made) → Bounded t
+bounded-low t small limit few window in_window none made =
+    record { small = small; limit = limit; few = omega arith; few_live = λ live. omega arith; window_small = window; in_window = in_window; none_in_start = none; confirmed_made = made }
 
 -- a PDU that carries nothing, made by a live end
 bounded-plain : (kind : Kind) (body : List ℕ) (now : ℕ) (s : State) → Bounded s → length s.made ≤ 4294901794 → s.confirmed < length s.made →
     ((run : List (List ℕ)) → after_pdu kind body run ≡ run) → Bounded (make kind body now s)
 bounded-plain kind body now s b few made plain =
+    let same = ap length (unconfirmed-make kind body now s made ∙ plain (unconfirmed s)) in
     bounded-low (make kind body now s) b.small b.limit (omega (arith, length-make kind body now s)) b.window_small
-    (omega (arith, b.unconfirmed_small, ap length (unconfirmed-make kind body now s made ∙ plain (unconfirmed s))))
-    (λ live. omega (arith, length-make kind body now s))
+    (omega (arith, b.in_window, same)) (λ start. same ∙ b.none_in_start start) (λ live. omega (arith, length-make kind body now s))
 
 pub bounded-closed : (s : State) → Bounded s → Bounded (move_to Closed s)
 bounded-closed s b =
@@ -96,7 +99,8 @@ bounded-closed s b =
       few = b.few;
       few_live = λ live. absurd (false≢true live);
       window_small = b.window_small;
-      unconfirmed_small = b.unconfirmed_small;
+      in_window = b.in_window;
+      none_in_start = λ start. cc;
       confirmed_made = λ live. absurd (false≢true live);
     }
 
@@ -121,10 +125,11 @@ bounded-leave reason detail now s b =
     record {
       small = b.small;
       limit = b.limit;
-      few = omega (arith, few, b.unconfirmed_small, length-make DiscReq (leaving_body reason detail) now s);
+      few = omega (arith, few, b.in_window, b.window_small, length-make DiscReq (leaving_body reason detail) now s);
       few_live = λ l. absurd (false≢true l);
       window_small = b.window_small;
-      unconfirmed_small = omega (arith, ap length same, b.unconfirmed_small);
+      in_window = omega (arith, ap length same, b.in_window);
+      none_in_start = λ start. cc;
       confirmed_made = λ l. absurd (false≢true l);
     })
     (λ _. bounded-closed s b)
@@ -155,6 +160,7 @@ resend-unconfirmed (u ∷ us) now s h =
 -- an answer
 pub record Replied (s t : State) : Type 0 where
   pub settings : t.settings ≡ s.settings
+  pub connection : t.connection ≡ s.connection
   pub confirmed : t.confirmed ≡ s.confirmed
   pub window : t.window ≡ s.window
   pub more : length t.made ≡ length s.made + 2 + length (unconfirmed s)
@@ -171,6 +177,7 @@ replied now s h =
     let b_made : b.confirmed < length b.made = omega (arith, resend-confirmed us now a) in
     record {
       settings = resend-settings us now a;
+      connection = resend-connection us now a;
       confirmed = resend-confirmed us now a;
       window = resend-window us now a;
       more = omega (arith, length-make Heartbeat [] now b);
@@ -182,10 +189,11 @@ replied now s h =
 bounded-replied : (s t : State) → Bounded s → Replied s t → length s.made ≤ 4294901759 → s.confirmed < length s.made → Bounded t × (length t.made ≤ 4294901794) × (t.confirmed < length t.made)
 bounded-replied s t b r few made =
     let us : length (unconfirmed t) ≡ length (unconfirmed s) = ap length r.same in
-    let small : length (unconfirmed s) ≤ 32 = b.unconfirmed_small in
+    let small : length (unconfirmed s) ≤ 32 = omega (arith, b.in_window, b.window_small) in
     let l = r.more in (
       bounded-low t (omega (arith, b.small, ap (λ (k : Settings). k.n_sendmax) r.settings)) (omega (arith, b.limit, ap (λ (k : Settings). k.pdu_limit) r.settings))
-          (omega arith) (omega (arith, b.window_small, r.window)) (omega arith) (λ _. omega (arith, r.confirmed)),
+          (omega arith) (omega (arith, b.window_small, r.window)) (omega (arith, b.in_window, r.window))
+          (λ start. us ∙ b.none_in_start (sym r.connection ∙ start)) (λ _. omega (arith, r.confirmed)),
       omega arith,
       omega (arith, r.confirmed),
     )
@@ -195,8 +203,8 @@ confirmed-made : (x : State) (p : Pdu) → cs_fits x p ≡ true → x.confirmed 
 confirmed-made x p fits = omega (arith, ltb-true (cs_step x p) (length x.made - x.confirmed) fits)
 
 bounded-confirmed : (x : State) (p : Pdu) (connection : ConnectionState) (window : ℕ) → Bounded x → length x.made ≤ 4294901795 → cs_fits x p ≡ true → window ≤ 32 →
-    BoundedOf x.settings x.made (x.confirmed + cs_step x p) connection window
-bounded-confirmed x p connection window b few fits small =
+    length (unconfirmed x) ≤ window → (connection ≡ Start → length (unconfirmed x) ≡ 0) → BoundedOf x.settings x.made (x.confirmed + cs_step x p) connection window
+bounded-confirmed x p connection window b few fits small in_window none =
     let made = confirmed-made x p fits in
     let shrunk : length (run_of (drop (x.confirmed + cs_step x p + 1) x.made)) ≤ length (run_of (drop (x.confirmed + 1) x.made)) =
     run_of-shrinks (x.confirmed + 1) (x.confirmed + cs_step x p + 1) x.made (omega arith) in
@@ -206,7 +214,8 @@ bounded-confirmed x p connection window b few fits small =
       few = omega arith;
       few_live = λ live. omega arith;
       window_small = small;
-      unconfirmed_small = omega (arith, b.unconfirmed_small);
+      in_window = omega (arith, in_window);
+      none_in_start = λ start. omega (arith, none start);
       confirmed_made = λ live. made;
     }
 
@@ -220,37 +229,38 @@ bounded-carry now p x b ready down window Rejects (is_down, is) =
     let empty : length x.made ≡ 0 = ap length (down is_down) in
     let z = pass p 0 x in
     let one = length-make DiscReq (leaving_body WrongVersion Unspecified) now z in
-    let none : length (run_of (drop (x.confirmed + 1) (x.made ++ next_made z DiscReq (leaving_body WrongVersion Unspecified) now ∷ []))) ≤ 32 =
+    let none : length (run_of (drop (x.confirmed + 1) (x.made ++ next_made z DiscReq (leaving_body WrongVersion Unspecified) now ∷ []))) ≤ x.window =
     omega (
       arith,
       run_of-shrinks 0 (x.confirmed + 1) (x.made ++ next_made z DiscReq (leaving_body WrongVersion Unspecified) now ∷ []) (omega arith),
       ap (λ ms. length (run_of (ms ++ next_made z DiscReq (leaving_body WrongVersion Unspecified) now ∷ []))) (down is_down),
     ) in
-    bounded-low (move_to Closed (make DiscReq (leaving_body WrongVersion Unspecified) now z)) b.small b.limit (omega arith) b.window_small none (λ live. absurd (false≢true live))
+    bounded-low (move_to Closed (make DiscReq (leaving_body WrongVersion Unspecified) now z)) b.small b.limit (omega arith) b.window_small none (λ start. cc) (λ live. absurd (false≢true live))
 bounded-carry now p x b ready down window Accepts (is_down, is) =
     let empty : length x.made ≡ 0 = ap length (down is_down) in
     let z = set_window (window_of p.body) (pass p 0 x) in
     let body = opening_body x.settings.n_sendmax in
     let t = move_to Start (confirm_to (length x.made) now (make ConnResp body now z)) in
     let one = length-make ConnResp body now z in
-    let none : length (run_of (drop (length x.made + 1) (x.made ++ next_made z ConnResp body now ∷ []))) ≤ 32 =
+    let none : length (run_of (drop (length x.made + 1) (x.made ++ next_made z ConnResp body now ∷ []))) ≡ 0 =
     omega (
       arith,
       run_of-shrinks 0 (length x.made + 1) (x.made ++ next_made z ConnResp body now ∷ []) (omega arith),
       ap (λ ms. length (run_of (ms ++ next_made z ConnResp body now ∷ []))) (down is_down),
     ) in
-    bounded-low t b.small b.limit (omega arith) (window (omega (arith, ap is_opening is))) none (λ live. omega arith)
+    bounded-low t b.small b.limit (omega arith) (window (omega (arith, ap is_opening is))) (omega arith) (λ _. none) (λ live. omega arith)
 bounded-carry now p x b ready down window Connects (start, client, is, passed) =
     let few = ready (ap is_live start) in
-    let z = set_window (window_of p.body) (pass p 0 (tests_passed p x)) in
-    let bz : Bounded z = bounded-confirmed x p x.connection (window_of p.body) b (omega (arith, b.limit)) passed.cs (window (omega (arith, ap is_opening is))) in
-    let t = make Heartbeat [] now z in
-    let bt = bounded-plain Heartbeat [] now z bz (omega (arith, b.limit)) (confirmed-made x p passed.cs) (λ run. refl) in
-    bounded-low (move_to Up t) b.small b.limit (omega (arith, length-make Heartbeat [] now z, b.limit)) bz.window_small bt.unconfirmed_small (λ live. bt.confirmed_made (ap is_live start))
+    let z = move_to Up (set_window (window_of p.body) (pass p 0 (tests_passed p x))) in
+    let bz : Bounded z =
+    bounded-confirmed x p Up (window_of p.body) b (omega (arith, b.limit)) passed.cs (window (omega (arith, ap is_opening is)))
+    (omega (arith, b.none_in_start start)) (λ up. cc) in
+    bounded-plain Heartbeat [] now z bz (omega (arith, b.limit)) (confirmed-made x p passed.cs) (λ run. refl)
 bounded-carry now p x b ready down window (Takes to) f =
     let few = ready (listens-live x.connection x.settings.client f.table.listens_now) in
     let z = move_to to (pass p 0 (tests_passed p x)) in
-    let bz : Bounded z = bounded-confirmed x p to x.window b (omega (arith, b.limit)) f.passed.cs b.window_small in
+    let bz : Bounded z = bounded-confirmed x p to x.window b (omega (arith, b.limit)) f.passed.cs b.window_small b.in_window
+    (λ start. absurd (false≢true (sym (ap is_connected start) ∙ f.connected))) in
     let u = hand_up p z in
     if_both Bounded (carries p.kind) (beat now u) z
     (λ _. if_both Bounded (nat_le x.settings.mwa (x.since + 1)) (make Heartbeat [] now u) u
@@ -260,24 +270,24 @@ bounded-carry now p x b ready down window Asks f =
     let live = listens-live x.connection x.settings.client f.table.listens_now in
     let few = ready live in
     let bt = bounded-plain RetrReq [] now x b (omega (arith, b.limit)) (b.confirmed_made live) (λ run. refl) in
-    bounded-low (ask now x) b.small b.limit (omega (arith, length-make RetrReq [] now x, b.limit)) b.window_small bt.unconfirmed_small (λ _. bt.confirmed_made live)
+    bounded-low (ask now x) b.small b.limit (omega (arith, length-make RetrReq [] now x, b.limit)) b.window_small bt.in_window (λ start. cc) (λ _. bt.confirmed_made live)
 bounded-carry now p x b ready down window Resumes f =
     let few = ready (listens-live x.connection x.settings.client f.table.listens_now) in
-    bounded-confirmed x p RetrRun x.window b (omega (arith, b.limit)) f.passed.cs b.window_small
+    bounded-confirmed x p RetrRun x.window b (omega (arith, b.limit)) f.passed.cs b.window_small b.in_window (λ start. cc)
 bounded-carry now p x b ready down window AnswersNext (f, none, turn, cts) =
     let few = ready (listens-live x.connection x.settings.client f.table.listens_now) in
     let z = pass p 0 (note_request 0 (tests_passed p x)) in
-    let bz : Bounded z = bounded-confirmed x p x.connection x.window b (omega (arith, b.limit)) f.cs b.window_small in
+    let bz : Bounded z = bounded-confirmed x p x.connection x.window b (omega (arith, b.limit)) f.cs b.window_small b.in_window b.none_in_start in
     (bounded-replied z (reply now z) bz (replied now z (confirmed-made x p f.cs)) (omega (arith, b.limit)) (confirmed-made x p f.cs)).0
 bounded-carry now p x b ready down window AnswersEarly f =
     let few = ready (listens-live x.connection x.settings.client f.table.listens_now) in
     let z = note_request (distance x p) (confirm_units p x) in
-    let bz : Bounded z = bounded-confirmed x p x.connection x.window b (omega (arith, b.limit)) f.cs b.window_small in
+    let bz : Bounded z = bounded-confirmed x p x.connection x.window b (omega (arith, b.limit)) f.cs b.window_small b.in_window b.none_in_start in
     let t = reply now z in
     let bt = bounded-replied z t bz (replied now z (confirmed-made x p f.cs)) (omega (arith, b.limit)) (confirmed-made x p f.cs) in
     let asked = bounded-plain RetrReq [] now t bt.0 bt.1 bt.2 (λ run. refl) in
     if_both Bounded (in_turn x.connection) (ask now t) t
-    (λ _. bounded-low (ask now t) bt.0.small bt.0.limit (omega (arith, length-make RetrReq [] now t, bt.1)) bt.0.window_small asked.unconfirmed_small
+    (λ _. bounded-low (ask now t) bt.0.small bt.0.limit (omega (arith, length-make RetrReq [] now t, bt.1)) bt.0.window_small asked.in_window (λ start. cc)
     (λ _. omega (arith, length-make RetrReq [] now t, bt.2)))
     (λ _. bt.0)
 
@@ -342,7 +352,8 @@ bounded-send unit now x b =
       few = omega (arith, b.window_small, few, more);
       few_live = λ _. omega (arith, few, more);
       window_small = b.window_small;
-      unconfirmed_small = omega (arith, b.window_small);
+      in_window = omega arith;
+      none_in_start = λ start. absurd (false≢true (sym (ap in_turn start) ∙ parts.0));
       confirmed_made = λ _. omega (arith, more);
     })
     (λ _. b)

@@ -232,7 +232,8 @@ opened-sure settings first now legal =
         few = omega arith;
         few_live = λ live. omega arith;
         window_small = omega arith;
-        unconfirmed_small = omega arith;
+        in_window = omega arith;
+        none_in_start = λ start. omega arith;
         confirmed_made = λ live. omega arith;
       };
       down = λ e. cc;
@@ -245,7 +246,8 @@ opened-sure settings first now legal =
         few = omega arith;
         few_live = λ live. omega arith;
         window_small = omega arith;
-        unconfirmed_small = omega arith;
+        in_window = omega arith;
+        none_in_start = λ start. omega arith;
         confirmed_made = λ live. absurd (false≢true live);
       };
       down = λ e. refl;
@@ -318,11 +320,14 @@ below-ring s =
 pub legal-reached : (v : View) (r : IsReached v) → is_legal (moved r.moves (opened r.settings r.first r.began)).settings ≡ true
 legal-reached v r = legal-moved r.moves (opened r.settings r.first r.began) (opened-legal r.settings r.first r.began r.legal)
 
+sure-reached : (v : View) (r : IsReached v) → Sure (moved r.moves (opened r.settings r.first r.began))
+sure-reached v r = sure-moved r.moves (opened r.settings r.first r.began) r.read (opened-sure r.settings r.first r.began r.legal)
+
 pub reached-sound : (v : View) → IsReached v → Sound v
 reached-sound v r =
     let s : State = opened r.settings r.first r.began in
     let t : State = moved r.moves s in
-    let h : Sure t = sure-moved r.moves s r.read (opened-sure r.settings r.first r.began r.legal) in
+    let h : Sure t = sure-reached v r in
     let legal : is_legal t.settings ≡ true = legal-reached v r in
     let texts : Texts t = texts-moved r.moves s r.read (opened-texts r.settings r.first r.began r.legal) in
     let ranges = lawful t.settings legal in
@@ -333,7 +338,7 @@ reached-sound v r =
       few = omega (arith, h.bounded.few);
       window = h.bounded.window_small;
       room = refl;
-      short = omega (arith, ap length same, length-octets (ring_of t), h.bounded.unconfirmed_small);
+      short = omega (arith, ap length same, length-octets (ring_of t), h.bounded.in_window, h.bounded.window_small);
       sized = units-of (ring_of t) (subst AllSized (sym same) sized);
       below = below-ring t;
       live = h.bounded.confirmed_made;
@@ -342,14 +347,23 @@ reached-sound v r =
       opening = (own-legal t.settings legal).window;
     })
 
+-- how many units are unconfirmed
+pub units-count : (v : View) (s : State) → StandsFor v s → length v.ring ≡ length (unconfirmed s)
+units-count v s h = ap (λ (w : View). length w.ring) h ∙ (sym (length-octets (ring_of s)) ∙ ap length (ring_of-units s))
+
+-- no more units are unconfirmed than the peer's window has
+pub reached-window : (v : View) → IsReached v → length v.ring ≤ v.window
+reached-window v r =
+    let t : State = moved r.moves (opened r.settings r.first r.began) in
+    let count : length v.ring ≡ length (unconfirmed t) = units-count v t r.stands in
+    let window : v.window ≡ t.window = ap (λ (w : View). w.window) r.stands in
+    omega (arith, (sure-reached v r).bounded.in_window)
+
 -- whether a unit may be sent
 pub room-is : (v : View) (s : State) → StandsFor v s → has_room v ≡ may_send s
 room-is v s h =
     ap has_room h
     ∙ ap (λ (n : ℕ). in_turn s.connection && nat_lt n s.window) (sym (length-octets (ring_of s)) ∙ ap length (ring_of-units s))
-
-pub units-count : (v : View) (s : State) → StandsFor v s → length v.ring ≡ length (unconfirmed s)
-units-count v s h = ap (λ (w : View). length w.ring) h ∙ (sym (length-octets (ring_of s)) ∙ ap length (ring_of-units s))
 
 pub send-sends : (unit : List ℕ) (now : ℕ) (v : View) (s : State) → StandsFor v s → has_room v ≡ true → send unit now s ≡ make Data unit now s
 send-sends unit now v s h e = ap (λ (b : Bool). if b then make Data unit now s else s) (sym (room-is v s h) ∙ e)

@@ -436,7 +436,8 @@ bounded-il s first now e =
       few = omega arith;
       few_live = λ live. omega arith;
       window_small = omega arith;
-      unconfirmed_small = omega arith;
+      in_window = omega arith;
+      none_in_start = λ start. omega arith;
       confirmed_made = λ live. omega arith;
     }
 
@@ -449,7 +450,8 @@ bounded-fe s first now e =
       few = omega arith;
       few_live = λ live. omega arith;
       window_small = omega arith;
-      unconfirmed_small = omega arith;
+      in_window = omega arith;
+      none_in_start = λ start. omega arith;
       confirmed_made = λ live. absurd (false≢true live);
     }
 
@@ -606,7 +608,8 @@ inv-start =
           few = omega arith;
           few_live = λ live. omega arith;
           window_small = omega arith;
-          unconfirmed_small = omega arith;
+          in_window = omega arith;
+          none_in_start = λ start. omega arith;
           confirmed_made = λ live. absurd (false≢true live);
         }
 

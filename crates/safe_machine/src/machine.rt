@@ -2,6 +2,7 @@
 
 ghost use Rattle.std.specs.Prelude.{◌≡◌, ◌+◌, ◌<◌, ◌≤◌, ◌^◌, ◌↔◌, ℕ, List, [], true, false, length, Err, ◌++◌, ◌∷◌, IfOk, IsOk, OnOk, OnErr, if◌then◌else◌};
 ghost use Rattle.std.specs.List.{FoldsTo};
+ghost use Rattle.octets.specs.declared.limits.TheConstants.{WINDOW_MAX};
 ghost use Rattle.safe_machine.specs.Settings.{is_legal};
 ghost use Rattle.safe_machine.specs.State.{State, leave, opened, unconfirmed};
 ghost use Rattle.safe_machine.specs.Decision.{in_turn};
@@ -132,9 +133,11 @@ impl<A: Allocator> Machine<A> {
         self.end.connection
     }
 
-    /// How many units are unconfirmed.
+    /// How many units are unconfirmed. They are never more than the peer's window has, and it has 32 at most.
     pub fn unconfirmed(&self) -> usize
-        ensures { (s : State) → StandsFor self.now s → result ≡ length (unconfirmed s) }
+        ensures counts { (s : State) → StandsFor self.now s → result ≡ length (unconfirmed s) }
+        ensures window { result ≤ self.now.window }
+        ensures room { self.now.window ≤ WINDOW_MAX }
     {
         self.end.kept_units()
     }
