@@ -9,8 +9,7 @@ use arrayvec::ArrayVec;
 use linked_list_allocator::LocalHeap;
 use octets::limits::SAFE_PDU_MAX;
 use octets::places::put_octets;
-use retrans::Unit;
-use safe_machine::{ConnectionState, Machine, MachineConfig, PduOut, Role, UnitIn};
+use safe_machine::{ConnectionState, Machine, MachineConfig, PduOut, Role, Unit, UnitIn};
 use std::alloc::Global;
 
 /// What one end did.

@@ -9,8 +9,7 @@ use Rattle.std.proofs.lemmas.List.{map-append}
 use Rattle.std.proofs.lemmas.List.Elements.{All-nil, All-cons, All-head, All-tail}
 use Rattle.std.proofs.lemmas.List.Kept.{AllPairs-cons, AllPairs-filter}
 use Rattle.std.proofs.lemmas.List.Quantifiers.{all_pairs_push}
-use Rattle.retrans.specs.Units.{Numbered, Rises, above, all_shown, octets_of, renumbered, shown, up_to}
-use Rattle.retrans.specs.declared.NumberedUnit.{NumberedUnit}
+use Rattle.retrans.specs.Units.{Numbered, Rises, Stored, above, all_shown, octets_of, renumbered, shown, up_to}
 
 -- the numbers behind the first one rise too, and are greater
 pub Rises-tail : (u : Numbered) (us : List Numbered) → Rises (u ∷ us) → Rises us
@@ -81,29 +80,29 @@ front_first number [] h = refl
 front_first number (u ∷ us) h = front_by number u us h (front_first number us (Rises-tail u us h)) (nat_le u.number number) refl
 
 -- one unit less: the first one is confirmed, or none is
-pub first_dropped : (number : ℕ) (us : List NumberedUnit) (u : NumberedUnit) → slice_get us 0 ≡ Some u → u.number ≤ number
+pub first_dropped : (number : ℕ) (us : List Stored) (u : Stored) → slice_get us 0 ≡ Some u → u.0 ≤ number
     → above number (all_shown (drop 1 us)) ≡ above number (all_shown us)
 first_dropped number [] u e le = absurd cc
 first_dropped number (v ∷ us) u e le =
     let same : v ≡ u = cc in
-    let below : v.number ≤ number = rw same le in
-    let not_above : nat_lt number v.number ≡ false = grind (arith, nat_tests) in
+    let below : v.0 ≤ number = rw same le in
+    let not_above : nat_lt number v.0 ≡ false = grind (arith, nat_tests) in
     rw not_above refl
 
-pub rest_rises : (us : List NumberedUnit) → Rises (all_shown us) → Rises (all_shown (drop 1 us))
+pub rest_rises : (us : List Stored) → Rises (all_shown us) → Rises (all_shown (drop 1 us))
 rest_rises [] h = h
 rest_rises (u ∷ us) h = Rises-tail (shown u) (all_shown us) h
 
-pub first_kept : (number : ℕ) (us : List NumberedUnit) (u : NumberedUnit) → slice_get us 0 ≡ Some u → number < u.number → Rises (all_shown us)
+pub first_kept : (number : ℕ) (us : List Stored) (u : Stored) → slice_get us 0 ≡ Some u → number < u.0 → Rises (all_shown us)
     → above number (all_shown us) ≡ all_shown us
 first_kept number [] u e lt h = refl
 first_kept number (v ∷ us) u e lt h =
     let same : v ≡ u = cc in
-    let greater : number < v.number = rw same lt in
+    let greater : number < v.0 = rw same lt in
     above-all number (shown v ∷ all_shown us) (all_greater number (shown v) (all_shown us) h greater)
 
 -- one number more is written
-pub one_renumbered : (place number : ℕ) (us : List NumberedUnit) (u w : NumberedUnit) → slice_get us place ≡ Some u → shown w ≡ record { number = number; octets = u.unit.items }
+pub one_renumbered : (place number : ℕ) (us : List Stored) (u w : Stored) → slice_get us place ≡ Some u → shown w ≡ record { number = number; octets = u.1.items }
     → take (suc place) (all_shown (slice_set us place w)) ++ renumbered (number + 1) (octets_of (drop (suc place) (all_shown (slice_set us place w))))
     ≡ take place (all_shown us) ++ renumbered number (octets_of (drop place (all_shown us)))
 one_renumbered place number [] u w e is = absurd cc
@@ -112,18 +111,18 @@ one_renumbered zero number (v ∷ us) u w e is =
     rw (is, same) refl
 one_renumbered (suc place) number (v ∷ us) u w e is = ap (λ vs. shown v ∷ vs) (one_renumbered place number us u w e is)
 
-pub none_left : (number : ℕ) (us : List NumberedUnit) → slice_get us 0 ≡ None → all_shown us ≡ above number (all_shown us)
+pub none_left : (number : ℕ) (us : List Stored) → slice_get us 0 ≡ None → all_shown us ≡ above number (all_shown us)
 none_left number [] e = refl
 none_left number (u ∷ us) e = absurd cc
 
 -- what a place past the end is read as
-abbrev pub no_unit : NumberedUnit
-no_unit = record { number = 0; unit = record { items = [] } }
+abbrev pub no_unit : Stored
+no_unit = (0, record { items = [] })
 
 -- whether there was room or not
-pub tried_rises : {U : Type 0} (r : Result U NumberedUnit) (old new : Buffer NumberedUnit) (u : NumberedUnit) (units : List Numbered) → all_shown old.items ≡ units
+pub tried_rises : {U : Type 0} (r : Result U Stored) (old new : Buffer Stored) (u : Stored) (units : List Numbered) → all_shown old.items ≡ units
     → OnOk r (new ≡ buffer (old.items ++ u ∷ []) old.capacity) → IfErr r (λ x. (x ≡ u) × (new ≡ old)) → Rises units
-    → All (λ (v : Numbered). v.number < u.number) units → Rises (all_shown new.items)
+    → All (λ (v : Numbered). v.number < u.0) units → Rises (all_shown new.items)
 tried_rises (Ok done) old new u units same ok err h below =
     rw (ok, map-append shown old.items (u ∷ []), same) (Rises-sent units (shown u) h below)
 tried_rises (Err back) old new u units same ok err h below = rw (err.1, same) h

@@ -2,7 +2,7 @@
 use Rattle.std.specs.Prelude.{ℕ, ◌+◌, ◌<◌, nat_lt, nat_le, List, [], ◌∷◌, map, filter, Option, Some, None}
 use Rattle.std.specs.List.{AllPairs}
 use Rattle.std.specs.Borrow.{Bor}
-use Rattle.retrans.specs.declared.NumberedUnit.{NumberedUnit}
+use Rattle.arrayvec.specs.ArrayVec.{ArrayVec}
 
 -- the octets of a unit, under the number of the PDU that carried it last
 pub record Numbered : Type 0 where
@@ -34,14 +34,18 @@ abbrev pub renumbered : ℕ → List (List ℕ) → List Numbered
 renumbered first [] = []
 renumbered first (octets ∷ units) = record { number = first; octets = octets } ∷ renumbered (first + 1) units
 
--- a unit without its storage
-abbrev pub shown : NumberedUnit → Numbered
-shown u = record { number = u.number; octets = u.unit.items }
+-- a unit as it is stored, behind its number
+abbrev pub Stored : Type 0
+Stored = ℕ × ArrayVec ℕ
 
-abbrev pub all_shown : List NumberedUnit → List Numbered
+-- and without its storage
+abbrev pub shown : Stored → Numbered
+shown u = record { number = u.0; octets = u.1.items }
+
+abbrev pub all_shown : List Stored → List Numbered
 all_shown units = map shown units
 
 -- an answer, without where it lies in memory
-abbrev pub seen_of : Option (Bor NumberedUnit) → Option Numbered
+abbrev pub seen_of : Option (Bor Stored) → Option Numbered
 seen_of None = None
 seen_of (Some u) = Some (shown u.now)

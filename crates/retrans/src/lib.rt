@@ -17,14 +17,8 @@ pub use unconfirmed::Unconfirmed;
 /// The octets of a unit, in storage of the longest one (1,206 octets).
 pub type Unit = ArrayVec<u8, UNIT_MAX>;
 
-/// A unit, with the number of the PDU that carried it last.
-#[derive(Drop)]
-pub struct NumberedUnit {
-    /// The number of the PDU, without wrap.
-    pub number: u64,
-    /// The octets of the unit.
-    pub unit: Unit,
-}
+/// A unit, behind the number of the PDU that carried it last, without wrap.
+pub type NumberedUnit = (u64, Unit);
 
 #[cfg(test)]
 mod tests;

@@ -1,6 +1,6 @@
 ghost use Rattle.std.specs.Prelude.{◌≡◌, ◌<◌, ◌≤◌, All};
 
-use crate::{NumberedUnit, Unconfirmed, Unit};
+use crate::{Unconfirmed, Unit};
 use linked_list_allocator::LocalHeap;
 use std::alloc::{AllocError, Allocator};
 use std::process::Abort;
@@ -24,12 +24,9 @@ fn stands_at<A: Allocator>(
     size: usize,
 ) -> bool {
     match kept.get(place) {
-        Some(
-            NumberedUnit {
-                number: found,
-                unit,
-            },
-        ) => { *found == number && unit.len() == size && unit.iter().all(|octet| *octet == value) }
+        Some((found, unit)) => {
+            *found == number && unit.len() == size && unit.iter().all(|octet| *octet == value)
+        }
         None => false,
     }
 }

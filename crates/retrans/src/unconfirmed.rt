@@ -65,9 +65,9 @@ impl<A: Allocator> Unconfirmed<A> {
         ensures full { OnErr result (self.new ≡ self.old) }
         ensures given_back { IfErr result (λ back. back ≡ unit) }
     {
-        match self.ring.try_push_back(NumberedUnit { number, unit }) {
+        match self.ring.try_push_back((number, unit)) {
             Ok(()) => Ok(()),
-            Err(refused) => Err(refused.unit),
+            Err((_, unit)) => Err(unit),
         }
     }
 
@@ -95,7 +95,7 @@ fn drop_confirmed<A: Allocator>(ring: &mut HeapCircularBuffer<NumberedUnit, A>, 
     ensures room { ring.new.capacity ≡ ring.old.capacity }
 {
     while let Some(first) = ring.front() {
-        if first.number > number {
+        if first.0 > number {
             return;
         }
         ring.pop_front();
@@ -121,7 +121,7 @@ fn set_number<A: Allocator>(
 )
     requires { place < length ring.old.items }
     ensures { IfSome (slice_get ring.old.items place) (λ u.
-        ring.new ≡ buffer (slice_set ring.old.items place (record { number = number; unit = u.unit })) ring.old.capacity) }
+        ring.new ≡ buffer (slice_set ring.old.items place (number, u.1)) ring.old.capacity) }
 {
-    ring.get_mut(place).unwrap().number = number;
+    ring.get_mut(place).unwrap().0 = number;
 }

@@ -23,9 +23,8 @@ ghost use Rattle.safe_machine.specs.View.{AllBelow, AllUnits, Does, Hands, Hands
 
 use super::decisions::Course;
 use super::endpoint::{Endpoint, opening_octets};
-use super::{ConnectionState, Detail, DropCause, PduOut, Reason, Step, UnitIn};
+use super::{ConnectionState, Detail, DropCause, PduOut, Reason, Step, Unit, UnitIn};
 use octets::limits::UNIT_MAX;
-use retrans::Unit;
 use safe_pdu::{Kind, SafeFault, SafePdu, decode, read_opening};
 use std::alloc::Allocator;
 
@@ -273,7 +272,7 @@ impl<A: Allocator> Endpoint<A> {
         requires { place < length self.now.ring }
         ensures { IfSome (slice_get self.now.ring place) (λ u. result.now ≡ u.octets) }
     {
-        self.ring.get(place).unwrap().unit.as_slice()
+        self.ring.get(place).unwrap().1.as_slice()
     }
 
     /// Makes the unit at a place again.

@@ -16,6 +16,9 @@ mod machine;
 pub use law::unit_law;
 pub use machine::{Machine, PduOut, UnitIn};
 
+/// The octets of a unit, in storage of the longest one (1,206 octets).
+pub type Unit = retrans::Unit;
+
 /// The states of a connection.
 #[derive(Clone, Copy, Debug, PartialEq, Eq)]
 pub enum ConnectionState {

@@ -18,9 +18,11 @@ ghost use Rattle.safe_machine.specs.declared.ConnectionState.TheVariants.{Up};
 ghost use Rattle.safe_machine.specs.View.{HandsOut, HandsUp, StandsFor, settings_of, texts};
 
 use super::endpoint::{Endpoint, begin};
-use super::{ConnectionState, Detail, MachineConfig, MachineFault, Reason, Role, SendFault, Step};
+use super::{
+    ConnectionState, Detail, MachineConfig, MachineFault, Reason, Role, SendFault, Step, Unit,
+};
 use octets::limits::WINDOW_MAX;
-use retrans::{Unconfirmed, Unit};
+use retrans::Unconfirmed;
 use std::alloc::{Allocator, Global};
 use std::marker::Model;
 

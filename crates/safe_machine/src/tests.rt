@@ -2,11 +2,10 @@ ghost use Rattle.std.specs.Prelude.{◌≡◌, ◌≤◌, ◌<◌, ◌+◌, ◌^
 
 use crate::{
     ConnectionState, Detail, DropCause, Machine, MachineConfig, MachineFault, PduOut, Reason, Role,
-    SendFault, Step, UnitIn,
+    SendFault, Step, Unit, UnitIn,
 };
 use arrayvec::ArrayVec;
 use linked_list_allocator::LocalHeap;
-use retrans::Unit;
 use safe_pdu::{CodeLength, CodeRule, SafeFault, decode};
 use std::alloc::Allocator;
 use std::test::Fail;
