@@ -13,9 +13,10 @@ use Rattle.safe_machine.specs.Step.{is_connected, beat, tests_passed, carry_out}
 use Rattle.safe_machine.proofs.Cases.{if_both}
 use Rattle.safe_machine.proofs.Runs.{requests, answers, count-at, every-at, no_requests, RequestAt}
 use Rattle.safe_machine.proofs.Invariant.{room, needs_peer, Told, Sound, Started, SoloOf, Solo, Half, Pair, Few}
-use Rattle.safe_machine.proofs.Moves.{room-le, pair-beat, pair-ask, pair-reply, started-from, resend-connection}
+use Rattle.safe_machine.proofs.Moves.{room-le, pair-beat, pair-ask, pair-reply, started-from}
 use Rattle.safe_machine.proofs.Passing.{half-take, half-resume, half-confirm, confirm-index}
 use Rattle.safe_machine.proofs.Table.{carries-unit, carries-none, in_turn-room}
+use Rattle.safe_machine.proofs.Resending.{resend-connection}
 
 -- what is known where a PDU of the peer comes in
 pub record Arrival (d : ℕ) (m : Made) (rest : List Made) (x y : State) : Type 0 where

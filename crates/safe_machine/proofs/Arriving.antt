@@ -3,6 +3,7 @@ use Rattle.std.proofs.Common.{◌≡◌, ℕ, ◌-◌, ◌<◌, List, [], ◌∷
 use Rattle.std.specs.Prelude.{if◌then◌else◌, nat_le, Some, None}
 use Rattle.std.specs.List.{FoldsTo}
 use Rattle.std.proofs.lemmas.Bool.{ltb-true, leb-true}
+use Rattle.std.proofs.Math.Seq.{drop-append_seam}
 use Rattle.safe_pdu.specs.declared.Kind.TheVariants.{DiscReq, RetrResp, RetrData, Heartbeat}
 use Rattle.safe_pdu.specs.Pdu.{Pdu}
 use Rattle.safe_pdu.specs.Bodies.{IsBody}
@@ -20,6 +21,7 @@ use Rattle.safe_machine.proofs.Cases.{if_both}
 use Rattle.safe_machine.proofs.OneMachine.{plain-guard}
 use Rattle.safe_machine.proofs.Deciding.{Fits, Tested}
 use Rattle.safe_machine.proofs.Views.{guard-is, left_by}
+use Rattle.safe_machine.proofs.Resending.{resend-taken}
 
 passes-from : (v : View) (s : State) (p : Pdu) (now : ℕ) → StandsFor v s → Tested s p now → Passes v p now
 passes-from v s p now h t =
@@ -42,10 +44,6 @@ allowed v s p now AnswersEarly h body down f =
     subst (λ (w : View). cs_ahead w p.cs < w.made - w.confirmed) (sym h) (ltb-true _ (length s.made - s.confirmed) f.cs)
 
 -- what is handed up
-resend-taken : (us : List (List ℕ)) (now : ℕ) (s : State) → (resend us now s).taken ≡ s.taken
-resend-taken [] now s = refl
-resend-taken (u ∷ us) now s = resend-taken us now (make RetrData u now s)
-
 same-taken : (s t : State) → t.taken ≡ s.taken → t.taken ≡ s.taken ++ []
 same-taken s t e = e ∙ sym (append-nil s.taken)
 
@@ -79,15 +77,11 @@ decided-taken p now AnswersEarly s =
     let e : t.taken ≡ s.taken = resend-taken (unconfirmed z) now (make RetrResp [] now z) in
     if_both (λ (u : State). u.taken ≡ s.taken ++ []) (in_turn s.connection) (ask now t) t (λ _. same-taken s (ask now t) e) (λ _. same-taken s t e)
 
-drop-front : (xs ys : List (List ℕ)) → drop (length xs) (xs ++ ys) ≡ ys
-drop-front [] ys = refl
-drop-front (x ∷ xs) ys = drop-front xs ys
-
 pub hands-up : {U : Type 0} (takes : U → List ℕ → U → Type 0) (a b : U) (p : Pdu) (now : ℕ) (d : Decision) (s : State) → decide s p now ≡ d → FoldsTo takes a (handed_by d p) b →
     HandsUp takes a s (receive p now s) b
 hands-up takes a b p now d s is h =
     let more : drop (length s.taken) (receive p now s).taken ≡ handed_by d p =
-    ap (λ e. drop (length s.taken) (carry_out p now e s).taken) is ∙ (ap (drop (length s.taken)) (decided-taken p now d s) ∙ drop-front s.taken (handed_by d p)) in
+    ap (λ e. drop (length s.taken) (carry_out p now e s).taken) is ∙ (ap (drop (length s.taken)) (decided-taken p now d s) ∙ drop-append_seam s.taken (handed_by d p)) in
     subst (λ us. FoldsTo takes a us b) (sym more) h
 
 -- the guard leaves, or it does nothing
@@ -101,5 +95,5 @@ arrive-goes p now m s h e = ap (receive p now) (guard-is now m s h ∙ ap (λ o.
 pub hands-nothing : {U : Type 0} (takes : U → List ℕ → U → Type 0) (a : U) (now : ℕ) (s : State) → HandsUp takes a s (guard now s) a
 hands-nothing takes a now s =
     let none : drop (length s.taken) (guard now s).taken ≡ [] =
-    ap (drop (length s.taken)) ((plain-guard now s).taken ∙ sym (append-nil s.taken)) ∙ drop-front s.taken [] in
+    ap (drop (length s.taken)) ((plain-guard now s).taken ∙ sym (append-nil s.taken)) ∙ drop-append_seam s.taken [] in
     subst (λ us. FoldsTo takes a us a) (sym none) refl

@@ -17,8 +17,10 @@ use Rattle.safe_machine.specs.Moves.{Move, moved, move, ReachedState, ReachedLaw
 use Rattle.safe_machine.proofs.Cases.{if_both}
 use Rattle.safe_machine.proofs.Runs.{units-append}
 use Rattle.safe_machine.proofs.OneMachine.{plain-reply}
-use Rattle.safe_machine.proofs.Ring.{octets_of-append, carried_at-append, above-append, carried_at-above, ring_of-units, ring-confirm, ring-resend}
+use Rattle.safe_machine.proofs.Ring.{octets_of-append, octets_of-length, carried_at-append, above-append, carried_at-above, ring_of-units, ring-confirm, ring-resend}
 use Rattle.safe_machine.proofs.Kept.{Kept, Anything, anything, kept-move, is_plain}
+use Rattle.safe_machine.proofs.Resending.{resend-confirmed}
+use Rattle.retrans.proofs.UnitLemmas.{octets-renumbered}
 
 -- Carriers of a list that grows. A RetrData at its front would be counted with a RetrResp before it.
 abbrev Begins : List Made → Type 0
@@ -267,18 +269,10 @@ unfolding datas
 carriers-datas [] now index s cs m h = ap (λ kind. after_carrier kind m.pdu.body index 0 cs) h
 carriers-datas (u ∷ us) now index s cs m h = carriers-datas us now (index + 1) (make RetrData u now s) cs m h
 
-length-octets_of : (cs : List Numbered) → length (octets_of cs) ≡ length cs
-length-octets_of [] = refl
-length-octets_of (c ∷ cs) = ap suc (length-octets_of cs)
-
-pub octets_of-renumbered : (index : ℕ) (us : List (List ℕ)) → octets_of (renumbered index us) ≡ us
-octets_of-renumbered index [] = refl
-octets_of-renumbered index (u ∷ us) = ap (λ xs. u ∷ xs) (octets_of-renumbered (index + 1) us)
-
 -- the last units, carried again
 again : (front ring : List Numbered) (us : List (List ℕ)) (index : ℕ) → octets_of ring ≡ us → carried_again (length us) index (front ++ ring) ≡ front ++ renumbered index us
 again front ring us index e =
-    let size : length us ≡ length ring = sym (ap length e) ∙ length-octets_of ring in
+    let size : length us ≡ length ring = sym (ap length e) ∙ octets_of-length ring in
     let at : length (front ++ ring) - length us ≡ length front = omega (arith, length-append front ring) in
     ap (λ (n : ℕ). take n (front ++ ring) ++ renumbered index (octets_of (drop n (front ++ ring)))) at
     ∙ (ap (λ cs. cs ++ renumbered index (octets_of (drop (length front) (front ++ ring)))) (take-append_seam front ring)
@@ -303,10 +297,6 @@ plain-new ConnResp h = cc
 plain-new RetrResp h = cc
 plain-new Data h = cc
 plain-new RetrData h = cc
-
-resend-confirmed : (us : List (List ℕ)) (now : ℕ) (s : State) → (resend us now s).confirmed ≡ s.confirmed
-resend-confirmed [] now s = refl
-resend-confirmed (u ∷ us) now s = resend-confirmed us now (make RetrData u now s)
 
 replied : (now : ℕ) (s : State) → Carriers s → Carriers (reply now s)
 replied now s h =
@@ -345,7 +335,7 @@ replied now s h =
       all =
           ap octets_of new
           ∙ (octets_of-append h.front (renumbered (length s.made + 1) us)
-          ∙ (ap (λ xs. octets_of h.front ++ xs) (octets_of-renumbered (length s.made + 1) us)
+          ∙ (ap (λ xs. octets_of h.front ++ xs) (octets-renumbered (length s.made + 1) us)
           ∙ (ended s h ∙ sym (plain-reply now s).sent)));
     }
 

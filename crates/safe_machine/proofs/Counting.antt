@@ -18,12 +18,12 @@ use Rattle.safe_machine.specs.Step.{is_live, is_connected, beat, tests_passed, c
 use Rattle.safe_machine.proofs.Cases.{if_both, leb-false, and-parts}
 use Rattle.safe_machine.proofs.Runs.{run_after-append}
 use Rattle.safe_machine.proofs.Invariant.{is_opening}
-use Rattle.safe_machine.proofs.Moves.{resend-connection}
 use Rattle.safe_machine.proofs.Deciding.{Fits, listens-live, decide-fits}
 use Rattle.safe_machine.specs.declared.Reason.{Reason}
 use Rattle.safe_machine.specs.declared.Reason.TheVariants.{Timeout, WrongVersion, ProtocolError}
 use Rattle.safe_machine.specs.declared.Detail.{Detail}
 use Rattle.safe_machine.specs.declared.Detail.TheVariants.{Unspecified, Limit}
+use Rattle.safe_machine.proofs.Resending.{resend-settings, resend-connection, resend-confirmed, resend-window}
 
 pub record BoundedOf (settings : Settings) (made : List Made) (confirmed : ℕ) (connection : ConnectionState) (window : ℕ) : Type 0 where
   pub small : settings.n_sendmax ≤ 32
@@ -135,18 +135,6 @@ bounded-leave reason detail now s b =
     (λ _. bounded-closed s b)
 
 -- what is resent
-pub resend-settings : (us : List (List ℕ)) (now : ℕ) (s : State) → (resend us now s).settings ≡ s.settings
-resend-settings [] now s = refl
-resend-settings (u ∷ us) now s = resend-settings us now (make RetrData u now s)
-
-resend-confirmed : (us : List (List ℕ)) (now : ℕ) (s : State) → (resend us now s).confirmed ≡ s.confirmed
-resend-confirmed [] now s = refl
-resend-confirmed (u ∷ us) now s = resend-confirmed us now (make RetrData u now s)
-
-resend-window : (us : List (List ℕ)) (now : ℕ) (s : State) → (resend us now s).window ≡ s.window
-resend-window [] now s = refl
-resend-window (u ∷ us) now s = resend-window us now (make RetrData u now s)
-
 resend-length : (us : List (List ℕ)) (now : ℕ) (s : State) → length (resend us now s).made ≡ length s.made + length us
 resend-length [] now s = omega arith
 resend-length (u ∷ us) now s = omega (arith, resend-length us now (make RetrData u now s), length-make RetrData u now s)

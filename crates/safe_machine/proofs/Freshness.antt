@@ -21,7 +21,7 @@ use Rattle.safe_machine.proofs.Cases.{if_both}
 use Rattle.safe_machine.proofs.Runs.{Every, every-weaken, every-drop_all, at-length}
 use Rattle.safe_machine.proofs.Invariant.{NotOpening, Solo, Half, Pair}
 use Rattle.safe_machine.proofs.Deciding.{Fits, listens-live, decide-fits}
-use Rattle.safe_machine.proofs.Counting.{Bounded, bounded-guard, resend-settings}
+use Rattle.safe_machine.proofs.Counting.{Bounded, bounded-guard}
 use Rattle.safe_machine.proofs.Receiving.{Incoming}
 use Rattle.safe_machine.proofs.Lone.{Lone, lone-leave, lone-guard, lone-tick, lone-send, pair-guard, arrive-by, among-dropped, down_or}
 use Rattle.safe_machine.proofs.Status.{Mute, Met, Status, Untouched, mute-leave, mute-guard, mute-tick, mute-send, mute-arrive, deaf-arrive, still-arrive}
@@ -31,12 +31,9 @@ use Rattle.safe_machine.proofs.Timing.{Makes, makes-then, makes-leave, makes-gua
 use Rattle.safe_machine.proofs.Worlds.{Inv, inv-event, inv-open_il, inv-open_fe, inv-start, nobody-among, mute-il, still-lone, on-lone}
 use Rattle.safe_machine.specs.declared.Reason.TheVariants.{Timeout, ProtocolError}
 use Rattle.safe_machine.specs.declared.Detail.TheVariants.{Unspecified, Limit}
+use Rattle.safe_machine.proofs.Resending.{resend-settings, resend-taken}
 
 -- what a decision hands up, and that settings stay
-resend-taken : (us : List (List ℕ)) (now : ℕ) (s : State) → (resend us now s).taken ≡ s.taken
-resend-taken [] now s = refl
-resend-taken (u ∷ us) now s = resend-taken us now (make RetrData u now s)
-
 carry-taken : (p : Pdu) (now : ℕ) (s : State) (e : Decision) → ((to : ConnectionState) × (e ≡ Takes to)) ⊎ ((carry_out p now e s).taken ≡ s.taken)
 carry-taken p now s Nothing = inr refl
 carry-taken p now s (Drops cause) = inr refl

@@ -12,13 +12,13 @@ use Rattle.safe_machine.specs.Decision.{Decision, decide, distance, in_turn, is_
 use Rattle.safe_machine.specs.Decision.Decision.{Nothing, Drops, Shuts, Leaves, Rejects, Accepts, Connects, Takes, Asks, Resumes, AnswersNext, AnswersEarly}
 use Rattle.safe_machine.specs.World.{joins}
 use Rattle.safe_machine.proofs.Cases.{if_both}
-use Rattle.safe_machine.proofs.Moves.{resend-connection}
 use Rattle.safe_machine.proofs.Deciding.{Fits, decide-fits}
 use Rattle.safe_machine.proofs.Lone.{arrive-by}
 use Rattle.safe_machine.specs.declared.Reason.{Reason}
 use Rattle.safe_machine.specs.declared.Reason.TheVariants.{Timeout, ProtocolError}
 use Rattle.safe_machine.specs.declared.Detail.{Detail}
 use Rattle.safe_machine.specs.declared.Detail.TheVariants.{Unspecified, Limit}
+use Rattle.safe_machine.proofs.Resending.{resend-connection}
 
 abbrev pub Quiet : ConnectionState → ConnectionState → Type 0
 Quiet a b = (joins a b ≡ false) × (b ≡ Down → a ≡ Down)

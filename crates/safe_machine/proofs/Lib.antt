@@ -1,4 +1,5 @@
 pub mod Cases
+pub mod Resending
 pub mod Legal
 pub mod Inner
 pub mod Numbers

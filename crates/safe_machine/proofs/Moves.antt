@@ -14,6 +14,7 @@ use Rattle.safe_machine.proofs.Invariant.{room, needs_peer, is_opening, Told, St
 use Rattle.safe_machine.proofs.Making.{make-sends, make-receives, make-solo}
 use Rattle.safe_machine.specs.declared.Reason.{Reason}
 use Rattle.safe_machine.specs.declared.Detail.{Detail}
+use Rattle.safe_machine.proofs.Resending.{resend-connection}
 
 pub room-le : (connection : ConnectionState) → room connection ≤ 1
 room-le Closed = omega arith
@@ -139,10 +140,6 @@ pair-ask now x y c none h =
     )
 
 -- the units that are resent
-pub resend-connection : (us : List (List ℕ)) (now : ℕ) (x : State) → (resend us now x).connection ≡ x.connection
-resend-connection [] now x = refl
-resend-connection (u ∷ us) now x = resend-connection us now (make RetrData u now x)
-
 pub pair-resend : (us : List (List ℕ)) (now : ℕ) (x y : State) → is_connected x.connection ≡ true → PairWith us x y → Pair (resend us now x) y
 pair-resend [] now x y c h = h
 pair-resend (u ∷ us) now x y c h =

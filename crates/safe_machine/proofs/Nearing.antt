@@ -18,10 +18,7 @@ use Rattle.safe_machine.proofs.Legal.{legal}
 use Rattle.safe_machine.proofs.Deciding.{Fits, decide-fits}
 use Rattle.safe_machine.proofs.Lone.{lone-guard, arrive-by}
 use Rattle.safe_machine.proofs.Reaching.{legal-reached}
-
-resend-expected : (us : List (List ℕ)) (now : ℕ) (s : State) → (resend us now s).expected ≡ s.expected
-resend-expected [] now s = refl
-resend-expected (u ∷ us) now s = resend-expected us now (make RetrData u now s)
+use Rattle.safe_machine.proofs.Resending.{resend-expected}
 
 leave-expected : (reason : Reason) (detail : Detail) (now : ℕ) (s : State) → (leave reason detail now s).expected ≡ s.expected
 leave-expected reason detail now s =

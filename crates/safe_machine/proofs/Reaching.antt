@@ -3,11 +3,11 @@ use Rattle.std.proofs.Common.{◌≡◌, ◌≢◌, ℕ, zero, suc, ◌+◌, ◌
 use Rattle.std.specs.Prelude.{if◌then◌else◌, ◌&&◌, ◌==◌, nat_le, nat_lt}
 use Rattle.std.specs.List.{list_all}
 use Rattle.std.proofs.lemmas.Bool.{leb-true, false≢true}
-use Rattle.std.proofs.lemmas.List.{length-drop}
+use Rattle.std.proofs.lemmas.List.{drop_all, length-drop}
 use Rattle.std.proofs.lemmas.List.Elements.{All-nil, All-cons, All-push, All-weaker}
 use Rattle.retrans.specs.Units.{Numbered, octets_of}
 use Rattle.safe_machine.specs.Ring.{after_at, carried_at, ring_of}
-use Rattle.safe_machine.proofs.Ring.{ring_of-units}
+use Rattle.safe_machine.proofs.Ring.{octets_of-length, ring_of-units}
 use Rattle.safe_pdu.specs.declared.Kind.{Kind}
 use Rattle.safe_pdu.specs.declared.Kind.TheVariants.{ConnReq, ConnResp, RetrReq, RetrResp, DiscReq, Heartbeat, Data, RetrData}
 use Rattle.safe_pdu.specs.Pdu.{Pdu}
@@ -29,15 +29,15 @@ use Rattle.safe_machine.specs.Moves.Move.{Guards, Hears, Ticks, Sends, Leaves as
 use Rattle.safe_machine.specs.State.{State, opened, fresh, make, move_to, pass, confirm_units, note_request, resend, reply, unconfirmed, hand_up, leave, says_goodbye, ask}
 use Rattle.safe_machine.proofs.Cases.{if_both, and-parts, leb-false}
 use Rattle.safe_machine.proofs.Invariant.{is_opening}
-use Rattle.safe_machine.proofs.Moves.{resend-connection}
 use Rattle.safe_machine.proofs.Deciding.{Fits, decide-fits}
 use Rattle.safe_machine.proofs.Lone.{arrive-by}
-use Rattle.safe_machine.proofs.Counting.{Bounded, resend-settings, bounded-guard, bounded-receive, bounded-heartbeat, bounded-send, bounded-leave}
+use Rattle.safe_machine.proofs.Counting.{Bounded, bounded-guard, bounded-receive, bounded-heartbeat, bounded-send, bounded-leave}
 use Rattle.safe_machine.proofs.Kept.{Kept, AllowsMove, Anything, anything, kept-move}
 use Rattle.safe_machine.proofs.Legal.{legal as lawful}
 use Rattle.safe_machine.proofs.Texts.{Texts, own-legal, kept-texts, texts-make, AllSized, sized-run, texts-drop}
 use Rattle.safe_machine.specs.Reached.{IsRead, AreRead, IsReached, Sound}
 use Rattle.safe_machine.specs.View.{View, StandsFor, Turns, AllUnits, AllBelow, has_room}
+use Rattle.safe_machine.proofs.Resending.{resend-settings, resend-connection}
 
 moved-snoc : (ms : List Move) (m : Move) (s : State) → moved (ms ++ m ∷ []) s ≡ move m (moved ms s)
 moved-snoc [] m s = refl
@@ -269,10 +269,6 @@ opened-legal settings first now legal =
     (λ _. legal) (λ _. legal)
 
 -- the ring of a state
-pub length-octets : (us : List Numbered) → length (octets_of us) ≡ length us
-length-octets [] = refl
-length-octets (u ∷ us) = ap (λ n. suc n) (length-octets us)
-
 units-of : (us : List Numbered) → AllSized (octets_of us) → AllUnits us
 units-of [] h = All-nil (λ (u : Numbered). IsBody RetrData u.octets)
 units-of (u ∷ us) h = All-cons (λ (u : Numbered). IsBody RetrData u.octets) u us h.0 (units-of us h.1)
@@ -297,12 +293,6 @@ below-carried : (n end : ℕ) (us : List Numbered) (ms : List Made) → n + leng
 below-carried n end us [] h k = below-more n end us (omega arith) k
 below-carried n end us (m ∷ ms) h k = below-carried (n + 1) end (after_at m.pdu.kind m.pdu.body n us) ms (omega arith) (below-after m.pdu.kind m.pdu.body n us k)
 
-drop-long : (n : ℕ) (ms : List Made) → length ms ≤ n → drop n ms ≡ []
-drop-long zero [] h = refl
-drop-long (suc n) [] h = refl
-drop-long zero (m ∷ ms) h = absurd (omega arith)
-drop-long (suc n) (m ∷ ms) h = drop-long n ms (omega arith)
-
 le_total : (a b : ℕ) → (a ≤ b) ⊎ (b ≤ a)
 le_total zero b = inl (omega arith)
 le_total (suc a) zero = inr (omega arith)
@@ -314,7 +304,7 @@ below-ring s =
     (λ (inside : s.confirmed + 1 ≤ length s.made).
     below-carried (s.confirmed + 1) (length s.made) [] (drop (s.confirmed + 1) s.made) (omega (arith, length-drop (s.confirmed + 1) s.made)) (All-nil (λ (u : Numbered). u.number < s.confirmed + 1)))
     (λ (past : length s.made ≤ s.confirmed + 1).
-    subst (AllBelow (length s.made)) (sym (ap (carried_at (s.confirmed + 1) []) (drop-long (s.confirmed + 1) s.made past))) (All-nil (λ (u : Numbered). u.number < length s.made)))
+    subst (AllBelow (length s.made)) (sym (ap (carried_at (s.confirmed + 1) []) (drop_all (s.confirmed + 1) s.made past))) (All-nil (λ (u : Numbered). u.number < length s.made)))
     (le_total (s.confirmed + 1) (length s.made))
 
 pub legal-reached : (v : View) (r : IsReached v) → is_legal (moved r.moves (opened r.settings r.first r.began)).settings ≡ true
@@ -338,18 +328,18 @@ reached-sound v r =
       few = omega (arith, h.bounded.few);
       window = h.bounded.window_small;
       room = refl;
-      short = omega (arith, ap length same, length-octets (ring_of t), h.bounded.in_window, h.bounded.window_small);
+      short = omega (arith, ap length same, octets_of-length (ring_of t), h.bounded.in_window, h.bounded.window_small);
       sized = units-of (ring_of t) (subst AllSized (sym same) sized);
       below = below-ring t;
       live = h.bounded.confirmed_made;
       since = omega (arith, h.since, ranges.mwa_most);
-      down = λ e. ap (carried_at (t.confirmed + 1) []) (drop-long (t.confirmed + 1) t.made (omega (arith, ap length (h.down e))));
+      down = λ e. ap (carried_at (t.confirmed + 1) []) (drop_all (t.confirmed + 1) t.made (omega (arith, ap length (h.down e))));
       opening = (own-legal t.settings legal).window;
     })
 
 -- how many units are unconfirmed
 pub units-count : (v : View) (s : State) → StandsFor v s → length v.ring ≡ length (unconfirmed s)
-units-count v s h = ap (λ (w : View). length w.ring) h ∙ (sym (length-octets (ring_of s)) ∙ ap length (ring_of-units s))
+units-count v s h = ap (λ (w : View). length w.ring) h ∙ (sym (octets_of-length (ring_of s)) ∙ ap length (ring_of-units s))
 
 -- no more units are unconfirmed than the peer's window has
 pub reached-window : (v : View) → IsReached v → length v.ring ≤ v.window
@@ -363,7 +353,7 @@ reached-window v r =
 pub room-is : (v : View) (s : State) → StandsFor v s → has_room v ≡ may_send s
 room-is v s h =
     ap has_room h
-    ∙ ap (λ (n : ℕ). in_turn s.connection && nat_lt n s.window) (sym (length-octets (ring_of s)) ∙ ap length (ring_of-units s))
+    ∙ ap (λ (n : ℕ). in_turn s.connection && nat_lt n s.window) (sym (octets_of-length (ring_of s)) ∙ ap length (ring_of-units s))
 
 pub send-sends : (unit : List ℕ) (now : ℕ) (v : View) (s : State) → StandsFor v s → has_room v ≡ true → send unit now s ≡ make Data unit now s
 send-sends unit now v s h e = ap (λ (b : Bool). if b then make Data unit now s else s) (sym (room-is v s h) ∙ e)

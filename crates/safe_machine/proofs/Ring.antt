@@ -10,10 +10,14 @@ use Rattle.safe_machine.specs.Made.{Made, after_pdu, run_after}
 use Rattle.safe_machine.specs.State.{State, next_made, make, resend, unconfirmed}
 use Rattle.retrans.specs.Units.{Numbered, above, renumbered, octets_of}
 use Rattle.safe_machine.specs.Ring.{after_at, carried_at, ring_of}
+use Rattle.std.proofs.lemmas.List.{map-append, length-map}
+use Rattle.std.proofs.lemmas.List.Elements.{filter-append}
 
 pub octets_of-append : (a b : List Numbered) → octets_of (a ++ b) ≡ octets_of a ++ octets_of b
-octets_of-append [] b = refl
-octets_of-append (c ∷ a) b = ap (λ us. c.octets ∷ us) (octets_of-append a b)
+octets_of-append = map-append (λ (c : Numbered). c.octets)
+
+pub octets_of-length : (cs : List Numbered) → length (octets_of cs) ≡ length cs
+octets_of-length cs = length-map cs (λ (c : Numbered). c.octets)
 
 after_at-units : (kind : Kind) (body : List ℕ) (index : ℕ) (run : List Numbered) → octets_of (after_at kind body index run) ≡ after_pdu kind body (octets_of run)
 after_at-units Data body index run = octets_of-append run (record { number = index; octets = body } ∷ [])
@@ -42,14 +46,8 @@ carried_at-append index run (m ∷ a) b =
     let same : index + 1 + length a ≡ index + length (m ∷ a) = omega arith in
     carried_at-append (index + 1) next a b ∙ ap (λ (n : ℕ). carried_at n (carried_at (index + 1) next a) b) same
 
-above-both : (index : ℕ) (c : Numbered) (a b : List Numbered) (t : Bool) → above index (a ++ b) ≡ above index a ++ above index b →
-    (if t then c ∷ above index (a ++ b) else above index (a ++ b)) ≡ (if t then c ∷ above index a else above index a) ++ above index b
-above-both index c a b true e = ap (λ cs. c ∷ cs) e
-above-both index c a b false e = e
-
 pub above-append : (index : ℕ) (a b : List Numbered) → above index (a ++ b) ≡ above index a ++ above index b
-above-append index [] b = refl
-above-append index (c ∷ a) b = above-both index c a b (nat_lt index c.number) (above-append index a b)
+above-append index = filter-append (λ (c : Numbered). nat_lt index c.number)
 
 pub above-one : (index p : ℕ) (unit : List ℕ) → index < p → above index (record { number = p; octets = unit } ∷ []) ≡ record { number = p; octets = unit } ∷ []
 above-one index p unit h = ap (λ (t : Bool). if t then record { number = p; octets = unit } ∷ [] else []) (lt-ltb index p h)

@@ -28,7 +28,7 @@ use Rattle.safe_machine.proofs.Cases.{if_both}
 use Rattle.safe_machine.proofs.Deciding.{Fits, decide-fits}
 use Rattle.safe_machine.proofs.Lone.{lone-guard, arrive-by}
 use Rattle.safe_machine.proofs.Ring.{ring_of-units, ring-resend}
-use Rattle.safe_machine.proofs.Carriers.{octets_of-renumbered}
+use Rattle.retrans.proofs.UnitLemmas.{octets-renumbered}
 use Rattle.safe_machine.proofs.Views.{plain-ring, ring-step, answer-ring}
 use Rattle.safe_machine.proofs.Reaching.{reached-sound}
 
@@ -82,7 +82,7 @@ ring-reply now y within =
     ap octets_of
     (plain-ring Heartbeat [] now r refl
     ∙ (ring-resend us now t (omega arith) ∙ ap (λ cs. cs ++ renumbered (length t.made) us) (answer-ring now y within)))
-    ∙ (octets_of-renumbered (length t.made) us ∙ sym (ring_of-units y))
+    ∙ (octets-renumbered (length t.made) us ∙ sym (ring_of-units y))
 
 -- a server that was just opened has no unit, and none when it has answered
 ring-none : (ms : List Made) (m : Made) → carried_at (length ms + 1) [] (drop (length ms + 1) (ms ++ m ∷ [])) ≡ []

@@ -352,10 +352,6 @@ answer-ring now s h =
     ap (carried_at (s.confirmed + 1) []) (drop-append-le (s.confirmed + 1) s.made (m ∷ []) (omega arith))
     ∙ carried_at-append (s.confirmed + 1) [] (drop (s.confirmed + 1) s.made) (m ∷ [])
 
-resend-confirmed : (us : List (List ℕ)) (now : ℕ) (s : State) → (resend us now s).confirmed ≡ s.confirmed
-resend-confirmed [] now s = refl
-resend-confirmed (u ∷ us) now s = resend-confirmed us now (make RetrData u now s)
-
 pub reply-does : {O : Type 0} (makes : O → List ℕ → O → Type 0) (now first : ℕ) (m a b c n : View) (o x y z : O) → m.confirmed < m.made → first ≡ a.made →
     a ≡ record m { made = m.made + 1; last_made = now; since = 0 } →
     ((ring : List Numbered) (s : State) → m ≡ beside ring s → a ≡ beside ring (make RetrResp [] now s)) →

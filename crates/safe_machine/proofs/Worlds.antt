@@ -21,7 +21,7 @@ use Rattle.safe_machine.proofs.Legal.{legal}
 use Rattle.safe_machine.proofs.Cases.{if_both}
 use Rattle.safe_machine.proofs.Runs.{requests, answers, count-drop_nil, Every, every-drop_all, no_requests, Numbered, at-length}
 use Rattle.safe_machine.proofs.Invariant.{NotOpening, Sound, Told, Started, Solo, Half, Pair}
-use Rattle.safe_machine.proofs.Moves.{pair-leave, resend-connection}
+use Rattle.safe_machine.proofs.Moves.{pair-leave}
 use Rattle.safe_machine.proofs.Receiving.{opening_window}
 use Rattle.safe_machine.proofs.Deciding.{Fits, listens, decide-fits}
 use Rattle.safe_machine.proofs.Counting.{Bounded, bounded-guard, bounded-leave, bounded-send}
@@ -32,6 +32,7 @@ use Rattle.safe_machine.proofs.Lost.{met-loses_nothing, mute-loses_nothing, take
 use Rattle.safe_machine.proofs.Status.Status.{met, il_later, fe_later}
 use Rattle.safe_machine.specs.declared.Reason.TheVariants.{WrongVersion}
 use Rattle.safe_machine.specs.declared.Detail.TheVariants.{Unspecified}
+use Rattle.safe_machine.proofs.Resending.{resend-connection}
 
 abbrev pub Idle : State → Option ℕ → Type 0
 Idle fe joined = fe.connection ≡ Down → Untouched fe × (joined ≡ None)

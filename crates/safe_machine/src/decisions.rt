@@ -12,6 +12,7 @@ ghost use Rattle.safe_machine.specs.View.{StandsFor};
 
 use super::endpoint::{Endpoint, low};
 use super::{ConnectionState, Detail, DropCause, Reason, Role};
+use octets::limits::REACH;
 use safe_pdu::{Kind, SafePdu, read_opening};
 use std::alloc::Allocator;
 
@@ -282,7 +283,7 @@ impl<A: Allocator> Endpoint<A> {
         ensures { (s : State) → StandsFor self.now s → meaning result ≡ by_table s (pdu_of pdu.now) now (distance s (pdu_of pdu.now)) }
     {
         let distance = self.distance(pdu);
-        if distance > 10 * u32::from(self.config.n_sendmax) {
+        if u64::from(distance) > REACH * u64::from(self.config.n_sendmax) {
             return Course::Drops(DropCause::Number);
         }
         let entry = entry_of(self.connection, distance == 0, pdu.kind);

@@ -2,7 +2,7 @@
 
 ghost use Rattle.std.specs.Prelude.{◌≡◌, ℕ, ◌+◌, ◌<◌, ◌≤◌, ◌^◌, ◌%◌, List, [], true, ◌&&◌, nat_le, nat_lt, length};
 ghost use Rattle.std.specs.List.{FoldsTo};
-ghost use Rattle.octets.specs.declared.limits.TheConstants.{WINDOW_MAX};
+ghost use Rattle.octets.specs.declared.limits.TheConstants.{WINDOW_MAX, T_MAX_LOWEST, T_MAX_HIGHEST, T_H_LOWEST, MWA_MAX, PDU_LIMIT_LOWEST, PDU_LIMIT_HIGHEST};
 ghost use Rattle.retrans.specs.Units.{Numbered};
 ghost use Rattle.safe_machine.specs.Settings.{are_two, in_range, is_coded, is_legal};
 ghost use Rattle.safe_machine.specs.declared.Role.TheVariants.{Client};
@@ -16,7 +16,10 @@ ghost use Rattle.safe_machine.specs.Step.{guard, heartbeat, is_connected, is_liv
 ghost use Rattle.safe_machine.specs.View.{Does, StandsFor, beat_due, beside, has_room, leaves_units, overdue, settings_of, texts};
 
 use super::{ConnectionState, Detail, MachineConfig, PduOut, Reason, Role};
-use octets::limits::SAFE_PDU_MAX;
+use octets::limits::{
+    MWA_MAX, PDU_LIMIT_HIGHEST, PDU_LIMIT_LOWEST, SAFE_PDU_MAX, T_H_LOWEST, T_MAX_HIGHEST,
+    T_MAX_LOWEST, WINDOW_MAX,
+};
 use octets::places::put_u16;
 use retrans::Unconfirmed;
 use safe_pdu::{CodeLength, CodeRule, Kind, SafePdu, encode};
@@ -385,21 +388,27 @@ impl MachineConfig {
     }
 
     fn has_window(&self) -> bool
-        ensures { result ≡ nat_le 1 self.now.n_sendmax && nat_le self.now.n_sendmax 32 }
+        ensures { result ≡ nat_le 1 self.now.n_sendmax && nat_le self.now.n_sendmax WINDOW_MAX }
     {
-        1 <= self.n_sendmax && self.n_sendmax <= 32
+        1 <= self.n_sendmax && usize::from(self.n_sendmax) <= WINDOW_MAX
     }
 
     fn has_times(&self) -> bool
-        ensures { result ≡ (nat_le 100 self.now.t_max && nat_le self.now.t_max 60000) && (nat_le 10 self.now.t_h && nat_lt self.now.t_h self.now.t_max) }
+        ensures { result ≡ (nat_le T_MAX_LOWEST self.now.t_max && nat_le self.now.t_max T_MAX_HIGHEST) && (nat_le T_H_LOWEST self.now.t_h && nat_lt self.now.t_h self.now.t_max) }
     {
-        100 <= self.t_max && self.t_max <= 60_000 && 10 <= self.t_h && self.t_h < self.t_max
+        T_MAX_LOWEST <= self.t_max
+            && self.t_max <= T_MAX_HIGHEST
+            && T_H_LOWEST <= self.t_h
+            && self.t_h < self.t_max
     }
 
     fn has_limits(&self) -> bool
-        ensures { result ≡ (nat_le 1 self.now.mwa && nat_le self.now.mwa 16) && (nat_le 100 self.now.pdu_limit && nat_le self.now.pdu_limit 4294901760) }
+        ensures { result ≡ (nat_le 1 self.now.mwa && nat_le self.now.mwa MWA_MAX) && (nat_le PDU_LIMIT_LOWEST self.now.pdu_limit && nat_le self.now.pdu_limit PDU_LIMIT_HIGHEST) }
     {
-        1 <= self.mwa && self.mwa <= 16 && 100 <= self.pdu_limit && self.pdu_limit <= 4_294_901_760
+        1 <= self.mwa
+            && self.mwa <= u64::from(MWA_MAX)
+            && PDU_LIMIT_LOWEST <= self.pdu_limit
+            && self.pdu_limit <= PDU_LIMIT_HIGHEST
     }
 }
 
