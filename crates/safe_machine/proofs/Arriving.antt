@@ -4,14 +4,14 @@ use Rattle.std.specs.Prelude.{if◌then◌else◌, nat_le, Some, None}
 use Rattle.std.specs.List.{FoldsTo}
 use Rattle.std.proofs.lemmas.Bool.{ltb-true, leb-true}
 use Rattle.std.proofs.Math.Seq.{drop-append_seam}
-use Rattle.safe_pdu.specs.declared.Kind.TheVariants.{DiscReq, RetrResp, RetrData, Heartbeat}
+use Rattle.safe_pdu.specs.declared.Kind.TheVariants.{DiscReq, RetrResp, Heartbeat}
 use Rattle.safe_pdu.specs.Pdu.{Pdu}
 use Rattle.safe_pdu.specs.Bodies.{IsBody}
 use Rattle.safe_machine.specs.declared.ConnectionState.TheVariants.{Down}
 use Rattle.safe_machine.specs.declared.Reason.{Reason}
 use Rattle.safe_machine.specs.declared.Detail.{Detail}
 use Rattle.safe_machine.specs.Made.{carries, leaving_body}
-use Rattle.safe_machine.specs.State.{State, make, move_to, pass, confirm_units, note_request, resend, reply, unconfirmed, hand_up, leave, says_goodbye, ask}
+use Rattle.safe_machine.specs.State.{State, make, move_to, pass, confirm_units, note_request, reply, unconfirmed, hand_up, leave, says_goodbye, ask}
 use Rattle.safe_machine.specs.Decision.{Decision, decide, in_turn, distance}
 use Rattle.safe_machine.specs.Decision.Decision.{Nothing, Drops, Shuts, Leaves, Rejects, Accepts, Connects, Takes, Asks, Resumes, AnswersNext, AnswersEarly}
 use Rattle.safe_machine.specs.Step.{carry_out, receive, arrive, guard, beat, tests_passed}

@@ -3,13 +3,13 @@ use Rattle.std.proofs.Common.{◌≡◌, ◌≢◌, ◌⊎◌, inl, inr, ℕ, su
 use Rattle.std.specs.Prelude.{if◌then◌else◌, nat_le}
 use Rattle.std.proofs.lemmas.Bool.{false≢true}
 use Rattle.safe_machine.specs.World.Side.{Il, Fe}
-use Rattle.safe_pdu.specs.declared.Kind.TheVariants.{ConnReq, RetrData, RetrResp, Heartbeat}
+use Rattle.safe_pdu.specs.declared.Kind.TheVariants.{ConnReq, RetrResp, Heartbeat}
 use Rattle.safe_machine.specs.declared.ConnectionState.{ConnectionState}
 use Rattle.safe_machine.specs.declared.ConnectionState.TheVariants.{Closed, Down, Start}
 use Rattle.safe_pdu.specs.Pdu.{Pdu}
 use Rattle.safe_machine.specs.Made.{Made, carries, opening_body}
 use Rattle.safe_machine.specs.Settings.{Settings, is_legal}
-use Rattle.safe_machine.specs.State.{State, unconfirmed, make, move_to, pass, confirm_units, hand_up, note_request, resend, reply, ask, leave, opened, fresh, next_made}
+use Rattle.safe_machine.specs.State.{State, unconfirmed, make, move_to, pass, confirm_units, hand_up, note_request, reply, ask, leave, opened, fresh, next_made}
 use Rattle.safe_machine.specs.Decision.{Decision, decide, distance, in_turn}
 use Rattle.safe_machine.specs.Decision.Decision.{Nothing, Drops, Shuts, Leaves, Rejects, Accepts, Connects, Takes, Asks, Resumes, AnswersNext, AnswersEarly}
 use Rattle.safe_machine.specs.Step.{is_live, guard, receive, arrive, carry_out, tick, send, tests_passed, beat}

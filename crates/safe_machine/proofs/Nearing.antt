@@ -1,12 +1,12 @@
 -- How far the index of the peer's next PDU moves.
-use Rattle.std.proofs.Common.{◌≡◌, ℕ, ◌+◌, ◌≤◌, List, [], ◌∷◌, refl, sym, ap, subst, ◌∙◌, arith}
-use Rattle.safe_pdu.specs.declared.Kind.TheVariants.{RetrResp, RetrData, Heartbeat, DiscReq}
+use Rattle.std.proofs.Common.{◌≡◌, ℕ, ◌+◌, ◌≤◌, [], refl, sym, ap, subst, ◌∙◌, arith}
+use Rattle.safe_pdu.specs.declared.Kind.TheVariants.{RetrResp, Heartbeat, DiscReq}
 use Rattle.safe_pdu.specs.Pdu.{Pdu}
 use Rattle.safe_machine.specs.declared.Reason.{Reason}
 use Rattle.safe_machine.specs.declared.Detail.{Detail}
 use Rattle.safe_machine.specs.Made.{carries, leaving_body}
 use Rattle.safe_machine.specs.Settings.{Settings}
-use Rattle.safe_machine.specs.State.{State, make, move_to, pass, confirm_units, note_request, resend, reply, unconfirmed, hand_up, leave, says_goodbye, ask, opened}
+use Rattle.safe_machine.specs.State.{State, make, move_to, pass, confirm_units, note_request, reply, unconfirmed, hand_up, leave, says_goodbye, ask, opened}
 use Rattle.safe_machine.specs.Decision.{Decision, decide, distance, in_turn}
 use Rattle.safe_machine.specs.Decision.Decision.{Nothing, Drops, Shuts, Leaves, Rejects, Accepts, Connects, Takes, Asks, Resumes, AnswersNext, AnswersEarly}
 use Rattle.safe_machine.specs.Step.{carry_out, arrive, guard, take_unit, beat, tests_passed}
@@ -19,6 +19,7 @@ use Rattle.safe_machine.proofs.Deciding.{Fits, decide-fits}
 use Rattle.safe_machine.proofs.Lone.{lone-guard, arrive-by}
 use Rattle.safe_machine.proofs.Reaching.{legal-reached}
 use Rattle.safe_machine.proofs.Resending.{resend-expected}
+use Rattle.safe_machine.specs.Properties.{index_step}
 
 leave-expected : (reason : Reason) (detail : Detail) (now : ℕ) (s : State) → (leave reason detail now s).expected ≡ s.expected
 leave-expected reason detail now s =
@@ -30,7 +31,7 @@ unit-expected p now s =
     if_both (λ (t : State). t.expected ≡ s.expected) (carries p.kind) (beat now u) s
     (λ _. if_both (λ (t : State). t.expected ≡ s.expected) _ (make Heartbeat [] now u) u (λ _. refl) (λ _. refl)) (λ _. refl)
 
-near-decided : (p : Pdu) (now : ℕ) (d : Decision) (s : State) → s.settings.n_sendmax ≤ 32 → Fits s p now d → (carry_out p now d s).expected ≤ s.expected + 321
+near-decided : (p : Pdu) (now : ℕ) (d : Decision) (s : State) → s.settings.n_sendmax ≤ 32 → Fits s p now d → (carry_out p now d s).expected ≤ s.expected + index_step
 near-decided p now Nothing s small f = omega arith
 near-decided p now (Drops cause) s small f = omega arith
 near-decided p now Shuts s small f = omega arith
@@ -48,18 +49,18 @@ near-decided p now AnswersEarly s small f =
     let y = note_request (distance s p) (confirm_units p s) in
     let t = reply now y in
     let still : t.expected ≡ s.expected = resend-expected (unconfirmed y) now (make RetrResp [] now y) in
-    if_both (λ (u : State). u.expected ≤ s.expected + 321) (in_turn s.connection) (ask now t) t (λ _. omega (arith, still)) (λ _. omega (arith, still))
+    if_both (λ (u : State). u.expected ≤ s.expected + index_step) (in_turn s.connection) (ask now t) t (λ _. omega (arith, still)) (λ _. omega (arith, still))
 
-near-arrive : (p : Pdu) (now : ℕ) (s : State) → s.settings.n_sendmax ≤ 32 → (arrive p now s).expected ≤ s.expected + 321
+near-arrive : (p : Pdu) (now : ℕ) (s : State) → s.settings.n_sendmax ≤ 32 → (arrive p now s).expected ≤ s.expected + index_step
 near-arrive p now s small =
     let g = guard now s in
     let l = lone-guard now s in
     let still : g.settings.n_sendmax ≤ 32 = subst (λ (k : Settings). k.n_sendmax ≤ 32) (sym l.settings) small in
-    arrive-by (λ (t : State). t.expected ≤ s.expected + 321) p now s (omega (arith, l.expected))
+    arrive-by (λ (t : State). t.expected ≤ s.expected + index_step) p now s (omega (arith, l.expected))
     (λ _ _. omega (arith, near-decided p now (decide g p now) g still (decide-fits g p now), l.expected))
 
--- one arrival moves it by 321 at most: ten times the greatest window, and one
-pub reached-near : (p : Pdu) (now : ℕ) (v w : View) → IsReached v → Turns (arrive p now) v w → w.expected ≤ v.expected + 321
+-- one arrival
+pub reached-near : (p : Pdu) (now : ℕ) (v w : View) → IsReached v → Turns (arrive p now) v w → w.expected ≤ v.expected + index_step
 reached-near p now v w r turns =
     let t = moved r.moves (opened r.settings r.first r.began) in
     let before : v.expected ≡ t.expected = ap (λ (x : View). x.expected) r.stands in

@@ -1,5 +1,6 @@
 -- What promises need of an arrival, beside its exact step.
-use Rattle.std.specs.Prelude.{ℕ, ◌+◌, ◌≡◌, ◌≢◌, ◌<◌, ◌⊎◌, true, List, [], None, Result, Ok, Err}
+use Rattle.octets.specs.declared.limits.TheConstants.{REACH, WINDOW_MAX}
+use Rattle.std.specs.Prelude.{ℕ, ◌+◌, ◌*◌, ◌≡◌, ◌≢◌, ◌<◌, ◌⊎◌, true, List, [], None, Result, Ok, Err}
 use Rattle.std.specs.List.{FoldsTo}
 use Rattle.retrans.specs.Units.{above, octets_of}
 use Rattle.safe_pdu.specs.declared.Kind.TheVariants.{Data}
@@ -8,6 +9,10 @@ use Rattle.safe_pdu.specs.Pdu.{Pdu}
 use Rattle.safe_machine.specs.declared.ConnectionState.TheVariants.{Up}
 use Rattle.safe_machine.specs.Course.{cs_ahead, cs_in, cts_in, cts_ahead, sn_ahead}
 use Rattle.safe_machine.specs.View.{View, overdue}
+
+-- how far the index of the peer's next PDU moves in one arrival at most: as far ahead as a number is judged, and one behind it
+abbrev pub index_step : ℕ
+index_step = REACH * WINDOW_MAX + 1
 
 -- the confirmed timestamp of what was read, as this end reads it, is less than its T_max old
 abbrev pub IsRecent : Result Pdu SafeFault → ℕ → View → Type 0

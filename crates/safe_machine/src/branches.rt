@@ -12,7 +12,7 @@ ghost use Rattle.safe_machine.specs.State.{State, ask, make, next_made, note_req
 ghost use Rattle.safe_machine.specs.Decision.{Decision, answer_of, decide};
 ghost use Rattle.safe_machine.specs.Moves.{IsUnitSized};
 ghost use Rattle.safe_machine.specs.Octets.{arrive_octets, heard_answer, octets_answer};
-ghost use Rattle.safe_machine.specs.Properties.{HandsIf, IsNextData, IsRecent, OnlyConfirms};
+ghost use Rattle.safe_machine.specs.Properties.{HandsIf, IsNextData, IsRecent, OnlyConfirms, index_step};
 ghost use Rattle.safe_machine.specs.Reached.{IsReached, Known, Sound};
 ghost use Rattle.safe_machine.specs.declared.ConnectionState.TheVariants.{Up};
 ghost use Rattle.safe_pdu.specs.Places.{safe_seen};
@@ -530,7 +530,7 @@ impl<A: Allocator> Endpoint<A> {
         ensures taken { (s : State) → StandsFor self.old s → HandsUp U.takes units.old s (arrive_octets octets.now now s) units.new }
         ensures answer { (s : State) → StandsFor self.old s → result ≡ octets_answer octets.now now s }
         ensures reached { IsReached self.new }
-        ensures near { self.new.expected ≤ self.old.expected + 321 }
+        ensures near { self.new.expected ≤ self.old.expected + index_step }
         ensures confirms { OnlyConfirms (safe_seen self.old.settings.rule octets.now) self.old self.new }
         ensures passes { (p : Pdu) → IsNextData (safe_seen self.old.settings.rule octets.now) p now self.old
             → FoldsTo U.takes units.old (p.body ∷ []) units.new × (self.new.connection ≡ Up) }

@@ -10,7 +10,7 @@ ghost use Rattle.safe_machine.specs.Decision.{answering, as_client, by_cell, by_
 ghost use Rattle.safe_machine.specs.Course.{cs_ahead, cs_in, cts_ahead, cts_in, for_unfit, meaning, says, sn_ahead};
 ghost use Rattle.safe_machine.specs.View.{StandsFor};
 
-use super::endpoint::{Endpoint, low};
+use super::endpoint::{Endpoint, VERSION, low};
 use super::{ConnectionState, Detail, DropCause, Reason, Role};
 use octets::limits::REACH;
 use safe_pdu::{Kind, SafePdu, read_opening};
@@ -136,8 +136,7 @@ fn is_ours(body: &[u8]) -> bool
     requires { IsBody Kind.ConnReq body.now }
     ensures { result ≡ is_ours body.now }
 {
-    let version = [0x30, 0x33, 0x30, 0x33];
-    read_opening(body).version == version.as_slice()
+    read_opening(body).version == VERSION.as_slice()
 }
 
 /// What a server that waits for a ConnReq decides.

@@ -26,6 +26,9 @@ use safe_pdu::{CodeLength, CodeRule, Kind, SafePdu, encode};
 use std::alloc::{Allocator, Global};
 use std::marker::Model;
 
+/// The version of this profile, 0303 in ASCII.
+pub(crate) const VERSION: [u8; 4] = [0x30, 0x33, 0x30, 0x33];
+
 /// The counters of one end, and the units that it holds for another sending.
 #[derive(Drop)]
 pub(crate) struct Endpoint<A: Allocator = Global> {
@@ -453,7 +456,8 @@ fn leaving_octets(reason: Reason, detail: Detail) -> [u8; 4]
 pub(crate) fn opening_octets(n_sendmax: u16) -> [u8; 14]
     ensures { result ≡ opening_body n_sendmax }
 {
-    let mut body = [0x30, 0x33, 0x30, 0x33, 0, 0, 0, 0, 0, 0, 0, 0, 0, 0];
+    let [a, b, c, d] = VERSION;
+    let mut body = [a, b, c, d, 0, 0, 0, 0, 0, 0, 0, 0, 0, 0];
     put_u16(&mut body, 4, n_sendmax);
     body
 }

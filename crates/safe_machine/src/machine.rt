@@ -12,7 +12,7 @@ ghost use Rattle.safe_machine.specs.Moves.{IsUnitSized};
 ghost use Rattle.safe_machine.specs.declared.SendFault.TheVariants.{NotUp, Window};
 ghost use Rattle.safe_machine.specs.declared.MachineFault.TheVariants.{BadConfig};
 ghost use Rattle.safe_pdu.specs.Places.{safe_seen};
-ghost use Rattle.safe_machine.specs.Properties.{HandsIf, IsNextData, IsRecent, OnlyConfirms};
+ghost use Rattle.safe_machine.specs.Properties.{HandsIf, IsNextData, IsRecent, OnlyConfirms, index_step};
 ghost use Rattle.safe_pdu.specs.Pdu.{Pdu};
 ghost use Rattle.safe_machine.specs.declared.ConnectionState.TheVariants.{Up};
 ghost use Rattle.safe_machine.specs.View.{HandsOut, HandsUp, StandsFor, settings_of, texts};
@@ -165,7 +165,7 @@ impl<A: Allocator> Machine<A> {
         requires reach { self.old.expected < 2 ^ 62 }
         requires ready { U.ready units.old }
         ensures stands { (s : State) → StandsFor self.old s → StandsFor self.new (arrive_octets octets.now now s) }
-        ensures near { self.new.expected ≤ self.old.expected + 321 }
+        ensures near { self.new.expected ≤ self.old.expected + index_step }
         ensures made { (s : State) → StandsFor self.old s → HandsOut O.makes out.old s (arrive_octets octets.now now s) out.new }
         ensures taken { (s : State) → StandsFor self.old s → HandsUp U.takes units.old s (arrive_octets octets.now now s) units.new }
         ensures answer { (s : State) → StandsFor self.old s → result ≡ octets_answer octets.now now s }
