@@ -71,10 +71,15 @@ pub const PDU_LIMIT_HIGHEST: u64 = 4_294_901_760;
 /// How many messages wait to be sent at most.
 pub const WAITING_MAX: usize = 64;
 
+/// How many channels an end may have at most.
+pub const CHANNELS_MAX: usize = 4;
+
 /// How many early parts a deferral queue may hold at most.
 pub const Q_MAX: usize = 8;
 
-/// The longest time for which an early part may wait, in milliseconds.
+/// The shortest and the longest time (T_seq) for which an early part may wait, in milliseconds.
+pub const T_SEQ_LOWEST: u64 = 10;
+/// See `T_SEQ_LOWEST`.
 pub const T_SEQ_MAX: u64 = 1_000;
 
 /// The longest safety PDU without its code: the header and a longest unit.

@@ -1,2 +1,3 @@
 pub mod PackLemmas
 pub mod UnitLemmas
+mod UnitSizes

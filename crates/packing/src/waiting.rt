@@ -1,6 +1,7 @@
 //! The messages that wait to be sent, and packing the first of them into a unit.
 
 ghost use Rattle.std.specs.Prelude.{◌≡◌, ◌==◌, ◌<◌, ◌≤◌, ◌↔◌, [], ◌∷◌, ◌++◌, length, take, drop, IsOk, IsNone, OnOk, OnErr, IfOk, IfSome, IsOkAnd};
+ghost use Rattle.octets.specs.declared.limits.TheConstants.{UNIT_MAX, UNIT_MIN};
 ghost use Rattle.packing.specs.UnitText.{AreMessages, IsMessage, UnitText, messages_of};
 
 use super::unit::{put_message, unpack};
@@ -99,6 +100,7 @@ pub fn pack<A: Allocator>(waiting: &mut Waiting<A>, max: usize) -> Option<Unit>
     requires some { 1 ≤ max }
     requires most { max ≤ UNIT_MESSAGES }
     ensures packed { IfSome result (λ unit. UnitText (take max waiting.old) unit.items) }
+    ensures sized { IfSome result (λ unit. (UNIT_MIN ≤ length unit.items) × (length unit.items ≤ UNIT_MAX)) }
     ensures none { IsNone result ↔ (waiting.old ≡ []) }
     ensures left { waiting.new ≡ drop max waiting.old }
 {

@@ -27,11 +27,11 @@ use Rattle.pdi_session.proofs.PhaseLemma.{Joint, begins_longer, none_begins}
 use Rattle.pdi_session.proofs.PhaseFails.{Fails, IlFailed, fe_fails, il_fails}
 
 -- a session that does nothing more
-record Quiet (role : Role) (phase : Phase) : Type 0 where
-  up : (next : Phase) × (at_up role phase ≡ Goes next)
-  judges : (form : Form) → table role phase form ≡ Ends detail.OutOfOrder
-  puts : may_put role phase ≡ false
-  done : is_initialising role phase ≡ false
+pub record Quiet (role : Role) (phase : Phase) : Type 0 where
+  pub up : (next : Phase) × (at_up role phase ≡ Goes next)
+  pub judges : (form : Form) → table role phase form ≡ Ends detail.OutOfOrder
+  pub puts : may_put role phase ≡ false
+  pub done : is_initialising role phase ≡ false
 
 quiet_phase : (versions checksum : List ℕ) (phase : Phase) → (phase ≡ Refused) ⊎ (phase ≡ Ended) → Quiet (Field versions checksum) phase
 quiet_phase versions checksum phase (inl is) =
@@ -39,7 +39,7 @@ quiet_phase versions checksum phase (inl is) =
 quiet_phase versions checksum phase (inr is) =
     subst (Quiet (Field versions checksum)) (sym is) (record { up = (Ended, refl); judges = λ form. refl; puts = refl; done = refl })
 
-quiet_adds : (e : Event) (s : SessionState) → Quiet s.role s.phase → added_by e s ≡ []
+pub quiet_adds : (e : Event) (s : SessionState) → Quiet s.role s.phase → added_by e s ≡ []
 quiet_adds Up s quiet = ap (sent_by s) quiet.up.1
 quiet_adds (Arrives t) s quiet =
     by_cond (λ v. sent_by s v ≡ []) (is_addressed s.addressing t) _ _ (λ _. ap (sent_by s) (quiet.judges (form_of t.kind t.payload))) (λ _. refl)
@@ -47,18 +47,18 @@ quiet_adds (Puts kind payload waits) s quiet = rw quiet.puts refl
 quiet_adds (InitDone waits) s quiet = rw quiet.done refl
 quiet_adds Closes s quiet = refl
 
-quiet_field : (versions checksum : List ℕ) (e : Event) (s : SessionState) → s.role ≡ Field versions checksum → (s.phase ≡ Refused) ⊎ (s.phase ≡ Ended) → added_by e s ≡ []
+pub quiet_field : (versions checksum : List ℕ) (e : Event) (s : SessionState) → s.role ≡ Field versions checksum → (s.phase ≡ Refused) ⊎ (s.phase ≡ Ended) → added_by e s ≡ []
 quiet_field versions checksum e s role phase =
     quiet_adds e s (subst (λ r. Quiet r s.phase) (sym role) (quiet_phase versions checksum s.phase phase))
 
 -- an answer of equal versions is no refusal
-not_both : (a b : ℕ) (s : SessionState) (checksum : List ℕ) (more : List Tele) → equal_from a s ∷ more ≡ differs_from b s ∷ [] → ⊥
+pub not_both : (a b : ℕ) (s : SessionState) (checksum : List ℕ) (more : List Tele) → equal_from a s ∷ more ≡ differs_from b s ∷ [] → ⊥
 not_both a b s checksum more e =
     let octet : 2 ≡ 1 = ap (λ l. get_or (get_or l 0 (equal_from a s)).payload 0 0) e in
     omega (arith, octet)
 
 -- a field element that has refused is in Refused, or over
-refused_phase : (s : SessionState) (phase : Phase) (queue js : List Tele) (version : ℕ) → FeAt s phase queue js → queue ≡ differs_from version s ∷ [] → (phase ≡ Refused) ⊎ (phase ≡ Ended)
+pub refused_phase : (s : SessionState) (phase : Phase) (queue js : List Tele) (version : ℕ) → FeAt s phase queue js → queue ≡ differs_from version s ∷ [] → (phase ≡ Refused) ⊎ (phase ≡ Ended)
 refused_phase s Idle queue js version at is = let e = ap length (sym at.0 ∙ is) in absurd (omega (arith, e))
 refused_phase s Checking queue js version at is = absurd at
 refused_phase s Requesting queue js version at is = absurd at
@@ -70,15 +70,15 @@ refused_phase s Established queue js version at is = let e = ap length (sym at.s
 refused_phase s Ended queue js version at is = inr refl
 
 -- what both keep
-record Both (version : ℕ) (versions checksum : List ℕ) (x y : History) : Type 0 where
-  joint : Joint version versions checksum x y
-  il_items : PutIsQueue x
-  fe_items : PutIsQueue y
-  il_taken : Taken x
-  fe_taken : Taken y
-  il_ended : (phase : Phase) → x.ended_in ≡ Some phase → IlFailed phase y
-  fe_ended : (phase : Phase) → y.ended_in ≡ Some phase → (is_early phase ≡ true) × (y.queue ≡ [])
-  fe_over : (phase : Phase) → y.ended_in ≡ Some phase → y.state.phase ≡ Ended
+pub record Both (version : ℕ) (versions checksum : List ℕ) (x y : History) : Type 0 where
+  pub joint : Joint version versions checksum x y
+  pub il_items : PutIsQueue x
+  pub fe_items : PutIsQueue y
+  pub il_taken : Taken x
+  pub fe_taken : Taken y
+  pub il_ended : (phase : Phase) → x.ended_in ≡ Some phase → IlFailed phase y
+  pub fe_ended : (phase : Phase) → y.ended_in ≡ Some phase → (is_early phase ≡ true) × (y.queue ≡ [])
+  pub fe_over : (phase : Phase) → y.ended_in ≡ Some phase → y.state.phase ≡ Ended
 
 -- what is handed over is a beginning still
 next_begins : (e : Event) (h peer : History) → IsNext e h peer → IsBeginning h.judged peer.queue → IsBeginning (h.judged ++ handed_by e) peer.queue
@@ -89,7 +89,7 @@ next_begins (InitDone waits) h peer next begins = subst (λ l. IsBeginning l pee
 next_begins Closes h peer next begins = subst (λ l. IsBeginning l peer.queue) (sym (append-nil h.judged)) begins
 
 -- what ends a session, by whether this event did
-ended_by : (P : Phase → Type 0) (e : Event) (h : History) → ((t : Tele) → e ≡ Arrives t → Fails h t → P h.state.phase) → ((phase : Phase) → h.ended_in ≡ Some phase → P phase)
+pub ended_by : (P : Phase → Type 0) (e : Event) (h : History) → ((t : Tele) → e ≡ Arrives t → Fails h t → P h.state.phase) → ((phase : Phase) → h.ended_in ≡ Some phase → P phase)
     → (phase : Phase) → (grown e h).ended_in ≡ Some phase → P phase
 ended_by P Up h new old phase is = old phase is
 ended_by P (Arrives t) h new old phase is =
@@ -105,7 +105,7 @@ ended_by P (Puts kind payload waits) h new old phase is = old phase is
 ended_by P (InitDone waits) h new old phase is = old phase is
 ended_by P Closes h new old phase is = old phase is
 
-il_event : (version : ℕ) (versions checksum : List ℕ) (e : Event) (x y : History) → IsNext e x y → Both version versions checksum x y → Both version versions checksum (grown e x) y
+pub il_event : (version : ℕ) (versions checksum : List ℕ) (e : Event) (x y : History) → IsNext e x y → Both version versions checksum x y → Both version versions checksum (grown e x) y
 il_event version versions checksum e x y next b =
     let j : Joint version versions checksum x y = b.joint in
     record {
@@ -131,19 +131,19 @@ il_event version versions checksum e x y next b =
       fe_over = b.fe_over;
     }
 
-sent_over : (s : SessionState) (verdict : Verdict) → is_none (end_of verdict) ≡ false → sent_by s verdict ≡ []
+pub sent_over : (s : SessionState) (verdict : Verdict) → is_none (end_of verdict) ≡ false → sent_by s verdict ≡ []
 sent_over s Takes over = refl
 sent_over s (Goes next) over = refl
 sent_over s (Answers next n) over = absurd (true≢false over)
 sent_over s (Ends why) over = refl
 
-phase_by_end : (phase : Phase) (verdict : Verdict) → is_none (end_of verdict) ≡ false → phase_by phase verdict ≡ Ended
+pub phase_by_end : (phase : Phase) (verdict : Verdict) → is_none (end_of verdict) ≡ false → phase_by phase verdict ≡ Ended
 phase_by_end phase Takes over = absurd (true≢false over)
 phase_by_end phase (Goes next) over = absurd (true≢false over)
 phase_by_end phase (Answers next n) over = absurd (true≢false over)
 phase_by_end phase (Ends why) over = refl
 
-fe_event : (version : ℕ) (versions checksum : List ℕ) (e : Event) (x y : History) → IsNext e y x → Both version versions checksum x y → Both version versions checksum x (grown e y)
+pub fe_event : (version : ℕ) (versions checksum : List ℕ) (e : Event) (x y : History) → IsNext e y x → Both version versions checksum x y → Both version versions checksum x (grown e y)
 fe_event version versions checksum e x y next b =
     let j : Joint version versions checksum x y = b.joint in
     record {
@@ -209,7 +209,7 @@ some_none : (phase : Phase) → ◌≡◌ {A = Option Phase} None (Some phase) �
 some_none phase e = cc
 
 -- two new sessions keep it
-both_joined : (il fe : Addressing) (version : ℕ) (versions checksum : List ℕ) → length checksum ≤ CHECKSUM_MAX
+pub both_joined : (il fe : Addressing) (version : ℕ) (versions checksum : List ℕ) → length checksum ≤ CHECKSUM_MAX
     → Both version versions checksum (joined il version fe versions checksum).il (joined il version fe versions checksum).fe
 both_joined il fe version versions checksum short =
     record {
@@ -224,7 +224,7 @@ both_joined il fe version versions checksum short =
     }
 
 -- and after all events
-both_after : (il fe : Addressing) (version : ℕ) (versions checksum : List ℕ) → length checksum ≤ CHECKSUM_MAX → (es : List JoinedEvent) → InTurn es (joined il version fe versions checksum)
+pub both_after : (il fe : Addressing) (version : ℕ) (versions checksum : List ℕ) → length checksum ≤ CHECKSUM_MAX → (es : List JoinedEvent) → InTurn es (joined il version fe versions checksum)
     → Both version versions checksum (happen es (joined il version fe versions checksum)).il (happen es (joined il version fe versions checksum)).fe
 both_after il fe version versions checksum short es turn =
     both_along version versions checksum es (joined il version fe versions checksum) turn (both_joined il fe version versions checksum short)

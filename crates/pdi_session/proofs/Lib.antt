@@ -11,4 +11,7 @@ pub mod Queues
 pub mod PhaseLemma
 pub mod PhaseFails
 pub mod JointSteps
+pub mod OwnEarly
+pub mod Matching
+pub mod InStep
 pub mod Sides

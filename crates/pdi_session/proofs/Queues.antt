@@ -17,16 +17,16 @@ use Rattle.pdi_session.proofs.Shapes.{FeAt, FePast, IlAt, IlPast, base, fe_past,
 use Rattle.pdi_session.proofs.IlSteps.{by_bool, il_may_put, il_step, put_open}
 use Rattle.pdi_session.proofs.FeSteps.{fe_step}
 
-was-append : (xs ys : List Phase) → was_established xs ≡ true → was_established (xs ++ ys) ≡ true
+pub was-append : (xs ys : List Phase) → was_established xs ≡ true → was_established (xs ++ ys) ≡ true
 was-append [] ys h = absurd (false≢true h)
 was-append (x ∷ xs) ys h =
     by_bool (λ b. cond b true (was_established xs) ≡ true → cond b true (was_established (xs ++ ys)) ≡ true) (is_established x) (λ _ _. refl) (λ _ rest. was-append xs ys rest) h
 
-was-last : (xs : List Phase) → was_established (xs ++ Established ∷ []) ≡ true
+pub was-last : (xs : List Phase) → was_established (xs ++ Established ∷ []) ≡ true
 was-last [] = refl
 was-last (x ∷ xs) = by_bool (λ b. cond b true (was_established (xs ++ Established ∷ [])) ≡ true) (is_established x) (λ _. refl) (λ _. was-last xs)
 
-established_is : (phase : Phase) → is_established phase ≡ true → phase ≡ Established
+pub established_is : (phase : Phase) → is_established phase ≡ true → phase ≡ Established
 established_is Idle is = absurd (false≢true is)
 established_is Checking is = absurd (false≢true is)
 established_is Requesting is = absurd (false≢true is)

@@ -1,12 +1,14 @@
 -- Two sessions, each of which is handed the other's telegrams in the order of their queue.
-use Rattle.std.specs.Prelude.{◌≡◌, ◌≤◌, ℕ, true, false, List, [], ◌∷◌, ◌++◌, length, Some, ⊤}
+use Rattle.std.specs.Prelude.{◌≡◌, ◌≢◌, ◌⊎◌, ◌==◌, ◌≤◌, ℕ, true, false, List, [], ◌∷◌, ◌++◌, length, Some, None, ⊤}
+use Rattle.std.specs.List.{list_any}
 use Rattle.pdi_session.specs.declared.TheConstants.{CHECKSUM_MAX}
 use Rattle.pdi_session.specs.declared.Phase.{Phase}
+use Rattle.pdi_session.specs.declared.Phase.TheVariants.{Idle, Initialising, Established}
 use Rattle.pdi_session.specs.Settings.{Addressing, Interlocking, Field}
 use Rattle.pdi_session.specs.Tables.{is_early}
 use Rattle.pdi_session.specs.SessionStep.{Event, Arrives}
 use Rattle.pdi_session.specs.Histories.{History, begun, grown, grown_along, is_ended}
-use Rattle.pdi_session.specs.Laws.{IsBeginning}
+use Rattle.pdi_session.specs.Laws.{IsBeginning, was_established}
 
 pub record Joined : Type 0 where
   pub il : History
@@ -66,3 +68,33 @@ abbrev pub OneMoreLaw : Type 0
 OneMoreLaw = ((es : List Event) (e : Event) (h : History) → grown_along (es ++ e ∷ []) h ≡ grown e (grown_along es h))
     × ((es : List JoinedEvent) (e : JoinedEvent) (j : Joined) → happen (es ++ e ∷ []) j ≡ happens e (happen es j))
     × ((es : List JoinedEvent) (e : JoinedEvent) (j : Joined) → InTurn es j → IsNextAt e (happen es j) → InTurn (es ++ e ∷ []) j)
+
+-- the settings of two sessions fit
+pub record Fits (il : Addressing) (version : ℕ) (fe : Addressing) (versions : List ℕ) : Type 0 where
+  pub protocol : il.protocol ≡ fe.protocol
+  pub own : il.own ≡ fe.peer
+  pub peer : il.peer ≡ fe.own
+  pub taken : list_any (λ v. v == version) versions ≡ true
+
+-- then no telegram ends either, but one that the field element is handed before its connection is up
+abbrev pub MatchingLaw : Type 0
+MatchingLaw = (il fe : Addressing) (version : ℕ) (versions checksum : List ℕ) → length checksum ≤ CHECKSUM_MAX → Fits il version fe versions → (es : List JoinedEvent)
+    → InTurn es (joined il version fe versions checksum) → let end = happen es (joined il version fe versions checksum) in
+    (end.il.ended_in ≡ None) × ((phase : Phase) → end.fe.ended_in ≡ Some phase → phase ≡ Idle)
+
+-- both initialise, or both are established once the field element was
+abbrev pub AreInStep : History → History → Type 0
+AreInStep il fe =
+    ((was_established fe.phases ≡ false) × (il.state.phase ≡ Initialising) × (fe.state.phase ≡ Initialising))
+    ⊎ ((was_established fe.phases ≡ true) × (il.state.phase ≡ Established) × (fe.state.phase ≡ Established))
+
+-- a session that has begun and is not over
+pub record IsRunning (h : History) : Type 0 where
+  pub begun : h.state.phase ≢ Idle
+  pub unended : is_ended h.state.phase ≡ false
+
+-- two that run, and have judged all of one another's queue, are in step
+abbrev pub InStepLaw : Type 0
+InStepLaw = (il fe : Addressing) (version : ℕ) (versions checksum : List ℕ) → length checksum ≤ CHECKSUM_MAX → (es : List JoinedEvent)
+    → InTurn es (joined il version fe versions checksum) → let end = happen es (joined il version fe versions checksum) in
+    IsRunning end.il → IsRunning end.fe → end.il.judged ≡ end.fe.queue → end.fe.judged ≡ end.il.queue → AreInStep end.il end.fe

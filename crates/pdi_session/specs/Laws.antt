@@ -1,5 +1,5 @@
 -- What the tables promise, row by row, and over every list of a session's events.
-use Rattle.std.specs.Prelude.{◌≡◌, ◌≢◌, ◌==◌, ◌⊎◌, ◌<◌, ◌≤◌, ◌^◌, ℕ, ◌+◌, Bool, true, false, if◌then◌else◌, List, [], ◌∷◌, ◌++◌, None, Ok, ⊤}
+use Rattle.std.specs.Prelude.{◌≡◌, ◌≢◌, ◌==◌, ◌⊎◌, ◌<◌, ◌≤◌, ◌^◌, ℕ, ◌+◌, Bool, true, false, if◌then◌else◌, List, [], ◌∷◌, ◌++◌, Some, None, Ok, ⊤}
 use Rattle.std.specs.List.{AllByRecursion}
 use Rattle.packing.specs.UnitText.{IsMessage}
 use Rattle.sci_telegram.specs.Places.{tele_seen}
@@ -11,6 +11,7 @@ use Rattle.pdi_session.specs.declared.Phase.TheVariants.{Established}
 use Rattle.pdi_session.specs.declared.Notice.TheVariants as notice
 use Rattle.pdi_session.specs.Settings.{Addressing, AreSettings, Role, Interlocking, Field}
 use Rattle.pdi_session.specs.Telegrams.{is_reserved, telegram}
+use Rattle.pdi_session.specs.Tables.{is_early}
 use Rattle.pdi_session.specs.SessionStep.{Event, Up, Arrives, Puts, InitDone, FewWait, HasRoom, Item, SessionState, added_by, after, end_of, item_of, judged, notice_tele, opened, put_refusal, taken_by, texts}
 use Rattle.pdi_session.specs.Histories.{History, StandsFor, begun, grown, grown_along, is_ended}
 
@@ -131,3 +132,8 @@ IsFieldQueue h =
 abbrev pub FieldLaw : Type 0
 FieldLaw = (addressing : Addressing) (versions checksum : List ℕ) (es : List Event)
     → IsFieldQueue (grown_along es (begun addressing (Field versions checksum)))
+
+-- a session that a telegram ends before Initialising has had nothing put in
+abbrev pub OwnEarlyLaw : Type 0
+OwnEarlyLaw = (addressing : Addressing) (role : Role) (es : List Event) → let h = grown_along es (begun addressing role) in
+    (phase : Phase) → h.ended_in ≡ Some phase → is_early phase ≡ true → h.put ≡ []

@@ -1,7 +1,7 @@
 //! What the tables promise of any session, and over every list of its events.
 
-ghost use Rattle.pdi_session.specs.JoinedSessions.{OneMoreLaw, PhaseLaw, TakesFrontLaw};
-ghost use Rattle.pdi_session.specs.Laws.{FieldLaw, GoesLaw, InterlockingLaw, MessageLaw, OwnLaw, PutLaw, QueueLaw, RoomLaw, StandsLaw, TakenLaw, TakesLaw};
+ghost use Rattle.pdi_session.specs.JoinedSessions.{InStepLaw, MatchingLaw, OneMoreLaw, PhaseLaw, TakesFrontLaw};
+ghost use Rattle.pdi_session.specs.Laws.{FieldLaw, GoesLaw, InterlockingLaw, MessageLaw, OwnEarlyLaw, OwnLaw, PutLaw, QueueLaw, RoomLaw, StandsLaw, TakenLaw, TakesLaw};
 
 /// The laws of the session's step, which do nothing when they are called.
 pub fn session_law()
@@ -43,6 +43,15 @@ pub fn session_law()
     // Of two sessions, each handed the other's queue in turn, a telegram ends one in its establishment
     // alone, and then its peer has put nothing in.
     ensures phases { PhaseLaw }
+
+    // Nothing was put in at a session that a telegram ends in its establishment.
+    ensures own_early { OwnEarlyLaw }
+
+    // Of two whose settings fit no telegram ends either, but one that comes before the connection is up.
+    ensures matching { MatchingLaw }
+
+    // Two that run, and have judged all of one another's queue, both initialise or are both established.
+    ensures in_step { InStepLaw }
 
     // And what each application takes is a beginning of what the other has put in.
     ensures fronts { TakesFrontLaw }

@@ -4,7 +4,7 @@
 //! The redundancy layer of DIN VDE V 0831-200:2015, in this project's profile.
 #![tactic(auto)]
 
-ghost use Rattle.std.specs.Prelude.{◌≡◌, ℕ, ◌+◌, ◌*◌, ◌^◌, ◌<◌, ◌≤◌, List, ◌∷◌, length, IfOk, IsSome, Ok, Err, MatchResult};
+ghost use Rattle.std.specs.Prelude.{◌≡◌, ℕ, ◌+◌, ◌*◌, ◌%◌, ◌^◌, ◌<◌, ◌≤◌, List, ◌∷◌, length, IfOk, IsSome, Ok, Err, MatchResult};
 ghost use Rattle.std.specs.List.{FoldsTo};
 ghost use Rattle.deferral.specs.FiniteMap.{Rises, take_out, part_under};
 ghost use Rattle.red_layer.specs.Parts.{map_parts, IsBelow};
@@ -307,17 +307,15 @@ fn take_number<A: Allocator>(waiting: &mut Deferral<Kept, A>, number: u64) -> Op
 /// The numbers of the PDUs that one incarnation sends, from 0 on. It takes no memory.
 #[derive(Drop)]
 pub struct Numbers {
-    taken: u64,
+    taken: u32,
 }
 
 impl Model for Numbers {
-    ghost use Rattle.std.specs.Prelude.{ℕ, ◌^◌, ◌≤◌};
+    ghost use Rattle.std.specs.Prelude.{ℕ};
 
     ghost Value = { ℕ };
 
     ghost view = { λ a. a.taken };
-
-    ghost invariant = { λ a. a.taken ≤ 2 ^ 32 };
 }
 
 impl Numbers {
@@ -328,14 +326,13 @@ impl Numbers {
         Numbers { taken: 0 }
     }
 
-    /// The next number. The caller takes fewer than 2^32 in one incarnation.
+    /// The next number; behind the last one of 32 bits comes 0.
     pub fn next(&mut self) -> u32
-        requires { self.old < 2 ^ 32 }
         ensures value { result ≡ self.old }
-        ensures left { self.new ≡ self.old + 1 }
+        ensures left { self.new ≡ (self.old + 1) % 2 ^ 32 }
     {
-        let number = self.taken as u32;
-        self.taken += 1;
+        let number = self.taken;
+        self.taken = number.wrapping_add(1);
         number
     }
 }

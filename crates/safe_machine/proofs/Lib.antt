@@ -27,6 +27,9 @@ pub mod Leaving
 pub mod OneMachine
 pub mod Kept
 pub mod MovesLaw
+pub mod Strangers
+pub mod Connections
+pub mod Identified
 pub mod Texts
 pub mod Carriers
 pub mod Rows
@@ -38,6 +41,8 @@ pub mod OrderArrivals
 pub mod OrderPairs
 pub mod OrderApart
 pub mod OrderLaw
+pub mod OrderNext
+pub mod OrderStays
 pub mod OrderRow
 pub mod Views
 pub mod Arriving

@@ -80,6 +80,16 @@ apart-fe n k il fe t fe_before dead_il l h =
 pub apart-silent : {P : Type 0} (n k now : ℕ) (p : Pdu) (il fe : State) (fe_before : List Served) (dead_il : ℕ) → Apart n k il fe fe_before dead_il → NextArrival il p now n fe.made → P
 apart-silent n k now p il fe fe_before dead_il h a = no_index n fe.made a.made a.later h.made a.at
 
+-- What comes to the field element in order is the ConnReq, which is dead: so it is closed.
+pub apart-deaf : (n k now : ℕ) (p : Pdu) (il fe : State) (fe_before : List Served) (dead_il : ℕ) → Apart n k il fe fe_before dead_il → GenuineAt fe p (drop dead_il il.made) →
+    NextArrival fe p now k il.made → fe.connection ≢ Closed → ⊥
+apart-deaf n k now p il fe fe_before dead_il h genuine a on =
+    let at_first : il.made ≡ a.made ∷ a.later = subst (λ (j : ℕ). drop j il.made ≡ a.made ∷ a.later) (h.heard on) a.at in
+    let opens : is_opening p.kind ≡ 1 = ap (λ (q : Pdu). is_opening q.kind) (sym a.is) ∙ h.first a.made a.later at_first in
+    let r = among-dropped p dead_il il.made (genuine on a.ours) in
+    let plain : is_opening p.kind ≡ 0 = ap (λ (q : Pdu). is_opening q.kind) (sym r.4) ∙ every-at NotOpening dead_il r.0 il.made r.1 r.2 (h.dead on) r.5 r.3 in
+    omega arith
+
 -- What comes to the field element in order is the ConnReq, which is dead, or the field element is closed.
 pub apart-arrive : (n k now : ℕ) (p : Pdu) (il fe : State) (fe_before : List Served) (dead_il : ℕ) → Apart n k il fe fe_before dead_il → fe_before ≢ [] → GenuineAt fe p (drop dead_il il.made) →
     NextArrival fe p now k il.made → Apart n (k + 1) il (arrive p now fe) fe_before dead_il
@@ -99,10 +109,5 @@ apart-arrive n k now p il fe fe_before dead_il h opened genuine a =
             opened = h.opened;
             dead = h.dead;
           })
-      | inr on ↦
-          let at_first : il.made ≡ a.made ∷ a.later = subst (λ (j : ℕ). drop j il.made ≡ a.made ∷ a.later) (h.heard on) a.at in
-          let opens : is_opening p.kind ≡ 1 = ap (λ (q : Pdu). is_opening q.kind) (sym a.is) ∙ h.first a.made a.later at_first in
-          let r = among-dropped p dead_il il.made (genuine on a.ours) in
-          let plain : is_opening p.kind ≡ 0 = ap (λ (q : Pdu). is_opening q.kind) (sym r.4) ∙ every-at NotOpening dead_il r.0 il.made r.1 r.2 (h.dead on) r.5 r.3 in
-          absurd (omega arith)
+      | inr on ↦ absurd (apart-deaf n k now p il fe fe_before dead_il h genuine a on)
     ]

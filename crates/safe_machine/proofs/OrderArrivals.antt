@@ -44,7 +44,7 @@ next-arrival client n k clock now m rest x y h =
     record { pair = h.pair; peer = h.peer; few = h.few; at = subst (λ (j : ℕ). drop j y.made ≡ m ∷ rest) same h.at }
 
 -- It passes the confirmation tests, and stands where its number says.
-next-tests : (client : Bool) (n k clock now : ℕ) (m : Made) (rest : List Made) (x y : State) → NextIn client n k clock now m rest x y → is_live x.connection ≡ true → needs_peer m.pdu.kind ≡ 1 →
+pub next-tests : (client : Bool) (n k clock now : ℕ) (m : Made) (rest : List Made) (x y : State) → NextIn client n k clock now m rest x y → is_live x.connection ≡ true → needs_peer m.pdu.kind ≡ 1 →
     (cs_fits x m.pdu ≡ true) × (cts_fits x m.pdu now ≡ true)
 next-tests client n k clock now m rest x y h live needs =
     let a = next-arrival client n k clock now m rest x y h in
@@ -54,7 +54,7 @@ next-tests client n k clock now m rest x y h live needs =
       next-cts clock now (x.expected + 0) m rest x y h.later (h.guarded live) h.timed c,
     )
 
-next-passes : (client : Bool) (n k clock now : ℕ) (m : Made) (rest : List Made) (x y : State) → NextIn client n k clock now m rest x y → is_live x.connection ≡ true → 1 ≤ n → needs_peer m.pdu.kind ≡ 1 →
+pub next-passes : (client : Bool) (n k clock now : ℕ) (m : Made) (rest : List Made) (x y : State) → NextIn client n k clock now m rest x y → is_live x.connection ≡ true → 1 ≤ n → needs_peer m.pdu.kind ≡ 1 →
     Passes x m.pdu now
 next-passes client n k clock now m rest x y h live one needs =
     let t = next-tests client n k clock now m rest x y h live needs in

@@ -27,11 +27,11 @@ use Rattle.safe_machine.proofs.OrderPairs.{Two, two-swap, two-later, two-send, t
 use Rattle.safe_machine.proofs.OrderApart.{Apart, apart-il, apart-fe, apart-silent, apart-arrive}
 
 -- The two have met, or they have not.
-data Standing (n k : ℕ) (il : State) (il_before : List State) (fe : State) (fe_before : List Served) (dead_il il_clock fe_clock : ℕ) : Type 0 where
+pub data Standing (n k : ℕ) (il : State) (il_before : List State) (fe : State) (fe_before : List Served) (dead_il il_clock fe_clock : ℕ) : Type 0 where
   joint : Two true n k il_clock fe_clock il fe → il_before ≢ [] → fe_before ≢ [] → Standing n k il il_before fe fe_before dead_il il_clock fe_clock
   apart : Apart n k il fe fe_before dead_il → Standing n k il il_before fe fe_before dead_il il_clock fe_clock
 
-abbrev StandsAt : (n k : ℕ) → World → (il_clock fe_clock : ℕ) → Type 0
+abbrev pub StandsAt : (n k : ℕ) → World → (il_clock fe_clock : ℕ) → Type 0
 StandsAt n k w il_clock fe_clock = Standing n k w.il w.il_before w.fe w.fe_before w.dead_il il_clock fe_clock
 
 -- a step of the interlocking or of the field element, where the two have met and where they have not
@@ -136,7 +136,7 @@ stands-open_fe n k settings first now w ci cf first_time (apart h) =
     })
 
 -- Every event keeps it.
-stands-event : (n k : ℕ) (w : World) (e : Event) (ci cf : ℕ) → TInv w ci cf → GenuineEvent w e → at_end (event_end e) ci cf ≤ event_time e → InOrderEvent n k w e → StandsAt n k w ci cf →
+pub stands-event : (n k : ℕ) (w : World) (e : Event) (ci cf : ℕ) → TInv w ci cf → GenuineEvent w e → at_end (event_end e) ci cf ≤ event_time e → InOrderEvent n k w e → StandsAt n k w ci cf →
     StandsAt (heard_by_il e n) (heard_by_fe e k) (changed w e) (at_end (event_end e) (event_time e) ci) (at_end (event_end e) cf (event_time e))
 stands-event n k w (Open Il settings first now) ci cf t g later o h =
     if_both (λ v. StandsAt n k v now cf) (is_legal settings) (open_il settings first now w) w
@@ -274,7 +274,7 @@ order-run (e ∷ es) n k w t g later o h =
     order-run es (heard_by_il e n) (heard_by_fe e k) (happens w e) (t-event w e w.clock_il w.clock_fe t g.0 later.0).0 g.1 later.1 o.1
     (stands-event n k w e w.clock_il w.clock_fe t g.0 later.0 o.0 h)
 
-stands-start : StandsAt 0 0 start 0 0
+pub stands-start : StandsAt 0 0 start 0 0
 stands-start =
     apart (record {
       mute = record { client = refl; connection = inr refl; taken = refl; quiet = tt };

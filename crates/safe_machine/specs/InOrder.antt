@@ -1,5 +1,5 @@
 -- Two machines to which the peer's PDUs come one by one in the order of their making.
-use Rattle.std.specs.Prelude.{ℕ, zero, suc, ◌+◌, ◌≡◌, ◌≢◌, ◌≤◌, false, List, [], ◌∷◌, length, drop, take}
+use Rattle.std.specs.Prelude.{ℕ, zero, suc, ◌+◌, ◌≡◌, ◌≢◌, ◌≤◌, Bool, true, false, if◌then◌else◌, List, [], ◌∷◌, length, drop, take}
 use Rattle.safe_pdu.specs.declared.Kind.TheVariants.{RetrReq}
 use Rattle.safe_pdu.specs.Pdu.{Pdu}
 use Rattle.safe_machine.specs.declared.ConnectionState.{ConnectionState}
@@ -10,7 +10,7 @@ use Rattle.safe_machine.specs.Decision.{is_stranger}
 use Rattle.safe_machine.specs.Step.{guard, may_send}
 use Rattle.safe_machine.specs.World.{World, Event, start, happens, run, Genuine, Timely}
 use Rattle.safe_machine.specs.World.Side.{Il, Fe}
-use Rattle.safe_machine.specs.World.Event.{Open, Guard, Tick, Arrive}
+use Rattle.safe_machine.specs.World.Event.{Open, Close, Guard, Tick, Arrive}
 
 -- no guard finds its time passed or its limit reached
 abbrev pub GuardHolds : State → ℕ → Type 0
@@ -104,3 +104,24 @@ abbrev pub OrderLaw : Type 0
 OrderLaw =
     (events : List Event) → Genuine events start → Timely events start → InOrder 0 0 events start →
     KeepsOrder (all_heard_by_il events 0) (all_heard_by_fe events 0) (run events start)
+
+-- an end is closed by its caller
+abbrev pub is_close : Event → Bool
+is_close (Close side reason detail now) = true
+is_close _ = false
+
+-- one of these events is such a closing
+abbrev pub has_close : List Event → Bool
+has_close [] = false
+has_close (e ∷ es) = if is_close e then true else has_close es
+
+-- an end that was opened is not closed
+pub record StaysOpen (w : World) : Type 0 where
+  pub il : w.il_before ≢ [] → w.il.connection ≢ Closed
+  pub fe : w.fe_before ≢ [] → w.fe.connection ≢ Closed
+
+-- where nobody is closed by its caller, nobody closes
+abbrev pub StaysLaw : Type 0
+StaysLaw =
+    (events : List Event) → Genuine events start → Timely events start → InOrder 0 0 events start → has_close events ≡ false →
+    StaysOpen (run events start)

@@ -6,12 +6,13 @@ use Rattle.safe_pdu.specs.SafeText.{SafeText, HasNumbers, safe_text}
 use Rattle.octets.specs.declared.limits.TheConstants.{UNIT_MIN, UNIT_MAX}
 use Rattle.safe_machine.specs.declared.Reason.{Reason}
 use Rattle.safe_machine.specs.declared.Detail.{Detail}
-use Rattle.safe_machine.specs.declared.ConnectionState.TheVariants.{Closed, Down, Start}
+use Rattle.safe_machine.specs.declared.ConnectionState.{ConnectionState}
+use Rattle.safe_machine.specs.declared.ConnectionState.TheVariants.{Closed, Down, Start, Up}
 use Rattle.safe_machine.specs.Made.{Made, units}
 use Rattle.safe_machine.specs.Settings.{Settings, is_legal}
 use Rattle.safe_machine.specs.State.{State, leave, opened, unconfirmed}
 use Rattle.safe_machine.specs.Decision.{is_stranger}
-use Rattle.safe_machine.specs.Step.{guard, arrive, tick, send, may_send}
+use Rattle.safe_machine.specs.Step.{guard, arrive, tick, send, may_send, is_connected}
 use Rattle.safe_machine.specs.Ring.{by_carriers}
 
 -- What may happen to a machine.
@@ -106,3 +107,42 @@ abbrev pub TextsLaw : Type 0
 TextsLaw =
     (settings : Settings) (first now : ℕ) (ms : List Move) → is_legal settings ≡ true → AreSoundMoves ms →
     HaveTexts (moved ms (opened settings first now)).made
+
+-- every move leaves the settings as they are
+abbrev pub SettingsLaw : Type 0
+SettingsLaw = (m : Move) (s : State) → (move m s).settings ≡ s.settings
+
+-- a PDU of a stranger does no more than the guard before it
+abbrev pub StrangersLaw : Type 0
+StrangersLaw = (p : Pdu) (now : ℕ) (s : State) → is_stranger s p ≡ true → move (Hears p now) s ≡ guard now s
+
+-- before the connection is up nothing is taken
+abbrev pub WaitsLaw : Type 0
+WaitsLaw = (m : Move) (s : State) → (s.connection ≡ Down) ⊎ (s.connection ≡ Start) → (move m s).taken ≡ s.taken
+
+-- each of these PDUs is from the end with these settings to its peer
+abbrev pub AreFrom : Settings → List Made → Type 0
+AreFrom settings [] = Unit {0}
+AreFrom settings (m ∷ ms) = ((m.pdu.receiver ≡ settings.peer) × (m.pdu.sender ≡ settings.own)) × AreFrom settings ms
+
+-- every PDU made bears the identifiers of its end
+abbrev pub IdentifiedLaw : Type 0
+IdentifiedLaw = (settings : Settings) (first now : ℕ) (ms : List Move) → AreFrom settings (moved ms (opened settings first now)).made
+
+-- a connection stays as it is or closes; it starts, comes up, and then is up, whether a retransmission runs or not
+abbrev pub GoesOn : (before after : ConnectionState) → Type 0
+GoesOn before after =
+    (after ≡ before)
+    ⊎ ((after ≡ Closed)
+    ⊎ (((before ≡ Down) × (after ≡ Start)) ⊎ (((before ≡ Start) × (after ≡ Up)) ⊎ ((is_connected before ≡ true) × (is_connected after ≡ true)))))
+
+-- the move is no arrival
+abbrev pub HearsNothing : Move → Type 0
+HearsNothing (Hears p now) = ⊥
+HearsNothing _ = Unit {0}
+
+-- and without an arrival it stays or closes
+abbrev pub ConnectionsLaw : Type 0
+ConnectionsLaw =
+    ((m : Move) (s : State) → GoesOn s.connection (move m s).connection)
+    × ((m : Move) (s : State) → HearsNothing m → ((move m s).connection ≡ s.connection) ⊎ ((move m s).connection ≡ Closed))

@@ -362,7 +362,7 @@ fn is_coded(length: CodeLength) -> bool
 
 impl MachineConfig {
     /// Whether an end may be opened with these settings.
-    pub(crate) fn is_legal(&self, role: Role) -> bool
+    pub fn is_legal(&self, role: Role) -> bool
         ensures { result ≡ is_legal (settings_of role self.now) }
     {
         if !self.in_range(role) {

@@ -1,8 +1,8 @@
 //! What two machines promise over every list of events.
 
-ghost use Rattle.safe_machine.specs.InOrder.{OrderLaw};
+ghost use Rattle.safe_machine.specs.InOrder.{OrderLaw, StaysLaw};
 ghost use Rattle.safe_machine.specs.Law.{FreshAtLastLaw, FreshLaw, JoinedLaw, LossLaw, UnitLaw};
-ghost use Rattle.safe_machine.specs.Moves.{MovesLaw, ReachedLaw, TextsLaw};
+ghost use Rattle.safe_machine.specs.Moves.{ConnectionsLaw, IdentifiedLaw, MovesLaw, ReachedLaw, SettingsLaw, StrangersLaw, TextsLaw, WaitsLaw};
 
 /// The laws of two machines, which do nothing when they are called: they hold of every genuine list of openings,
 /// sendings, closings, guards, ticks and arrivals of both ends, however often either is opened.
@@ -27,6 +27,18 @@ pub fn unit_law()
     // stays as it is.
     ensures moves { MovesLaw }
 
+    // Every move leaves the settings, a PDU of a stranger does no more than the guard before it, and before the
+    // connection is up nothing is taken.
+    ensures settings { SettingsLaw }
+    ensures strangers { StrangersLaw }
+    ensures waits { WaitsLaw }
+
+    // A connection stays as it is, closes, starts, comes up, or is up.
+    ensures connections { ConnectionsLaw }
+
+    // Every PDU made bears the identifiers of its end.
+    ensures identified { IdentifiedLaw }
+
     // In every state reached from an opening the unconfirmed units are those whose carrier lies behind the last PDU
     // confirmed, and the units sent end in them.
     ensures reached { ReachedLaw }
@@ -39,4 +51,7 @@ pub fn unit_law()
     // arrivals make and has taken exactly the units that came, and with all arrived both are up, have taken all, and
     // are kept from sending by a full window alone.
     ensures in_order { OrderLaw }
+
+    // And where moreover no caller closes an end, no end that was opened is closed.
+    ensures stays { StaysLaw }
 {}

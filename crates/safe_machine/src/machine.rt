@@ -15,13 +15,14 @@ ghost use Rattle.safe_pdu.specs.Places.{safe_seen};
 ghost use Rattle.safe_machine.specs.Properties.{HandsIf, IsNextData, IsRecent, OnlyConfirms, index_step};
 ghost use Rattle.safe_pdu.specs.Pdu.{Pdu};
 ghost use Rattle.safe_machine.specs.declared.ConnectionState.TheVariants.{Up};
+ghost use Rattle.safe_machine.specs.Reached.{Known};
 ghost use Rattle.safe_machine.specs.View.{HandsOut, HandsUp, StandsFor, settings_of, texts};
 
 use super::endpoint::{Endpoint, begin};
 use super::{
     ConnectionState, Detail, MachineConfig, MachineFault, Reason, Role, SendFault, Step, Unit,
 };
-use octets::limits::WINDOW_MAX;
+use octets::limits::{SAFE_PDU_MAX, WINDOW_MAX};
 use retrans::Unconfirmed;
 use std::alloc::{Allocator, Global};
 use std::marker::Model;
@@ -31,8 +32,9 @@ pub trait PduOut {
     /// What one call does to the value.
     ghost makes: { Self → List ℕ → Self → Type 0 };
 
-    /// Takes the octets of a PDU.
+    /// Takes the octets of a PDU, at most 1,250.
     fn made(&mut self, pdu: &[u8])
+        requires sized { length pdu.now ≤ SAFE_PDU_MAX }
         ensures { makes self.old pdu.now self.new };
 }
 
@@ -130,7 +132,9 @@ impl<A: Allocator> Machine<A> {
 
     /// The state of the connection.
     pub fn state(&self) -> ConnectionState
-        ensures { (s : State) → StandsFor self.now s → result ≡ s.connection }
+        ensures state { (s : State) → StandsFor self.now s → result ≡ s.connection }
+        // There is a state that it stands for.
+        ensures known { Known self.now }
     {
         self.end.connection
     }

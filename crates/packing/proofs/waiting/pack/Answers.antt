@@ -1,5 +1,6 @@
-use Rattle.std.proofs.Common.{◌≡◌, ◌<◌, ◌+◌, ◌-◌, ◌∙◌, ap, arith, length, rules}
+use Rattle.std.proofs.Common.{◌≡◌, ◌<◌, ◌+◌, ◌-◌, ◌∙◌, ap, arith, length, rules, take}
 use Rattle.packing.proofs.PackLemmas.{all_left, all_written, length-written, one_left, one_written}
+use Rattle.packing.proofs.UnitSizes.{unit-sized}
 use Rattle.packing.proofs.waiting.pack.Goals as goal
 
 pub take_first-message-requires : goal.take_first-message-requires
@@ -41,6 +42,12 @@ pub returns-clause-packed : goal.returns-clause-packed
 returns-clause-packed g c =
     all_written (c.min-count.result - c.loop-taken._taken) c.min-count.result c.args.max c.loop-taken.unit.items c.loop-taken.waiting c.args.waiting.now
     (omega arith) (search rules) c.if-count-eq0.false c.requires.most c.len.ensures.sized c.loop-taken.invariant.written
+
+pub returns-clause-sized : goal.returns-clause-sized
+returns-clause-sized g c =
+    unit-sized (take c.args.max c.args.waiting.now) c.loop-taken.unit.items
+    (all_written (c.min-count.result - c.loop-taken._taken) c.min-count.result c.args.max c.loop-taken.unit.items c.loop-taken.waiting c.args.waiting.now
+    (omega arith) (search rules) c.if-count-eq0.false c.requires.most c.len.ensures.sized c.loop-taken.invariant.written)
 
 pub returns-clause-left : goal.returns-clause-left
 returns-clause-left g c =

@@ -4,6 +4,9 @@ use Rattle.pdi_session.proofs.ItemLists.{queue_law, taken_law}
 use Rattle.pdi_session.proofs.Queues.{field_law, interlocking_law}
 use Rattle.pdi_session.proofs.JointSteps.{fronts_law, one_more_law, phase_law}
 use Rattle.pdi_session.proofs.RowLaws.{takes_law, goes_law, own_law, put_law, room_law}
+use Rattle.pdi_session.proofs.OwnEarly.{own_early_law}
+use Rattle.pdi_session.proofs.Matching.{matching_law}
+use Rattle.pdi_session.proofs.InStep.{in_step_law}
 use Rattle.pdi_session.proofs.law.session_law.Goals as goal
 
 pub returns-clause-stands : goal.returns-clause-stands
@@ -47,3 +50,12 @@ returns-clause-fronts c = fronts_law
 
 pub returns-clause-one_more : goal.returns-clause-one_more
 returns-clause-one_more c = one_more_law
+
+pub returns-clause-own_early : goal.returns-clause-own_early
+returns-clause-own_early c = own_early_law
+
+pub returns-clause-matching : goal.returns-clause-matching
+returns-clause-matching c = matching_law
+
+pub returns-clause-in_step : goal.returns-clause-in_step
+returns-clause-in_step c = in_step_law

@@ -1,7 +1,11 @@
 use Rattle.safe_machine.proofs.Freshness.{fresh_law_holds, fresh_at_last_law_holds}
 use Rattle.safe_machine.proofs.OrderLaw.{order_law_holds}
+use Rattle.safe_machine.proofs.OrderStays.{stays_law_holds}
 use Rattle.safe_machine.proofs.Opened.{unit_law_holds, loss_law_holds, joined_law_holds}
 use Rattle.safe_machine.proofs.MovesLaw.{moves_law_holds}
+use Rattle.safe_machine.proofs.Identified.{settings_law_holds, identified_law_holds}
+use Rattle.safe_machine.proofs.Strangers.{strangers_law_holds, waits_law_holds}
+use Rattle.safe_machine.proofs.Connections.{connections_law_holds}
 use Rattle.safe_machine.proofs.Carriers.{reached_law_holds}
 use Rattle.safe_machine.proofs.Texts.{texts_law_holds}
 use Rattle.safe_machine.proofs.law.unit_law.Goals as goal
@@ -14,7 +18,13 @@ returns c = record {
   fresh = fresh_law_holds;
   fresh_at_last = fresh_at_last_law_holds;
   moves = moves_law_holds;
+  settings = settings_law_holds;
+  strangers = strangers_law_holds;
+  waits = waits_law_holds;
+  connections = connections_law_holds;
+  identified = identified_law_holds;
   reached = reached_law_holds;
   texts = texts_law_holds;
   in_order = order_law_holds;
+  stays = stays_law_holds;
 }

@@ -1,0 +1,80 @@
+//! The channels of an end: what datagrams are sent on and come from, and what is told of an end's doings beside them.
+//!
+//! Channels are not trusted: they may lose, repeat, delay, reorder and damage datagrams (EN 50159).
+#![tactic(auto)]
+
+ghost use Rattle.std.specs.Prelude.{◌≡◌, ℕ, ◌≤◌, List, [], ◌∷◌, ◌++◌, length, Option, option_map, is_ok, if◌then◌else◌, IfOk, IfSome};
+ghost use Rattle.channels.specs.Sendings.{Sending};
+ghost use Rattle.channels.specs.Answers.{Answer, answered, counted};
+
+use pdi_session::Phase;
+use red_layer::RedEvent;
+use safe_machine::{ConnectionState, Step};
+
+/// Why a datagram was not sent, or nothing could be received.
+#[derive(Clone, Copy, Debug, PartialEq, Eq)]
+pub enum ChannelFault {
+    /// There is no room for it, or no such channel.
+    Room,
+    /// The operating system refused it.
+    System,
+}
+
+/// What is told of an end's doings, for traces and logs. No promise speaks of it.
+#[derive(Clone, Copy, Debug, PartialEq, Eq)]
+pub enum Note<'a> {
+    /// What the redundancy layer did with the datagram that came, and its number, where it is a redundancy PDU.
+    Redundancy(Option<u32>, RedEvent),
+    /// What the safety machine did with the part of this redundancy number.
+    Step(u32, Step),
+    /// The application took a telegram: kind and payload.
+    Take(u16, &'a [u8]),
+    /// The connection came to this state.
+    State(ConnectionState),
+    /// The session came to this phase.
+    Phase(Phase),
+}
+
+/// The channels of an end, numbered from 1. What is sent goes out or fails; what comes is asked for and not waited for.
+///
+/// An implementation that keeps its datagrams tells their lists; one over sockets tells none. Both count what failed,
+/// modulo 2^64, and answer a fault exactly where the count went on.
+pub trait Channels {
+    /// The datagrams sent, in order, where this is told.
+    ghost sent: { Self → Option (List Sending) };
+
+    /// What `receive` answered, in order, where this is told: a datagram, or nothing.
+    ghost answers: { Self → Option (List Answer) };
+
+    /// How many sendings failed, modulo 2^64.
+    ghost failed_sends: { Self → ℕ };
+
+    /// How many receptions failed, modulo 2^64.
+    ghost failed_receives: { Self → ℕ };
+
+    /// Sends a datagram of at most 1,258 octets on a channel. A fault says that it did not go out; nothing else has changed.
+    fn send(&mut self, channel: usize, datagram: &[u8]) -> Result<(), ChannelFault>
+        ensures sent { sent self.new ≡ option_map (λ xs. xs ++ (if is_ok result then (channel, datagram.now) ∷ [] else [])) (sent self.old) }
+        ensures failed { failed_sends self.new ≡ counted (is_ok result) (failed_sends self.old) }
+        ensures answers { answers self.new ≡ answers self.old }
+        ensures failed_receives { failed_receives self.new ≡ failed_receives self.old };
+
+    /// Writes the next datagram that came in front of the buffer, cut to its length, and answers its channel and its size in
+    /// octets; `None` where nothing has come. It never waits.
+    fn receive(&mut self, buffer: &mut [u8]) -> Result<Option<(usize, usize)>, ChannelFault>
+        ensures fits { IfOk result (λ came. IfSome came (λ p. p.1 ≤ length buffer.new)) }
+        ensures answers { answers self.new ≡ option_map (λ xs. xs ++ answered result buffer.new) (answers self.old) }
+        ensures failed_receives { failed_receives self.new ≡ counted (is_ok result) (failed_receives self.old) }
+        ensures sent { sent self.new ≡ sent self.old }
+        ensures failed { failed_sends self.new ≡ failed_sends self.old };
+
+    /// Hears what the end does. The given body does nothing.
+    fn note(&mut self, note: &Note<'_>)
+        ensures sent { sent self.new ≡ sent self.old }
+        ensures failed { failed_sends self.new ≡ failed_sends self.old }
+        ensures answers { answers self.new ≡ answers self.old }
+        ensures failed_receives { failed_receives self.new ≡ failed_receives self.old }
+    {
+        let _note = note;
+    }
+}

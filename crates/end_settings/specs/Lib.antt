@@ -1,0 +1,3 @@
+pub mod EndSettings
+pub mod Lists
+pub mod Configured
