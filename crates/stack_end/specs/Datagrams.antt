@@ -1,0 +1,30 @@
+-- The datagrams that an end sends: each PDU made, under its index, on every channel in order.
+use Rattle.std.specs.Prelude.{ℕ, zero, suc, ◌+◌, List, [], ◌∷◌, ◌++◌, drop, length}
+use Rattle.red_pdu.specs.RedText.{red_text}
+use Rattle.safe_pdu.specs.declared.CodeRule.{CodeRule}
+use Rattle.safe_pdu.specs.SafeText.{safe_text}
+use Rattle.safe_machine.specs.Made.{Made}
+use Rattle.channels.specs.Sendings.{Sending}
+use Rattle.end_settings.specs.EndSettings.{EndSettings, rule_of}
+use Rattle.stack_end.specs.Ends.{EndState}
+
+abbrev pub on_channels : ℕ → List ℕ → List Sending
+on_channels zero octets = []
+on_channels (suc n) octets = on_channels n octets ++ (suc n, octets) ∷ []
+
+-- the octets of a PDU, as the upper part of its datagram
+abbrev pub upper_of : CodeRule → Made → List ℕ
+upper_of rule m = safe_text rule m.pdu
+
+-- PDUs, the first of which has this index
+abbrev pub sendings : EndSettings → ℕ → List Made → List Sending
+sendings s index [] = []
+sendings s index (m ∷ ms) = on_channels s.channels (red_text index (upper_of (rule_of s) m)) ++ sendings s (index + 1) ms
+
+-- what goes out while an end comes from one state to another
+abbrev pub sent_between : EndState → EndState → List Sending
+sent_between before after = sendings before.settings (length before.machine.made) (drop (length before.machine.made) after.machine.made)
+
+-- what goes out when it is opened
+abbrev pub sent_at_opening : EndState → List Sending
+sent_at_opening x = sendings x.settings 0 x.machine.made

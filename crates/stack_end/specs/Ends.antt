@@ -1,0 +1,168 @@
+-- One end: its layers, and what each of its calls does.
+use Rattle.std.specs.Prelude.{ℕ, zero, suc, Bool, true, false, Option, Some, None, List, [], ◌∷◌, ◌++◌, take, drop, length, if◌then◌else◌}
+use Rattle.packing.specs.UnitText.{unit_text}
+use Rattle.red_layer.specs.Parts.{Part, is_nil}
+use Rattle.red_layer.specs.Redundancy.{Receiver, Input, Datagram, Tick as RedTick, passed_by, after, opened as red_opened}
+use Rattle.safe_machine.specs.declared.ConnectionState.{ConnectionState}
+use Rattle.safe_machine.specs.declared.ConnectionState.TheVariants.{Start, Up}
+use Rattle.safe_machine.specs.declared.Reason.TheVariants.{ClosedByUser}
+use Rattle.safe_machine.specs.declared.Detail.TheVariants.{Unspecified}
+use Rattle.safe_machine.specs.State.{State, leave, opened}
+use Rattle.safe_machine.specs.Decision.{is_closed}
+use Rattle.safe_machine.specs.Step.{send, may_send}
+use Rattle.safe_machine.specs.Moves.{Move, move}
+use Rattle.safe_machine.specs.Moves.Move.{Guards, Ticks, Leaves}
+use Rattle.safe_machine.specs.Octets.{arrive_octets}
+use Rattle.safe_machine.specs.World.{Side, joins}
+use Rattle.pdi_session.specs.SessionStep.{Up as GoesUp, Puts, InitDone as Completes, Closes}
+use Rattle.end_settings.specs.EndSettings.{EndSettings, connection_of, session_of}
+use Rattle.stack_end.specs.Dialogue.{Dialogue, new_dialogue, meets, Leaving, judge_units}
+
+pub record EndState : Type 0 where
+  pub settings : EndSettings
+  pub red : Receiver  -- the receiving half of the redundancy layer, and all that came to it
+  pub inputs : List Input
+  pub machine : State
+  pub session : Dialogue
+  pub request : Option (List ℕ)  -- the octets of the ConnReq that it took in Down
+  pub time : ℕ  -- of the last accepted call
+
+-- an end as it is opened
+abbrev pub new_end : Side → EndSettings → (first now : ℕ) → EndState
+new_end side settings first now =
+    record {
+      settings = settings;
+      red = red_opened settings.q settings.t_seq;
+      inputs = [];
+      machine = opened (connection_of side settings) first now;
+      session = new_dialogue settings.addressing (session_of side settings);
+      request = None;
+      time = now;
+    }
+
+abbrev pub is_shut : EndState → Bool
+is_shut x = is_closed x.machine.connection
+
+-- the machine, the session in a new state
+abbrev pub with_machine : State → EndState → EndState
+with_machine s x = record x { machine = s }
+
+abbrev pub with_session : Dialogue → EndState → EndState
+with_session d x = record x { session = d }
+
+-- where the machine is closed the session ends
+abbrev pub settle : EndState → EndState
+settle x = if is_shut x then with_session (meets Closes x.session) x else x
+
+-- the machine alone
+abbrev pub moved : Move → EndState → EndState
+moved m x = settle (with_machine (move m x.machine) x)
+
+-- the octets of a ConnReq that is taken are noted
+abbrev pub noted : Bool → List ℕ → Option (List ℕ) → Option (List ℕ)
+noted true octets before = Some octets
+noted false octets before = before
+
+-- the connection is up from this step on, and so is the session
+abbrev pub comes_up : ConnectionState → ConnectionState → Bool
+comes_up Start Up = true
+comes_up _ _ = false
+
+abbrev pub rises : Bool → Dialogue → Dialogue
+rises true d = meets GoesUp d
+rises false d = d
+
+-- what a step of the machine to this state handed up
+abbrev pub handed_up : EndState → State → List (List ℕ)
+handed_up x s = drop (length x.machine.taken) s.taken
+
+-- a step of the machine to this state on octets: the session judges what was handed up, and rises with the connection
+abbrev pub answered : List ℕ → EndState → State → EndState
+answered octets x s =
+    record {
+      settings = x.settings;
+      red = x.red;
+      inputs = x.inputs;
+      machine = s;
+      session = rises (comes_up x.machine.connection s.connection) (judge_units (handed_up x s) x.session).left;
+      request = noted (joins x.machine.connection s.connection) octets x.request;
+      time = x.time;
+    }
+
+-- the end leaves where the unit or the session asks for it
+abbrev pub leaves : ℕ → Option Leaving → EndState → EndState
+leaves now None x = x
+leaves now (Some why) x = with_machine (leave why.0 why.1 now x.machine) x
+
+-- a part that goes up: machine and session, and leaving where it is asked for
+abbrev pub heard : ℕ → List ℕ → EndState → EndState
+heard now octets x =
+    let s = arrive_octets octets now x.machine in
+    leaves now (judge_units (handed_up x s) x.session).leaving (answered octets x s)
+
+abbrev pub part : ℕ → List ℕ → EndState → EndState
+part now octets x = settle (heard now octets x)
+
+-- the parts that go up, in order
+abbrev pub parts : ℕ → List Part → EndState → EndState
+parts now [] x = x
+parts now (p ∷ ps) x = parts now ps (part now p.1 x)
+
+-- what comes to the redundancy layer
+abbrev pub with_input : Input → EndState → EndState
+with_input i x = record x { red = after i x.red; inputs = x.inputs ++ i ∷ [] }
+
+abbrev pub receives : ℕ → Input → EndState → EndState
+receives now i x = parts now (passed_by i x.red) (with_input i x)
+
+-- one unit of the first messages that wait is sent
+abbrev pub packed : ℕ → EndState → EndState
+packed now x =
+    let n = x.settings.n_maxpacket in
+    record x {
+      machine = send (unit_text (take n x.session.waiting)) now x.machine;
+      session = record { history = x.session.history; waiting = drop n x.session.waiting };
+    }
+
+-- packing and sending while messages wait and the machine may send, so many times at most
+abbrev pub packed_up_to : ℕ → ℕ → EndState → EndState
+packed_up_to zero now x = x
+packed_up_to (suc n) now x =
+    if is_nil x.session.waiting then x
+    else if may_send x.machine then packed_up_to n now (packed now x)
+    else x
+
+-- each unit takes a message out, so no more are sent than messages wait
+abbrev pub sends : ℕ → EndState → EndState
+sends now x = packed_up_to (length x.session.waiting) now x
+
+-- what follows the guard or the machine's tick, where these have not left
+abbrev pub goes_on : ℕ → Input → EndState → EndState
+goes_on now i x = if is_shut x then x else sends now (receives now i x)
+
+-- The calls of an end that was opened.
+pub data Call : Type 0 where
+  Close : (now : ℕ) → Call
+  Put : (kind : ℕ) → (payload : List ℕ) → (now : ℕ) → Call
+  InitDone : (now : ℕ) → Call
+  Tick : (now : ℕ) → Call
+  Deliver : (channel : ℕ) → (octets : List ℕ) → (now : ℕ) → Call
+
+abbrev pub time_of : Call → ℕ
+time_of (Close now) = now
+time_of (Put kind payload now) = now
+time_of (InitDone now) = now
+time_of (Tick now) = now
+time_of (Deliver channel octets now) = now
+
+-- what each does; a put and an init_done are accepted ones
+abbrev pub did : Call → EndState → EndState
+did (Close now) x = moved (Leaves ClosedByUser Unspecified now) x
+did (Put kind payload now) x = sends now (with_session (meets (Puts kind payload (length x.session.waiting)) x.session) x)
+did (InitDone now) x = sends now (with_session (meets (Completes (length x.session.waiting)) x.session) x)
+did (Tick now) x = if is_shut x then x else goes_on now (RedTick now) (moved (Ticks now) x)
+did (Deliver channel octets now) x = if is_shut x then x else goes_on now (Datagram octets now) (moved (Guards now) x)
+
+-- a call: its time is noted
+abbrev pub call : Call → EndState → EndState
+call c x = record (did c x) { time = time_of c }

@@ -1,0 +1,5 @@
+pub mod Dialogue
+pub mod Ends
+pub mod Datagrams
+pub mod Talk
+pub mod Fields

@@ -1,0 +1,2 @@
+//! One end of a connection over its layers.
+#![tactic(auto)]

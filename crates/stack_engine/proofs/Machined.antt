@@ -1,0 +1,213 @@
+-- The machine of an end: it keeps its settings, sound moves lead to it, and all that waits below it are octets.
+use Rattle.std.proofs.Common.{◌≡◌, inl, inr, ℕ, zero, suc, ◌<◌, List, [], ◌∷◌, ◌++◌, length, take, drop, Option, Some, None, Result, Ok, Err, true, cond, refl, sym, ap, subst, ◌∙◌}
+use Rattle.std.specs.Prelude.{◌==◌, nat_lt}
+use Rattle.std.specs.List.{AllByRecursion}
+use Rattle.octets.proofs.Choices.{by_cond}
+use Rattle.octets.specs.declared.limits.TheConstants.{RED_HEADER, RED_PDU_MAX}
+use Rattle.packing.specs.UnitText.{unit_text}
+use Rattle.red_pdu.specs.declared.RedFault.{RedFault}
+use Rattle.red_pdu.specs.declared.RedFault.TheVariants.{Short, Length, Reserve}
+use Rattle.red_pdu.specs.RedText.{length_field, reserve_field, seq_field, red_seen}
+use Rattle.red_layer.specs.Parts.{Part}
+use Rattle.red_layer.specs.Redundancy.{Receiver, Input, Datagram, Tick as RedTick, decoded, passed_by, after}
+use Rattle.red_layer.specs.Service.{IsAmong, AreAmong, accepted, arrivals_of}
+use Rattle.red_layer.specs.Laws.{OriginLaw}
+use Rattle.safe_pdu.specs.declared.SafeFault.{SafeFault}
+use Rattle.safe_pdu.specs.Pdu.{Pdu}
+use Rattle.safe_machine.specs.declared.Reason.TheVariants.{ClosedByUser}
+use Rattle.safe_machine.specs.declared.Detail.TheVariants.{Unspecified}
+use Rattle.safe_machine.specs.Settings.{is_legal}
+use Rattle.safe_machine.specs.State.{State, leave, opened, make, unconfirmed}
+use Rattle.safe_machine.specs.Step.{guard, tick}
+use Rattle.safe_machine.specs.Moves.{Move, move, moved, AreSoundMoves, IsSoundMove, HaveTexts, TextsLaw}
+use Rattle.safe_machine.specs.Moves.Move.{Guards, Ticks, Sends, Leaves}
+use Rattle.safe_machine.specs.Octets.{heard as heard_as, seen_by, arrive_octets}
+use Rattle.safe_machine.specs.World.{Side}
+use Rattle.safe_machine.specs.World.Side.{Il, Fe}
+use Rattle.safe_pdu.specs.declared.Kind.TheVariants.{RetrResp}
+use Rattle.safe_machine.proofs.Kept.{Anything, anything, kept-move}
+use Rattle.safe_machine.proofs.Resending.{resend-settings}
+use Rattle.end_settings.specs.EndSettings.{EndSettings, connection_of, are_fit}
+use Rattle.stack_end.specs.Dialogue.{Leaving, judge_units}
+use Rattle.stack_end.specs.Ends.{EndState, with_machine, handed_up, answered, leaves, heard, packed}
+use Rattle.stack_engine.proofs.Keeping.{Keeps, AreOctets, IsTypedInput}
+use Rattle.stack_engine.proofs.Reading.{numbers-read}
+use Rattle.stack_engine.proofs.Packing.{unit-sized}
+use Rattle.stack_engine.proofs.Talking.{all-append}
+use Rattle.stack_engine.proofs.Spoken.{Below, Spoken}
+use Rattle.stack_engine.proofs.Sending.{packs-some, waits-sized, spoken-keeps, legal-of}
+
+-- A move keeps the settings. (No clause of unit_law says so.)
+pub settings-kept : (m : Move) (s : State) → (move m s).settings ≡ s.settings
+settings-kept m s =
+    kept-move Anything Anything (λ (t : State). t.settings ≡ s.settings)
+    record {
+      silent = λ t u same h. same.0 ∙ h;
+      plain = λ kind body now t is fits h. h;
+      passes = λ p d t a h. h;
+      confirms = λ p t fits h. h;
+      accepts = λ now t h. h;
+      sends = λ unit now t a h. h;
+      replies = λ now t h. resend-settings (unconfirmed t) now (make RetrResp [] now t) ∙ h;
+    }
+    m s (anything m) refl
+
+-- all octets of a part
+abbrev pub OctetPart : Part → Type 0
+OctetPart p = AreOctets p.1
+
+pub record Machined (side : Side) (x : EndState) : Type 0 where
+  pub same : x.machine.settings ≡ connection_of side x.settings
+  pub first : ℕ
+  pub began : ℕ
+  pub moves : List Move
+  pub sound : AreSoundMoves moves
+  pub machine : x.machine ≡ moved moves (opened (connection_of side x.settings) first began)
+  pub waits : AllByRecursion OctetPart x.red.waiting
+
+moved-push : (ms : List Move) (m : Move) (s : State) → moved (ms ++ m ∷ []) s ≡ move m (moved ms s)
+moved-push [] m s = refl
+moved-push (n ∷ ms) m s = moved-push ms m (move n s)
+
+sound-push : (ms : List Move) (m : Move) → AreSoundMoves ms → IsSoundMove m → AreSoundMoves (ms ++ m ∷ [])
+sound-push [] m h k = (k, tt)
+sound-push (n ∷ ms) m h k = (h.0, sound-push ms m h.1 k)
+
+-- the machine alone moves
+pub machined-move : (side : Side) (m : Move) (x y : EndState) → IsSoundMove m → y.settings ≡ x.settings → y.red ≡ x.red → y.machine ≡ move m x.machine → Machined side x → Machined side y
+machined-move side m x y sound a b c h =
+    record {
+      same = ap (λ (s : State). s.settings) c ∙ settings-kept m x.machine ∙ h.same ∙ ap (connection_of side) (sym a);
+      first = h.first;
+      began = h.began;
+      moves = h.moves ++ m ∷ [];
+      sound = sound-push h.moves m h.sound sound;
+      machine =
+          c ∙ ap (move m) h.machine ∙ sym (moved-push h.moves m (opened (connection_of side x.settings) h.first h.began))
+          ∙ ap (λ (t : EndSettings). moved (h.moves ++ m ∷ []) (opened (connection_of side t) h.first h.began)) (sym a);
+      waits = subst (λ (r : Receiver). AllByRecursion OctetPart r.waiting) (sym b) h.waits;
+    }
+
+pub machined-same : (side : Side) (x y : EndState) → y.settings ≡ x.settings → y.red ≡ x.red → y.machine ≡ x.machine → Machined side x → Machined side y
+machined-same side x y a b c h =
+    record {
+      same = ap (λ (s : State). s.settings) c ∙ h.same ∙ ap (connection_of side) (sym a);
+      first = h.first;
+      began = h.began;
+      moves = h.moves;
+      sound = h.sound;
+      machine = c ∙ h.machine ∙ ap (λ (t : EndSettings). moved h.moves (opened (connection_of side t) h.first h.began)) (sym a);
+      waits = subst (λ (r : Receiver). AllByRecursion OctetPart r.waiting) (sym b) h.waits;
+    }
+
+-- every PDU made has a text
+pub machined-texts : TextsLaw → (side : Side) (x : EndState) → are_fit side x.settings ≡ true → Machined side x → HaveTexts x.machine.made
+machined-texts law side x fit h =
+    subst (λ (s : State). HaveTexts s.made) (sym h.machine) (law (connection_of side x.settings) h.first h.began h.moves (legal-role side x.settings (legal-of side x.settings fit)) h.sound)
+  where
+    legal-role : (side : Side) (s : EndSettings) → is_legal s.connection ≡ true → is_legal (connection_of side s) ≡ true
+    legal-role Il s h = h
+    legal-role Fe s h = h
+
+-- the move that octets make is sound
+sound-heard : (now : ℕ) (octets : List ℕ) (s : State) → AreOctets octets → (r : Result Pdu SafeFault) → seen_by s octets ≡ r → IsSoundMove (heard_as r now)
+sound-heard now octets s octs (Ok p) e = numbers-read s.settings.rule octets p octs e
+sound-heard now octets s octs (Err fault) e = tt
+
+machined-leaves : (side : Side) (now : ℕ) (why : Option Leaving) (y : EndState) → Machined side y → Machined side (leaves now why y)
+machined-leaves side now None y h = h
+machined-leaves side now (Some why) y h = machined-move side (Leaves why.0 why.1 now) y (leaves now (Some why) y) tt refl refl refl h
+
+machined-hears : (side : Side) (now : ℕ) (octets : List ℕ) (x : EndState) → AreOctets octets → Machined side x → Machined side (heard now octets x)
+machined-hears side now octets x octs h =
+    let s = arrive_octets octets now x.machine in
+    machined-leaves side now (judge_units (handed_up x s) x.session).leaving (answered octets x s)
+    (machined-move side (heard_as (seen_by x.machine octets) now) x (answered octets x s) (sound-heard now octets x.machine octs (seen_by x.machine octets) refl) refl refl refl h)
+
+-- parts among octets are octets
+among-one : (p : Part) (qs : List Part) → AllByRecursion OctetPart qs → IsAmong p qs → OctetPart p
+among-one p [] h k = absurd k
+among-one p (q ∷ qs) h (inl e) = rw e h.0
+among-one p (q ∷ qs) h (inr k) = among-one p qs h.1 k
+
+among-all : (ps qs : List Part) → AllByRecursion OctetPart qs → AreAmong ps qs → AllByRecursion OctetPart ps
+among-all [] qs h k = tt
+among-all (p ∷ ps) qs h k = (among-one p qs h k.0, among-all ps qs h k.1)
+
+all-dropped : {X : Type 0} (P : X → Type 0) (n : ℕ) (xs : List X) → AllByRecursion P xs → AllByRecursion P (drop n xs)
+all-dropped P zero xs h = h
+all-dropped P (suc n) [] h = h
+all-dropped P (suc n) (x ∷ xs) h = all-dropped P n xs h.1
+
+-- what a datagram of octets brings
+red-octets : (octets : List ℕ) → AreOctets octets → AllByRecursion OctetPart (accepted (red_seen octets))
+red-octets octets h =
+    let P : Result Part RedFault → Type 0 = λ r. AllByRecursion OctetPart (accepted r) in
+    let reserve : Result Part RedFault = cond (reserve_field octets == 0) (Ok (seq_field octets, drop RED_HEADER octets)) (Err Reserve) in
+    let sized : Result Part RedFault = cond (length_field octets == length octets) reserve (Err Length) in
+    let long : Result Part RedFault = cond (nat_lt RED_PDU_MAX (length octets)) (Err Length) sized in
+    by_cond P (nat_lt (length octets) RED_HEADER) (Err Short) long (λ _. tt) (λ _.
+    by_cond P (nat_lt RED_PDU_MAX (length octets)) (Err Length) sized (λ _. tt) (λ _.
+    by_cond P (length_field octets == length octets) reserve (Err Length) (λ _.
+    by_cond P (reserve_field octets == 0) (Ok (seq_field octets, drop RED_HEADER octets)) (Err Reserve) (λ _. (all-dropped (λ o. o < 256) RED_HEADER octets h, tt)) (λ _. tt))
+    (λ _. tt)))
+
+decoded-octets : (octets : List ℕ) → AreOctets octets → AllByRecursion OctetPart (accepted (decoded octets))
+unfolding decoded
+decoded-octets octets h = red-octets octets h
+
+pub arrivals-octets : (i : Input) → IsTypedInput i → AllByRecursion OctetPart (arrivals_of i)
+arrivals-octets (Datagram octets now) h = decoded-octets octets h
+arrivals-octets (RedTick now) h = tt
+
+pub red-keeps : OriginLaw → (i : Input) (r : Receiver) → IsTypedInput i → AllByRecursion OctetPart r.waiting
+    → AllByRecursion OctetPart (passed_by i r) × AllByRecursion OctetPart (after i r).waiting
+red-keeps law i r t h =
+    let from = law i r in
+    let all = all-append OctetPart r.waiting (arrivals_of i) h (arrivals-octets i t) in
+    (among-all (passed_by i r) (r.waiting ++ arrivals_of i) all from.0, among-all (after i r).waiting (r.waiting ++ arrivals_of i) all from.1)
+
+-- an end by itself
+pub record Whole (side : Side) (x : EndState) : Type 0 where
+  pub spoken : Spoken side x
+  pub machined : Machined side x
+
+abbrev pub OctetsUp : EndState → List ℕ → Type 0
+OctetsUp x octets = AreOctets octets
+
+pub whole-keeps : Below → OriginLaw → (side : Side) (now : ℕ) → Keeps now OctetsUp (Whole side)
+whole-keeps laws origin side now =
+    let k : Keeps now OctetsUp (Spoken side) = spoken-keeps laws side now OctetsUp in
+    record {
+      guards = λ x h. record { spoken = k.guards x h.spoken; machined = machined-move side (Guards now) x (with_machine (guard now x.machine) x) tt refl refl refl h.machined };
+      ticks = λ x h. record { spoken = k.ticks x h.spoken; machined = machined-move side (Ticks now) x (with_machine (tick now x.machine) x) tt refl refl refl h.machined };
+      closes = λ x h. record {
+        spoken = k.closes x h.spoken;
+        machined = machined-move side (Leaves ClosedByUser Unspecified now) x (with_machine (leave ClosedByUser Unspecified now x.machine) x) tt refl refl refl h.machined;
+      };
+      ends = λ x shut h. record { spoken = k.ends x shut h.spoken; machined = machined-same side x _ refl refl refl h.machined };
+      inputs = λ i x t h. record {
+        spoken = k.inputs i x t h.spoken;
+        machined =
+            record {
+              same = h.machined.same;
+              first = h.machined.first;
+              began = h.machined.began;
+              moves = h.machined.moves;
+              sound = h.machined.sound;
+              machine = h.machined.machine;
+              waits = (red-keeps origin i x.red t h.machined.waits).1;
+            };
+      };
+      hears = λ octets x q h. record { spoken = k.hears octets x q h.spoken; machined = machined-hears side now octets x q h.machined };
+      sends = λ x may some h. record {
+        spoken = k.sends x may some h.spoken;
+        machined =
+            let few = packs-some side x.settings h.spoken.fit in
+            machined-move side (Sends (unit_text (take x.settings.n_maxpacket x.session.waiting)) now) x (packed now x)
+            (unit-sized x.settings.n_maxpacket x.session.waiting few.0 few.1 some (waits-sized side x h.spoken)) refl refl refl h.machined;
+      };
+      puts = λ kind payload x fits h. record { spoken = k.puts kind payload x fits h.spoken; machined = machined-same side x _ refl refl refl h.machined };
+      dones = λ x h. record { spoken = k.dones x h.spoken; machined = machined-same side x _ refl refl refl h.machined };
+      times = λ x h. record { spoken = k.times x h.spoken; machined = machined-same side x _ refl refl refl h.machined };
+    }

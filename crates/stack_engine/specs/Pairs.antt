@@ -1,0 +1,150 @@
+-- WorldStep: two ends with all their incarnations, and what an event does to them.
+use Rattle.std.specs.Prelude.{ℕ, ◌+◌, ◌^◌, nat_lt, Bool, true, false, ◌||◌, Option, Some, None, is_none, List, [], ◌∷◌, length, if◌then◌else◌}
+use Rattle.std.specs.Option.{option_map}
+use Rattle.std.specs.Str.{bytes_eq}
+use Rattle.safe_pdu.specs.declared.CodeRule.{CodeRule}
+use Rattle.safe_machine.specs.Made.{Made}
+use Rattle.safe_machine.specs.World.{Side}
+use Rattle.safe_machine.specs.World.Side.{Il, Fe}
+use Rattle.pdi_session.specs.declared.PutFault.{PutFault}
+use Rattle.pdi_session.specs.declared.InitFault.{InitFault}
+use Rattle.pdi_session.specs.SessionStep.{put_refusal, init_refusal}
+use Rattle.end_settings.specs.EndSettings.{EndSettings, are_fit, rule_of}
+use Rattle.stack_end.specs.Dialogue.{session_in}
+use Rattle.stack_end.specs.Ends.{EndState, new_end, Call, time_of, call}
+use Rattle.stack_end.specs.Ends.Call.{Put, InitDone}
+use Rattle.stack_end.specs.Datagrams.{upper_of}
+
+-- An incarnation of the field element, and the number of that of the interlocking whose ConnReq it took.
+pub record JoinedEnd : Type 0 where
+  pub end : EndState
+  pub joined : Option ℕ
+
+-- The incarnations of both ends, the latest first; the first opening has number 1.
+pub record World : Type 0 where
+  pub ils : List EndState
+  pub fes : List JoinedEnd
+  pub dead_il : ℕ  -- of the PDUs that the present il made, the first so many are dead: made before the later opening
+  pub dead_fe : ℕ
+
+-- nothing is opened yet
+abbrev pub start : World
+start = record { ils = []; fes = []; dead_il = 0; dead_fe = 0 }
+
+abbrev pub ends_of : List JoinedEnd → List EndState
+ends_of [] = []
+ends_of (f ∷ fs) = f.end ∷ ends_of fs
+
+-- the present incarnation of an end, where it was opened
+abbrev pub latest : List EndState → Option EndState
+latest [] = None
+latest (x ∷ before) = Some x
+
+abbrev pub present : Side → World → Option EndState
+present Il w = latest w.ils
+present Fe w = latest (ends_of w.fes)
+
+-- what it made
+abbrev pub made_of : Option EndState → List Made
+made_of None = []
+made_of (Some x) = x.machine.made
+
+pub data Event : Type 0 where
+  Open : Side → EndSettings → (first now : ℕ) → Event
+  Calls : Side → Call → Event
+
+-- Why an event is refused, but for want of memory.
+pub data Refusal : Type 0 where
+  EndNotOpen : Refusal
+  BadConfig : Refusal
+  Clock : Refusal
+  PutRefused : PutFault → Refusal
+  InitRefused : InitFault → Refusal
+
+-- a time below the last, or beyond 2^62
+abbrev pub is_untimely : ℕ → ℕ → Bool
+is_untimely last now = nat_lt now last || nat_lt (2 ^ 62) now
+
+abbrev pub last_time : Option EndState → ℕ
+last_time None = 0
+last_time (Some x) = x.time
+
+-- the session's own refusals
+abbrev pub session_refusal : Call → EndState → Option Refusal
+session_refusal (Put kind payload now) x = option_map PutRefused (put_refusal (session_in x.session) kind payload (length x.session.waiting))
+session_refusal (InitDone now) x = option_map InitRefused (init_refusal (session_in x.session) (length x.session.waiting))
+session_refusal _ x = None
+
+abbrev pub call_refusal : Call → Option EndState → Option Refusal
+call_refusal c None = Some EndNotOpen
+call_refusal c (Some x) = if is_untimely x.time (time_of c) then Some Clock else session_refusal c x
+
+abbrev pub open_refusal : Side → EndSettings → ℕ → Option EndState → Option Refusal
+open_refusal side s now x =
+    if are_fit side s then (if is_untimely (last_time x) now then Some Clock else None) else Some BadConfig
+
+-- the lowest refusal that holds
+abbrev pub refusal : Event → World → Option Refusal
+refusal (Open side s first now) w = open_refusal side s now (present side w)
+refusal (Calls side c) w = call_refusal c (present side w)
+
+-- some PDU of the list has these octets
+abbrev pub has_made : CodeRule → List ℕ → List Made → Bool
+has_made rule octets [] = false
+has_made rule octets (m ∷ ms) = if bytes_eq octets (upper_of rule m) then true else has_made rule octets ms
+
+-- the number of the latest incarnation that has made a PDU of these octets
+abbrev pub latest_maker : List ℕ → List EndState → Option ℕ
+latest_maker octets [] = None
+latest_maker octets (x ∷ before) =
+    if has_made (rule_of x.settings) octets x.machine.made then Some (length before + 1) else latest_maker octets before
+
+-- Joined is fixed in the call in which the ConnReq is taken.
+abbrev pub joined_by : List EndState → Option ℕ → (before after : Option (List ℕ)) → Option ℕ
+joined_by ils old None (Some octets) = latest_maker octets ils
+joined_by ils old None None = old
+joined_by ils old (Some octets) after = old
+
+abbrev pub with_joined : List EndState → JoinedEnd → EndState → JoinedEnd
+with_joined ils f x = record { end = x; joined = joined_by ils f.joined f.end.request x.request }
+
+-- a call of the present incarnation
+abbrev pub call_il : Call → List EndState → List EndState
+call_il c [] = []
+call_il c (x ∷ before) = call c x ∷ before
+
+abbrev pub call_fe : Call → List EndState → List JoinedEnd → List JoinedEnd
+call_fe c ils [] = []
+call_fe c ils (f ∷ before) = with_joined ils f (call c f.end) ∷ before
+
+-- what an accepted event does
+abbrev pub changed : Event → World → World
+changed (Open Il s first now) w =
+    record { ils = new_end Il s first now ∷ w.ils; fes = w.fes; dead_il = 0; dead_fe = length (made_of (present Fe w)) }
+changed (Open Fe s first now) w =
+    record {
+      ils = w.ils;
+      fes = record { end = new_end Fe s first now; joined = None } ∷ w.fes;
+      dead_il = length (made_of (present Il w));
+      dead_fe = 0;
+    }
+changed (Calls Il c) w = record w { ils = call_il c w.ils }
+changed (Calls Fe c) w = record w { fes = call_fe c w.ils w.fes }
+
+-- a refused event changes nothing
+abbrev pub unless_refused : Option Refusal → World → World → World
+unless_refused None old new = new
+unless_refused (Some why) old new = old
+
+abbrev pub happens : World → Event → World
+happens w e = unless_refused (refusal e w) w (changed e w)
+
+-- a list of events
+abbrev pub run : List Event → World → World
+run [] w = w
+run (e ∷ es) w = run es (happens w e)
+
+-- those of them that are accepted
+abbrev pub accepted : List Event → World → List Event
+accepted [] w = []
+accepted (e ∷ es) w = if is_none (refusal e w) then e ∷ accepted es (happens w e) else accepted es (happens w e)
