@@ -3,7 +3,7 @@
 //! Channels are not trusted: they may lose, repeat, delay, reorder and damage datagrams (EN 50159).
 #![tactic(auto)]
 
-ghost use Rattle.std.specs.Prelude.{◌≡◌, ℕ, ◌≤◌, List, [], ◌∷◌, ◌++◌, length, Option, option_map, is_ok, if◌then◌else◌, IfOk, IfSome};
+ghost use Rattle.std.specs.Prelude.{◌≡◌, ◌==◌, ℕ, ◌+◌, ◌≤◌, true, List, [], ◌∷◌, ◌++◌, length, Option, option_map, is_ok, if◌then◌else◌, IfOk, IfSome};
 ghost use Rattle.channels.specs.Sendings.{Sending};
 ghost use Rattle.channels.specs.Answers.{Answer, answered, counted};
 
@@ -52,10 +52,15 @@ pub trait Channels {
     /// How many receptions failed, modulo 2^64.
     ghost failed_receives: { Self → ℕ };
 
+    /// How many sendings on a channel are sure to go out; 0 where this is not known.
+    ghost room: { Self → ℕ → ℕ };
+
     /// Sends a datagram of at most 1,258 octets on a channel. A fault says that it did not go out; nothing else has changed.
     fn send(&mut self, channel: usize, datagram: &[u8]) -> Result<(), ChannelFault>
         ensures sent { sent self.new ≡ option_map (λ xs. xs ++ (if is_ok result then (channel, datagram.now) ∷ [] else [])) (sent self.old) }
         ensures failed { failed_sends self.new ≡ counted (is_ok result) (failed_sends self.old) }
+        ensures sure { 1 ≤ room self.old channel → is_ok result ≡ true }
+        ensures room { (k : ℕ) → room self.old k ≤ room self.new k + (if k == channel then 1 else 0) }
         ensures answers { answers self.new ≡ answers self.old }
         ensures failed_receives { failed_receives self.new ≡ failed_receives self.old };
 
@@ -66,7 +71,8 @@ pub trait Channels {
         ensures answers { answers self.new ≡ option_map (λ xs. xs ++ answered result buffer.new) (answers self.old) }
         ensures failed_receives { failed_receives self.new ≡ counted (is_ok result) (failed_receives self.old) }
         ensures sent { sent self.new ≡ sent self.old }
-        ensures failed { failed_sends self.new ≡ failed_sends self.old };
+        ensures failed { failed_sends self.new ≡ failed_sends self.old }
+        ensures room { room self.new ≡ room self.old };
 
     /// Hears what the end does. The given body does nothing.
     fn note(&mut self, note: &Note<'_>)
@@ -74,6 +80,7 @@ pub trait Channels {
         ensures failed { failed_sends self.new ≡ failed_sends self.old }
         ensures answers { answers self.new ≡ answers self.old }
         ensures failed_receives { failed_receives self.new ≡ failed_receives self.old }
+        ensures room { room self.new ≡ room self.old }
     {
         let _note = note;
     }
