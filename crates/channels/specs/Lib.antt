@@ -1,2 +1,1 @@
-pub mod Sendings
-pub mod Answers
+pub mod Told

@@ -3,9 +3,8 @@
 //! Channels are not trusted: they may lose, repeat, delay, reorder and damage datagrams (EN 50159).
 #![tactic(auto)]
 
-ghost use Rattle.std.specs.Prelude.{◌≡◌, ◌==◌, ℕ, ◌+◌, ◌≤◌, true, List, [], ◌∷◌, ◌++◌, length, Option, option_map, is_ok, if◌then◌else◌, IfOk, IfSome};
-ghost use Rattle.channels.specs.Sendings.{Sending};
-ghost use Rattle.channels.specs.Answers.{Answer, answered, counted};
+ghost use Rattle.std.specs.Prelude.{◌≡◌, ◌≤◌, length, is_ok, IfOk, IfSome};
+ghost use Rattle.channels.specs.Told.{Told, Sends, after_receive};
 
 use pdi_session::Phase;
 use red_layer::RedEvent;
@@ -40,47 +39,22 @@ pub enum Note<'a> {
 /// An implementation that keeps its datagrams tells their lists; one over sockets tells none. Both count what failed,
 /// modulo 2^64, and answer a fault exactly where the count went on.
 pub trait Channels {
-    /// The datagrams sent, in order, where this is told.
-    ghost sent: { Self → Option (List Sending) };
-
-    /// What `receive` answered, in order, where this is told: a datagram, or nothing.
-    ghost answers: { Self → Option (List Answer) };
-
-    /// How many sendings failed, modulo 2^64.
-    ghost failed_sends: { Self → ℕ };
-
-    /// How many receptions failed, modulo 2^64.
-    ghost failed_receives: { Self → ℕ };
-
-    /// How many sendings on a channel are sure to go out; 0 where this is not known.
-    ghost room: { Self → ℕ → ℕ };
+    /// What is told of the channels: the datagrams sent, what `receive` answered, and how often either failed.
+    ghost told: { Self → Told };
 
     /// Sends a datagram of at most 1,258 octets on a channel. A fault says that it did not go out; nothing else has changed.
     fn send(&mut self, channel: usize, datagram: &[u8]) -> Result<(), ChannelFault>
-        ensures sent { sent self.new ≡ option_map (λ xs. xs ++ (if is_ok result then (channel, datagram.now) ∷ [] else [])) (sent self.old) }
-        ensures failed { failed_sends self.new ≡ counted (is_ok result) (failed_sends self.old) }
-        ensures sure { 1 ≤ room self.old channel → is_ok result ≡ true }
-        ensures room { (k : ℕ) → room self.old k ≤ room self.new k + (if k == channel then 1 else 0) }
-        ensures answers { answers self.new ≡ answers self.old }
-        ensures failed_receives { failed_receives self.new ≡ failed_receives self.old };
+        ensures { Sends (is_ok result) (told self.old) (channel, datagram.now) (told self.new) };
 
     /// Writes the next datagram that came in front of the buffer, cut to its length, and answers its channel and its size in
     /// octets; `None` where nothing has come. It never waits.
     fn receive(&mut self, buffer: &mut [u8]) -> Result<Option<(usize, usize)>, ChannelFault>
         ensures fits { IfOk result (λ came. IfSome came (λ p. p.1 ≤ length buffer.new)) }
-        ensures answers { answers self.new ≡ option_map (λ xs. xs ++ answered result buffer.new) (answers self.old) }
-        ensures failed_receives { failed_receives self.new ≡ counted (is_ok result) (failed_receives self.old) }
-        ensures sent { sent self.new ≡ sent self.old }
-        ensures failed { failed_sends self.new ≡ failed_sends self.old }
-        ensures room { room self.new ≡ room self.old };
+        ensures told { told self.new ≡ after_receive result buffer.new (told self.old) };
 
     /// Hears what the end does. The given body does nothing.
     fn note(&mut self, note: &Note<'_>)
-        ensures sent { sent self.new ≡ sent self.old }
-        ensures failed { failed_sends self.new ≡ failed_sends self.old }
-        ensures answers { answers self.new ≡ answers self.old }
-        ensures failed_receives { failed_receives self.new ≡ failed_receives self.old }
-        ensures room { room self.new ≡ room self.old }
+        ensures { told self.new ≡ told self.old }
     {
         let _note = note;
     }

@@ -4,7 +4,7 @@ use Rattle.red_pdu.specs.RedText.{red_text}
 use Rattle.safe_pdu.specs.declared.CodeRule.{CodeRule}
 use Rattle.safe_pdu.specs.SafeText.{safe_text}
 use Rattle.safe_machine.specs.Made.{Made}
-use Rattle.channels.specs.Sendings.{Sending}
+use Rattle.channels.specs.Told.{Sending}
 use Rattle.end_settings.specs.EndSettings.{EndSettings, rule_of}
 use Rattle.stack_end.specs.Ends.{EndState}
 

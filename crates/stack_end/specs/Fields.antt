@@ -13,7 +13,7 @@ use Rattle.red_layer.specs.Redundancy.{Receiver}
 use Rattle.end_settings.specs.EndSettings.{rule_of}
 use Rattle.stack_end.specs.Dialogue.{Leaving, judge_units}
 use Rattle.stack_end.specs.Ends.{EndState, comes_up, handed_up, noted, packed, rises, with_session}
-use Rattle.channels.specs.Sendings.{Sending}
+use Rattle.channels.specs.Told.{Sending}
 use Rattle.stack_end.specs.Datagrams.{sendings}
 use Rattle.stack_end.specs.Talk.{Speaks, Took}
 
