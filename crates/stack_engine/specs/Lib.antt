@@ -4,3 +4,6 @@ pub mod Headline
 pub mod Freshness
 pub mod Settled
 pub mod Faithful
+pub mod Texts
+pub mod TextPlaces
+pub mod Events
