@@ -7,3 +7,4 @@ pub mod Faithful
 pub mod Texts
 pub mod TextPlaces
 pub mod Events
+pub mod Keeping
