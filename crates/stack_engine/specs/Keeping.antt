@@ -1,5 +1,5 @@
 -- What a keeper of datagrams has, and what it tells as channels.
-use Rattle.std.specs.Prelude.{ℕ, ◌/◌, ◌==◌, min, Bool, Option, Some, None, List, map, drop, if◌then◌else◌}
+use Rattle.std.specs.Prelude.{ℕ, ◌/◌, ◌==◌, min, Bool, Some, None, List, map, drop, if◌then◌else◌}
 use Rattle.std.specs.List.{list_any}
 use Rattle.std.specs.Str.{bytes_eq}
 use Rattle.octets.specs.declared.limits.TheConstants.{RED_HEADER, RED_PDU_MAX}

@@ -1,6 +1,6 @@
 //! Channels that keep each PDU of an end once, and what the end tells of its doings.
 
-ghost use Rattle.std.specs.Prelude.{◌≡◌, ◌≤◌, ◌+◌, ◌*◌, [], OnOk, Option, option_map, slice_get, length, drop};
+ghost use Rattle.std.specs.Prelude.{◌≡◌, ◌≤◌, ◌+◌, ◌*◌, ◌<◌, [], OnOk, slice_index_or, length, drop};
 ghost use Rattle.std.specs.List.{list_any};
 ghost use Rattle.std.specs.Str.{bytes_eq};
 ghost use Rattle.octets.specs.declared.limits.TheConstants.{RED_HEADER, RED_PDU_MAX};
@@ -66,6 +66,41 @@ impl<A: Allocator> Keeper<A> {
         ensures { result ≡ length self.now.datagrams }
     {
         self.datagrams.len()
+    }
+
+    /// Whether a datagram with this upper part was kept behind the first `dead`. The newest are tried first.
+    pub fn has_part(&self, dead: usize, part: &[u8]) -> bool
+        ensures { result ≡ has_part part.now (drop dead self.now.datagrams) }
+    {
+        let mut place = self.len();
+        while place > dead {
+            place -= 1;
+            if self.is_part(place, part) {
+                return true;
+            }
+        }
+        false
+    }
+
+    /// Whether the datagram at a place has this upper part.
+    fn is_part(&self, place: usize, part: &[u8]) -> bool
+        requires { place < length self.now.datagrams }
+        ensures { result ≡ bytes_eq part.now (drop RED_HEADER (slice_index_or self.now.datagrams place [])) }
+    {
+        let Some((_, datagram)) = self.datagrams.get(place) else {
+            return false;
+        };
+        part == upper_part(datagram)
+    }
+}
+
+/// What stands behind the header of a datagram.
+fn upper_part(datagram: &[u8]) -> &[u8]
+    ensures { result.now ≡ drop RED_HEADER datagram.now }
+{
+    match datagram.split_at_checked(RED_HEADER) {
+        Some((_, upper)) => upper,
+        None => &[],
     }
 }
 
