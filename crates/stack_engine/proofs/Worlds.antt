@@ -159,7 +159,7 @@ new-whole Il s first now fit =
             begins = ([], refl);
             whole = λ _. refl;
           };
-      machined = record { same = refl; first = first; began = now; moves = []; sound = tt; machine = refl; waits = tt };
+      machined = record { same = refl; first = first; began = now; moves = []; read = tt; machine = refl; waits = tt };
     }
 new-whole Fe s first now fit =
     record {
@@ -171,7 +171,7 @@ new-whole Fe s first now fit =
             begins = ([], refl);
             whole = λ _. refl;
           };
-      machined = record { same = refl; first = first; began = now; moves = []; sound = tt; machine = refl; waits = tt };
+      machined = record { same = refl; first = first; began = now; moves = []; read = tt; machine = refl; waits = tt };
     }
 
 -- the opening in the world of machines
