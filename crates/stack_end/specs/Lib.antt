@@ -3,3 +3,4 @@ pub mod Ends
 pub mod Datagrams
 pub mod Talk
 pub mod Fields
+pub mod Later
