@@ -127,3 +127,10 @@ pub record BothWent {T : Type 0} (takes : T → Item → T → Type 0) (x y : En
 
 abbrev pub BothDo : {T : Type 0} → (T → Item → T → Type 0) → (EndState → EndState) → Receiver → Fields → T → Receiver → Fields → T → Type 0
 BothDo takes step red v before red_after w after = (x : EndState) → BothStand red v x → BothWent takes x (step x) v before red_after w after
+
+-- the same of a call in which the application takes nothing
+abbrev pub BothAlone : (EndState → EndState) → Receiver → Fields → Receiver → Fields → Type 0
+BothAlone step red v red_after w =
+    (x : EndState) → BothStand red v x →
+    BothStand red_after w (step x) × (((step x).settings ≡ x.settings)
+    × (Sent v.channels x (step x) w.channels × ((step x).session.history.taken ≡ x.session.history.taken)))

@@ -4,3 +4,5 @@ pub mod Datagrams
 pub mod Talk
 pub mod Fields
 pub mod Later
+pub mod Kept
+pub mod EndValue

@@ -5,12 +5,12 @@ ghost use Rattle.octets.specs.declared.limits.TheConstants.{SAFE_PDU_MAX, UNIT_M
 ghost use Rattle.safe_machine.specs.Moves.Move.{Guards, Leaves, Ticks};
 ghost use Rattle.safe_machine.specs.declared.Reason.TheVariants.{ClosedByUser};
 ghost use Rattle.safe_machine.specs.declared.Detail.TheVariants.{Unspecified};
-ghost use Rattle.pdi_session.specs.SessionStep.{FewWait, put_refusal};
+ghost use Rattle.pdi_session.specs.SessionStep.{FewWait, init_refusal, put_refusal};
 ghost use Rattle.safe_machine.specs.Properties.{index_step};
 ghost use Rattle.red_layer.specs.Redundancy.{Datagram, Tick as RedTick};
 ghost use Rattle.channels.specs.Told.{SendsOne};
 ghost use Rattle.stack_end.specs.Dialogue.{Leaving};
-ghost use Rattle.stack_end.specs.Ends.{EndState, Put, did, leaves, moved, part, receives, sends, settle};
+ghost use Rattle.stack_end.specs.Ends.{EndState, InitDone, Put, did, leaves, moved, part, receives, sends, settle};
 ghost use Rattle.stack_end.specs.Fields.{Asks, BothDo, Does, DoesAlone, can_pack, fields_of, heard_alone, leaving_at, noted_from, packed_once, rises_from};
 
 use crate::judging::{Phases, ToSession};
@@ -196,7 +196,7 @@ impl<C: Channels, A: Allocator> Upper<C, A> {
     }
 
     /// State and phase, for notes.
-    fn seen(&self) -> Seen {
+    pub(crate) fn seen(&self) -> Seen {
         Seen {
             state: self.machine.state(),
             phase: self.session.phase(),
@@ -288,6 +288,32 @@ impl<C: Channels, A: Allocator> Upper<C, A> {
     {
         match self.session.put(kind, payload, &mut self.waiting) {
             Ok(()) => {
+                self.send_waiting(now);
+                Ok(())
+            }
+            Err(fault) => Err(fault),
+        }
+    }
+
+    /// The application of a field element has put its initial status in: its end is sent behind it.
+    pub(crate) fn init_done(&mut self, now: u64) -> Result<(), InitFault>
+        requires some { 1 ≤ self.old.max }
+        requires most { self.old.max ≤ UNIT_MESSAGES }
+        ensures does { OnOk result (DoesAlone (did (InitDone now))
+            (fields_of C.told self.old)
+            (fields_of C.told self.new)) }
+        ensures refused { OnErr result (self.new ≡ self.old) }
+        ensures answer { MatchResult result (λ _. init_refusal self.old.session (length self.old.waiting) ≡ None)
+            (λ fault. init_refusal self.old.session (length self.old.waiting) ≡ Some fault) }
+        ensures same { self.new.max ≡ self.old.max }
+        ensures near { self.new.machine.expected ≡ self.old.machine.expected }
+        ensures few { FewWait self.old.session self.old.waiting → FewWait self.new.session self.new.waiting }
+    {
+        let seen = self.seen();
+        match self.session.init_done(&mut self.waiting) {
+            Ok(()) => {
+                let after = self.seen();
+                tell_change(&mut self.channels, seen, after);
                 self.send_waiting(now);
                 Ok(())
             }
