@@ -7,6 +7,8 @@ ghost use Rattle.std.specs.Prelude.{◌≡◌, ◌≤◌, length, is_ok, IfOk, I
 ghost use Rattle.channels.specs.Told.{Told, Sends, after_receive};
 
 mod memory;
+#[cfg(test)]
+mod tests;
 
 pub use memory::{MemChannels, MemoryFault};
 use pdi_session::Phase;
