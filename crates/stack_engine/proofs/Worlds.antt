@@ -148,7 +148,7 @@ settings-are side s h =
     few Fe s h = grind (arith, nat_tests)
 
 -- a new end is whole
-new-whole : (side : Side) (s : EndSettings) (first now : ℕ) → are_fit side s ≡ true → Whole side (new_end side s first now)
+pub new-whole : (side : Side) (s : EndSettings) (first now : ℕ) → are_fit side s ≡ true → Whole side (new_end side s first now)
 new-whole Il s first now fit =
     record {
       spoken =

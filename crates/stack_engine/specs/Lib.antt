@@ -8,3 +8,4 @@ pub mod Texts
 pub mod TextPlaces
 pub mod Events
 pub mod Keeping
+pub mod Bounds
