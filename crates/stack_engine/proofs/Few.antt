@@ -1,8 +1,7 @@
 -- How few PDUs and telegrams one call of an end makes.
-use Rattle.std.proofs.Common.{◌≡◌, inl, inr, ℕ, zero, suc, ◌+◌, ◌*◌, ◌-◌, ◌≤◌, List, [], ◌∷◌, ◌++◌, length, take, drop, Option, Some, None, Result, Ok, Err, Bool, true, false, cond, refl, sym, ap, subst, ◌∙◌, arith, length-append, append-nil}
+use Rattle.std.proofs.Common.{◌≡◌, inl, inr, ℕ, zero, suc, ◌+◌, ◌*◌, ◌≤◌, List, [], ◌∷◌, ◌++◌, length, take, drop, Option, Some, None, Result, Ok, Err, Bool, true, false, cond, refl, sym, ap, subst, ◌∙◌, arith, length-append, append-nil}
 use Rattle.std.specs.Prelude.{nat_lt, nat_le, ◌==◌, ◌&&◌}
 use Rattle.std.specs.List.{AllByRecursion}
-use Rattle.std.proofs.lemmas.Bool.{false≢true}
 use Rattle.std.proofs.lemmas.Bool.Decides.{nat_tests}
 use Rattle.std.proofs.lemmas.List.{length-drop}
 use Rattle.std.proofs.Math.Seq.{drop-append_seam}
@@ -22,29 +21,32 @@ use Rattle.safe_machine.specs.declared.Reason.TheVariants.{ClosedByUser}
 use Rattle.safe_machine.specs.declared.Detail.{Detail}
 use Rattle.safe_machine.specs.declared.Detail.TheVariants.{Unspecified}
 use Rattle.safe_machine.specs.State.{State, leave, make, move_to, next_made, says_goodbye, unconfirmed}
-use Rattle.safe_machine.specs.Step.{guard, tick, send, may_send}
-use Rattle.safe_machine.specs.Moves.{Move, move, moved as machine_moved, IsTakenBy, MovesLaw}
+use Rattle.safe_machine.specs.Step.{guard, tick, may_send}
+use Rattle.safe_machine.specs.Moves.{Move, move, IsTakenBy, MovesLaw}
 use Rattle.safe_machine.specs.Moves.Move.{Guards, Ticks, Sends, Leaves, Hears}
 use Rattle.safe_machine.specs.Octets.{heard as heard_as, seen_by, arrive_octets}
 use Rattle.safe_machine.specs.Reached.{IsRead, FewMade, FewLaw}
 use Rattle.safe_machine.specs.World.{Side}
+use Rattle.safe_machine.specs.World.Side.{Il, Fe}
 use Rattle.pdi_session.specs.SessionStep.{Event, Up as GoesUp, Arrives, Puts, InitDone as Completes, Closes, Item, judged, taken_as, taken_by}
 use Rattle.pdi_session.specs.declared.Verdict.{Verdict}
 use Rattle.pdi_session.specs.declared.Verdict.TheVariants.{Takes, Goes, Answers, Ends}
 use Rattle.stack_end.specs.Dialogue.{Dialogue, Judged, Leaving, meets, unless_leaving, judge_read, judge_messages, judge_unpacked, judge_units}
-use Rattle.stack_end.specs.Ends.{EndState, is_shut, with_machine, with_session, settle, moved, handed_up, answered, rises, comes_up, leaves, heard, part, parts, with_input, receives, packed, packed_up_to, sends, goes_on, Call, did, call, time_of}
+use Rattle.stack_end.specs.Ends.{EndState, new_end, is_shut, with_machine, with_session, settle, moved, handed_up, answered, rises, comes_up, leaves, heard, part, parts, with_input, receives, packed, packed_up_to, sends, goes_on, Call, did, call, time_of}
 use Rattle.stack_end.specs.Ends.Call.{Close, Put, InitDone, Tick, Deliver}
-use Rattle.safe_pdu.specs.declared.Kind.TheVariants.{DiscReq}
+use Rattle.safe_pdu.specs.declared.Kind.TheVariants.{DiscReq, Data}
 use Rattle.safe_machine.specs.declared.ConnectionState.TheVariants.{Closed}
 use Rattle.safe_machine.specs.Made.{leaving_body}
 use Rattle.red_layer.specs.Redundancy.{Receiver}
 use Rattle.end_settings.specs.EndSettings.{EndSettings, connection_of, are_fit}
 use Rattle.stack_engine.specs.Bounds.{IsSmallItem}
-use Rattle.stack_engine.proofs.Keeping.{Keeps, AreOctets, IsTypedInput, IsTypedCall, keep-part, keep-settle}
+use Rattle.stack_engine.proofs.Keeping.{Keeps, AreOctets, IsTypedInput, IsTypedCall, keep-part, keep-settle, call-keeps}
 use Rattle.stack_engine.proofs.Spoken.{Below}
-use Rattle.stack_engine.proofs.Sending.{legal-of}
+use Rattle.stack_engine.proofs.Sending.{and-parts, legal-of, limits-of}
 use Rattle.stack_engine.proofs.Machined.{Whole, OctetsUp, OctetPart, whole-keeps, red-keeps, read-heard, legal-role}
 use Rattle.stack_engine.proofs.Passing.{passing}
+use Rattle.stack_engine.proofs.Mapping.{octets-call}
+use Rattle.stack_engine.proofs.Worlds.{new-whole}
 
 -- what a message says is small
 named-small : (m : List ℕ) (t : Tele) (a b : Option (List ℕ)) → length m ≤ MESSAGE_MAX → read_named a b m ≡ Ok t → length t.payload ≤ PAYLOAD_MAX
@@ -264,3 +266,126 @@ sized-keeps laws side now =
       dones = λ x h. record { whole = k.dones x h.whole; q = h.q; few = h.few; small = subst (AllByRecursion IsSmallItem) (sym (append-nil x.session.history.taken)) h.small };
       times = λ x h. record { whole = k.times x h.whole; q = h.q; few = h.few; small = h.small };
     }
+
+-- an end lets eight parts wait at most
+few-places : (side : Side) (s : EndSettings) → are_fit side s ≡ true → s.q ≤ 8
+few-places side s h =
+    let p = and-parts (nat_le 1 s.n_maxpacket && nat_le s.n_maxpacket UNIT_MESSAGES) _ (and-parts (nat_le 1 s.channels && nat_le s.channels 4) _ (limits-of side s h)).1 in
+    let q = and-parts (nat_le 1 s.q) (nat_le s.q 8) (and-parts (nat_le 1 s.q && nat_le s.q 8) _ p.1).0 in
+    let l = q.1 in grind (arith, nat_tests)
+
+-- the parts of one input
+module _ (laws : Layers) (side : Side) (now : ℕ) where
+  k : Keeps now OctetsUp (Sized side)
+  k = sized-keeps laws side now
+
+  grows-part : (octets : List ℕ) (x : EndState) → AreOctets octets → Sized side x → Grows 37 3 x (part now octets x)
+  grows-part octets x octs h =
+      grows-more (37 + 0) 37 (3 + 0) 3 x (part now octets x) (omega arith) (omega arith)
+      (grows-then 37 0 3 0 x (heard now octets x) (part now octets x) (grows-heard laws side now octets x octs h) (grows-settle (heard now octets x)))
+
+  grows-parts : (ps : List Part) (x : EndState) → AllByRecursion OctetPart ps → Sized side x
+      → Grows (37 * length ps) (3 * length ps) x (parts now ps x) × Sized side (parts now ps x)
+  grows-parts [] x octs h = (grows-same x, h)
+  grows-parts (p ∷ ps) x octs h =
+      let y = part now p.1 x in
+      let rest = grows-parts ps y octs.1 (keep-part now OctetsUp (Sized side) k p.1 x octs.0 h) in (
+        grows-more (37 + 37 * length ps) (37 * length (p ∷ ps)) (3 + 3 * length ps) (3 * length (p ∷ ps)) x (parts now ps y) (omega arith) (omega arith)
+            (grows-then 37 (37 * length ps) 3 (3 * length ps) x y (parts now ps y) (grows-part p.1 x octs.0 h) rest.0),
+        rest.1,
+      )
+
+  -- units go out while the window is open
+  packs-few : (n : ℕ) (x : EndState) → Sized side x
+      → (length (packed_up_to n now x).machine.made + length (unconfirmed x.machine) ≤ length x.machine.made + 32) × Takes_ 0 x.session (packed_up_to n now x).session
+  packs-few zero x h =
+      let few = few-made laws.few side (Guards now) x tt h in (omega (arith, few.few), takes-same x.session x.session refl)
+  packs-few (suc n) x h =
+      let few = few-made laws.few side (Guards now) x tt h in
+      let P : EndState → Type 0 = λ y. (length y.machine.made + length (unconfirmed x.machine) ≤ length x.machine.made + 32) × Takes_ 0 x.session y.session in
+      let same : P x = (omega (arith, few.few), takes-same x.session x.session refl) in
+      by_cond P (is_nil x.session.waiting) x (cond (may_send x.machine) (packed_up_to n now (packed now x)) x) (λ _. same) (λ some.
+      by_cond P (may_send x.machine) (packed_up_to n now (packed now x)) x (λ may.
+      let y = packed now x in
+      let unit = unit_text (take x.settings.n_maxpacket x.session.waiting) in
+      let rest = packs-few n y (k.sends x may some h) in
+      let one : length y.machine.made ≤ length x.machine.made + 1 =
+      by_cond (λ (t : State). length t.made ≤ length x.machine.made + 1) (may_send x.machine) (make Data unit now x.machine) x.machine
+      (λ _. omega (arith, length-append x.machine.made (next_made x.machine Data unit now ∷ []))) (λ _. omega arith) in
+      (omega (arith, rest.0, few.sending unit now may, one), record { few = rest.1.few; small = rest.1.small })) (λ _. same))
+
+  grows-sends : (x : EndState) → Sized side x → Grows 32 0 x (sends now x)
+  grows-sends x h =
+      let all = packs-few (length x.session.waiting) x h in
+      record { made = omega (arith, all.0); takes = all.1 }
+
+  grows-goes_on : (i : Input) (x : EndState) → IsTypedInput i → Sized side x → Grows 365 27 x (goes_on now i x)
+  grows-goes_on i x t h =
+      by_cond (Grows 365 27 x) (is_shut x) x (sends now (receives now i x)) (λ _. grows-more 0 365 0 27 x x (omega arith) (omega arith) (grows-same x)) (λ _.
+      let y = with_input i x in
+      let ps = passed_by i x.red in
+      let p = passing i x.red in
+      let q = few-places side x.settings h.whole.spoken.fit in
+      let nine : length ps ≤ 9 = omega (arith, p.count, h.few, h.q) in
+      let begun : Sized side y = k.inputs i x t h in
+      let through = grows-parts ps y (red-keeps laws.origin i x.red t h.whole.machined.waits).0 begun in
+      let z = receives now i x in
+      let zero : Grows 0 0 x y = record { made = omega arith; takes = takes-same x.session y.session refl } in
+      grows-more (0 + (37 * length ps + 32)) 365 (0 + (3 * length ps + 0)) 27 x (sends now z) (omega arith) (omega arith)
+      (grows-then 0 (37 * length ps + 32) 0 (3 * length ps + 0) x y (sends now z) zero
+      (grows-then (37 * length ps) 32 (3 * length ps) 0 y z (sends now z) through.0 (grows-sends z through.1))))
+
+  -- after one move of the machine that is no arrival
+  grows-moved : (m : Move) (x : EndState) → IsRead m → Sized side x → Grows 36 0 x (moved m x)
+  grows-moved m x read h =
+      let few = few-made laws.few side m x read h in
+      let y = with_machine (move m x.machine) x in
+      let one : Grows 36 0 x y = record { made = few.made; takes = takes-same x.session y.session refl } in
+      grows-more (36 + 0) 36 (0 + 0) 0 x (moved m x) (omega arith) (omega arith) (grows-then 36 0 0 0 x y (moved m x) one (grows-settle y))
+
+  grows-on : (m : Move) (i : Input) (x : EndState) → IsRead m → IsTypedInput i → Sized side x → Sized side (moved m x) → Grows 401 27 x (goes_on now i (moved m x))
+  grows-on m i x read t h after =
+      grows-more (36 + 365) 401 (0 + 27) 27 x (goes_on now i (moved m x)) (omega arith) (omega arith)
+      (grows-then 36 365 0 27 x (moved m x) (goes_on now i (moved m x)) (grows-moved m x read h) (grows-goes_on i (moved m x) t after))
+
+  -- an event of the session that is no arrival
+  grows-meets : (e : Event) (x : EndState) → taken_by e x.session.history.state ≡ [] → Sized side (with_session (meets e x.session) x) → Grows 401 27 x (sends now (with_session (meets e x.session) x))
+  grows-meets e x none after =
+      let y = with_session (meets e x.session) x in
+      let zero : Grows 0 0 x y = record {
+        made = omega arith;
+        takes = takes-same x.session y.session (ap (λ (is : List Item). x.session.history.taken ++ is) none ∙ append-nil x.session.history.taken);
+      } in
+      grows-more (0 + 32) 401 (0 + 0) 27 x (sends now y) (omega arith) (omega arith) (grows-then 0 32 0 0 x y (sends now y) zero (grows-sends y after))
+
+grows-time : (n j : ℕ) (now : ℕ) (x y : EndState) → Grows n j x y → Grows n j x (record y { time = now })
+grows-time n j now x y g = record { made = g.made; takes = g.takes }
+
+pub grows-call : Layers → (side : Side) (c : Call) (x : EndState) → IsTypedCall c → Sized side x → Grows 401 27 x (call c x)
+grows-call laws side (Close now) x t h =
+    grows-time 401 27 now x (moved (Leaves ClosedByUser Unspecified now) x)
+    (grows-more 36 401 0 27 x (moved (Leaves ClosedByUser Unspecified now) x) (omega arith) (omega arith) (grows-moved laws side now (Leaves ClosedByUser Unspecified now) x tt h))
+grows-call laws side (Put kind payload now) x t h =
+    grows-time 401 27 now x (did (Put kind payload now) x)
+    (grows-meets laws side now (Puts kind payload (length x.session.waiting)) x refl ((sized-keeps laws side now).puts kind payload x t h))
+grows-call laws side (InitDone now) x t h =
+    grows-time 401 27 now x (did (InitDone now) x)
+    (grows-meets laws side now (Completes (length x.session.waiting)) x refl ((sized-keeps laws side now).dones x h))
+grows-call laws side (Tick now) x t h =
+    let k = sized-keeps laws side now in
+    grows-time 401 27 now x (did (Tick now) x)
+    (by_cond (Grows 401 27 x) (is_shut x) x (goes_on now (RedTick now) (moved (Ticks now) x)) (λ _. grows-more 0 401 0 27 x x (omega arith) (omega arith) (grows-same x)) (λ _.
+    grows-on laws side now (Ticks now) (RedTick now) x tt tt h (keep-settle now OctetsUp (Sized side) k (with_machine (tick now x.machine) x) (k.ticks x h))))
+grows-call laws side (Deliver channel octets now) x t h =
+    let k = sized-keeps laws side now in
+    grows-time 401 27 now x (did (Deliver channel octets now) x)
+    (by_cond (Grows 401 27 x) (is_shut x) x (goes_on now (Datagram octets now) (moved (Guards now) x)) (λ _. grows-more 0 401 0 27 x x (omega arith) (omega arith) (grows-same x)) (λ _.
+    grows-on laws side now (Guards now) (Datagram octets now) x tt t h (keep-settle now OctetsUp (Sized side) k (with_machine (guard now x.machine) x) (k.guards x h))))
+
+pub sized-call : Layers → (side : Side) (c : Call) (x : EndState) → IsTypedCall c → Sized side x → Sized side (call c x)
+sized-call laws side c x t h =
+    call-keeps c OctetsUp (Sized side) x (sized-keeps laws side (time_of c)) t (octets-call laws.origin c x t h.whole.machined.waits) h
+
+pub sized-new : (side : Side) (s : EndSettings) (first now : ℕ) → are_fit side s ≡ true → Sized side (new_end side s first now)
+sized-new Il s first now fit = record { whole = new-whole Il s first now fit; q = refl; few = omega arith; small = tt }
+sized-new Fe s first now fit = record { whole = new-whole Fe s first now fit; q = refl; few = omega arith; small = tt }

@@ -1,12 +1,12 @@
 -- How many parts go up at an input of the redundancy layer.
-use Rattle.std.proofs.Common.{◌≡◌, ℕ, ◌+◌, ◌*◌, ◌≤◌, List, [], ◌∷◌, ◌++◌, length, Result, Ok, Err, Bool, true, false, cond, refl, ◌∙◌, arith, length-append}
+use Rattle.std.proofs.Common.{◌≡◌, ℕ, ◌+◌, ◌*◌, ◌≤◌, List, [], ◌∷◌, length, Result, Ok, Err, Bool, true, false, cond, refl, ◌∙◌, arith, length-append}
 use Rattle.std.specs.Prelude.{◌==◌, nat_le, nat_lt}
 use Rattle.std.proofs.lemmas.Bool.Decides.{nat_tests}
 use Rattle.octets.proofs.Choices.{by_cond}
 use Rattle.octets.specs.declared.limits.TheConstants.{REACH}
 use Rattle.deferral.specs.FiniteMap.{put_in, has_number}
 use Rattle.red_pdu.specs.declared.RedFault.{RedFault}
-use Rattle.red_layer.specs.declared.RedEvent.TheVariants.{Passed, Wait, Old, Far, Full, Again, Fault}
+use Rattle.red_layer.specs.declared.RedEvent.TheVariants.{Passed, Wait, Old, Far, Full, Again}
 use Rattle.red_layer.specs.Parts.{Part, is_nil}
 use Rattle.red_layer.specs.Redundancy.{Receiver, Stepped, Input, Datagram, Tick, run_from, after_run, follow, least_waiting, is_due, released, after_release, deferred, arrival, decoded, heard, judged, passed_by, after}
 

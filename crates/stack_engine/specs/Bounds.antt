@@ -1,11 +1,11 @@
 -- How much one event makes at most, so that the room for it can be made before it.
-use Rattle.std.specs.Prelude.{ℕ, ◌≡◌, ◌+◌, ◌≤◌, ◌^◌, ◌<◌, None, List, length}
+use Rattle.std.specs.Prelude.{ℕ, ◌≡◌, ◌+◌, ◌≤◌, true, List, [], length}
 use Rattle.std.specs.List.{AllByRecursion}
 use Rattle.octets.specs.declared.limits.TheConstants.{PAYLOAD_MAX, SAFE_PDU_MAX}
 use Rattle.safe_machine.specs.Made.{Made}
 use Rattle.pdi_session.specs.SessionStep.{Item}
-use Rattle.end_settings.specs.EndSettings.{EndSettings, rule_of}
-use Rattle.stack_end.specs.Ends.{EndState, Call, call}
+use Rattle.end_settings.specs.EndSettings.{EndSettings, are_fit, rule_of}
+use Rattle.stack_end.specs.Ends.{EndState, Call, call, new_end}
 use Rattle.stack_end.specs.Datagrams.{upper_of}
 use Rattle.stack_engine.specs.Pairs.{Event, start, run, present}
 use Rattle.stack_engine.specs.Pairs.Event.{Calls}
@@ -36,3 +36,12 @@ pub record FewMore (x y : EndState) : Type 0 where
 -- every call in every state of an end that a list of events leads to
 abbrev pub FewMoreLaw : Type 0
 FewMoreLaw = (es : List Event) → AreTyped es → (side : Side) (c : Call) → IsTyped (Calls side c) → AtOpened (λ x. FewMore x (call c x)) (present side (run es start))
+
+-- what an end makes when it is opened
+pub record FewFirst (x : EndState) : Type 0 where
+  pub pdus : length x.machine.made ≤ most_pdus
+  pub takes : x.session.history.taken ≡ []
+  pub small_pdus : AllByRecursion (IsSmallPdu x.settings) x.machine.made
+
+abbrev pub FewFirstLaw : Type 0
+FewFirstLaw = (side : Side) (s : EndSettings) (first now : ℕ) → are_fit side s ≡ true → FewFirst (new_end side s first now)
