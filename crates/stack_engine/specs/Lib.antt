@@ -9,3 +9,4 @@ pub mod TextPlaces
 pub mod Events
 pub mod Keeping
 pub mod Bounds
+pub mod Incarnations

@@ -1,0 +1,22 @@
+-- One incarnation of an end, with all that it made, and all that was put in and taken.
+use Rattle.std.specs.Prelude.{◌≡◌, ℕ, ◌+◌, ◌≤◌, ◌/◌, min, List, [], ◌∷◌, ◌++◌, length}
+use Rattle.octets.specs.declared.limits.TheConstants.{PAYLOAD_MAX}
+use Rattle.red_pdu.specs.RedText.{red_text}
+use Rattle.safe_machine.specs.Made.{Made}
+use Rattle.pdi_session.specs.SessionStep.{Item}
+use Rattle.end_settings.specs.EndSettings.{EndSettings, rule_of}
+use Rattle.stack_end.specs.Datagrams.{upper_of}
+use Rattle.stack_engine.specs.Texts.{Shelf}
+
+-- the datagrams of PDUs, the first of which has this index
+abbrev pub datagrams_of : EndSettings → ℕ → List Made → List (List ℕ)
+datagrams_of s index [] = []
+datagrams_of s index (m ∷ ms) = red_text index (upper_of (rule_of s) m) ∷ datagrams_of s (index + 1) ms
+
+-- for so many telegrams of the greatest size there is room
+abbrev pub sure_items : Shelf ℕ → ℕ
+sure_items s = min s.places (s.octets / PAYLOAD_MAX)
+
+-- a telegram is put behind the others, where there is room for it
+abbrev pub TakesItem : Shelf ℕ → Item → Shelf ℕ → Type 0
+TakesItem s item t = length item.1 ≤ PAYLOAD_MAX → 1 ≤ sure_items s → (t.texts ≡ s.texts ++ item ∷ []) × (sure_items s ≤ sure_items t + 1)
