@@ -1,6 +1,8 @@
 -- How little one event makes, over every list of events.
-use Rattle.std.proofs.Common.{◌≡◌, ◌≤◌, List, [], ◌∷◌, length, Option, Some, None, refl, arith}
+use Rattle.std.proofs.Common.{true, ◌≡◌, ◌≤◌, List, [], ◌∷◌, length, Option, Some, None, refl, arith}
+use Rattle.std.specs.Prelude.{nat_le, ◌&&◌}
 use Rattle.std.specs.List.{AllByRecursion}
+use Rattle.std.proofs.lemmas.Bool.Decides.{nat_tests}
 use Rattle.safe_pdu.specs.declared.CodeRule.{CodeRule}
 use Rattle.safe_pdu.specs.declared.CodeLength.{CodeLength}
 use Rattle.safe_pdu.specs.declared.CodeLength.TheVariants.{Zero, Eight, Sixteen}
@@ -9,7 +11,7 @@ use Rattle.safe_machine.specs.Made.{Made}
 use Rattle.safe_machine.specs.Moves.{HaveTexts, TextsLaw}
 use Rattle.safe_machine.specs.World.{Side}
 use Rattle.safe_machine.specs.World.Side.{Il, Fe}
-use Rattle.end_settings.specs.EndSettings.{EndSettings, rule_of}
+use Rattle.end_settings.specs.EndSettings.{EndSettings, are_fit, rule_of}
 use Rattle.stack_end.specs.Ends.{EndState, new_end, Call, call}
 use Rattle.stack_engine.specs.Bounds.{IsSmallPdu, FewMore, FewMoreLaw, FewFirstLaw, most_pdus}
 use Rattle.stack_engine.specs.Pairs.{World, JoinedEnd, Event, start, ends_of, latest, present, refusal, changed, happens, run, call_il, call_fe}
@@ -17,7 +19,13 @@ use Rattle.stack_engine.specs.Pairs.Event.{Open, Calls}
 use Rattle.stack_engine.specs.Premise.{AtOpened, AreTyped, IsTyped}
 use Rattle.stack_engine.proofs.Machined.{machined-texts}
 use Rattle.stack_engine.proofs.Worlds.{opens, typed-call, unless}
+use Rattle.stack_engine.proofs.Sending.{and-parts, limits-of}
 use Rattle.stack_engine.proofs.Few.{Layers, Sized, grows-call, sized-call, sized-new}
+
+-- an end has a channel
+some-channels : (side : Side) (s : EndSettings) → are_fit side s ≡ true → 1 ≤ s.channels
+some-channels side s h =
+    let p = (and-parts (nat_le 1 s.channels) (nat_le s.channels 4) (and-parts (nat_le 1 s.channels && nat_le s.channels 4) _ (limits-of side s h)).0).0 in grind (arith, nat_tests)
 
 -- each end that was opened
 abbrev pub AllSized : World → Type 0
@@ -59,6 +67,7 @@ module _ (laws : Layers) where
       let g = grows-call laws side c x (typed-call side c t) h in
       let after = sized-call laws side c x (typed-call side c t) h in
       record {
+        channels = some-channels side x.settings h.whole.spoken.fit;
         pdus = g.made;
         takes = g.takes.few;
         small_pdus = small-texts y.settings y.machine.made (machined-texts texts side y after.whole.spoken.fit after.whole.machined);
@@ -78,6 +87,7 @@ module _ (laws : Layers) where
       let x = new_end side s first now in
       let h = sized-new side s first now fit in
       record {
+        channels = some-channels side s fit;
         pdus = first-made side;
         takes = first-taken side;
         small_pdus = small-texts s x.machine.made (machined-texts texts side x fit h.whole.machined);

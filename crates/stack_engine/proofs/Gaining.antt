@@ -153,9 +153,9 @@ keeps-all s index ms k l h channels small room =
       datagrams-length s index ms,
     ) in
     let e : map on_first l.datagrams ≡ map on_first k.datagrams ++ firsts (sendings s index ms) =
-        gains (sendings s index ms) (told_of k) (told_of l) (map on_first k.datagrams) (map on_first l.datagrams) h refl refl (firsts-only l.datagrams) (short-sendings s index ms small) few in
+    gains (sendings s index ms) (told_of k) (told_of l) (map on_first k.datagrams) (map on_first l.datagrams) h refl refl (firsts-only l.datagrams) (short-sendings s index ms small) few in
     let f : map on_first l.datagrams ≡ map on_first (k.datagrams ++ datagrams_of s index ms) =
-        e ∙ ap (λ zs. map on_first k.datagrams ++ zs) (firsts-sendings s index ms channels) ∙ sym (map-append on_first k.datagrams (datagrams_of s index ms)) in
+    e ∙ ap (λ zs. map on_first k.datagrams ++ zs) (firsts-sendings s index ms channels) ∙ sym (map-append on_first k.datagrams (datagrams_of s index ms)) in
     sym (octets-of l.datagrams) ∙ ap (map (λ (x : Sending). x.1)) f ∙ octets-of (k.datagrams ++ datagrams_of s index ms)
 
 pub datagrams-append : (s : EndSettings) (index : ℕ) (ms ns : List Made) → datagrams_of s index (ms ++ ns) ≡ datagrams_of s index ms ++ datagrams_of s (index + length ms) ns

@@ -28,6 +28,7 @@ IsSmallPdu s m = length (upper_of (rule_of s) m) ≤ SAFE_PDU_MAX
 
 -- from one state of an end to the next
 pub record FewMore (x y : EndState) : Type 0 where
+  pub channels : 1 ≤ x.settings.channels
   pub pdus : length y.machine.made ≤ length x.machine.made + most_pdus
   pub takes : length y.session.history.taken ≤ length x.session.history.taken + most_taken
   pub small_pdus : AllByRecursion (IsSmallPdu y.settings) y.machine.made
@@ -39,6 +40,7 @@ FewMoreLaw = (es : List Event) → AreTyped es → (side : Side) (c : Call) → 
 
 -- what an end makes when it is opened
 pub record FewFirst (x : EndState) : Type 0 where
+  pub channels : 1 ≤ x.settings.channels
   pub pdus : length x.machine.made ≤ most_pdus
   pub takes : x.session.history.taken ≡ []
   pub small_pdus : AllByRecursion (IsSmallPdu x.settings) x.machine.made
