@@ -6,3 +6,4 @@ pub mod Fields
 pub mod Later
 pub mod Kept
 pub mod EndValue
+pub mod Polling
