@@ -7,3 +7,4 @@ pub mod Later
 pub mod Kept
 pub mod EndValue
 pub mod Polling
+pub mod Lending

@@ -2,6 +2,7 @@
 
 ghost use Rattle.std.specs.Prelude.{◌≡◌, ◌≤◌, ◌^◌, ◌↔◌, ℕ, List, false, length, Option, option_map, Some, None, Ok, Err, IfOk, IfSome, OnOk, OnErr, IfErr, IsErrAnd, MatchResult, if◌then◌else◌};
 ghost use Rattle.std.specs.List.{FoldsTo};
+ghost use Rattle.std.specs.Borrow.{sem};
 ghost use Rattle.channels.specs.Told.{SendsOne};
 ghost use Rattle.end_settings.specs.EndSettings.{are_fit};
 ghost use Rattle.end_settings.specs.Configured.{settings_of, side_of};
@@ -71,6 +72,8 @@ impl<C: Channels, A: Allocator + Copy> End<C, A> {
 }
 
 impl<C: Channels, A: Allocator> End<C, A> {
+    ghost use Rattle.stack_end.specs.Lending.{lends_channels};
+
     /// Takes a datagram that came on a channel, of any octets. What the application takes goes to the taker in order, and what waits is sent
     /// while the peer's window is open. A closed end does nothing.
     pub fn arrive<T: Taker>(&mut self, channel: usize, octets: &[u8], now: u64, taker: &mut T)
@@ -213,6 +216,23 @@ impl<C: Channels, A: Allocator> End<C, A> {
         ensures fits { IfOk result (λ came. IfSome came (λ p. p.1 ≤ length buffer.new)) }
     {
         self.layers.upper.channels.receive(buffer)
+    }
+
+    /// The channels, to be looked at or changed by their owner.
+    pub fn channels(&mut self) -> &mut C
+        ensures* writes_back { sem 𝓛 (lends_channels C.row A.row A.Allocator self.entry result) }
+        ensures now { result.now ≡ channels_of self.old }
+    {
+        let layers = &mut self.layers;
+        let upper = &mut layers.upper;
+        &mut upper.channels
+    }
+
+    /// The channels, to be looked at.
+    pub fn channels_seen(&self) -> &C
+        ensures { result.now ≡ channels_of self.now }
+    {
+        &self.layers.upper.channels
     }
 
     /// The state of the connection.
