@@ -1,5 +1,6 @@
 -- What is told of the channels of an end, and what a sending and a reception add to it.
-use Rattle.std.specs.Prelude.{◌≡◌, ◌==◌, ℕ, ◌+◌, ◌%◌, ◌^◌, ◌≤◌, Bool, true, Option, Some, None, option_map, is_ok, List, [], ◌∷◌, ◌++◌, take, Result, Ok, Err, if◌then◌else◌}
+use Rattle.std.specs.Prelude.{◌≡◌, ◌==◌, ℕ, ◌+◌, ◌%◌, ◌^◌, ◌≤◌, Bool, true, Option, Some, None, option_map, is_ok, List, [], ◌∷◌, ◌++◌, length, take, Result, Ok, Err, if◌then◌else◌}
+use Rattle.octets.specs.declared.limits.TheConstants.{RED_PDU_MAX}
 use Rattle.channels.specs.declared.ChannelFault.{ChannelFault}
 
 -- a channel, from 1 on, and the octets sent on it
@@ -15,7 +16,7 @@ pub record Told : Type 0 where
   pub answers : Option (List Answer)  -- what was answered to a reception, in order, where this is told
   pub failed_sends : ℕ  -- how many sendings failed, modulo 2^64
   pub failed_receives : ℕ  -- and how many receptions
-  pub room : ℕ → ℕ  -- for each channel how many sendings are sure to go out, 0 where this is not known
+  pub room : ℕ → ℕ  -- for each channel how many sendings of at most 1,258 octets are sure to go out, 0 where this is not known
 
 -- modulo 2^64
 abbrev pub counted : Bool → ℕ → ℕ
@@ -25,7 +26,7 @@ counted went n = if went then n else (n + 1) % 2 ^ 64
 pub record Sends (went : Bool) (before : Told) (x : Sending) (after : Told) : Type 0 where
   pub sent : after.sent ≡ option_map (λ xs. xs ++ (if went then x ∷ [] else [])) before.sent
   pub failed : after.failed_sends ≡ counted went before.failed_sends
-  pub sure : 1 ≤ before.room x.0 → went ≡ true
+  pub sure : 1 ≤ before.room x.0 → length x.1 ≤ RED_PDU_MAX → went ≡ true
   pub left : (k : ℕ) → before.room k ≤ after.room k + (if k == x.0 then 1 else 0)
   pub answers : after.answers ≡ before.answers
   pub failed_receives : after.failed_receives ≡ before.failed_receives

@@ -6,6 +6,11 @@
 ghost use Rattle.std.specs.Prelude.{◌≡◌, ◌≤◌, length, is_ok, IfOk, IfSome};
 ghost use Rattle.channels.specs.Told.{Told, Sends, after_receive};
 
+mod memory;
+#[cfg(test)]
+mod tests;
+
+pub use memory::{MemChannels, MemoryFault};
 use pdi_session::Phase;
 use red_layer::RedEvent;
 use safe_machine::{ConnectionState, Step};

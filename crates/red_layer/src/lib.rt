@@ -6,6 +6,7 @@
 
 ghost use Rattle.std.specs.Prelude.{◌≡◌, ℕ, ◌+◌, ◌*◌, ◌%◌, ◌^◌, ◌<◌, ◌≤◌, List, ◌∷◌, length, IfOk, IsSome, Ok, Err, MatchResult};
 ghost use Rattle.std.specs.List.{FoldsTo};
+ghost use Rattle.octets.specs.declared.limits.TheConstants.{SAFE_PDU_MAX};
 ghost use Rattle.deferral.specs.FiniteMap.{Rises, take_out, part_under};
 ghost use Rattle.red_layer.specs.Parts.{map_parts, IsBelow};
 ghost use Rattle.red_layer.specs.Redundancy.{Input, decoded, run_from, after_run, follow, released, after_release, deferred, arrival, judged, passed_by, after, opened, deadline_of};
@@ -55,9 +56,10 @@ pub trait Upward {
     /// The value may take a part with this number.
     ghost ready: { Self → ℕ → Type 0 };
 
-    /// Takes an upper part, and may then take one with the next number.
+    /// Takes an upper part, of at most 1,250 octets, and may then take one with the next number.
     fn up(&mut self, seq: u32, upper: &[u8])
-        requires { ready self.old seq }
+        requires ready { ready self.old seq }
+        requires sized { length upper.now ≤ SAFE_PDU_MAX }
         ensures passed { passes self.old (seq, upper.now) self.new }
         ensures ready { ready self.new (seq + 1) };
 

@@ -49,7 +49,7 @@ unconfirmed-make kind body now s h =
     let m = next_made s kind body now in
     ap run_of (drop-append-le (s.confirmed + 1) s.made (m ∷ []) (omega arith)) ∙ run_after-append [] (drop (s.confirmed + 1) s.made) (m ∷ [])
 
-length-make : (kind : Kind) (body : List ℕ) (now : ℕ) (s : State) → length (make kind body now s).made ≡ length s.made + 1
+pub length-make : (kind : Kind) (body : List ℕ) (now : ℕ) (s : State) → length (make kind body now s).made ≡ length s.made + 1
 length-make kind body now s = length-append s.made (next_made s kind body now ∷ [])
 
 -- a longer run before leaves no shorter run after

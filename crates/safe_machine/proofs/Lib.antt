@@ -50,3 +50,4 @@ pub mod Reaching
 pub mod Nearing
 pub mod Properties
 pub mod Stopping
+pub mod Few

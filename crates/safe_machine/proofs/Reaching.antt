@@ -188,7 +188,7 @@ sure-move (Ticks now) s a h =
 sure-move (Sends unit now) s a h = sure (send unit now s) (bounded-send unit now s h.bounded) (waits-send unit now s (waits s h))
 sure-move (LeavesNow reason detail now) s a h = sure (leave reason detail now s) (bounded-leave reason detail now s h.bounded) (waits-leave reason detail now s (waits s h))
 
-sure-moved : (ms : List Move) (s : State) → AreRead ms → Sure s → Sure (moved ms s)
+pub sure-moved : (ms : List Move) (s : State) → AreRead ms → Sure s → Sure (moved ms s)
 sure-moved [] s a h = h
 sure-moved (m ∷ ms) s a h = sure-moved ms (move m s) a.1 (sure-move m s a.0 h)
 
@@ -219,7 +219,7 @@ texts-moved : (ms : List Move) (s : State) → AreRead ms → Texts s → Texts 
 texts-moved [] s a h = h
 texts-moved (m ∷ ms) s a h = texts-moved ms (move m s) a.1 (kept-move HasNumbers IsUnitSized Texts kept-texts m s (read-allows m a.0) h)
 
-opened-sure : (settings : Settings) (first now : ℕ) → is_legal settings ≡ true → Sure (opened settings first now)
+pub opened-sure : (settings : Settings) (first now : ℕ) → is_legal settings ≡ true → Sure (opened settings first now)
 opened-sure settings first now legal =
     let r = lawful settings legal in
     let begun : State = fresh settings first now Start in

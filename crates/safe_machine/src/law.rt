@@ -3,6 +3,7 @@
 ghost use Rattle.safe_machine.specs.InOrder.{OrderLaw, StaysLaw};
 ghost use Rattle.safe_machine.specs.Law.{FreshAtLastLaw, FreshLaw, JoinedLaw, LossLaw, UnitLaw};
 ghost use Rattle.safe_machine.specs.Moves.{ConnectionsLaw, IdentifiedLaw, MovesLaw, ReachedLaw, SettingsLaw, StrangersLaw, TextsLaw, WaitsLaw};
+ghost use Rattle.safe_machine.specs.Reached.{FewLaw};
 
 /// The laws of two machines, which do nothing when they are called: they hold of every genuine list of openings,
 /// sendings, closings, guards, ticks and arrivals of both ends, however often either is opened.
@@ -45,6 +46,9 @@ pub fn unit_law()
 
     // Each PDU made has a text.
     ensures texts { TextsLaw }
+
+    // At most as many units are unconfirmed as the greatest window has, and a move makes at most four PDUs more than that.
+    ensures few { FewLaw }
 
     // Where moreover each end is opened once at most, no guard leaves, and each end hears the peer's PDUs one by one in
     // the order of their making, no retransmission is asked for, an end that is not closed has the state that its

@@ -93,7 +93,7 @@ pub struct CodeRule {
 
 impl CodeRule {
     /// Whether a code is the one over what stands before it.
-    pub(crate) fn confirms(&self, front: &[u8], code: &[u8]) -> bool
+    pub fn confirms(&self, front: &[u8], code: &[u8]) -> bool
         ensures { result ≡ bytes_eq code.now (code_over self.now front.now) }
     {
         let digest = md4::digest(self.initial_value, front);

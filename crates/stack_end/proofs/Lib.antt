@@ -1,0 +1,5 @@
+pub mod Talking
+pub mod OnChannels
+pub mod Uppers
+pub mod Packs
+pub mod Receiving

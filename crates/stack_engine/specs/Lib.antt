@@ -4,3 +4,7 @@ pub mod Headline
 pub mod Freshness
 pub mod Settled
 pub mod Faithful
+pub mod Texts
+pub mod TextPlaces
+pub mod Events
+pub mod Keeping

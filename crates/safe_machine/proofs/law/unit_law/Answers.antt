@@ -8,6 +8,7 @@ use Rattle.safe_machine.proofs.Strangers.{strangers_law_holds, waits_law_holds}
 use Rattle.safe_machine.proofs.Connections.{connections_law_holds}
 use Rattle.safe_machine.proofs.Carriers.{reached_law_holds}
 use Rattle.safe_machine.proofs.Texts.{texts_law_holds}
+use Rattle.safe_machine.proofs.Few.{few_law_holds}
 use Rattle.safe_machine.proofs.law.unit_law.Goals as goal
 
 pub returns : goal.returns
@@ -25,6 +26,7 @@ returns c = record {
   identified = identified_law_holds;
   reached = reached_law_holds;
   texts = texts_law_holds;
+  few = few_law_holds;
   in_order = order_law_holds;
   stays = stays_law_holds;
 }

@@ -1,0 +1,81 @@
+use crate::{ChannelFault, Channels, MemChannels, MemoryFault};
+use linked_list_allocator::LocalHeap;
+use std::test::Fail;
+
+// Two datagrams are kept as they were sent; a third finds no room, until there is more; one of 1,259 octets is too long.
+#[test]
+fn keeps_what_is_sent(rt: HostRuntime) -> Result<(), Fail> {
+    let mut channels = MemChannels::new(rt.alloc(), 2)?;
+    assert_eq!(rt; channels.send(1, &[1, 2, 3]), Ok(()));
+    assert_eq!(rt; channels.send(4, &[]), Ok(()));
+    assert_eq!(rt; channels.send(2, &[9]), Err(ChannelFault::Room));
+    channels.reserve(1)?;
+    assert_eq!(rt; channels.send(1, &[7; 1259]), Err(ChannelFault::Room));
+    assert_eq!(rt; channels.send(1, &[7; 1258]), Ok(()));
+    for (number, channel, octets) in [
+        (0, 1, [1, 2, 3].as_slice()),
+        (1, 4, [].as_slice()),
+        (2, 1, [7; 1258].as_slice()),
+    ] {
+        let (found, datagram) = channels.sent(number).ok_or("not sent")?;
+        assert_eq!(rt; found, channel, "at {number}");
+        assert_eq!(rt; datagram, octets, "at {number}");
+    }
+    assert!(rt; channels.sent(3).is_none());
+    Ok(())
+}
+
+// What was put in is answered in order, cut to the buffer; an answer that nothing has come uses up room too.
+#[test]
+fn answers_what_was_put_in(rt: HostRuntime) -> Result<(), Fail> {
+    let mut channels = MemChannels::new(rt.alloc(), 4)?;
+    let mut buffer = [0; 4];
+    channels.add(3, &[5, 6])?;
+    channels.add(1, &[1, 2, 3, 4, 5, 6])?;
+    assert_eq!(rt; channels.receive(&mut buffer), Ok(Some((3, 2))));
+    assert_eq!(rt; buffer, [5, 6, 0, 0]);
+    assert_eq!(rt; channels.receive(&mut buffer), Ok(Some((1, 4))));
+    assert_eq!(rt; buffer, [1, 2, 3, 4]);
+    assert_eq!(rt; channels.receive(&mut buffer), Ok(None));
+    channels.add(2, &[8])?;
+    assert_eq!(rt; channels.receive(&mut buffer), Ok(Some((2, 1))));
+    assert_eq!(rt; buffer, [8, 2, 3, 4]);
+    channels.add(2, &[9])?;
+    assert_eq!(rt; channels.receive(&mut buffer), Err(ChannelFault::Room));
+    channels.reserve(1)?;
+    assert_eq!(rt; channels.receive(&mut buffer), Ok(Some((2, 1))));
+    Ok(())
+}
+
+// Heaps of rising size: at some the channels are refused, and at some the room or the datagram; sending and receiving take no memory.
+#[test]
+fn takes_memory_where_it_says(rt: HostRuntime) -> Result<(), Fail> {
+    let mut refused = [false; 3];
+    let mut done = false;
+    for step in 0..256 {
+        let heap = LocalHeap::new(rt.alloc(), step * 64)?;
+        let Ok(mut channels) = MemChannels::new(&heap, 2) else {
+            refused[0] = true;
+            continue;
+        };
+        if channels.reserve(1) == Err(MemoryFault::Memory) {
+            refused[1] = true;
+            continue;
+        }
+        if channels.add(1, &[4; 4000]) == Err(MemoryFault::Memory) {
+            refused[2] = true;
+            assert_eq!(rt; channels.receive(&mut [0; 9]), Ok(None));
+            continue;
+        }
+        let used = heap.used();
+        for _ in 0..3 {
+            assert_eq!(rt; channels.send(1, &[7; 1258]), Ok(()));
+        }
+        assert_eq!(rt; channels.receive(&mut [0; 9]), Ok(Some((1, 9))));
+        assert_eq!(rt; heap.used(), used);
+        done = true;
+    }
+    assert_eq!(rt; refused, [true; 3]);
+    assert!(rt; done);
+    Ok(())
+}

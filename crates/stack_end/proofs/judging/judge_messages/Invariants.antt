@@ -1,0 +1,14 @@
+use Rattle.std.proofs.Common.{drop}
+use Rattle.pdi_session.specs.SessionStep.{FewWait}
+use Rattle.stack_end.specs.Talk.{talk, texts_of}
+use Rattle.stack_end.proofs.Talking.{Along}
+use Rattle.stack_end.proofs.judging.judge_messages.Given as goal
+
+abbrev pub invariant-loop-message : goal.invariant-loop-message
+invariant-loop-message g l =
+    record {
+      few : FewWait l.session l.waiting;
+      along :
+          Along g.T.Taker.takes (texts_of l.messages) (drop l.message-index (texts_of l.messages)) (talk l.initial.session l.initial.waiting l.initial.taker)
+          (talk l.session l.waiting l.taker);
+    }

@@ -1,0 +1,17 @@
+use Rattle.std.proofs.Common.{◌≡◌, refl}
+use Rattle.red_layer.specs.Redundancy.{Datagram, Tick as RedTick}
+use Rattle.safe_machine.specs.Moves.Move.{Guards, Ticks}
+use Rattle.stack_end.specs.Ends.{EndState, did, goes_on, moved, receives, sends}
+use Rattle.stack_end.proofs.Receiving.{end-before, end-moved, end-then, goes-on, open-then}
+use Rattle.stack_end.proofs.Uppers.{went-told}
+use Rattle.stack_end.proofs.layers.Layers.tick.Goals as goal
+
+pub returns-in_default-clause-does : goal.returns-in_default-clause-does
+returns-in_default-clause-does g c x h =
+    let y : EndState = moved (Ticks c.args.now) x in
+    let z : EndState = goes_on c.args.now (RedTick c.args.now) y in
+    let a = c.tick.ensures.does x h.upper in
+    let told = went-told x y _ _ _ c.tell_change.ensures a.0 in
+    let b = c.wait.ensures.does y (end-moved x y _ _ _ h told) in
+    open-then g.T.Taker.takes x z _ _ _ _ _ c.state.result (c.state.ensures.state x.machine h.upper.machine) c.in_default.not-Closed
+    (end-before g.T.Taker.takes x y z _ _ _ _ _ _ told a.1 b)

@@ -1,0 +1,16 @@
+use Rattle.std.proofs.Common.{◌≡◌, refl}
+use Rattle.red_layer.specs.Redundancy.{Datagram, Tick as RedTick}
+use Rattle.safe_machine.specs.Moves.Move.{Guards, Ticks}
+use Rattle.stack_end.specs.Ends.{EndState, did, goes_on, moved, receives, sends}
+use Rattle.stack_end.proofs.Receiving.{end-before, end-moved, end-then, goes-on, open-then}
+use Rattle.stack_end.proofs.Uppers.{went-told}
+use Rattle.stack_end.proofs.layers.Layers.wait.Goals as goal
+
+pub returns-in_default-clause-does : goal.returns-in_default-clause-does
+returns-in_default-clause-does g c x h =
+    let i = RedTick c.args.now in
+    let y : EndState = receives c.args.now i x in
+    let a = c.pass_time.ensures.does x h in
+    let b = c.send_waiting.ensures.does y a.stands.upper in
+    goes-on g.T.Taker.takes c.args.now i x _ _ _ _ _ c.state.result (c.state.ensures.state x.machine h.upper.machine) c.in_default.not-Closed
+    (end-then g.T.Taker.takes x y (sends c.args.now y) _ _ _ _ _ _ a b.0 b.1)

@@ -1,0 +1,8 @@
+use Rattle.std.proofs.Common.{is_ok}
+use Rattle.channels.specs.Told.{SendsOne}
+use Rattle.stack_end.proofs.OnChannels.{FoldsTo-channel}
+use Rattle.stack_end.proofs.sending.send_on_all.Goals as goal
+
+pub loop-channel-preserved : goal.loop-channel-preserved
+loop-channel-preserved g c =
+    FoldsTo-channel SendsOne c.loop-channel.channel c.args.datagram.now _ _ _ c.loop-channel.invariant (is_ok c.send.result, c.send.ensures)

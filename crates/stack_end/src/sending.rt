@@ -1,0 +1,45 @@
+//! The PDUs that go out: each gets its number, and is sent on every channel.
+
+ghost use Rattle.std.specs.Prelude.{◌≡◌, ◌+◌, ◌%◌, ◌^◌};
+ghost use Rattle.std.specs.List.{FoldsTo};
+ghost use Rattle.red_pdu.specs.RedText.{red_text};
+ghost use Rattle.channels.specs.Told.{SendsOne};
+ghost use Rattle.stack_end.specs.Datagrams.{on_channels};
+
+use channels::Channels;
+use octets::limits::RED_PDU_MAX;
+use red_layer::Numbers;
+use safe_machine::PduOut;
+
+/// Gives the PDUs that a machine makes their numbers, and sends each on every channel.
+#[derive(Drop)]
+pub(crate) struct ToChannels<'a, 'b, C> {
+    /// The channels of the end.
+    pub(crate) channels: &'a mut C,
+    /// The redundancy numbers of this incarnation.
+    pub(crate) numbers: &'b mut Numbers,
+    /// How many channels there are.
+    pub(crate) count: usize,
+}
+
+impl<'a, 'b, C: Channels> PduOut for ToChannels<'a, 'b, C> {
+    ghost makes = { λ s pdu t.
+        (t.channels.ghost_name ≡ s.channels.ghost_name) × (t.numbers.ghost_name ≡ s.numbers.ghost_name) × (t.count ≡ s.count)
+        × (t.numbers.now ≡ (s.numbers.now + 1) % 2 ^ 32)
+        × FoldsTo SendsOne (C.told s.channels.now) (on_channels s.count (red_text s.numbers.now pdu)) (C.told t.channels.now) };
+
+    fn made(&mut self, pdu: &[u8]) {
+        let mut buffer = [0; RED_PDU_MAX];
+        let size = red_pdu::encode(self.numbers.next(), pdu, &mut buffer);
+        send_on_all(self.channels, self.count, &buffer[..size]);
+    }
+}
+
+/// Sends a datagram on every channel in order. A channel that does not take it has lost it.
+fn send_on_all<C: Channels>(channels: &mut C, count: usize, datagram: &[u8])
+    ensures { FoldsTo SendsOne (C.told channels.old) (on_channels count datagram.now) (C.told channels.new) }
+{
+    for channel in 0..count {
+        let _ = channels.send(channel + 1, datagram);
+    }
+}

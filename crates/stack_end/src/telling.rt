@@ -1,0 +1,91 @@
+//! What channels are told of an end's doings, for traces and logs.
+
+ghost use Rattle.std.specs.Prelude.{◌≡◌};
+
+use crate::judging::Phases;
+use channels::{Channels, Note};
+use octets::limits::SAFE_HEADER;
+use packing::unpack;
+use pdi_session::Phase;
+use red_layer::RedEvent;
+use safe_machine::{ConnectionState, Step};
+
+/// State and phase of an end at one moment.
+#[derive(Clone, Copy)]
+pub(crate) struct Seen {
+    /// The state of its connection.
+    pub(crate) state: ConnectionState,
+    /// The phase of its session.
+    pub(crate) phase: Phase,
+}
+
+/// Tells what the redundancy layer did with a datagram.
+pub(crate) fn tell_event<C: Channels>(channels: &mut C, octets: &[u8], event: RedEvent)
+    ensures { C.told channels.new ≡ C.told channels.old }
+{
+    let number = match red_pdu::decode(octets) {
+        Ok(pdu) => Some(pdu.seq),
+        Err(_) => None,
+    };
+    channels.note(&Note::Redundancy(number, event));
+}
+
+/// Tells what the machine did with a part, and then what its unit did in the session: a message after which the phase is
+/// the same was taken, if it did not end the session.
+pub(crate) fn tell_step<C: Channels>(
+    channels: &mut C,
+    number: u32,
+    step: Step,
+    part: &[u8],
+    code: usize,
+    phase: Phase,
+    phases: &Phases,
+    ended: bool,
+)
+    ensures { C.told channels.new ≡ C.told channels.old }
+{
+    channels.note(&Note::Step(number, step));
+    let phases = phases.as_slice();
+    if phases.is_empty() {
+        return;
+    }
+    let end = part.len().saturating_sub(code);
+    let Some(unit) = part.get(SAFE_HEADER..end) else {
+        return;
+    };
+    let Ok(messages) = unpack(unit) else {
+        return;
+    };
+    let mut before = phase;
+    let mut left = phases.len();
+    for (message, after) in messages.iter().zip(phases) {
+        left = left.saturating_sub(1);
+        if *after != before {
+            channels.note(&Note::Phase(*after));
+        } else if left > 0 || !ended {
+            tell_take(channels, message);
+        }
+        before = *after;
+    }
+}
+
+/// Tells a telegram that was taken.
+fn tell_take<C: Channels>(channels: &mut C, message: &[u8])
+    ensures { C.told channels.new ≡ C.told channels.old }
+{
+    if let Ok(telegram) = sci_telegram::decode(message) {
+        channels.note(&Note::Take(telegram.kind, telegram.payload));
+    }
+}
+
+/// Tells state and phase, where they are others than before.
+pub(crate) fn tell_change<C: Channels>(channels: &mut C, before: Seen, after: Seen)
+    ensures { C.told channels.new ≡ C.told channels.old }
+{
+    if after.state != before.state {
+        channels.note(&Note::State(after.state));
+    }
+    if after.phase != before.phase {
+        channels.note(&Note::Phase(after.phase));
+    }
+}

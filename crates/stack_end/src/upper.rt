@@ -1,0 +1,451 @@
+//! All of an end but its redundancy layer.
+
+ghost use Rattle.std.specs.Prelude.{◌≡◌, ◌+◌, ◌*◌, ◌<◌, ◌≤◌, ◌^◌, ℕ, length, true, if◌then◌else◌, OnOk, OnErr, MatchResult, Some, None};
+ghost use Rattle.octets.specs.declared.limits.TheConstants.{SAFE_PDU_MAX, UNIT_MESSAGES};
+ghost use Rattle.safe_machine.specs.Moves.Move.{Guards, Leaves, Ticks};
+ghost use Rattle.safe_machine.specs.declared.Reason.TheVariants.{ClosedByUser};
+ghost use Rattle.safe_machine.specs.declared.Detail.TheVariants.{Unspecified};
+ghost use Rattle.pdi_session.specs.SessionStep.{FewWait, init_refusal, put_refusal};
+ghost use Rattle.safe_machine.specs.Properties.{index_step};
+ghost use Rattle.red_layer.specs.Redundancy.{Datagram, Tick as RedTick};
+ghost use Rattle.channels.specs.Told.{SendsOne};
+ghost use Rattle.stack_end.specs.Dialogue.{Leaving};
+ghost use Rattle.stack_end.specs.Ends.{EndState, InitDone, Put, did, leaves, moved, part, receives, sends, settle};
+ghost use Rattle.stack_end.specs.Fields.{Asks, BothDo, Does, DoesAlone, can_pack, fields_of, heard_alone, leaving_at, noted_from, packed_once, rises_from};
+
+use crate::judging::{Phases, ToSession};
+use crate::sending::ToChannels;
+use crate::telling::{Seen, tell_change, tell_event, tell_step};
+use arrayvec::ArrayVec;
+use channels::Channels;
+use octets::limits::{SAFE_PDU_MAX, UNIT_MESSAGES};
+use packing::{Waiting, pack};
+use pdi_session::{InitFault, PutFault, Session, Taker};
+use red_layer::{Numbers, RedLayer, Upward};
+use safe_machine::{ConnectionState, Detail, Machine, Reason, Step, unit_law};
+use std::alloc::{Allocator, Global};
+
+/// All of an end but its redundancy layer.
+#[derive(Drop)]
+pub(crate) struct Upper<C, A: Allocator = Global> {
+    /// The channels of the end.
+    pub(crate) channels: C,
+    /// The redundancy numbers of this incarnation.
+    pub(crate) numbers: Numbers,
+    /// The safety machine.
+    pub(crate) machine: Machine<A>,
+    /// The session.
+    pub(crate) session: Session,
+    /// The messages that wait to be sent.
+    pub(crate) waiting: Waiting<A>,
+    /// The octets of the ConnReq that a field element took.
+    pub(crate) request: Option<Part>,
+    /// How many channels there are.
+    pub(crate) count: usize,
+    /// How many messages are packed into one unit at most.
+    pub(crate) max: usize,
+    /// How many octets of safety code a PDU ends with.
+    pub(crate) code: usize,
+}
+
+/// The octets of an upper part.
+type Part = ArrayVec<u8, SAFE_PDU_MAX>;
+
+/// What the machine did with a part, and the session with its unit.
+#[derive(Drop)]
+struct Heard {
+    /// The answer of the machine.
+    step: Step,
+    /// Why the end is to leave its connection, if it is.
+    asked: Option<(Reason, Detail)>,
+    /// The phase of the session after each message.
+    phases: Phases,
+}
+
+impl<C: Channels, A: Allocator> Upper<C, A> {
+    /// The machine takes a part, and the session the unit that goes up. Answers why the end is to leave, if it is.
+    fn hear<T: Taker>(&mut self, octets: &[u8], now: u64, taker: &mut T) -> Heard
+        requires reach { self.old.machine.expected < 2 ^ 62 }
+        requires few { FewWait self.old.session self.old.waiting }
+        ensures does { Does T.takes (heard_alone now octets.now)
+            (fields_of C.told self.old) taker.old
+            (fields_of C.told self.new) taker.new }
+        ensures asks { Asks (leaving_at now octets.now)
+            (fields_of C.told self.old) result.asked }
+        ensures same { self.new.max ≡ self.old.max }
+        ensures near { self.new.machine.expected ≤ self.old.machine.expected + index_step }
+        ensures few { FewWait self.new.session self.new.waiting }
+    {
+        unit_law();
+        let _before = self.machine.state();
+        let mut out = ToChannels {
+            channels: &mut self.channels,
+            numbers: &mut self.numbers,
+            count: self.count,
+        };
+        let mut units = ToSession {
+            session: &mut self.session,
+            waiting: &mut self.waiting,
+            taker,
+            asked: None,
+            phases: Phases::new(),
+        };
+        let step = self.machine.arrive(octets, now, &mut out, &mut units);
+        Heard {
+            step,
+            asked: units.asked,
+            phases: units.phases,
+        }
+    }
+
+    /// The session goes up with the connection.
+    fn rise(&mut self, before: ConnectionState)
+        requires few { FewWait self.old.session self.old.waiting }
+        ensures does { DoesAlone (rises_from before)
+            (fields_of C.told self.old)
+            (fields_of C.told self.new) }
+        ensures same { self.new.max ≡ self.old.max }
+        ensures near { self.new.machine.expected ≡ self.old.machine.expected }
+        ensures few { FewWait self.new.session self.new.waiting }
+    {
+        match (before, self.machine.state()) {
+            (ConnectionState::Start, ConnectionState::Up) => self.session.up(&mut self.waiting),
+            _ => {}
+        }
+    }
+
+    /// Leaves the connection, where this is asked for.
+    fn leave(&mut self, asked: Option<(Reason, Detail)>, now: u64)
+        ensures does { DoesAlone (leaves now asked)
+            (fields_of C.told self.old)
+            (fields_of C.told self.new) }
+        ensures same { self.new.max ≡ self.old.max }
+        ensures near { self.new.machine.expected ≡ self.old.machine.expected }
+        ensures few { FewWait self.old.session self.old.waiting → FewWait self.new.session self.new.waiting }
+    {
+        unit_law();
+        let _before = self.machine.state();
+        if let Some((reason, detail)) = asked {
+            let mut out = ToChannels {
+                channels: &mut self.channels,
+                numbers: &mut self.numbers,
+                count: self.count,
+            };
+            self.machine.close(reason, detail, now, &mut out);
+        }
+    }
+
+    /// Where the machine is closed the session ends.
+    fn settle(&mut self)
+        ensures does { DoesAlone settle
+            (fields_of C.told self.old)
+            (fields_of C.told self.new) }
+        ensures same { self.new.max ≡ self.old.max }
+        ensures near { self.new.machine.expected ≡ self.old.machine.expected }
+        ensures few { FewWait self.old.session self.old.waiting → FewWait self.new.session self.new.waiting }
+    {
+        if self.machine.state() == ConnectionState::Closed {
+            self.session.end();
+        }
+    }
+
+    /// Takes a part that goes up.
+    pub(crate) fn part<T: Taker>(&mut self, number: u32, octets: &[u8], now: u64, taker: &mut T)
+        requires reach { self.old.machine.expected < 2 ^ 62 }
+        requires sized { length octets.now ≤ SAFE_PDU_MAX }
+        requires few { FewWait self.old.session self.old.waiting }
+        ensures does { Does T.takes (part now octets.now)
+            (fields_of C.told self.old) taker.old
+            (fields_of C.told self.new) taker.new }
+        ensures same { self.new.max ≡ self.old.max }
+        ensures near { self.new.machine.expected ≤ self.old.machine.expected + index_step }
+        ensures few { FewWait self.new.session self.new.waiting }
+    {
+        let before = self.machine.state();
+        let asked = self.hear_and_tell(number, octets, now, taker);
+        let seen = self.seen();
+        self.note_request(before, octets);
+        self.rise(before);
+        self.leave(asked, now);
+        self.settle();
+        let after = self.seen();
+        tell_change(&mut self.channels, seen, after);
+    }
+
+    /// The machine takes a part, and the session the unit that goes up; both are told. Answers why the end is to leave, if it is.
+    fn hear_and_tell<T: Taker>(&mut self, number: u32, octets: &[u8], now: u64, taker: &mut T) -> Option<(Reason, Detail)>
+        requires reach { self.old.machine.expected < 2 ^ 62 }
+        requires few { FewWait self.old.session self.old.waiting }
+        ensures does { Does T.takes (heard_alone now octets.now)
+            (fields_of C.told self.old) taker.old
+            (fields_of C.told self.new) taker.new }
+        ensures asks { Asks (leaving_at now octets.now)
+            (fields_of C.told self.old) result }
+        ensures same { self.new.max ≡ self.old.max }
+        ensures near { self.new.machine.expected ≤ self.old.machine.expected + index_step }
+        ensures few { FewWait self.new.session self.new.waiting }
+    {
+        let before = self.seen();
+        let heard = self.hear(octets, now, taker);
+        let phase = self.session.phase();
+        tell_step(&mut self.channels, number, heard.step, octets, self.code, before.phase, &heard.phases, heard.asked.is_some());
+        let seen = Seen { state: before.state, phase };
+        let after = self.seen();
+        tell_change(&mut self.channels, seen, after);
+        heard.asked
+    }
+
+    /// State and phase, for notes.
+    pub(crate) fn seen(&self) -> Seen {
+        Seen {
+            state: self.machine.state(),
+            phase: self.session.phase(),
+        }
+    }
+
+    /// The octets are kept, where the connection started with them.
+    fn note_request(&mut self, before: ConnectionState, octets: &[u8])
+        requires sized { length octets.now ≤ SAFE_PDU_MAX }
+        ensures does { DoesAlone (noted_from before octets.now)
+            (fields_of C.told self.old)
+            (fields_of C.told self.new) }
+        ensures same { self.new.max ≡ self.old.max }
+        ensures near { self.new.machine.expected ≡ self.old.machine.expected }
+        ensures few { FewWait self.old.session self.old.waiting → FewWait self.new.session self.new.waiting }
+    {
+        match (before, self.machine.state()) {
+            (ConnectionState::Down, ConnectionState::Start) => self.request = Some(kept(octets)),
+            _ => {}
+        }
+    }
+
+    /// The guard alone.
+    pub(crate) fn guard(&mut self, now: u64)
+        ensures does { DoesAlone (moved (Guards now))
+            (fields_of C.told self.old)
+            (fields_of C.told self.new) }
+        ensures same { self.new.max ≡ self.old.max }
+        ensures near { self.new.machine.expected ≡ self.old.machine.expected }
+        ensures few { FewWait self.old.session self.old.waiting → FewWait self.new.session self.new.waiting }
+    {
+        unit_law();
+        let _before = self.machine.state();
+        let mut out = ToChannels {
+            channels: &mut self.channels,
+            numbers: &mut self.numbers,
+            count: self.count,
+        };
+        self.machine.guard(now, &mut out);
+        self.settle();
+    }
+
+    /// The guard, and a heartbeat where one is due.
+    pub(crate) fn tick(&mut self, now: u64)
+        ensures does { DoesAlone (moved (Ticks now))
+            (fields_of C.told self.old)
+            (fields_of C.told self.new) }
+        ensures same { self.new.max ≡ self.old.max }
+        ensures near { self.new.machine.expected ≡ self.old.machine.expected }
+        ensures few { FewWait self.old.session self.old.waiting → FewWait self.new.session self.new.waiting }
+    {
+        unit_law();
+        let _before = self.machine.state();
+        let mut out = ToChannels {
+            channels: &mut self.channels,
+            numbers: &mut self.numbers,
+            count: self.count,
+        };
+        self.machine.tick(now, &mut out);
+        self.settle();
+    }
+
+    /// The user closes the connection.
+    pub(crate) fn close(&mut self, now: u64)
+        ensures does { DoesAlone (moved (Leaves ClosedByUser Unspecified now))
+            (fields_of C.told self.old)
+            (fields_of C.told self.new) }
+        ensures same { self.new.max ≡ self.old.max }
+        ensures near { self.new.machine.expected ≡ self.old.machine.expected }
+        ensures few { FewWait self.old.session self.old.waiting → FewWait self.new.session self.new.waiting }
+    {
+        self.leave(Some((Reason::ClosedByUser, Detail::Unspecified)), now);
+        self.settle();
+    }
+
+    /// Puts in a command or status, which is sent where the machine may send.
+    pub(crate) fn put(&mut self, kind: u16, payload: &[u8], now: u64) -> Result<(), PutFault>
+        requires some { 1 ≤ self.old.max }
+        requires most { self.old.max ≤ UNIT_MESSAGES }
+        ensures does { OnOk result (DoesAlone (did (Put kind payload.now now))
+            (fields_of C.told self.old)
+            (fields_of C.told self.new)) }
+        ensures refused { OnErr result (self.new ≡ self.old) }
+        ensures answer { MatchResult result (λ _. put_refusal self.old.session kind payload.now (length self.old.waiting) ≡ None)
+            (λ fault. put_refusal self.old.session kind payload.now (length self.old.waiting) ≡ Some fault) }
+        ensures same { self.new.max ≡ self.old.max }
+        ensures near { self.new.machine.expected ≡ self.old.machine.expected }
+        ensures few { FewWait self.old.session self.old.waiting → FewWait self.new.session self.new.waiting }
+    {
+        match self.session.put(kind, payload, &mut self.waiting) {
+            Ok(()) => {
+                self.send_waiting(now);
+                Ok(())
+            }
+            Err(fault) => Err(fault),
+        }
+    }
+
+    /// The application of a field element has put its initial status in: its end is sent behind it.
+    pub(crate) fn init_done(&mut self, now: u64) -> Result<(), InitFault>
+        requires some { 1 ≤ self.old.max }
+        requires most { self.old.max ≤ UNIT_MESSAGES }
+        ensures does { OnOk result (DoesAlone (did (InitDone now))
+            (fields_of C.told self.old)
+            (fields_of C.told self.new)) }
+        ensures refused { OnErr result (self.new ≡ self.old) }
+        ensures answer { MatchResult result (λ _. init_refusal self.old.session (length self.old.waiting) ≡ None)
+            (λ fault. init_refusal self.old.session (length self.old.waiting) ≡ Some fault) }
+        ensures same { self.new.max ≡ self.old.max }
+        ensures near { self.new.machine.expected ≡ self.old.machine.expected }
+        ensures few { FewWait self.old.session self.old.waiting → FewWait self.new.session self.new.waiting }
+    {
+        let seen = self.seen();
+        match self.session.init_done(&mut self.waiting) {
+            Ok(()) => {
+                let after = self.seen();
+                tell_change(&mut self.channels, seen, after);
+                self.send_waiting(now);
+                Ok(())
+            }
+            Err(fault) => Err(fault),
+        }
+    }
+
+    /// Packs a unit and sends it, where messages wait and the machine may send; answers whether it did.
+    fn pack_one(&mut self, now: u64) -> bool
+        requires some { 1 ≤ self.old.max }
+        requires most { self.old.max ≤ UNIT_MESSAGES }
+        ensures does { DoesAlone (packed_once now)
+            (fields_of C.told self.old)
+            (fields_of C.told self.new) }
+        ensures packs { Asks can_pack (fields_of C.told self.old) result }
+        ensures fewer { length self.new.waiting + (if result then 1 else 0) ≤ length self.old.waiting }
+        ensures same { self.new.max ≡ self.old.max }
+        ensures near { self.new.machine.expected ≡ self.old.machine.expected }
+        ensures few { FewWait self.old.session self.old.waiting → FewWait self.new.session self.new.waiting }
+    {
+        unit_law();
+        let _before = self.machine.state();
+        if !self.machine.may_send() {
+            return false;
+        }
+        let Some(unit) = pack(&mut self.waiting, self.max) else {
+            return false;
+        };
+        let mut out = ToChannels {
+            channels: &mut self.channels,
+            numbers: &mut self.numbers,
+            count: self.count,
+        };
+        let _sent = self.machine.send(&unit, now, &mut out);
+        true
+    }
+
+    /// Packs and sends while messages wait and the machine may send.
+    pub(crate) fn send_waiting(&mut self, now: u64)
+        requires some { 1 ≤ self.old.max }
+        requires most { self.old.max ≤ UNIT_MESSAGES }
+        ensures does { DoesAlone (sends now)
+            (fields_of C.told self.old)
+            (fields_of C.told self.new) }
+        ensures same { self.new.max ≡ self.old.max }
+        ensures near { self.new.machine.expected ≡ self.old.machine.expected }
+        ensures few { FewWait self.old.session self.old.waiting → FewWait self.new.session self.new.waiting }
+    {
+        let mut packs = true;
+        while packs {
+            packs = self.pack_one(now);
+        }
+    }
+}
+
+/// A copy of an upper part.
+fn kept(octets: &[u8]) -> Part
+    requires { length octets.now ≤ SAFE_PDU_MAX }
+    ensures { result.items ≡ octets.now }
+{
+    let mut part = Part::new();
+    let _fits = part.try_extend_from_slice(octets);
+    part
+}
+
+/// Hands the parts that go up to what is above the redundancy layer.
+#[derive(Drop)]
+struct ToUpper<'a, 'b, C, A: Allocator, T> {
+    upper: &'a mut Upper<C, A>,
+    taker: &'b mut T,
+    now: u64,
+}
+
+impl<'a, 'b, C: Channels, A: Allocator, T: Taker> Upward for ToUpper<'a, 'b, C, A, T> {
+    ghost use Rattle.std.specs.Prelude.{◌≡◌, ◌*◌, ◌≤◌};
+    ghost use Rattle.stack_end.specs.Later.{later_reach};
+
+    ghost passes = { λ s p t.
+        (t.upper.ghost_name ≡ s.upper.ghost_name) × (t.taker.ghost_name ≡ s.taker.ghost_name) × (t.now ≡ s.now)
+        × (t.upper.now.max ≡ s.upper.now.max)
+        × Does T.takes (part s.now p.1)
+            (fields_of C.told s.upper.now) s.taker.now
+            (fields_of C.told t.upper.now) t.taker.now };
+
+    ghost ready = { λ s n. (s.upper.now.machine.expected ≤ 321 * n) × FewWait s.upper.now.session s.upper.now.waiting };
+
+    fn up(&mut self, seq: u32, upper: &[u8]) {
+        self.upper.part(seq, upper, self.now, self.taker);
+    }
+
+    ghost later = { λ s n m le h. (later_reach s.upper.now.machine.expected n m le h.0, h.1) };
+}
+
+impl<C: Channels, A: Allocator> Upper<C, A> {
+    /// The redundancy layer takes a datagram, and what is above it each part that goes up.
+    pub(crate) fn receive<B: Allocator, T: Taker>(&mut self, red: &mut RedLayer<B>, octets: &[u8], now: u64, taker: &mut T)
+        requires now { now ≤ 2 ^ 62 }
+        requires reach { self.old.machine.expected ≤ 321 * red.old.expected }
+        requires few { FewWait self.old.session self.old.waiting }
+        ensures does { BothDo T.takes (receives now (Datagram octets.now now))
+            red.old (fields_of C.told self.old) taker.old
+            red.new (fields_of C.told self.new) taker.new }
+        ensures reach { self.new.machine.expected ≤ 321 * red.new.expected }
+        ensures same { self.new.max ≡ self.old.max }
+        ensures few { FewWait self.new.session self.new.waiting }
+    {
+        let mut up = ToUpper {
+            upper: self,
+            taker,
+            now,
+        };
+        let event = red.arrive(octets, now, &mut up);
+        tell_event(&mut self.channels, octets, event);
+    }
+
+    /// The redundancy layer tries its deadline, and what is above it takes each part that goes up.
+    pub(crate) fn pass_time<B: Allocator, T: Taker>(&mut self, red: &mut RedLayer<B>, now: u64, taker: &mut T)
+        requires now { now ≤ 2 ^ 62 }
+        requires reach { self.old.machine.expected ≤ 321 * red.old.expected }
+        requires few { FewWait self.old.session self.old.waiting }
+        ensures does { BothDo T.takes (receives now (RedTick now))
+            red.old (fields_of C.told self.old) taker.old
+            red.new (fields_of C.told self.new) taker.new }
+        ensures reach { self.new.machine.expected ≤ 321 * red.new.expected }
+        ensures same { self.new.max ≡ self.old.max }
+        ensures few { FewWait self.new.session self.new.waiting }
+    {
+        let mut up = ToUpper {
+            upper: self,
+            taker,
+            now,
+        };
+        red.tick(now, &mut up);
+    }
+}

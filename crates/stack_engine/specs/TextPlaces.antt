@@ -1,0 +1,21 @@
+-- Texts by their places in one buffer.
+use Rattle.std.specs.Prelude.{ℕ, ◌≤◌, List, map, length, slice_range}
+use Rattle.std.specs.List.{AllByRecursion}
+use Rattle.std.specs.Borrow.{Bor}
+use Rattle.stack_engine.specs.declared.texts.Kept.{Kept}
+
+abbrev pub text_in : {T : Type 0} → List ℕ → Kept T → T × List ℕ
+text_in octets k = (k.head, slice_range octets k.from k.to)
+
+abbrev pub texts_in : {T : Type 0} → List ℕ → List (Kept T) → List (T × List ℕ)
+texts_in octets ks = map (text_in octets) ks
+
+abbrev pub IsWithin : {T : Type 0} → List ℕ → Kept T → Type 0
+IsWithin octets k = (k.from ≤ k.to) × (k.to ≤ length octets)
+
+abbrev pub AreWithin : {T : Type 0} → List ℕ → List (Kept T) → Type 0
+AreWithin octets ks = AllByRecursion (IsWithin octets) ks
+
+-- without where it lies in memory
+abbrev pub seen_text : {T : Type 0} → Bor T × Bor (List ℕ) → T × List ℕ
+seen_text p = (p.0.now, p.1.now)

@@ -1,0 +1,129 @@
+//! Channels that keep each PDU of an end once, and what the end tells of its doings.
+
+ghost use Rattle.std.specs.Prelude.{◌≡◌, ◌≤◌, ◌+◌, ◌*◌, ◌<◌, [], OnOk, slice_index_or, length, drop};
+ghost use Rattle.std.specs.List.{list_any};
+ghost use Rattle.std.specs.Str.{bytes_eq};
+ghost use Rattle.octets.specs.declared.limits.TheConstants.{RED_HEADER, RED_PDU_MAX};
+ghost use Rattle.stack_engine.specs.Keeping.{Keeping, has_part};
+
+use crate::texts::Texts;
+use channels::{ChannelFault, Channels};
+use octets::limits::{RED_HEADER, RED_PDU_MAX};
+use std::alloc::{AllocError, Allocator, Global};
+use std::marker::Model;
+
+/// On which channel datagrams are kept: every PDU is sent on it first.
+const KEPT_CHANNEL: usize = 1;
+
+/// Keeps what is sent on channel 1, in order. What is sent on another channel is a copy of it, and fails. Nothing is received.
+///
+/// A sending takes no memory: without room for it, it fails.
+#[derive(Drop)]
+pub struct Keeper<A: Allocator = Global> {
+    datagrams: Texts<(), A>,
+    failed_sends: u64,
+}
+
+impl<A: Allocator> Model for Keeper<A> {
+    ghost use Rattle.std.specs.Prelude.{map};
+    ghost use Rattle.stack_engine.specs.Keeping.{Keeping};
+
+    ghost Value = { Keeping };
+
+    ghost view = { λ k. record {
+      datagrams = map (λ t. t.1) k.datagrams.texts;
+      places = k.datagrams.places;
+      octets = k.datagrams.octets;
+      failed_sends = k.failed_sends;
+    } };
+}
+
+impl<A: Allocator + Copy> Keeper<A> {
+    /// Nothing is kept, and there is no room.
+    pub fn new(alloc: A) -> Self
+        ensures { result.datagrams ≡ [] }
+    {
+        Keeper {
+            datagrams: Texts::new(alloc),
+            failed_sends: 0,
+        }
+    }
+
+    /// Makes room for so many datagrams. The error is that memory was refused.
+    pub fn reserve(&mut self, datagrams: usize) -> Result<(), AllocError>
+        requires { datagrams ≤ 1000 }
+        ensures same { self.new.datagrams ≡ self.old.datagrams }
+        ensures places { OnOk result (datagrams ≤ self.new.places) }
+        ensures octets { OnOk result (datagrams * RED_PDU_MAX ≤ self.new.octets) }
+    {
+        self.datagrams.reserve(datagrams, datagrams * RED_PDU_MAX)
+    }
+}
+
+impl<A: Allocator> Keeper<A> {
+    /// How many datagrams were kept.
+    pub fn len(&self) -> usize
+        ensures { result ≡ length self.now.datagrams }
+    {
+        self.datagrams.len()
+    }
+
+    /// Whether a datagram with this upper part was kept behind the first `dead`. The newest are tried first.
+    pub fn has_part(&self, dead: usize, part: &[u8]) -> bool
+        ensures { result ≡ has_part part.now (drop dead self.now.datagrams) }
+    {
+        let mut place = self.len();
+        while place > dead {
+            place -= 1;
+            if self.is_part(place, part) {
+                return true;
+            }
+        }
+        false
+    }
+
+    /// Whether the datagram at a place has this upper part.
+    fn is_part(&self, place: usize, part: &[u8]) -> bool
+        requires { place < length self.now.datagrams }
+        ensures { result ≡ bytes_eq part.now (drop RED_HEADER (slice_index_or self.now.datagrams place [])) }
+    {
+        let Some((_, datagram)) = self.datagrams.get(place) else {
+            return false;
+        };
+        part == upper_part(datagram)
+    }
+}
+
+/// What stands behind the header of a datagram.
+fn upper_part(datagram: &[u8]) -> &[u8]
+    ensures { result.now ≡ drop RED_HEADER datagram.now }
+{
+    match datagram.split_at_checked(RED_HEADER) {
+        Some((_, upper)) => upper,
+        None => &[],
+    }
+}
+
+impl<A: Allocator + Copy> Channels for Keeper<A> {
+    ghost use Rattle.stack_engine.specs.Keeping.{told_of};
+
+    ghost told = { told_of };
+
+    fn send(&mut self, channel: usize, datagram: &[u8]) -> Result<(), ChannelFault> {
+        if channel != KEPT_CHANNEL
+            || datagram.len() > RED_PDU_MAX
+            || self.datagrams.places() == 0
+            || self.datagrams.room() < RED_PDU_MAX
+        {
+            self.failed_sends = self.failed_sends.wrapping_add(1);
+            return Err(ChannelFault::Room);
+        }
+        self.datagrams.add((), datagram);
+        Ok(())
+    }
+
+    fn receive(&mut self, buffer: &mut [u8]) -> Result<Option<(usize, usize)>, ChannelFault> {
+        let _none = buffer;
+        Ok(None)
+    }
+}

@@ -1,0 +1,42 @@
+//! What a pair promises over every list of events.
+
+ghost use Rattle.stack_engine.specs.Faithful.{NothingLostLaw, OrderlyLaw};
+ghost use Rattle.stack_engine.specs.Freshness.{Freshness};
+ghost use Rattle.stack_engine.specs.Headline.{HeadlineLaw};
+ghost use Rattle.stack_engine.specs.Premise.{BreaksLaw};
+ghost use Rattle.stack_engine.specs.Settled.{ConfirmedTakenLaw, SettledLaw};
+
+/// The laws of a pair, which do nothing when they are called: they hold of every genuine list of events, with any number of
+/// openings of either end.
+pub fn pair_law()
+    // What an application takes is a beginning of what was put in at the end joined to it; no interlocking is joined to two
+    // field elements; who is joined to none has taken nothing.
+    ensures headline { HeadlineLaw }
+
+    // What an application takes came upon a PDU that its end made in this incarnation, less than its t_max before.
+    ensures fresh { Freshness }
+
+    // While an end is not closed, each telegram put in there that stands neither in a waiting message nor in an unconfirmed
+    // unit was taken.
+    ensures confirmed { ConfirmedTakenLaw }
+
+    // So a settled end has had all taken that was put in.
+    ensures settled { SettledLaw }
+
+    // Over a faithful list of events of ends whose identifiers are crossed no retransmission is asked for; and with every PDU
+    // arrived and both ends open both are up, all that was put in was taken but what waits, and that waits for a full window.
+    ensures orderly { OrderlyLaw }
+
+    // And whatever ends they are: with every PDU arrived all that was put in was taken but what waits, an end that is open keeps a
+    // message for a full window alone, and ends that match are up and, where nothing waits, in step.
+    ensures nothing_lost { NothingLostLaw }
+
+    // The test of the premise tells exactly whether a delivery would break it at once.
+    ensures breaks { BreaksLaw }
+{
+    red_layer::order_law();
+    safe_pdu::text_law();
+    safe_machine::unit_law();
+    packing::one_spelling();
+    pdi_session::session_law();
+}

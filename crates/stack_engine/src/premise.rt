@@ -1,0 +1,24 @@
+//! Whether the delivery of a datagram would break the premise of the promises.
+
+ghost use Rattle.std.specs.Prelude.{◌≡◌};
+ghost use Rattle.stack_engine.specs.Premise.{is_asked};
+
+use octets::limits::SAFE_HEADER;
+use octets::places::u32_at;
+use safe_pdu::CodeRule;
+
+/// Whether an end with these identifiers and this rule of the code is asked about a part: it is long enough, bears both
+/// identifiers at their places, and ends in a valid code.
+pub fn is_asked_about(rule: &CodeRule, own: u32, peer: u32, part: &[u8]) -> bool
+    ensures { result ≡ is_asked rule.now own peer part.now }
+{
+    let code_size = rule.length.octets();
+    if part.len() < SAFE_HEADER + code_size {
+        return false;
+    }
+    if u32_at(part, 4) != own || u32_at(part, 8) != peer {
+        return false;
+    }
+    let (front, code) = part.split_at(part.len() - code_size);
+    rule.confirms(front, code)
+}
