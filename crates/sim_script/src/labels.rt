@@ -2,7 +2,7 @@
 
 use crate::sides::Sides;
 use end_settings::Side;
-use std::alloc::{AllocError, Global};
+use std::alloc::{AllocError, Allocator, Global};
 
 /// The label of a PDU: `i1`, `i2`, .. are those of the interlocking, `f1`, `f2`, .. those of the field element.
 #[derive(Clone, Copy, Debug, PartialEq, Eq)]
@@ -25,17 +25,17 @@ struct Pdu {
 
 /// All PDUs made, in order over both ends, with their datagrams. A PDU is found by its place, from 0.
 #[derive(Drop)]
-pub struct Labels {
-    octets: Vec<u8>,
-    pdus: Vec<Pdu>,
-    places: Sides<Vec<usize>>,
+pub struct Labels<A: Allocator = Global> {
+    octets: Vec<u8, A>,
+    pdus: Vec<Pdu, A>,
+    places: Sides<Vec<usize, A>>,
     // No PDU before this place is unnamed.
     unnamed: usize,
 }
 
-impl Labels {
+impl<A: Allocator + Copy> Labels<A> {
     /// No PDU is made yet.
-    pub fn new(alloc: Global) -> Self {
+    pub fn new(alloc: A) -> Self {
         Labels {
             octets: Vec::new(alloc),
             pdus: Vec::new(alloc),

@@ -7,14 +7,14 @@ use crate::words::Words;
 use arrayvec::ArrayVec;
 use end_settings::{Side, Versions};
 use pdi_session::VERSIONS_MAX;
-use std::alloc::Global;
+use std::alloc::{Allocator, Global};
 
 /// The greatest number of octets that `putlen` puts in.
 pub const ZEROS_MAX: usize = 1000;
 
 /// What a line asks for.
-#[derive(Debug, Drop)]
-pub enum Command {
+#[derive(Drop)]
+pub enum Command<A: Allocator = Global> {
     /// Nothing: the line is empty.
     Nothing,
     /// `set KEY N`: a setting of later openings.
@@ -30,7 +30,7 @@ pub enum Command {
     /// `tick END`: a tick at the end's clock.
     Tick(Side),
     /// `put END KIND HEX`: one telegram.
-    Put(Side, u16, Vec<u8>),
+    Put(Side, u16, Vec<u8, A>),
     /// `putlen END KIND N`: one telegram with so many octets of zero.
     PutZeros(Side, u16, usize),
     /// `puts END N KIND`: so many telegrams, the k-th with the octet k, from 0.
@@ -44,7 +44,7 @@ pub enum Command {
     /// `lose LABEL`: names a label, and no more.
     Lose(Label),
     /// `flow CH ..`: delivers each datagram that no line has named yet on each of these channels.
-    Flow(Vec<u64>),
+    Flow(Vec<u64, A>),
     /// `est`: opens both ends and sets a session up.
     Establish,
     /// `trace`, `trace off`: from now on each happening is printed, or not.
@@ -54,7 +54,7 @@ pub enum Command {
 /// Reads a line.
 ///
 /// Refused: `Unreadable`, where the line has no form of the language, or a number too large for its place; `Memory`.
-pub fn read_line(alloc: Global, line: &str) -> Result<Command, LineFault> {
+pub fn read_line<A: Allocator + Copy>(alloc: A, line: &str) -> Result<Command<A>, LineFault> {
     let mut words = Words::new(line);
     let Some(first) = words.next() else {
         return Ok(Command::Nothing);
@@ -70,7 +70,7 @@ pub fn read_line(alloc: Global, line: &str) -> Result<Command, LineFault> {
         "tick" => Command::Tick(words.side()?),
         "done" => Command::InitDone,
         "est" => Command::Establish,
-        "trace" => trace(&mut words)?,
+        "trace" => Command::Trace(trace(&mut words)?),
         _ => return Err(LineFault::Unreadable),
     };
     words.end()?;
@@ -78,7 +78,11 @@ pub fn read_line(alloc: Global, line: &str) -> Result<Command, LineFault> {
 }
 
 /// The lines that name datagrams.
-fn delivery(alloc: Global, first: &str, words: &mut Words<'_>) -> Result<Command, LineFault> {
+fn delivery<A: Allocator + Copy>(
+    alloc: A,
+    first: &str,
+    words: &mut Words<'_>,
+) -> Result<Command<A>, LineFault> {
     match first {
         "give" => Ok(Command::Give(words.label()?, words.number(u64::MAX)?)),
         "hit" => {
@@ -99,7 +103,11 @@ fn delivery(alloc: Global, first: &str, words: &mut Words<'_>) -> Result<Command
 }
 
 /// The lines that put telegrams in.
-fn putting(alloc: Global, first: &str, words: &mut Words<'_>) -> Result<Command, LineFault> {
+fn putting<A: Allocator + Copy>(
+    alloc: A,
+    first: &str,
+    words: &mut Words<'_>,
+) -> Result<Command<A>, LineFault> {
     let side = words.side()?;
     match first {
         "put" => Ok(Command::Put(side, words.kind()?, words.octets(alloc)?)),
@@ -125,7 +133,7 @@ fn setting(words: &mut Words<'_>) -> Result<Setting, LineFault> {
 }
 
 /// The versions of a field element; no other end has a list.
-fn versions(alloc: Global, words: &mut Words<'_>) -> Result<Command, LineFault> {
+fn versions<A: Allocator + Copy>(alloc: A, words: &mut Words<'_>) -> Result<Command<A>, LineFault> {
     if words.side()? != Side::FieldElement {
         return Err(LineFault::Unreadable);
     }
@@ -144,10 +152,10 @@ fn versions(alloc: Global, words: &mut Words<'_>) -> Result<Command, LineFault> 
     }
 }
 
-fn trace(words: &mut Words<'_>) -> Result<Command, LineFault> {
+fn trace(words: &mut Words<'_>) -> Result<bool, LineFault> {
     match words.next() {
-        None => Ok(Command::Trace(true)),
-        Some("off") => Ok(Command::Trace(false)),
+        None => Ok(true),
+        Some("off") => Ok(false),
         Some(_) => Err(LineFault::Unreadable),
     }
 }

@@ -9,7 +9,7 @@ use crate::sides::{Sides, other};
 use crate::stack::{Doing, Event, Refusal, Stack};
 use crate::trace::{Happening, Trace};
 use end_settings::Side;
-use std::alloc::Global;
+use std::alloc::Allocator;
 use std::io;
 use std::io::{ErrorKind, Read, Write};
 
@@ -22,8 +22,8 @@ const CLOCK_MAX: u64 = 1 << 62;
 /// Runs the script that a reader holds, on two ends that were never opened. Its lines go to `out`, a fault to `err`.
 ///
 /// What was printed before a fault stays printed; a report follows where the script ran to its end.
-pub fn run_over<S: Stack + Drop, R: Read + Drop, O: Write, E: Write>(
-    alloc: Global,
+pub fn run_over<S: Stack + Drop, R: Read + Drop, O: Write, E: Write, A: Allocator + Copy>(
+    alloc: A,
     stack: S,
     reader: R,
     out: &mut O,
@@ -40,8 +40,8 @@ pub fn run_over<S: Stack + Drop, R: Read + Drop, O: Write, E: Write>(
 }
 
 /// Runs the script that a reader holds.
-fn run<S: Stack + Drop, R: Read + Drop, O: Write>(
-    alloc: Global,
+fn run<S: Stack + Drop, R: Read + Drop, O: Write, A: Allocator + Copy>(
+    alloc: A,
     stack: S,
     reader: R,
     out: &mut O,
@@ -69,7 +69,10 @@ fn run<S: Stack + Drop, R: Read + Drop, O: Write>(
 }
 
 /// The whole text of a script.
-fn read<R: Read + Drop>(alloc: Global, reader: R) -> Result<String, ScriptFault> {
+fn read<R: Read + Drop, A: Allocator + Copy>(
+    alloc: A,
+    reader: R,
+) -> Result<String<A>, ScriptFault> {
     match io::read_to_string(alloc, reader) {
         Ok(text) => Ok(text),
         Err(error) if matches!(error.kind(), ErrorKind::OutOfMemory) => Err(ScriptFault::Memory),
@@ -79,15 +82,15 @@ fn read<R: Read + Drop>(alloc: Global, reader: R) -> Result<String, ScriptFault>
 
 /// A script that runs.
 #[derive(Drop)]
-struct Script<S: Stack + Drop, W: Write + Drop> {
-    alloc: Global,
+struct Script<S: Stack + Drop, W: Write + Drop, A: Allocator + Copy> {
+    alloc: A,
     stack: S,
     settings: ScriptSettings,
     clocks: Sides<u64>,
-    trace: Trace<W>,
+    trace: Trace<W, A>,
 }
 
-impl<S: Stack + Drop, W: Write + Drop> Script<S, W> {
+impl<S: Stack + Drop, W: Write + Drop, A: Allocator + Copy> Script<S, W, A> {
     /// Runs the lines of a text, and prints the report.
     fn lines(&mut self, text: &str) -> Result<(), ScriptFault> {
         let mut number = 0u64;

@@ -12,7 +12,7 @@ use octets::limits::{Q_MAX, RED_HEADER, SAFE_HEADER};
 use octets::places::{u16_at, u32_at};
 use red_layer::RedEvent;
 use safe_machine::Step;
-use std::alloc::Global;
+use std::alloc::{Allocator, Global};
 use std::fmt::Display;
 use std::io::{BufWriter, Write};
 
@@ -43,17 +43,17 @@ struct Progress {
 
 /// The printer, with the labels that it prints.
 #[derive(Drop)]
-pub struct Trace<W: Write + Drop> {
-    pub labels: Labels,
+pub struct Trace<W: Write + Drop, A: Allocator = Global> {
+    pub labels: Labels<A>,
     pub is_on: bool,
-    out: BufWriter<W>,
+    out: BufWriter<W, A>,
     waits: Sides<Waits>,
     progress: Progress,
 }
 
-impl<W: Write + Drop> Trace<W> {
+impl<W: Write + Drop, A: Allocator + Copy> Trace<W, A> {
     /// A printer that traces nothing yet; `None` where there is no memory for its buffer.
-    pub fn new(alloc: Global, out: W) -> Option<Self> {
+    pub fn new(alloc: A, out: W) -> Option<Self> {
         Some(Trace {
             labels: Labels::new(alloc),
             is_on: false,

@@ -9,7 +9,7 @@ use crate::fault::LineFault;
 use crate::labels::Label;
 use end_settings::Side;
 use hex::FromHexError;
-use std::alloc::Global;
+use std::alloc::Allocator;
 
 /// The words of a line, which are parted by one or more spaces.
 #[derive(Drop)]
@@ -68,7 +68,7 @@ impl<'a> Words<'a> {
     }
 
     /// The next word as octets: hex digits, two for each, or `-` for none.
-    pub fn octets(&mut self, alloc: Global) -> Result<Vec<u8>, LineFault> {
+    pub fn octets<A: Allocator + Copy>(&mut self, alloc: A) -> Result<Vec<u8, A>, LineFault> {
         let word = self.word()?;
         if word == "-" {
             return Ok(Vec::new(alloc));
@@ -100,7 +100,11 @@ impl<'a> Words<'a> {
     }
 
     /// All further words as numbers, each of at most so much.
-    pub fn numbers(&mut self, alloc: Global, most: u64) -> Result<Vec<u64>, LineFault> {
+    pub fn numbers<A: Allocator + Copy>(
+        &mut self,
+        alloc: A,
+        most: u64,
+    ) -> Result<Vec<u64, A>, LineFault> {
         let mut numbers = Vec::new(alloc);
         for part in &mut self.parts {
             if !part.is_empty() {
