@@ -9,11 +9,13 @@ ghost use Rattle.channels.specs.Told.{Told, Sends, after_receive};
 mod memory;
 #[cfg(test)]
 mod tests;
+mod udp;
 
 pub use memory::{MemChannels, MemoryFault};
 use pdi_session::Phase;
 use red_layer::RedEvent;
 use safe_machine::{ConnectionState, Step};
+pub use udp::{UdpChannels, UdpFault, Watch};
 
 /// Why a datagram was not sent, or nothing could be received.
 #[derive(Clone, Copy, Debug, PartialEq, Eq)]

@@ -1,6 +1,7 @@
-use crate::{ChannelFault, Channels, MemChannels, MemoryFault};
+use crate::{ChannelFault, Channels, MemChannels, MemoryFault, UdpChannels, UdpFault, Watch};
 use linked_list_allocator::LocalHeap;
 use std::test::Fail;
+use std::time::Duration;
 
 // Two datagrams are kept as they were sent; a third finds no room, until there is more; one of 1,259 octets is too long.
 #[test]
@@ -77,5 +78,68 @@ fn takes_memory_where_it_says(rt: HostRuntime) -> Result<(), Fail> {
     }
     assert_eq!(rt; refused, [true; 3]);
     assert!(rt; done);
+    Ok(())
+}
+
+// Two ends over the loopback: what is sent on a channel comes on it, without a wait where it is there already; channels are asked in order;
+// a datagram that is longer than the buffer is cut. The sender of a datagram plays no part.
+#[test]
+fn carries_datagrams_over_sockets(rt: HostRuntime) -> Result<(), Fail> {
+    let near = ["127.0.0.1:47311", "127.0.0.1:47312"];
+    let far = ["127.0.0.1:47321", "127.0.0.1:47322"];
+    let mut left = UdpChannels::open(rt.alloc(), &rt, &near, &far)?;
+    let mut right = UdpChannels::open(rt.alloc(), &rt, &far, &near)?;
+    let mut stranger = UdpChannels::open(
+        rt.alloc(),
+        &rt,
+        &["127.0.0.1:47331"],
+        &["127.0.0.1:47322"],
+    )?;
+    let mut watch = Watch::open(rt.alloc(), &rt)?;
+    watch.add(&mut left)?;
+    watch.add(&mut right)?;
+    let mut buffer = [0; 8];
+    assert_eq!(rt; right.receive(&mut buffer), Ok(None));
+    assert_eq!(rt; stranger.send(1, &[9]), Ok(()));
+    assert_eq!(rt; left.send(2, &[1, 2, 3]), Ok(()));
+    assert_eq!(rt; left.send(1, &[5; 20]), Ok(()));
+    assert_eq!(rt; left.send(3, &[6]), Err(ChannelFault::Room));
+    assert_eq!(rt; left.send(0, &[6]), Err(ChannelFault::Room));
+    watch.wait(Duration::from_millis(500));
+    assert_eq!(rt; right.receive(&mut buffer), Ok(Some((1, 8))));
+    assert_eq!(rt; buffer, [5; 8]);
+    assert_eq!(rt; right.receive(&mut buffer), Ok(Some((2, 1))));
+    assert_eq!(rt; right.receive(&mut buffer), Ok(Some((2, 3))));
+    assert_eq!(rt; buffer[2], 3);
+    assert_eq!(rt; right.receive(&mut buffer), Ok(None));
+    assert_eq!(rt; left.receive(&mut buffer), Ok(None));
+    Ok(())
+}
+
+// Lists of unequal or wrong length and texts that are no address are refused before a socket is bound, then a port in use.
+#[test]
+fn refuses_other_addresses(rt: HostRuntime) -> Result<(), Fail> {
+    let free = "127.0.0.1:47341";
+    let held = UdpChannels::open(rt.alloc(), &rt, &["127.0.0.1:47342"], &[free])?;
+    let lists: [(&[&str], &[&str], UdpFault); 8] = [
+        (&[], &[], UdpFault::Address),
+        (&[free], &[], UdpFault::Address),
+        (&[free; 5], &[free; 5], UdpFault::Address),
+        (&["localhost:47341"], &[free], UdpFault::Address),
+        (&["127.0.0.1:47342"], &["127.0.0.1"], UdpFault::Address),
+        (&["127.0.0.1:65536"], &[free], UdpFault::Address),
+        (&["127.0.0.1:47342"], &[free], UdpFault::Bind),
+        (&[free, "192.0.2.1:47341"], &[free; 2], UdpFault::Bind),
+    ];
+    for (local, remote, fault) in lists {
+        let opened = UdpChannels::open(rt.alloc(), &rt, local, remote);
+        assert!(rt;
+            matches!(opened, Err(found) if found == fault),
+            "at {local:?}"
+        );
+    }
+    // What was bound before a refusal is free again.
+    let _opened = UdpChannels::open(rt.alloc(), &rt, &[free], &["127.0.0.1:47342"])?;
+    let _held = held;
     Ok(())
 }

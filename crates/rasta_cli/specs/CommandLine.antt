@@ -1,13 +1,16 @@
 -- The command line of the program, as clap reads it, and the commands that words ask for.
-use Rattle.std.specs.Prelude.{◌≡◌, ⊤, true, List, codes, Option, Some}
+use Rattle.std.specs.Prelude.{◌≡◌, ℕ, ◌≤◌, ⊤, true, List, codes, Option, Some}
 use Rattle.std.specs.Option.{option_copied}
+use Rattle.std.specs.Str.Parse.{IsNumeral, digits_value, without_leading_plus}
 use Rattle.clap.specs.Words.{App, HasKind, Row, Rule, Text, fault_of, first_of, new_app, new_rule, subcommand_of, with_rule, with_subcommand}
 use Rattle.safe_pdu.specs.declared.CodeLength.{CodeLength}
 use Rattle.safe_pdu.specs.declared.CodeLength.TheVariants.{Zero, Eight, Sixteen}
 use Rattle.rasta_cli.specs.declared.command_line.Request.{Request}
-use Rattle.rasta_cli.specs.declared.command_line.Request.TheVariants.{Digest, Show}
+use Rattle.rasta_cli.specs.declared.command_line.Request.TheVariants.{Digest, Show, Net}
 use Rattle.rasta_cli.specs.declared.command_line.WordsFault.{WordsFault}
-use Rattle.rasta_cli.specs.declared.command_line.WordsFault.TheVariants.{Words, BadCode, NotText, Memory}
+use Rattle.rasta_cli.specs.declared.command_line.WordsFault.TheVariants.{Words, BadCode, BadTurns, NotText, Memory}
+use Rattle.settings_file.specs.declared.Word.{Word}
+use Rattle.settings_file.specs.declared.Word.TheVariants.{Il, Fe, Pair}
 
 -- show --code N [--iv HEX] HEX
 abbrev pub code_rule : Rule
@@ -29,12 +32,32 @@ show_app = with_rule coded_app hex_rule
 abbrev pub md4_app : App
 md4_app = with_rule (new_app (codes "md4")) hex_rule
 
+-- il FILE --turns N, and so for fe and pair
+abbrev pub ends_word : Word → Text
+ends_word Il = codes "il"
+ends_word Fe = codes "fe"
+ends_word Pair = codes "pair"
+
+abbrev pub turns_rule : Rule
+turns_rule = record (new_rule (codes "turns")) { long = Some (codes "turns"); required = true }
+
+abbrev pub file_rule : Rule
+file_rule = record (new_rule (codes "file")) { required = true }
+
+abbrev pub net_app : Text → App
+net_app name = with_rule (with_rule (new_app name) turns_rule) file_rule
+
 -- one of the subcommands is required
 abbrev pub bare_app : App
 bare_app = record (new_app (codes "rasta")) { top = record (new_app (codes "rasta")).top { subcommand_required = true } }
 
+-- with the commands that use no sockets
+abbrev pub local_app : App
+local_app = with_subcommand (with_subcommand bare_app md4_app.top) show_app.top
+
 abbrev pub rasta_app : App
-rasta_app = with_subcommand (with_subcommand bare_app md4_app.top) show_app.top
+rasta_app =
+    with_subcommand (with_subcommand (with_subcommand local_app (net_app (codes "il")).top) (net_app (codes "fe")).top) (net_app (codes "pair")).top
 
 -- how a length of code is written
 abbrev pub code_word : CodeLength → Text
@@ -42,12 +65,20 @@ code_word Zero = codes "0"
 code_word Eight = codes "8"
 code_word Sixteen = codes "16"
 
+-- how a number of turns is written: in decimal digits, before which a plus may stand
+abbrev pub IsTurns : Text → ℕ → Type 0
+IsTurns word turns =
+    IsNumeral 10 (without_leading_plus word) × (digits_value 10 (without_leading_plus word) ≡ turns) × (1 ≤ turns) × (turns ≤ 1000000)
+
 -- the request is the subcommand of this name, its values the entries found there
 abbrev pub HasEntries : Request → Text → List Row → Type 0
 HasEntries (Digest hex) name rows = (name ≡ codes "md4") × (first_of (codes "hex") rows ≡ Some hex.now)
 HasEntries (Show code iv hex) name rows =
     (name ≡ codes "show") × (first_of (codes "code") rows ≡ Some (code_word code)) × (first_of (codes "iv") rows ≡ option_copied iv)
     × (first_of (codes "hex") rows ≡ Some hex.now)
+HasEntries (Net word file turns) name rows =
+    (name ≡ ends_word word) × (first_of (codes "file") rows ≡ Some file.now)
+    × ((text : Text) × (first_of (codes "turns") rows ≡ Some text) × IsTurns text turns)
 
 abbrev pub IsFound : Option (Text × List Row) → Request → Type 0
 IsFound found request = (f : Text × List Row) × (found ≡ Some f) × HasEntries request f.0 f.1
@@ -67,10 +98,12 @@ FindsNone found = (request : Request) → ¬ IsFound found request
 abbrev pub IsFaultOf : List Text → WordsFault → Type 0
 IsFaultOf words (Words error) = HasKind (fault_of rasta_app words) error
 IsFaultOf words BadCode = ⊥
+IsFaultOf words BadTurns = ⊥
 IsFaultOf words NotText = ⊥
 IsFaultOf words (Memory error) = ⊤
 
 -- a fault that the words have: one that clap's rules find, or that no request is found in them
 abbrev pub Refuses : List Text → WordsFault → Type 0
 Refuses words BadCode = (request : Request) → ¬ Asks words request
+Refuses words BadTurns = (request : Request) → ¬ Asks words request
 Refuses words fault = IsFaultOf words fault

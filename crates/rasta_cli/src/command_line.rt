@@ -1,13 +1,14 @@
 //! The command that the words of a command line ask for.
 
-ghost use Rattle.std.specs.Prelude.{◌≡◌, [], Some, IsOk, IfOk, IfErr, IsNone, IfSome, false, map};
+ghost use Rattle.std.specs.Prelude.{◌≡◌, ℕ, [], Some, IsOk, IfOk, IfErr, IsNone, IfSome, false, map};
 ghost use Rattle.std.specs.Option.{option_copied};
 ghost use Rattle.clap.specs.declared.Command.TheViews.{out-Command};
 ghost use Rattle.clap.specs.Words.{app_of, fault_of, first_of, found_of, rows_of, subcommand_of, subcommand_rows_of};
-ghost use Rattle.rasta_cli.specs.CommandLine.{Asks, FindsNone, HasEntries, HasNoEntries, IsFaultOf, IsFound, Refuses, code_word, coded_app, md4_app, rasta_app, show_app};
+ghost use Rattle.rasta_cli.specs.CommandLine.{Asks, FindsNone, HasEntries, HasNoEntries, IsFaultOf, IsFound, IsTurns, Refuses, code_word, coded_app, ends_word, local_app, md4_app, net_app, rasta_app, show_app};
 
 use clap::{Arg, ArgMatches, Command};
 use safe_pdu::CodeLength;
+use settings_file::Word;
 use std::alloc::{AllocError, Global};
 use std::convert::AsStr;
 use thiserror::Error;
@@ -29,6 +30,15 @@ pub enum Request<'a> {
         /// The datagram as hex digits.
         hex: &'a str,
     },
+    /// `il FILE --turns N`, `fe FILE --turns N` or `pair FILE --turns N`: ends over sockets.
+    Net {
+        /// The ends that run.
+        word: Word,
+        /// The name of the settings file.
+        file: &'a str,
+        /// How many turns they are given, 1 to 1,000,000.
+        turns: u32,
+    },
 }
 
 /// Why words are no command. The text is for standard error, but that of a call for help.
@@ -40,6 +50,9 @@ pub enum WordsFault {
     /// A length of code that is none.
     #[error("error: a code has 0, 8 or 16 octets\n\nUsage: rasta show [--iv <iv>] --code <0|8|16> <hex>\n\nFor more information, try 'rasta show --help'.")]
     BadCode,
+    /// A number of turns that is none.
+    #[error("error: turns are a number from 1 to 1,000,000\n\nUsage: rasta <il|fe|pair> --turns <turns> <file>\n\nFor more information, try 'rasta --help'.")]
+    BadTurns,
     /// A word is not UTF-8.
     #[error("error: a word is no UTF-8 text\n\nUsage: rasta <COMMAND>\n\nFor more information, try 'rasta --help'.")]
     NotText,
@@ -50,8 +63,8 @@ pub enum WordsFault {
 
 /// Finds the command that words ask for; the first word is the program's name.
 ///
-/// Refused: `Words`, where clap's rules find a fault in the words, or have no memory; `BadCode`, where
-/// they find none and yet no command is asked for, as with a code of 9 octets; `Memory`.
+/// Refused: `Words`, where clap's rules find a fault in the words, or have no memory; `BadCode` or `BadTurns`, where
+/// they find none and yet no command is asked for, as with a code of 9 octets or with 0 turns; `Memory`.
 pub fn command<'a, S: AsStr>(alloc: Global, words: &'a [S]) -> Result<Request<'a>, WordsFault>
     ensures found { IfOk result (Asks (map S.text words.entry.now)) }
     ensures fits { IsOk result → fault_of rasta_app (map S.text words.entry.now) ≡ [] }
@@ -60,7 +73,8 @@ pub fn command<'a, S: AsStr>(alloc: Global, words: &'a [S]) -> Result<Request<'a
     let matches = matched(alloc, words)?;
     match asked(&matches) {
         Some(request) => Ok(request),
-        None => Err(WordsFault::BadCode),
+        None if matches.subcommand_name() == Some("show") => Err(WordsFault::BadCode),
+        None => Err(WordsFault::BadTurns),
     }
 }
 
@@ -87,6 +101,33 @@ fn asked_by<'a>(name: &str, entries: &ArgMatches<'a>) -> Option<Request<'a>>
             let hex = entry(entries, "hex")?;
             Some(Request::Show { code, iv, hex })
         }
+        _ => {
+            let word = ends(name)?;
+            let file = entry(entries, "file")?;
+            let turns = turns(entry(entries, "turns")?)?;
+            Some(Request::Net { word, file, turns })
+        }
+    }
+}
+
+fn ends(name: &str) -> Option<Word>
+    ensures found { IfSome result (λ word. name.now ≡ ends_word word) }
+    ensures only { (word : Word) → name.now ≡ ends_word word → result ≡ Some word }
+{
+    match name {
+        "il" => Some(Word::Il),
+        "fe" => Some(Word::Fe),
+        "pair" => Some(Word::Pair),
+        _ => None,
+    }
+}
+
+fn turns(word: &str) -> Option<u32>
+    ensures found { IfSome result (IsTurns word.now) }
+    ensures only { (turns : ℕ) → IsTurns word.now turns → result ≡ Some turns }
+{
+    match word.parse::<u32>() {
+        Ok(turns) if 1 <= turns && turns <= 1_000_000 => Some(turns),
         _ => None,
     }
 }
@@ -129,12 +170,42 @@ fn rasta_command<'a>(alloc: Global) -> Result<Command<'a>, AllocError>
     ensures app { IfOk result (λ command. app_of command ≡ rasta_app) }
     ensures local { IfOk result (λ command. (out-Command command).has_globals ≡ false) }
 {
+    local_command(alloc)?
+        .subcommand(net_command(alloc, "il", "Runs an interlocking over UDP")?)?
+        .subcommand(net_command(alloc, "fe", "Runs a field element over UDP")?)?
+        .subcommand(net_command(
+            alloc,
+            "pair",
+            "Runs an interlocking and a field element over UDP, taking turns in one process",
+        )?)
+}
+
+/// The program with the commands that use no sockets.
+fn local_command<'a>(alloc: Global) -> Result<Command<'a>, AllocError>
+    ensures app { IfOk result (λ command. app_of command ≡ local_app) }
+    ensures local { IfOk result (λ command. (out-Command command).has_globals ≡ false) }
+{
     Command::new(alloc, "rasta")
         .about("A proved RaSTA stack: its command line.")
-        .after_help("Exit status: 0 done, 1 refused input, 2 wrong words, 3 where output fails.")
+        .after_help(
+            "Exit status: 0 done, 1 refused input, 2 wrong words, 3 where a socket, a clock or an output fails.",
+        )
         .subcommand_required(true)
         .subcommand(md4_command(alloc)?)?
         .subcommand(show_command(alloc)?)
+}
+
+fn net_command<'a>(alloc: Global, name: &'a str, about: &'a str) -> Result<Command<'a>, AllocError>
+    ensures app { IfOk result (λ command. app_of command ≡ net_app name.entry.now) }
+    ensures local { IfOk result (λ command. (out-Command command).has_globals ≡ false) }
+{
+    let turns = Arg::new(alloc, "turns").long("turns").required(true).help(
+        "How many turns to take, 1 to 1,000,000; one lasts at most 5 milliseconds where nothing comes",
+    );
+    let file = Arg::new(alloc, "file")
+        .required(true)
+        .help("The settings file");
+    Command::new(alloc, name).about(about).arg(turns)?.arg(file)
 }
 
 fn show_command<'a>(alloc: Global) -> Result<Command<'a>, AllocError>

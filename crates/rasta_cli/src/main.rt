@@ -24,7 +24,7 @@ use std::{env, io};
 fn refuse<O: Write, E: Write>(fault: &WordsFault, out: &mut O, err: &mut E) -> Status {
     match fault {
         WordsFault::Memory(_) => report(err, Fault::Memory),
-        WordsFault::BadCode | WordsFault::NotText => {
+        WordsFault::BadCode | WordsFault::BadTurns | WordsFault::NotText => {
             let _ = writeln!(err, "{fault}");
             Status::WrongWords
         }
@@ -65,6 +65,7 @@ fn run_words(rt: &HostRuntime) -> Status {
         Ok(Request::Show { code, iv, hex }) => {
             run_show(rt.alloc(), code, iv, hex, &mut out, &mut err)
         }
+        Ok(Request::Net { .. }) => Status::WrongWords,
         Err(fault) => refuse(&fault, &mut out, &mut err),
     }
 }

@@ -1,6 +1,6 @@
 //! The program's words, each over the writers that it is given.
 
-ghost use Rattle.std.specs.Prelude.{◌≡◌, ◌≢◌, ◌⊎◌, true, false, None, Some, Err, IfOk, IsErr, OnOk};
+ghost use Rattle.std.specs.Prelude.{◌≡◌, ◌≢◌, ◌⊎◌, true, false, None, Some, Err, IfOk, IfErr, IsErr, OnOk};
 ghost use Rattle.std.specs.Io.KnownBytes.{Appends};
 ghost use Rattle.std.specs.Option.{option_copied};
 ghost use Rattle.rasta_cli.specs.HexText.{initial_value_of, message_of, octets_of};
@@ -60,7 +60,7 @@ pub fn run_md4<O: Write, E: Write>(alloc: Global, hex: &str, out: &mut O, err: &
 /// Writes the digest of the octets that a text names.
 fn digested<O: Write>(alloc: Global, hex: &str, out: &mut O) -> Result<(), Fault>
     ensures ok { OnOk result (HasDigested hex.now (O.contents out.old) (O.contents out.new)) }
-    ensures untouched { (result ≡ Err Fault.Hex) ⊎ (result ≡ Err Fault.Memory) → out.new ≡ out.old }
+    ensures untouched { IfErr result (λ fault. status_of fault ≡ Status.Refused → out.new ≡ out.old) }
     ensures no_octets { message_of hex.now ≡ None → (result ≡ Err Fault.Hex) ⊎ (result ≡ Err Fault.Memory) }
     ensures hex { result ≡ Err Fault.Hex → message_of hex.now ≡ None }
 {
@@ -114,7 +114,7 @@ fn shown<O: Write>(
     out: &mut O,
 ) -> Result<bool, Fault>
     ensures ok { IfOk result (λ clean. HasShown code (option_copied iv.entry) hex.now clean (O.contents out.old) (O.contents out.new)) }
-    ensures untouched { (result ≡ Err Fault.Hex) ⊎ (result ≡ Err Fault.Memory) → out.new ≡ out.old }
+    ensures untouched { IfErr result (λ fault. status_of fault ≡ Status.Refused → out.new ≡ out.old) }
     ensures no_value { initial_value_of (option_copied iv.entry) ≡ None → result ≡ Err Fault.Hex }
     ensures no_octets { octets_of hex.now ≡ None → (result ≡ Err Fault.Hex) ⊎ (result ≡ Err Fault.Memory) }
     ensures hex { result ≡ Err Fault.Hex → (initial_value_of (option_copied iv.entry) ≡ None) ⊎ (octets_of hex.now ≡ None) }

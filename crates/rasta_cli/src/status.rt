@@ -14,7 +14,7 @@ pub enum Status {
     Refused,
     /// The words are no command.
     WrongWords,
-    /// An output failed.
+    /// No socket was had, or a clock or an output failed.
     Failed,
 }
 
@@ -38,9 +38,21 @@ pub enum Fault {
     /// A text that should be hex digits is none.
     #[error("fault: hex")]
     Hex,
+    /// A file cannot be read, or is no UTF-8 text.
+    #[error("fault: file")]
+    File,
+    /// A settings file is none.
+    #[error("fault: settings")]
+    Settings,
     /// Memory was refused.
     #[error("fault: memory")]
     Memory,
+    /// The system gives no socket for an address, or a text is no address.
+    #[error("fault: network")]
+    Network,
+    /// The clock gives no time, or one above 2^62 milliseconds.
+    #[error("fault: clock")]
+    Clock,
     /// Standard output failed.
     #[error("fault: output")]
     Output,
@@ -52,8 +64,8 @@ impl Fault {
         ensures { result ≡ status_of self }
     {
         match self {
-            Fault::Hex | Fault::Memory => Status::Refused,
-            Fault::Output => Status::Failed,
+            Fault::Hex | Fault::File | Fault::Settings | Fault::Memory => Status::Refused,
+            Fault::Network | Fault::Clock | Fault::Output => Status::Failed,
         }
     }
 }

@@ -3,6 +3,7 @@ use crate::runs::{run_md4, run_show};
 use crate::show::show;
 use crate::status::Status;
 use safe_pdu::{CodeLength, CodeRule};
+use settings_file::Word;
 use std::io;
 use std::io::{ErrorKind, Write};
 use std::test::Fail;
@@ -315,12 +316,31 @@ fn accepts_the_words_of_md4(rt: HostRuntime) -> Result<(), Fail> {
     Ok(())
 }
 
+#[test]
+fn accepts_the_words_of_the_ends(rt: HostRuntime) -> Result<(), Fail> {
+    for (name, word) in [("il", Word::Il), ("fe", Word::Fe), ("pair", Word::Pair)] {
+        for (text, turns) in [("1", 1), ("200", 200), ("1000000", 1_000_000)] {
+            let words = ["rasta", name, "ends.toml", "--turns", text];
+            let found = command(rt.alloc(), &words).map_err(|_| "refused")?;
+            let file = "ends.toml";
+            assert_eq!(rt; found, Request::Net { word, file, turns });
+        }
+        for text in ["0", "1000001", "4294967297", "", "1e3", "1,000", "-1"] {
+            let words = ["rasta", name, "ends.toml", "--turns", text];
+            assert!(rt; command(rt.alloc(), &words).is_err(), "at {text}");
+        }
+    }
+    let zero = ["rasta", "il", "ends.toml", "--turns", "0"];
+    assert!(rt; matches!(command(rt.alloc(), &zero), Err(WordsFault::BadTurns)));
+    Ok(())
+}
+
 // Words that are no command, or that ask for help, are refused by a fault of their own.
 #[test]
 fn refuses_other_words(rt: HostRuntime) -> Result<(), Fail> {
     let nine = ["rasta", "show", "--code", "9", "00"];
     assert!(rt; matches!(command(rt.alloc(), &nine), Err(WordsFault::BadCode)));
-    let lists: [&[&str]; 7] = [
+    let lists: [&[&str]; 10] = [
         &["rasta"],
         &["rasta", "shew"],
         &["rasta", "show", "00"],
@@ -328,6 +348,9 @@ fn refuses_other_words(rt: HostRuntime) -> Result<(), Fail> {
         &["rasta", "show", "--code", "0"],
         &["rasta", "md4"],
         &["rasta", "md4", "00", "00"],
+        &["rasta", "il", "ends.toml"],
+        &["rasta", "fe", "--turns", "1"],
+        &["rasta", "pair", "--turns", "1", "il.toml", "fe.toml"],
     ];
     for words in lists {
         let refused =

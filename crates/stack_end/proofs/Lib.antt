@@ -3,3 +3,4 @@ pub mod OnChannels
 pub mod Uppers
 pub mod Packs
 pub mod Receiving
+pub mod Polls

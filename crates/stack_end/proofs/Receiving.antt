@@ -25,9 +25,10 @@ module _ {S T : Type 0} (takes : T → Item → T → Type 0) (fields_of : S →
       let a = step s p j r in
       let b = subst (λ k. Does takes (part k p.1) (fields_of s) (taker s) (fields_of j) (taker j)) n a.1 x h in
       let y : EndState = part now p.1 x in
-      let d = parts-go now ps j u rest (a.0 ∙ n) y b.0.stands in
-      (went-then x y (parts now ps y) (fields_of s) (fields_of j) (fields_of u) b.0 d.0,
-      took-then takes (taker s) (taker j) (taker u) x.session y.session (parts now ps y).session b.1 d.1)
+      let d = parts-go now ps j u rest (a.0 ∙ n) y b.0.stands in (
+        went-then x y (parts now ps y) (fields_of s) (fields_of j) (fields_of u) b.0 d.0,
+        took-then takes (taker s) (taker j) (taker u) x.session y.session (parts now ps y).session b.1 d.1,
+      )
 
 -- what comes to the redundancy layer changes nothing above it
 pub receives-went : {T : Type 0} (takes : T → Item → T → Type 0) (now : ℕ) (i : Input) (x : EndState) (r q : Receiver) (v w : Fields) (t u : T) → BothStand r v x → q ≡ after i r → Does takes (parts now (passed_by i r)) v t w u → BothWent takes x (receives now i x) v t q w u

@@ -65,9 +65,13 @@ pub along-more : {T : Type 0} (takes : T → Item → T → Type 0) (all : List 
 along-more takes all m rest s t u asked h k none d start =
     let a = h d start in
     let b = k a.0 a.1.0.speaks in
-    let first = judge_read (tele_seen m) a.0 in
-    (first.left, (spoke-then takes d a.0 first.left s t u a.1.0 b.0,
-    a.1.1 ∙ ap (λ w. unless_leaving w first (judge_messages rest first.left)) (sym b.1 ∙ none)))
+    let first = judge_read (tele_seen m) a.0 in (
+      first.left,
+      (
+        spoke-then takes d a.0 first.left s t u a.1.0 b.0,
+        a.1.1 ∙ ap (λ w. unless_leaving w first (judge_messages rest first.left)) (sym b.1 ∙ none),
+      ),
+    )
 
 -- the message is judged, and the end is to leave
 pub along-stop : {T : Type 0} (takes : T → Item → T → Type 0) (all : List (List ℕ)) (m : List ℕ) (rest : List (List ℕ)) (s t u : Talk T) (asked : Option Leaving) (why : Leaving) → Along takes all (m ∷ rest) s t → Judges takes (judge_read (tele_seen m)) t u asked → asked ≡ Some why → Judges takes (judge_messages all) s u (Some why)
@@ -75,9 +79,10 @@ along-stop takes all m rest s t u asked why h k some d start =
     let a = h d start in
     let b = k a.0 a.1.0.speaks in
     let first = judge_read (tele_seen m) a.0 in
-    let is : judge_messages all d ≡ first = a.1.1 ∙ ap (λ w. unless_leaving w first (judge_messages rest first.left)) (sym b.1 ∙ some) in
-    (subst (λ (j : Judged). Spoke takes d j.left s u) (sym is) (spoke-then takes d a.0 first.left s t u a.1.0 b.0),
-    sym some ∙ (b.1 ∙ ap (λ (j : Judged). j.leaving) (sym is)))
+    let is : judge_messages all d ≡ first = a.1.1 ∙ ap (λ w. unless_leaving w first (judge_messages rest first.left)) (sym b.1 ∙ some) in (
+      subst (λ (j : Judged). Spoke takes d j.left s u) (sym is) (spoke-then takes d a.0 first.left s t u a.1.0 b.0),
+      sym some ∙ (b.1 ∙ ap (λ (j : Judged). j.leaving) (sym is)),
+    )
 
 -- none is left
 pub along-end : {T : Type 0} (takes : T → Item → T → Type 0) (all : List (List ℕ)) (s t : Talk T) → Along takes all [] s t → Judges takes (judge_messages all) s t None

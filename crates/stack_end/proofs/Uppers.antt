@@ -90,10 +90,11 @@ module _ {S : Type 0} (channels : S → Told) (numbers count : S → ℕ) (R : S
       let octets : red_text (numbers s) (safe_text rule m.pdu) ≡ red_text index (safe_text (rule_of settings) m.pdu) =
       ap (λ k. red_text k (safe_text rule m.pdu)) i ∙ (red-wrap index (safe_text rule m.pdu) ∙ ap (λ q. red_text index (safe_text q m.pdu)) r) in
       let first : on_channels (count s) (red_text (numbers s) (safe_text rule m.pdu)) ≡ on_channels settings.channels (red_text index (safe_text (rule_of settings) m.pdu)) =
-      ap (λ k. on_channels k (red_text (numbers s) (safe_text rule m.pdu))) n ∙ ap (λ o. on_channels settings.channels o) octets in
-      (FoldsTo-append SendsOne (on_channels settings.channels (red_text index (safe_text (rule_of settings) m.pdu))) (sendings settings (index + 1) ms) (channels s) (channels j) (channels t)
-      (subst (λ xs. FoldsTo SendsOne (channels s) xs (channels j)) first a.2) b.0,
-      b.1 ∙ ap (λ k. k % 2 ^ 32) (omega arith))
+      ap (λ k. on_channels k (red_text (numbers s) (safe_text rule m.pdu))) n ∙ ap (λ o. on_channels settings.channels o) octets in (
+        FoldsTo-append SendsOne (on_channels settings.channels (red_text index (safe_text (rule_of settings) m.pdu))) (sendings settings (index + 1) ms) (channels s) (channels j) (channels t)
+            (subst (λ xs. FoldsTo SendsOne (channels s) xs (channels j)) first a.2) b.0,
+        b.1 ∙ ap (λ k. k % 2 ^ 32) (omega arith),
+      )
 
   -- the same of what was made between two lists
   pub sends-between : (settings : EndSettings) (rule : CodeRule) (before after more : List Made) → after ≡ before ++ more → (s t : S) → FoldsTo R s (texts rule (drop (length before) after)) t → count s ≡ settings.channels → numbers s ≡ length before % 2 ^ 32 → rule ≡ rule_of settings → FoldsTo SendsOne (channels s) (sendings settings (length before) more) (channels t) × (numbers t ≡ (length before + length more) % 2 ^ 32)

@@ -1,5 +1,5 @@
 -- One end: its layers, and what each of its calls does.
-use Rattle.std.specs.Prelude.{ℕ, zero, suc, Bool, true, false, Option, Some, None, List, [], ◌∷◌, ◌++◌, take, drop, length, if◌then◌else◌}
+use Rattle.std.specs.Prelude.{ℕ, zero, suc, Bool, true, false, not, ◌&&◌, Option, Some, None, List, [], ◌∷◌, ◌++◌, take, drop, length, if◌then◌else◌}
 use Rattle.packing.specs.UnitText.{unit_text}
 use Rattle.red_layer.specs.Parts.{Part, is_nil}
 use Rattle.red_layer.specs.Redundancy.{Receiver, Input, Datagram, Tick as RedTick, passed_by, after, opened as red_opened}
@@ -7,7 +7,7 @@ use Rattle.safe_machine.specs.declared.ConnectionState.{ConnectionState}
 use Rattle.safe_machine.specs.declared.ConnectionState.TheVariants.{Start, Up}
 use Rattle.safe_machine.specs.declared.Reason.TheVariants.{ClosedByUser}
 use Rattle.safe_machine.specs.declared.Detail.TheVariants.{Unspecified}
-use Rattle.safe_machine.specs.State.{State, leave, opened}
+use Rattle.safe_machine.specs.State.{State, leave, opened, unconfirmed}
 use Rattle.safe_machine.specs.Decision.{is_closed}
 use Rattle.safe_machine.specs.Step.{send, may_send}
 use Rattle.safe_machine.specs.Moves.{Move, move}
@@ -139,6 +139,10 @@ sends now x = packed_up_to (length x.session.waiting) now x
 -- what follows the guard or the machine's tick, where these have not left
 abbrev pub goes_on : ℕ → Input → EndState → EndState
 goes_on now i x = if is_shut x then x else sends now (receives now i x)
+
+-- all that was put in is done with: it is not closed, no message waits, and no unit is unconfirmed
+abbrev pub is_settled : EndState → Bool
+is_settled x = not (is_shut x) && (is_nil x.session.waiting && is_nil (unconfirmed x.machine))
 
 -- The calls of an end that was opened.
 pub data Call : Type 0 where

@@ -1,5 +1,5 @@
 -- What the layers of an end keep of one another, so that each is asked only what it allows.
-use Rattle.std.specs.Prelude.{ℕ, ◌*◌, ◌≤◌}
+use Rattle.std.specs.Prelude.{◌*◌, ◌≤◌}
 use Rattle.octets.specs.declared.limits.TheConstants.{UNIT_MESSAGES}
 use Rattle.pdi_session.specs.SessionStep.{FewWait}
 use Rattle.safe_machine.specs.Properties.{index_step}

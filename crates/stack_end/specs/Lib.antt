@@ -6,3 +6,5 @@ pub mod Fields
 pub mod Later
 pub mod Kept
 pub mod EndValue
+pub mod Polling
+pub mod Lending

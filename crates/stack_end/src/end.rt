@@ -1,17 +1,24 @@
 //! One end of a connection, as an application opens it.
 
-ghost use Rattle.std.specs.Prelude.{◌≡◌, ◌≤◌, ◌^◌, ◌↔◌, ℕ, false, length, Some, None, Err, IfOk, OnOk, OnErr, IfErr, MatchResult};
+ghost use Rattle.std.specs.Prelude.{◌≡◌, ◌≤◌, ◌^◌, ◌↔◌, ℕ, List, false, length, Option, option_map, Some, None, Ok, Err, IfOk, IfSome, OnOk, OnErr, IfErr, IsErrAnd, MatchResult, if◌then◌else◌};
 ghost use Rattle.std.specs.List.{FoldsTo};
+ghost use Rattle.std.specs.Borrow.{sem};
 ghost use Rattle.channels.specs.Told.{SendsOne};
 ghost use Rattle.end_settings.specs.EndSettings.{are_fit};
 ghost use Rattle.end_settings.specs.Configured.{settings_of, side_of};
 ghost use Rattle.pdi_session.specs.SessionStep.{init_refusal, put_refusal};
 ghost use Rattle.stack_end.specs.Dialogue.{phase_in, session_in};
-ghost use Rattle.stack_end.specs.Ends.{Call, Close, Deliver, EndState, InitDone, Put, call, new_end};
-ghost use Rattle.stack_end.specs.EndValue.{EndAsks, EndDoes, EndDoesAlone, EndStands};
+ghost use Rattle.stack_end.specs.Ends.{Call, Close, Deliver, EndState, InitDone, Put, call, is_settled, new_end};
+ghost use Rattle.stack_end.specs.Datagrams.{sent_at_opening};
+ghost use Rattle.stack_end.specs.EndValue.{EndAsks, EndDoes, EndDoesAlone, EndStands, channels_of};
+ghost use Rattle.stack_end.specs.Polling.{Asked, AskedOnce, HeardAll, HeardNext, HeardUntilFault, Polled};
+ghost use Rattle.stack_end.specs.declared.OpenFault.TheVariants.{BadConfig};
+ghost use Rattle.stack_end.specs.declared.TheConstants.{POLL_DATAGRAMS};
 
 use crate::layers::Layers;
-use channels::Channels;
+use crate::{OpenFault, POLL_BUFFER, POLL_DATAGRAMS, PollFault, opening};
+use channels::{ChannelFault, Channels};
+use end_settings::{EndConfig, Side};
 use pdi_session::{InitFault, Phase, PutFault, Taker};
 use safe_machine::ConnectionState;
 use std::alloc::{Allocator, Global};
@@ -38,7 +45,35 @@ impl<C, A: Allocator> Model for End<C, A> {
     ghost invariant = { λ e. IsKept e.layers };
 }
 
+impl<C: Channels, A: Allocator + Copy> End<C, A> {
+    /// Opens an end on one side of a connection. An interlocking asks for the connection at once, under the first sequence number told; a
+    /// field element waits for that. It is the only call that takes memory. A send on a channel that `channels` does not have fails
+    /// like any other.
+    ///
+    /// Refused, and the first that holds is named: `BadConfig`, where the settings are none of an end; `Memory`. The channels come back then.
+    pub fn open(
+        alloc: A,
+        channels: C,
+        config: EndConfig,
+        side: Side,
+        first_sn: u32,
+        now: u64,
+    ) -> Result<Self, (OpenFault, C)>
+        ensures bad_config { IsErrAnd result (λ e. e.0 ≡ BadConfig) ↔ (are_fit (side_of side) (settings_of config) ≡ false) }
+        ensures back { IfErr result (λ e. e.1 ≡ channels) }
+        ensures stands { IfOk result (λ end. EndStands C.told end (new_end (side_of side) (settings_of config) first_sn now)) }
+        ensures sent { IfOk result (λ end. FoldsTo SendsOne (C.told channels) (sent_at_opening (new_end (side_of side) (settings_of config) first_sn now)) (C.told (channels_of end))) }
+    {
+        match opening::open(alloc, channels, config, side, first_sn, now) {
+            Ok(layers) => Ok(End { layers, time: now }),
+            Err(refused) => Err(refused),
+        }
+    }
+}
+
 impl<C: Channels, A: Allocator> End<C, A> {
+    ghost use Rattle.stack_end.specs.Lending.{lends_channels};
+
     /// Takes a datagram that came on a channel, of any octets. What the application takes goes to the taker in order, and what waits is sent
     /// while the peer's window is open. A closed end does nothing.
     pub fn arrive<T: Taker>(&mut self, channel: usize, octets: &[u8], now: u64, taker: &mut T)
@@ -110,6 +145,96 @@ impl<C: Channels, A: Allocator> End<C, A> {
         self.time = now;
     }
 
+    /// Hands in the datagrams that the channels answer, at most 64 of up to 2,048 octets, each before the next is asked for; then time passes.
+    ///
+    /// Refused as `Channel` where a reception fails: what came before stays handed in, and time does not pass.
+    pub fn poll<T: Taker>(&mut self, now: u64, taker: &mut T) -> Result<(), PollFault>
+        requires now { now ≤ 2 ^ 62 }
+        requires later { self.old.time ≤ now }
+        ensures done { OnOk result (Polled C.told T.takes POLL_DATAGRAMS now (self.old, taker.old) (self.new, taker.new)) }
+        ensures failed { OnErr result (HeardUntilFault C.told T.takes POLL_DATAGRAMS now (self.old, taker.old) (self.new, taker.new)) }
+    {
+        let mut buffer = [0; POLL_BUFFER];
+        match self.hear_all(&mut buffer, now, taker) {
+            Ok(()) => {
+                self.tick(now, taker);
+                Ok(())
+            }
+            Err(_) => Err(PollFault::Channel),
+        }
+    }
+
+    /// Hands in what the channels answer, up to the most datagrams of one poll.
+    fn hear_all<T: Taker>(
+        &mut self,
+        buffer: &mut [u8],
+        now: u64,
+        taker: &mut T,
+    ) -> Result<(), ChannelFault>
+        requires now { now ≤ 2 ^ 62 }
+        requires later { self.old.time ≤ now }
+        ensures done { OnOk result (HeardAll C.told T.takes POLL_DATAGRAMS now (self.old, taker.old) (self.new, taker.new)) }
+        ensures failed { OnErr result (HeardUntilFault C.told T.takes POLL_DATAGRAMS now (self.old, taker.old) (self.new, taker.new)) }
+        ensures time { self.new.time ≤ now }
+    {
+        for _ in 0..POLL_DATAGRAMS {
+            match self.hear_next(buffer, now, taker) {
+                Ok(true) => {}
+                Ok(false) => return Ok(()),
+                Err(fault) => return Err(fault),
+            }
+        }
+        Ok(())
+    }
+
+    /// Hands in the next datagram, and tells whether one came.
+    fn hear_next<T: Taker>(
+        &mut self,
+        buffer: &mut [u8],
+        now: u64,
+        taker: &mut T,
+    ) -> Result<bool, ChannelFault>
+        requires now { now ≤ 2 ^ 62 }
+        requires later { self.old.time ≤ now }
+        ensures heard { MatchResult result (λ came. HeardNext C.told T.takes now came (self.old, taker.old) (self.new, taker.new))
+            (λ fault. AskedOnce C.told (Err fault) (self.old, taker.old) (self.new, taker.new)) }
+        ensures time { self.new.time ≤ now }
+    {
+        match self.ask(buffer) {
+            Ok(Some((channel, size))) => {
+                self.arrive(channel, &buffer[..size], now, taker);
+                Ok(true)
+            }
+            Ok(None) => Ok(false),
+            Err(fault) => Err(fault),
+        }
+    }
+
+    /// Asks the channels for a datagram.
+    fn ask(&mut self, buffer: &mut [u8]) -> Result<Option<(usize, usize)>, ChannelFault>
+        ensures asked { Asked C.told result buffer.new self.old self.new }
+        ensures fits { IfOk result (λ came. IfSome came (λ p. p.1 ≤ length buffer.new)) }
+    {
+        self.layers.upper.channels.receive(buffer)
+    }
+
+    /// The channels, to be looked at or changed by their owner.
+    pub fn channels(&mut self) -> &mut C
+        ensures* writes_back { sem 𝓛 (lends_channels C.row A.row A.Allocator self.entry result) }
+        ensures now { result.now ≡ channels_of self.old }
+    {
+        let layers = &mut self.layers;
+        let upper = &mut layers.upper;
+        &mut upper.channels
+    }
+
+    /// The channels, to be looked at.
+    pub fn channels_seen(&self) -> &C
+        ensures { result.now ≡ channels_of self.now }
+    {
+        &self.layers.upper.channels
+    }
+
     /// The state of the connection.
     pub fn state(&self) -> ConnectionState
         ensures { EndAsks C.told (λ x. x.machine.connection) self.now result }
@@ -122,5 +247,24 @@ impl<C: Channels, A: Allocator> End<C, A> {
         ensures { EndAsks C.told (λ x. phase_in x.session) self.now result }
     {
         self.layers.upper.session.phase()
+    }
+
+    /// Whether all that was put in is done with: the end is not closed, no message waits, and no unit is unconfirmed.
+    pub fn settled(&self) -> bool
+        ensures { EndAsks C.told is_settled self.now result }
+    {
+        self.layers.upper.machine.state() != ConnectionState::Closed
+            && self.layers.upper.waiting.len() == 0
+            && self.layers.upper.machine.unconfirmed() == 0
+    }
+
+    /// The octets of the ConnReq that a field element took, with which it joined a connection.
+    pub fn request(&self) -> Option<&[u8]>
+        ensures { (x : EndState) → EndStands C.told self.now x → option_map (λ octets. octets.now) result ≡ x.request }
+    {
+        match &self.layers.upper.request {
+            Some(octets) => Some(octets.as_slice()),
+            None => None,
+        }
     }
 }

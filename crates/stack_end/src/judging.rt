@@ -67,7 +67,13 @@ impl<'a, 'b, 'c, A: Allocator, T: Taker> UnitIn for ToSession<'a, 'b, 'c, A, T> 
 
     fn unit(&mut self, unit: &[u8]) {
         if self.asked.is_none() {
-            self.asked = judge_unit(self.session, self.waiting, self.taker, unit, &mut self.phases);
+            self.asked = judge_unit(
+                self.session,
+                self.waiting,
+                self.taker,
+                unit,
+                &mut self.phases,
+            );
         }
     }
 }

@@ -19,6 +19,13 @@ pub(crate) struct Seen {
     pub(crate) phase: Phase,
 }
 
+/// Tells the state of an end that was opened.
+pub(crate) fn tell_opened<C: Channels>(channels: &mut C, state: ConnectionState)
+    ensures { C.told channels.new ≡ C.told channels.old }
+{
+    channels.note(&Note::State(state));
+}
+
 /// Tells what the redundancy layer did with a datagram.
 pub(crate) fn tell_event<C: Channels>(channels: &mut C, octets: &[u8], event: RedEvent)
     ensures { C.told channels.new ≡ C.told channels.old }

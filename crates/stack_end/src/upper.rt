@@ -173,7 +173,13 @@ impl<C: Channels, A: Allocator> Upper<C, A> {
     }
 
     /// The machine takes a part, and the session the unit that goes up; both are told. Answers why the end is to leave, if it is.
-    fn hear_and_tell<T: Taker>(&mut self, number: u32, octets: &[u8], now: u64, taker: &mut T) -> Option<(Reason, Detail)>
+    fn hear_and_tell<T: Taker>(
+        &mut self,
+        number: u32,
+        octets: &[u8],
+        now: u64,
+        taker: &mut T,
+    ) -> Option<(Reason, Detail)>
         requires reach { self.old.machine.expected < 2 ^ 62 }
         requires few { FewWait self.old.session self.old.waiting }
         ensures does { Does T.takes (heard_alone now octets.now)
@@ -188,8 +194,20 @@ impl<C: Channels, A: Allocator> Upper<C, A> {
         let before = self.seen();
         let heard = self.hear(octets, now, taker);
         let phase = self.session.phase();
-        tell_step(&mut self.channels, number, heard.step, octets, self.code, before.phase, &heard.phases, heard.asked.is_some());
-        let seen = Seen { state: before.state, phase };
+        tell_step(
+            &mut self.channels,
+            number,
+            heard.step,
+            octets,
+            self.code,
+            before.phase,
+            &heard.phases,
+            heard.asked.is_some(),
+        );
+        let seen = Seen {
+            state: before.state,
+            phase,
+        };
         let after = self.seen();
         tell_change(&mut self.channels, seen, after);
         heard.asked
@@ -395,8 +413,8 @@ impl<'a, 'b, C: Channels, A: Allocator, T: Taker> Upward for ToUpper<'a, 'b, C, 
         (t.upper.ghost_name ≡ s.upper.ghost_name) × (t.taker.ghost_name ≡ s.taker.ghost_name) × (t.now ≡ s.now)
         × (t.upper.now.max ≡ s.upper.now.max)
         × Does T.takes (part s.now p.1)
-            (fields_of C.told s.upper.now) s.taker.now
-            (fields_of C.told t.upper.now) t.taker.now };
+        (fields_of C.told s.upper.now) s.taker.now
+        (fields_of C.told t.upper.now) t.taker.now };
 
     ghost ready = { λ s n. (s.upper.now.machine.expected ≤ 321 * n) × FewWait s.upper.now.session s.upper.now.waiting };
 
@@ -409,7 +427,13 @@ impl<'a, 'b, C: Channels, A: Allocator, T: Taker> Upward for ToUpper<'a, 'b, C, 
 
 impl<C: Channels, A: Allocator> Upper<C, A> {
     /// The redundancy layer takes a datagram, and what is above it each part that goes up.
-    pub(crate) fn receive<B: Allocator, T: Taker>(&mut self, red: &mut RedLayer<B>, octets: &[u8], now: u64, taker: &mut T)
+    pub(crate) fn receive<B: Allocator, T: Taker>(
+        &mut self,
+        red: &mut RedLayer<B>,
+        octets: &[u8],
+        now: u64,
+        taker: &mut T,
+    )
         requires now { now ≤ 2 ^ 62 }
         requires reach { self.old.machine.expected ≤ 321 * red.old.expected }
         requires few { FewWait self.old.session self.old.waiting }
@@ -430,7 +454,12 @@ impl<C: Channels, A: Allocator> Upper<C, A> {
     }
 
     /// The redundancy layer tries its deadline, and what is above it takes each part that goes up.
-    pub(crate) fn pass_time<B: Allocator, T: Taker>(&mut self, red: &mut RedLayer<B>, now: u64, taker: &mut T)
+    pub(crate) fn pass_time<B: Allocator, T: Taker>(
+        &mut self,
+        red: &mut RedLayer<B>,
+        now: u64,
+        taker: &mut T,
+    )
         requires now { now ≤ 2 ^ 62 }
         requires reach { self.old.machine.expected ≤ 321 * red.old.expected }
         requires few { FewWait self.old.session self.old.waiting }

@@ -20,7 +20,8 @@ use Rattle.safe_machine.specs.Settings.{is_legal}
 use Rattle.safe_machine.specs.State.{State, leave, opened, make, unconfirmed}
 use Rattle.safe_machine.specs.Step.{guard, tick}
 use Rattle.safe_machine.specs.Moves.{Move, move, moved, AreSoundMoves, IsSoundMove, HaveTexts, TextsLaw}
-use Rattle.safe_machine.specs.Moves.Move.{Guards, Ticks, Sends, Leaves}
+use Rattle.safe_machine.specs.Moves.Move.{Guards, Hears, Ticks, Sends, Leaves}
+use Rattle.safe_machine.specs.Reached.{IsRead, AreRead}
 use Rattle.safe_machine.specs.Octets.{heard as heard_as, seen_by, arrive_octets}
 use Rattle.safe_machine.specs.World.{Side}
 use Rattle.safe_machine.specs.World.Side.{Il, Fe}
@@ -31,7 +32,7 @@ use Rattle.end_settings.specs.EndSettings.{EndSettings, connection_of, are_fit}
 use Rattle.stack_end.specs.Dialogue.{Leaving, judge_units}
 use Rattle.stack_end.specs.Ends.{EndState, with_machine, handed_up, answered, leaves, heard, packed}
 use Rattle.stack_engine.proofs.Keeping.{Keeps, AreOctets, IsTypedInput}
-use Rattle.stack_engine.proofs.Reading.{numbers-read}
+use Rattle.stack_engine.proofs.Reading.{numbers-read, body-read}
 use Rattle.stack_engine.proofs.Packing.{unit-sized}
 use Rattle.stack_engine.proofs.Talking.{all-append}
 use Rattle.stack_engine.proofs.Spoken.{Below, Spoken}
@@ -56,12 +57,13 @@ settings-kept m s =
 abbrev pub OctetPart : Part → Type 0
 OctetPart p = AreOctets p.1
 
+-- by moves that were read
 pub record Machined (side : Side) (x : EndState) : Type 0 where
   pub same : x.machine.settings ≡ connection_of side x.settings
   pub first : ℕ
   pub began : ℕ
   pub moves : List Move
-  pub sound : AreSoundMoves moves
+  pub read : AreRead moves
   pub machine : x.machine ≡ moved moves (opened (connection_of side x.settings) first began)
   pub waits : AllByRecursion OctetPart x.red.waiting
 
@@ -69,19 +71,31 @@ moved-push : (ms : List Move) (m : Move) (s : State) → moved (ms ++ m ∷ []) 
 moved-push [] m s = refl
 moved-push (n ∷ ms) m s = moved-push ms m (move n s)
 
-sound-push : (ms : List Move) (m : Move) → AreSoundMoves ms → IsSoundMove m → AreSoundMoves (ms ++ m ∷ [])
-sound-push [] m h k = (k, tt)
-sound-push (n ∷ ms) m h k = (h.0, sound-push ms m h.1 k)
+read-push : (ms : List Move) (m : Move) → AreRead ms → IsRead m → AreRead (ms ++ m ∷ [])
+read-push [] m h k = (k, tt)
+read-push (n ∷ ms) m h k = (h.0, read-push ms m h.1 k)
+
+-- what was read is sound
+sound-one : (m : Move) → IsRead m → IsSoundMove m
+sound-one (Guards now) h = tt
+sound-one (Hears p now) h = h.0
+sound-one (Ticks now) h = tt
+sound-one (Sends unit now) h = h
+sound-one (Leaves reason detail now) h = tt
+
+sound-read : (ms : List Move) → AreRead ms → AreSoundMoves ms
+sound-read [] h = tt
+sound-read (m ∷ ms) h = (sound-one m h.0, sound-read ms h.1)
 
 -- the machine alone moves
-pub machined-move : (side : Side) (m : Move) (x y : EndState) → IsSoundMove m → y.settings ≡ x.settings → y.red ≡ x.red → y.machine ≡ move m x.machine → Machined side x → Machined side y
-machined-move side m x y sound a b c h =
+pub machined-move : (side : Side) (m : Move) (x y : EndState) → IsRead m → y.settings ≡ x.settings → y.red ≡ x.red → y.machine ≡ move m x.machine → Machined side x → Machined side y
+machined-move side m x y read a b c h =
     record {
       same = ap (λ (s : State). s.settings) c ∙ settings-kept m x.machine ∙ h.same ∙ ap (connection_of side) (sym a);
       first = h.first;
       began = h.began;
       moves = h.moves ++ m ∷ [];
-      sound = sound-push h.moves m h.sound sound;
+      read = read-push h.moves m h.read read;
       machine =
           c ∙ ap (move m) h.machine ∙ sym (moved-push h.moves m (opened (connection_of side x.settings) h.first h.began))
           ∙ ap (λ (t : EndSettings). moved (h.moves ++ m ∷ []) (opened (connection_of side t) h.first h.began)) (sym a);
@@ -95,24 +109,24 @@ machined-same side x y a b c h =
       first = h.first;
       began = h.began;
       moves = h.moves;
-      sound = h.sound;
+      read = h.read;
       machine = c ∙ h.machine ∙ ap (λ (t : EndSettings). moved h.moves (opened (connection_of side t) h.first h.began)) (sym a);
       waits = subst (λ (r : Receiver). AllByRecursion OctetPart r.waiting) (sym b) h.waits;
     }
 
+pub legal-role : (side : Side) (s : EndSettings) → is_legal s.connection ≡ true → is_legal (connection_of side s) ≡ true
+legal-role Il s h = h
+legal-role Fe s h = h
+
 -- every PDU made has a text
 pub machined-texts : TextsLaw → (side : Side) (x : EndState) → are_fit side x.settings ≡ true → Machined side x → HaveTexts x.machine.made
 machined-texts law side x fit h =
-    subst (λ (s : State). HaveTexts s.made) (sym h.machine) (law (connection_of side x.settings) h.first h.began h.moves (legal-role side x.settings (legal-of side x.settings fit)) h.sound)
-  where
-    legal-role : (side : Side) (s : EndSettings) → is_legal s.connection ≡ true → is_legal (connection_of side s) ≡ true
-    legal-role Il s h = h
-    legal-role Fe s h = h
+    subst (λ (s : State). HaveTexts s.made) (sym h.machine) (law (connection_of side x.settings) h.first h.began h.moves (legal-role side x.settings (legal-of side x.settings fit)) (sound-read h.moves h.read))
 
--- the move that octets make is sound
-sound-heard : (now : ℕ) (octets : List ℕ) (s : State) → AreOctets octets → (r : Result Pdu SafeFault) → seen_by s octets ≡ r → IsSoundMove (heard_as r now)
-sound-heard now octets s octs (Ok p) e = numbers-read s.settings.rule octets p octs e
-sound-heard now octets s octs (Err fault) e = tt
+-- the move that octets make was read
+pub read-heard : (now : ℕ) (octets : List ℕ) (s : State) → AreOctets octets → (r : Result Pdu SafeFault) → seen_by s octets ≡ r → IsRead (heard_as r now)
+read-heard now octets s octs (Ok p) e = (numbers-read s.settings.rule octets p octs e, body-read s.settings.rule octets p e)
+read-heard now octets s octs (Err fault) e = tt
 
 machined-leaves : (side : Side) (now : ℕ) (why : Option Leaving) (y : EndState) → Machined side y → Machined side (leaves now why y)
 machined-leaves side now None y h = h
@@ -122,7 +136,7 @@ machined-hears : (side : Side) (now : ℕ) (octets : List ℕ) (x : EndState) �
 machined-hears side now octets x octs h =
     let s = arrive_octets octets now x.machine in
     machined-leaves side now (judge_units (handed_up x s) x.session).leaving (answered octets x s)
-    (machined-move side (heard_as (seen_by x.machine octets) now) x (answered octets x s) (sound-heard now octets x.machine octs (seen_by x.machine octets) refl) refl refl refl h)
+    (machined-move side (heard_as (seen_by x.machine octets) now) x (answered octets x s) (read-heard now octets x.machine octs (seen_by x.machine octets) refl) refl refl refl h)
 
 -- parts among octets are octets
 among-one : (p : Part) (qs : List Part) → AllByRecursion OctetPart qs → IsAmong p qs → OctetPart p
@@ -194,7 +208,7 @@ whole-keeps laws origin side now =
               first = h.machined.first;
               began = h.machined.began;
               moves = h.machined.moves;
-              sound = h.machined.sound;
+              read = h.machined.read;
               machine = h.machined.machine;
               waits = (red-keeps origin i x.red t h.machined.waits).1;
             };

@@ -249,7 +249,7 @@ module _ (laws : Laws) (more : OneMoreLaw) (side : Side) (m : M.World) (k : ℕ)
   p-timed x c h = record { ins = h.ins; carry = h.carry; there = p-same h.ins (passed h.ins) x (record x { time = time_of c }) (kw-time x (time_of c) h.there.whole) (record { on = h.there.heeds.on; judged = h.there.heeds.judged; taken = h.there.heeds.taken }) refl refl refl refl refl h.there }
     where
       kw-time : (x : EndState) (t : ℕ) → Whole side x → Whole side (record x { time = t })
-      kw-time x t w = record { spoken = record { fit = w.spoken.fit; talk = w.spoken.talk; unpack = w.spoken.unpack; begins = w.spoken.begins; whole = w.spoken.whole }; machined = record { same = w.machined.same; first = w.machined.first; began = w.machined.began; moves = w.machined.moves; sound = w.machined.sound; machine = w.machined.machine; waits = w.machined.waits } }
+      kw-time x t w = record { spoken = record { fit = w.spoken.fit; talk = w.spoken.talk; unpack = w.spoken.unpack; begins = w.spoken.begins; whole = w.spoken.whole }; machined = record { same = w.machined.same; first = w.machined.first; began = w.machined.began; moves = w.machined.moves; read = w.machined.read; machine = w.machined.machine; waits = w.machined.waits } }
 
   -- what a call asks of the numbers of its parts
   abbrev pub Counts : List Input → Call → EndState → Type 0

@@ -1,11 +1,10 @@
 -- Adding a text to a shelf.
-use Rattle.std.proofs.Common.{◌≡◌, ℕ, ◌+◌, ◌-◌, ◌≤◌, List, [], ◌∷◌, ◌++◌, length, take, drop, refl, sym, ap, ◌∙◌, arith}
-use Rattle.std.specs.Prelude.{map}
-use Rattle.std.specs.List.{slice_range, AllByRecursion}
+use Rattle.std.proofs.Common.{◌≡◌, ℕ, ◌-◌, ◌≤◌, List, [], ◌∷◌, ◌++◌, length, take, drop, refl, ap, ◌∙◌, arith}
+use Rattle.std.specs.List.{slice_range}
 use Rattle.std.proofs.lemmas.List.{length-append, length-drop, take-append-le, drop-append-le, map-append}
 use Rattle.std.proofs.Math.Seq.{drop-append_seam, take-length}
 use Rattle.stack_engine.specs.declared.texts.Kept.{Kept}
-use Rattle.stack_engine.specs.TextPlaces.{text_in, texts_in, IsWithin, AreWithin}
+use Rattle.stack_engine.specs.TextPlaces.{text_in, texts_in, AreWithin}
 
 range-more : (o more : List ℕ) (from to : ℕ) → from ≤ to → to ≤ length o → slice_range (o ++ more) from to ≡ slice_range o from to
 range-more o more from to up within =

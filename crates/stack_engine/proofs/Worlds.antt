@@ -148,7 +148,7 @@ settings-are side s h =
     few Fe s h = grind (arith, nat_tests)
 
 -- a new end is whole
-new-whole : (side : Side) (s : EndSettings) (first now : ℕ) → are_fit side s ≡ true → Whole side (new_end side s first now)
+pub new-whole : (side : Side) (s : EndSettings) (first now : ℕ) → are_fit side s ≡ true → Whole side (new_end side s first now)
 new-whole Il s first now fit =
     record {
       spoken =
@@ -159,7 +159,7 @@ new-whole Il s first now fit =
             begins = ([], refl);
             whole = λ _. refl;
           };
-      machined = record { same = refl; first = first; began = now; moves = []; sound = tt; machine = refl; waits = tt };
+      machined = record { same = refl; first = first; began = now; moves = []; read = tt; machine = refl; waits = tt };
     }
 new-whole Fe s first now fit =
     record {
@@ -171,7 +171,7 @@ new-whole Fe s first now fit =
             begins = ([], refl);
             whole = λ _. refl;
           };
-      machined = record { same = refl; first = first; began = now; moves = []; sound = tt; machine = refl; waits = tt };
+      machined = record { same = refl; first = first; began = now; moves = []; read = tt; machine = refl; waits = tt };
     }
 
 -- the opening in the world of machines

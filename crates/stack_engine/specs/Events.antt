@@ -1,5 +1,4 @@
 -- What an event of the code says.
-use Rattle.std.specs.Prelude.{ℕ}
 use Rattle.end_settings.specs.Configured.{settings_of, side_of}
 use Rattle.stack_end.specs.Ends.Call.{Close, Put, InitDone, Tick, Deliver}
 use Rattle.stack_engine.specs.Pairs.{Event}

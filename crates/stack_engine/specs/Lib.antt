@@ -8,3 +8,5 @@ pub mod Texts
 pub mod TextPlaces
 pub mod Events
 pub mod Keeping
+pub mod Bounds
+pub mod Incarnations

@@ -1,15 +1,14 @@
 -- ConfirmedTaken: over losses and retransmissions, what neither waits nor is in an unconfirmed unit was taken.
-use Rattle.std.specs.Prelude.{ℕ, ◌≡◌, ◌==◌, ◌&&◌, not, Bool, true, false, Option, Some, None, List, [], ◌∷◌, ◌++◌, length, if◌then◌else◌, Result, Ok, Err}
+use Rattle.std.specs.Prelude.{ℕ, ◌≡◌, ◌==◌, Bool, true, false, Option, Some, None, List, [], ◌∷◌, ◌++◌, length, if◌then◌else◌, Result, Ok, Err}
 use Rattle.packing.specs.declared.PackFault.{PackFault}
 use Rattle.packing.specs.Places.{unit_seen}
 use Rattle.sci_telegram.specs.declared.TeleFault.{TeleFault}
 use Rattle.sci_telegram.specs.Tele.{Tele}
 use Rattle.sci_telegram.specs.Places.{tele_seen}
-use Rattle.red_layer.specs.Parts.{is_nil}
 use Rattle.safe_machine.specs.State.{unconfirmed}
 use Rattle.pdi_session.specs.SessionStep.{Item}
 use Rattle.pdi_session.specs.Laws.{IsBeginning, items_of}
-use Rattle.stack_end.specs.Ends.{EndState, is_shut}
+use Rattle.stack_end.specs.Ends.{EndState, is_settled, is_shut}
 use Rattle.stack_engine.specs.Pairs.{World, JoinedEnd, Event, start, run, latest}
 use Rattle.stack_engine.specs.Premise.{AtOpened, Genuine, AreTyped}
 use Rattle.stack_engine.specs.Headline.{put_at, taken_at, incarnation}
@@ -44,9 +43,9 @@ WasTaken x taken =
     is_shut x ≡ false →
     (confirmed : List Item) × IsBeginning confirmed taken × (put_at x ≡ confirmed ++ items_unconfirmed x ++ items_waiting x)
 
--- nothing waits, and no unit is unconfirmed
-abbrev pub is_settled : EndState → Bool
-is_settled x = not (is_shut x) && (is_nil x.session.waiting && is_nil (unconfirmed x.machine))
+
+
+
 
 -- what the end joined to one took
 abbrev pub taken_by : Option EndState → List Item

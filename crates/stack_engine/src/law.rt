@@ -1,5 +1,6 @@
 //! What a pair promises over every list of events.
 
+ghost use Rattle.stack_engine.specs.Bounds.{FewFirstLaw, FewMoreLaw};
 ghost use Rattle.stack_engine.specs.Faithful.{NothingLostLaw, OrderlyLaw};
 ghost use Rattle.stack_engine.specs.Freshness.{Freshness};
 ghost use Rattle.stack_engine.specs.Headline.{HeadlineLaw};
@@ -30,6 +31,10 @@ pub fn pair_law()
     // And whatever ends they are: with every PDU arrived all that was put in was taken but what waits, an end that is open keeps a
     // message for a full window alone, and ends that match are up and, where nothing waits, in step.
     ensures nothing_lost { NothingLostLaw }
+
+    // One call of an end makes 401 PDUs and takes 27 telegrams at most, none longer than its grammar has it.
+    ensures few { FewMoreLaw }
+    ensures few_first { FewFirstLaw }
 
     // The test of the premise tells exactly whether a delivery would break it at once.
     ensures breaks { BreaksLaw }

@@ -1,8 +1,7 @@
-use Rattle.std.proofs.Common.{◌≡◌, refl}
-use Rattle.red_layer.specs.Redundancy.{Datagram, Tick as RedTick}
-use Rattle.safe_machine.specs.Moves.Move.{Guards, Ticks}
-use Rattle.stack_end.specs.Ends.{EndState, did, goes_on, moved, receives, sends}
-use Rattle.stack_end.proofs.Receiving.{end-before, end-moved, end-then, goes-on, open-then}
+use Rattle.red_layer.specs.Redundancy.{Datagram}
+use Rattle.safe_machine.specs.Moves.Move.{Guards}
+use Rattle.stack_end.specs.Ends.{EndState, goes_on, moved}
+use Rattle.stack_end.proofs.Receiving.{end-before, end-moved, open-then}
 use Rattle.stack_end.proofs.Uppers.{went-told}
 use Rattle.stack_end.proofs.layers.Layers.arrive.Goals as goal
 

@@ -1,9 +1,6 @@
-use Rattle.std.proofs.Common.{◌≡◌, refl}
-use Rattle.red_layer.specs.Redundancy.{Datagram, Tick as RedTick}
-use Rattle.safe_machine.specs.Moves.Move.{Guards, Ticks}
-use Rattle.stack_end.specs.Ends.{EndState, did, goes_on, moved, receives, sends}
-use Rattle.stack_end.proofs.Receiving.{end-before, end-moved, end-then, goes-on, open-then}
-use Rattle.stack_end.proofs.Uppers.{went-told}
+use Rattle.red_layer.specs.Redundancy.{Datagram}
+use Rattle.stack_end.specs.Ends.{EndState, receives, sends}
+use Rattle.stack_end.proofs.Receiving.{end-then, goes-on}
 use Rattle.stack_end.proofs.layers.Layers.deliver.Goals as goal
 
 pub returns-in_default-clause-does : goal.returns-in_default-clause-does

@@ -36,6 +36,7 @@ returns-clause-does g c x h =
     let judged =
     judges-units g.T.Taker.takes (λ s. talk s.session.now s.waiting.now s.taker.now) (λ s. s.asked) _ (λ s u t r. r.3) _ _ _ (c.arrive-step.ensures.taken s h.machine) refl x.session
     h.speaks in
-    let same = FoldsTo-keeps (λ s. s.taker.ghost_name) _ (λ s x t h. h.2) _ _ _ (c.arrive-step.ensures.taken s h.machine) in
-    (went-of x (heard_alone c.args.now c.args.octets.now x) _ _ one.more_made h refl refl (c.unit_law.ensures.settings (heard (seen_by s c.args.octets.now) c.args.now) s) one.made (c.arrive-step.ensures.stands s h.machine) judged.0.speaks h.request refl refl sent,
-    (let took = judged.0.took in search (rules, took, same)))
+    let same = FoldsTo-keeps (λ s. s.taker.ghost_name) _ (λ s x t h. h.2) _ _ _ (c.arrive-step.ensures.taken s h.machine) in (
+      went-of x (heard_alone c.args.now c.args.octets.now x) _ _ one.more_made h refl refl (c.unit_law.ensures.settings (heard (seen_by s c.args.octets.now) c.args.now) s) one.made (c.arrive-step.ensures.stands s h.machine) judged.0.speaks h.request refl refl sent,
+      (let took = judged.0.took in search (rules, took, same)),
+    )

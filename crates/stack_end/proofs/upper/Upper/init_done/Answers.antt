@@ -1,4 +1,4 @@
-use Rattle.std.proofs.Common.{◌∙◌, ◌++◌, ◌≡◌, ℕ, List, ap, length, append-nil}
+use Rattle.std.proofs.Common.{◌∙◌, ◌++◌, ℕ, List, ap, length, append-nil}
 use Rattle.pdi_session.specs.SessionStep.{Event, InitDone, SessionState, added_by, after, texts}
 use Rattle.stack_end.specs.Dialogue.{meets}
 use Rattle.stack_end.specs.Ends.{EndState, sends, with_session}

@@ -22,8 +22,15 @@ loop-packs-preserved g c =
           let y : EndState = a.0 in
           let b = c.pack_one-packs.ensures.does y a.1.0.stands in
           let z : EndState = packed_once c.args.now y in
-          let some : 1 ≤ y.settings.n_maxpacket = subst (λ n. 1 ≤ n) a.1.0.stands.max c.loop-packs.invariant.some in
-          (z, (went-then x y z _ _ _ a.1.0 b.0, (b.1 ∙ a.1.1.0,
-          (a.1.1.1 ∙ ap (λ (t : Bool). if t then sends c.args.now y else y) c.loop-packs-test.true)
-          ∙ sends-step c.args.now y c.pack_one-packs.result some (c.pack_one-packs.ensures.packs y a.1.0.stands))));
+          let some : 1 ≤ y.settings.n_maxpacket = subst (λ n. 1 ≤ n) a.1.0.stands.max c.loop-packs.invariant.some in (
+            z,
+            (
+              went-then x y z _ _ _ a.1.0 b.0,
+              (
+                b.1 ∙ a.1.1.0,
+                (a.1.1.1 ∙ ap (λ (t : Bool). if t then sends c.args.now y else y) c.loop-packs-test.true)
+                    ∙ sends-step c.args.now y c.pack_one-packs.result some (c.pack_one-packs.ensures.packs y a.1.0.stands),
+              ),
+            ),
+          );
     }

@@ -1,0 +1,15 @@
+-- Channels over sockets: what is told of them, and the lists of addresses that they are opened with.
+use Rattle.std.specs.Prelude.{ℕ, Bool, ◌&&◌, ◌==◌, nat_le, None, List, length}
+use Rattle.octets.specs.declared.limits.TheConstants.{CHANNELS_MAX}
+use Rattle.channels.specs.Told.{Told}
+
+-- nothing tells what a socket sends or gives: counts alone
+abbrev pub Counts : Type 0
+Counts = ℕ × ℕ
+
+abbrev pub told_of : Counts → Told
+told_of (sends, receives) = record { sent = None; answers = None; failed_sends = sends; failed_receives = receives; room = λ _. 0 }
+
+-- a remote address for each local one, of 1 to 4
+abbrev pub are_paired : {T : Type 0} → List T → List T → Bool
+are_paired local remote = (length local == length remote) && (nat_le 1 (length local) && nat_le (length local) CHANNELS_MAX)

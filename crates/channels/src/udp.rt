@@ -1,0 +1,220 @@
+//! Channels over UDP sockets, which never wait, and a wait for all of them at once.
+
+ghost use Rattle.std.specs.Prelude.{◌≡◌, ◌≢◌, ◌≤◌, ◌⊎◌, false, true, Err, length, is_ok, IfOk, IfSome, MatchOption};
+ghost use Rattle.std.specs.Net.Grammar.{IsSocketText};
+ghost use Rattle.channels.specs.Told.{Sends, after_receive};
+ghost use Rattle.channels.specs.Sockets.{told_of, are_paired};
+ghost use Rattle.channels.specs.declared.udp.UdpFault.TheVariants as fault;
+
+use crate::{ChannelFault, Channels};
+use mio::net::UdpSocket;
+use mio::{Events, Interest, Poll, Token};
+use octets::limits::CHANNELS_MAX;
+use std::alloc::{Allocator, Global};
+use std::convert::AsStr;
+use std::io;
+use std::io::ErrorKind;
+use std::marker::Model;
+use std::net::{Net, SocketAddr};
+use std::time::Duration;
+
+/// A local address and the remote one that is sent to.
+type Pair = (SocketAddr, SocketAddr);
+
+/// How many events one wait takes up. More than one for each socket of two ends is of no use.
+const EVENTS: usize = 2 * CHANNELS_MAX;
+
+/// Why channels were not opened, in the order in which it is tested.
+#[derive(Clone, Copy, Debug, PartialEq, Eq)]
+pub enum UdpFault {
+    /// There was no memory for them.
+    Memory,
+    /// The lists are not of one length from 1 to 4, or a text is no address with a port.
+    Address,
+    /// The system gives no socket at a local address: it is in use, or of another machine.
+    Bind,
+}
+
+#[derive(Drop)]
+struct Channel {
+    socket: UdpSocket,
+    remote: SocketAddr,
+}
+
+/// Channels over UDP: a socket for each, numbered from 1. A datagram is taken from any sender.
+#[derive(Drop)]
+pub struct UdpChannels<A: Allocator = Global> {
+    list: Vec<Channel, A>,
+    failed_sends: u64,
+    failed_receives: u64,
+}
+
+impl<A: Allocator> Model for UdpChannels<A> {
+    ghost use Rattle.channels.specs.Sockets.{Counts};
+
+    ghost Value = { Counts };
+
+    ghost view = { λ c. (c.failed_sends, c.failed_receives) };
+}
+
+impl<A: Allocator + Copy> UdpChannels<A> {
+    /// Binds a socket for each pair of addresses, such as `127.0.0.1:46101`; names of hosts are none.
+    /// Refused as Memory, then as Address, before a socket is bound, then as Bind.
+    pub fn open<N: Net, S: AsStr>(
+        alloc: A,
+        net: &N,
+        local: &[S],
+        remote: &[S],
+    ) -> Result<Self, UdpFault>
+        ensures counts { IfOk result (λ c. c ≡ (0, 0)) }
+        ensures ok { IfOk result (λ _. are_paired local.now remote.now ≡ true) }
+        ensures unpaired { are_paired local.now remote.now ≡ false → (result ≡ Err fault.Memory) ⊎ (result ≡ Err fault.Address) }
+    {
+        let (Ok(mut pairs), Ok(mut list)) = (
+            Vec::with_capacity(alloc, CHANNELS_MAX),
+            Vec::with_capacity(alloc, CHANNELS_MAX),
+        ) else {
+            return Err(UdpFault::Memory);
+        };
+        if !pair_all(local, remote, &mut pairs) {
+            return Err(UdpFault::Address);
+        }
+        if !bind_all(net, pairs.as_slice(), &mut list) {
+            return Err(UdpFault::Bind);
+        }
+        Ok(UdpChannels {
+            list,
+            failed_sends: 0,
+            failed_receives: 0,
+        })
+    }
+}
+
+impl<A: Allocator> Channels for UdpChannels<A> {
+    ghost told = { told_of };
+
+    fn send(&mut self, channel: usize, datagram: &[u8]) -> Result<(), ChannelFault> {
+        let result = tell(self.list.as_slice(), channel, datagram);
+        if result.is_err() {
+            self.failed_sends = self.failed_sends.wrapping_add(1);
+        }
+        result
+    }
+
+    fn receive(&mut self, buffer: &mut [u8]) -> Result<Option<(usize, usize)>, ChannelFault> {
+        let result = ask(self.list.as_slice(), buffer);
+        if result.is_err() {
+            self.failed_receives = self.failed_receives.wrapping_add(1);
+        }
+        result
+    }
+}
+
+/// The wait until a datagram waits on one of the sockets that it watches. A process has one for all of its ends.
+///
+/// It hears of changes alone: before each wait, ask the channels until nothing comes, and wait with a limit.
+#[derive(Drop)]
+pub struct Watch<A: Allocator = Global> {
+    poll: Poll,
+    events: Events<A>,
+}
+
+impl<A: Allocator + Copy> Watch<A> {
+    /// Watches nothing yet. Refused as Memory, or as Bind where the system has no means to wait.
+    pub fn open<N: Net>(alloc: A, net: &N) -> Result<Self, UdpFault> {
+        let Ok(events) = Events::with_capacity(alloc, EVENTS) else {
+            return Err(UdpFault::Memory);
+        };
+        match Poll::new(net) {
+            Ok(poll) => Ok(Watch { poll, events }),
+            Err(_) => Err(UdpFault::Bind),
+        }
+    }
+}
+
+impl<A: Allocator> Watch<A> {
+    /// Watches the sockets of these channels too. Refused by the system, as when they are watched already.
+    pub fn add<B: Allocator>(&self, channels: &mut UdpChannels<B>) -> io::Result<()>
+        ensures { channels.new ≡ channels.old }
+    {
+        for channel in &mut channels.list {
+            self.poll
+                .registry()
+                .register(&mut channel.socket, Token(0), Interest::READABLE)?;
+        }
+        Ok(())
+    }
+
+    /// Waits until a datagram comes, or the time is up; a fraction of a millisecond counts as one. It may end early,
+    /// and says nothing of what came: ask the channels.
+    pub fn wait(&mut self, limit: Duration) {
+        let _waited = self.poll.poll(&mut self.events, Some(limit));
+    }
+}
+
+/// Lists the pairs of addresses that two lists of texts spell, and answers whether the lists are of one length from 1 to 4
+/// and each text spells an address.
+fn pair_all<S: AsStr, A: Allocator>(local: &[S], remote: &[S], pairs: &mut Vec<Pair, A>) -> bool
+    ensures { result ≡ true → are_paired local.now remote.now ≡ true }
+{
+    if local.len() != remote.len() || local.is_empty() || local.len() > CHANNELS_MAX {
+        return false;
+    }
+    for (near, far) in local.iter().zip(remote) {
+        let (Some(near), Some(far)) = (address(near.as_str()), address(far.as_str())) else {
+            return false;
+        };
+        if pairs.push((near, far)).is_err() {
+            return false;
+        }
+    }
+    true
+}
+
+fn address(text: &str) -> Option<SocketAddr>
+    ensures { MatchOption result ((a : SocketAddr) → ¬ IsSocketText text.now a) (IsSocketText text.now) }
+{
+    text.parse::<SocketAddr>().ok()
+}
+
+/// Binds a socket at the first address of each pair, and answers whether the system gave all of them.
+fn bind_all<N: Net, A: Allocator>(net: &N, pairs: &[Pair], list: &mut Vec<Channel, A>) -> bool {
+    for (local, remote) in pairs {
+        let Ok(socket) = UdpSocket::bind(net, *local) else {
+            return false;
+        };
+        let remote = *remote;
+        if list.push(Channel { socket, remote }).is_err() {
+            return false;
+        }
+    }
+    true
+}
+
+/// Sends a datagram to the remote address of a channel.
+fn tell(list: &[Channel], channel: usize, datagram: &[u8]) -> Result<(), ChannelFault> {
+    let Some(channel) = list.get(channel.wrapping_sub(1)) else {
+        return Err(ChannelFault::Room);
+    };
+    match channel.socket.send_to(datagram, channel.remote) {
+        Ok(_) => Ok(()),
+        Err(_) => Err(ChannelFault::System),
+    }
+}
+
+/// The first datagram of the channels in their order, if one has come.
+fn ask(list: &[Channel], buffer: &mut [u8]) -> Result<Option<(usize, usize)>, ChannelFault>
+    ensures { IfOk result (λ came. IfSome came (λ p. p.1 ≤ length buffer.new)) }
+{
+    for (number, channel) in list.iter().enumerate() {
+        match channel.socket.recv_from(buffer) {
+            Ok((size, _sender)) => return Ok(Some((number.wrapping_add(1), size))),
+            Err(fault) => {
+                if fault.kind() != ErrorKind::WouldBlock {
+                    return Err(ChannelFault::System);
+                }
+            }
+        }
+    }
+    Ok(None)
+}

@@ -1,0 +1,76 @@
+-- The groups of settings.
+use Rattle.std.specs.Prelude.{ℕ, ◌-◌, List, Some, None, Result, Ok, Err}
+use Rattle.toml.specs.Data.{Data}
+use Rattle.settings_file.specs.declared.keys.Key.TheVariants as key
+use Rattle.settings_file.specs.declared.keys.KeyFault.{KeyFault}
+use Rattle.settings_file.specs.declared.values.Limits.{Limits}
+use Rattle.settings_file.specs.Keys.{◌>>=◌}
+use Rattle.std.specs.Prelude.{◌==◌, if◌then◌else◌}
+use Rattle.sci_telegram.specs.Tele.{owned_characters}
+use Rattle.end_settings.specs.declared.Side.{Side}
+use Rattle.settings_file.specs.declared.keys.Expected.TheVariants as expected
+use Rattle.settings_file.specs.declared.values.Put.{Put}
+use Rattle.settings_file.specs.declared.values.Identity.{Identity}
+use Rattle.settings_file.specs.declared.values.Beginning.{Beginning}
+use Rattle.octets.specs.declared.limits.TheConstants.{MWA_MAX, PDU_LIMIT_HIGHEST, PDU_LIMIT_LOWEST, Q_MAX, T_H_LOWEST, T_MAX_HIGHEST, T_MAX_LOWEST, T_SEQ_LOWEST, T_SEQ_MAX, UNIT_MESSAGES, WINDOW_MAX}
+use Rattle.end_settings.specs.Lists.{versions_in, checksum_in}
+use Rattle.settings_file.specs.Readers.{number_at, wrong_at, name_at, code_at, checksum_at, initial_value_at, versions_at}
+
+abbrev pub limits_of : Data → Result Limits KeyFault
+limits_of d = do
+  n_sendmax ← number_at d key.NSendmax 1 WINDOW_MAX (Some 20)
+  n_maxpacket ← number_at d key.NMaxpacket 1 UNIT_MESSAGES (Some 3)
+  deferral ← number_at d key.Deferral 1 Q_MAX (Some 4)
+  t_max ← number_at d key.TMax T_MAX_LOWEST T_MAX_HIGHEST (Some 1800)
+  t_heartbeat ← number_at d key.THeartbeat T_H_LOWEST (t_max - 1) (Some 300)
+  t_seq ← number_at d key.TSeq T_SEQ_LOWEST T_SEQ_MAX (Some 50)
+  mwa ← number_at d key.Mwa 1 MWA_MAX (Some 10)
+  pdu_limit ← number_at d key.PduLimit PDU_LIMIT_LOWEST PDU_LIMIT_HIGHEST (Some PDU_LIMIT_HIGHEST)
+  Ok (record { n_sendmax = n_sendmax; n_maxpacket = n_maxpacket; deferral = deferral; t_max = t_max; t_heartbeat = t_heartbeat; t_seq = t_seq; mwa = mwa; pdu_limit = pdu_limit })
+
+-- who an end is, and who its peer
+pub record IdentitySeen : Type 0 where
+  pub id : ℕ
+  pub peer_id : ℕ
+  pub name : List ℕ
+  pub peer_name : List ℕ
+  pub protocol : ℕ
+
+abbrev pub identity_seen : Identity → IdentitySeen
+identity_seen i = record { id = i.id; peer_id = i.peer_id; name = owned_characters i.name; peer_name = owned_characters i.peer_name; protocol = i.protocol }
+
+abbrev pub other_than : Data → ℕ → ℕ → Result ℕ KeyFault
+other_than d id peer = if peer == id then Err (wrong_at d key.PeerId expected.AnotherId) else Ok peer
+
+abbrev pub identity_of : Data → Result IdentitySeen KeyFault
+identity_of d = do
+  id ← number_at d key.Id 0 4294967295 None
+  peer ← number_at d key.PeerId 0 4294967295 None
+  peer_id ← other_than d id peer
+  name ← name_at d key.Name
+  peer_name ← name_at d key.PeerName
+  protocol ← number_at d key.Protocol 0 255 (Some 1)
+  Ok (record { id = id; peer_id = peer_id; name = name; peer_name = peer_name; protocol = protocol })
+
+-- what an end begins with
+pub record BeginningSeen : Type 0 where
+  pub versions : List ℕ
+  pub code : ℕ
+  pub checksum : List ℕ
+  pub initial_value : List ℕ
+  pub first_sn : ℕ
+
+abbrev pub beginning_seen : Beginning → BeginningSeen
+beginning_seen b = record { versions = versions_in b.versions; code = b.code; checksum = checksum_in b.checksum; initial_value = b.initial_value; first_sn = b.first_sn }
+
+abbrev pub beginning_of : Side → Data → Result BeginningSeen KeyFault
+beginning_of e d = do
+  versions ← versions_at e d
+  code ← code_at d key.Code
+  checksum ← checksum_at d key.Checksum
+  initial_value ← initial_value_at d key.InitialValue
+  first_sn ← number_at d key.FirstSn 0 4294967295 (Some 1)
+  Ok (record { versions = versions; code = code; checksum = checksum; initial_value = initial_value; first_sn = first_sn })
+
+abbrev pub put_seen : Put → ℕ × List ℕ
+put_seen p = (p.kind, p.payload.items)

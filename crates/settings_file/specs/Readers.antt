@@ -1,0 +1,162 @@
+-- What one key of a table says, for each kind of key.
+use Rattle.std.specs.Prelude.{ℕ, suc, ◌+◌, ◌*◌, true, false, is_some, ℤ, pos, negsuc, List, [], ◌∷◌, length, nat_le, ◌==◌, ◌/◌, ◌&&◌, if◌then◌else◌, Bool, Option, Some, None, Result, Ok, Err, option_and_then, option_map}
+use Rattle.std.specs.Result.{result_ok}
+use Rattle.std.specs.Option.{ok_or, option_map_or}
+use Rattle.toml.specs.Data.{Data, get, as_integer, as_str, as_array, Items, no_items, item}
+use Rattle.hex.specs.Hex.{decode_sized, decode_of}
+use Rattle.std.specs.Prelude.{◌≡◌, nat_lt, slice_index, take, drop}
+use Rattle.std.specs.Bool.{⊤}
+use Rattle.settings_file.specs.declared.keys.ReadFault.{ReadFault}
+use Rattle.settings_file.specs.declared.keys.ReadFault.TheVariants as read_fault
+use Rattle.sci_telegram.specs.Names.{name_read}
+use Rattle.settings_file.specs.declared.keys.Key.{Key}
+use Rattle.settings_file.specs.declared.keys.Key.TheVariants as key
+use Rattle.end_settings.specs.declared.Side.{Side}
+use Rattle.end_settings.specs.declared.Side.TheVariants as side
+use Rattle.settings_file.specs.declared.keys.Expected.{Expected}
+use Rattle.settings_file.specs.declared.keys.Expected.TheVariants as expected
+use Rattle.settings_file.specs.declared.keys.KeyFault.{KeyFault}
+use Rattle.settings_file.specs.declared.keys.Found.{Found}
+use Rattle.settings_file.specs.declared.keys.Found.TheVariants as found
+use Rattle.byteorder.specs.Endian.{little_number}
+use Rattle.md4.specs.declared.TheConstants.{INITIAL_VALUE}
+use Rattle.pdi_session.specs.declared.TheConstants.{CHECKSUM_MAX}
+use Rattle.settings_file.specs.Keys.{text_of}
+
+-- what a table has at a key
+abbrev pub found_at : Data → Key → Found
+found_at d k = option_map_or (λ v. option_map_or found.Number (as_integer v) found.Other) (get (text_of k) d) found.Nothing
+
+abbrev pub wrong_at : Data → Key → Expected → KeyFault
+wrong_at d k e = record { key = k; expected = e; found = found_at d k }
+
+-- a key that may be left out has a default
+abbrev pub at_key : {T : Type 0} → Data → Key → Expected → Option T → (Data → Option T) → Result T KeyFault
+at_key d k e default read = ok_or (option_map_or read (get (text_of k) d) default) (wrong_at d k e)
+
+-- a whole number in its range
+abbrev pub within : ℕ → ℕ → ℤ → Option ℕ
+within low high (pos n) = if nat_le low n && nat_le n high then Some n else None
+within low high (negsuc n) = None
+
+-- the whole number at a key, or the default, which is tested like a written one
+abbrev pub whole_at : Data → Key → Option ℕ → Option ℤ
+whole_at d k default = option_map_or as_integer (get (text_of k) d) (option_map pos default)
+
+abbrev pub number_at : Data → Key → ℕ → ℕ → Option ℕ → Result ℕ KeyFault
+number_at d k low high default = ok_or (option_and_then (within low high) (whole_at d k default)) (wrong_at d k (expected.Whole low high))
+
+-- a name, as its characters
+abbrev pub name_at : Data → Key → Result (List ℕ) KeyFault
+name_at d k = at_key d k expected.Name None (λ v. option_and_then (λ t. result_ok (name_read t)) (as_str v))
+
+-- how many octets of code
+abbrev pub code_length : ℕ → Option ℕ
+code_length n = if n == 8 then Some 8 else if n == 16 then Some 16 else None
+
+abbrev pub code_within : ℤ → Option ℕ
+code_within (pos n) = code_length n
+code_within (negsuc n) = None
+
+abbrev pub code_at : Data → Key → Result ℕ KeyFault
+code_at d k = at_key d k expected.CodeLength (Some 8) (λ v. option_and_then code_within (as_integer v))
+
+-- the words of sixteen octets as 32 hex digits, the least significant octet of each first
+abbrev pub words_of : List ℕ → List ℕ
+words_of octets =
+    little_number 4 octets ∷ little_number 4 (drop 4 octets) ∷ little_number 4 (drop 8 octets) ∷ little_number 4 (drop 12 octets) ∷ []
+
+abbrev pub initial_value_at : Data → Key → Result (List ℕ) KeyFault
+initial_value_at d k =
+    at_key d k expected.SixteenOctets (Some INITIAL_VALUE) (λ v. option_and_then (λ t. option_map words_of (result_ok (decode_sized t 16))) (as_str v))
+
+-- up to sixteen octets as hex digits
+abbrev pub short_octets : List ℕ → Option (List ℕ)
+short_octets t = if nat_le (length t / 2) CHECKSUM_MAX then result_ok (decode_sized t (length t / 2)) else None
+
+abbrev pub checksum_at : Data → Key → Result (List ℕ) KeyFault
+checksum_at d k = ok_or (option_and_then short_octets (option_map_or as_str (get (text_of k) d) (Some []))) (wrong_at d k expected.UpToSixteenOctets)
+
+-- the value of a reader seen as another
+abbrev pub read_as : {A B : Type 0} → (A → B) → Result A KeyFault → Result B KeyFault
+read_as f (Ok x) = Ok (f x)
+read_as f (Err e) = Err e
+
+abbrev pub items_length : Items → ℕ
+items_length no_items = 0
+items_length (item d ds) = suc (items_length ds)
+
+-- numbers of one octet
+abbrev pub octets_of : Items → Option (List ℕ)
+octets_of no_items = Some []
+octets_of (item d ds) = option_and_then (λ b. option_map (λ bs. b ∷ bs) (octets_of ds)) (option_and_then (within 0 255) (as_integer d))
+
+abbrev pub stands_in : ℕ → List ℕ → Bool
+stands_in x [] = false
+stands_in x (y ∷ ys) = if x == y then true else stands_in x ys
+
+abbrev pub are_different : List ℕ → Bool
+are_different [] = true
+are_different (x ∷ xs) = if stands_in x xs then false else are_different xs
+
+-- whether there are one to four
+abbrev pub is_few : Items → Bool
+is_few ds = nat_le 1 (items_length ds) && nat_le (items_length ds) 4
+
+abbrev pub few_octets : Items → Option (List ℕ)
+few_octets ds = if is_few ds then octets_of ds else None
+
+-- one to four different numbers of one octet
+abbrev pub if_different : List ℕ → Option (List ℕ)
+if_different bs = if are_different bs then Some bs else None
+
+abbrev pub different_octets : Items → Option (List ℕ)
+different_octets ds = option_and_then if_different (few_octets ds)
+
+-- the versions of an interlocking, one alone
+abbrev pub one_version : Data → Result (List ℕ) KeyFault
+one_version d = read_as (λ v. v ∷ []) (number_at d key.Version 0 255 (Some 1))
+
+abbrev pub il_versions : Data → Result (List ℕ) KeyFault
+il_versions d = if is_some (get (text_of key.Versions) d) then Err (wrong_at d key.Versions expected.Absent) else one_version d
+
+-- the versions of a field element, in one of the two keys
+abbrev pub listed_versions : Data → Data → Result (List ℕ) KeyFault
+listed_versions d v = if is_some (get (text_of key.Version) d) then Err (wrong_at d key.Version expected.Absent) else ok_or (option_and_then different_octets (as_array v)) (wrong_at d key.Versions expected.DifferentVersions)
+
+abbrev pub fe_versions : Data → Result (List ℕ) KeyFault
+fe_versions d = option_map_or (listed_versions d) (get (text_of key.Versions) d) (one_version d)
+
+abbrev pub versions_at : Side → Data → Result (List ℕ) KeyFault
+versions_at side.Interlocking d = il_versions d
+versions_at side.FieldElement d = fe_versions d
+
+-- texts
+abbrev pub texts_of : Items → Option (List (List ℕ))
+texts_of no_items = Some []
+texts_of (item d ds) = option_and_then (λ t. option_map (λ ts. t ∷ ts) (texts_of ds)) (as_str d)
+
+-- one to four texts, no memory for others
+abbrev pub few_texts : Items → Option (List (List ℕ))
+few_texts ds = if is_few ds then texts_of ds else None
+
+abbrev pub addresses_at : Data → Key → Result (List (List ℕ)) KeyFault
+addresses_at d k = at_key d k expected.Addresses None (λ v. option_and_then few_texts (as_array v))
+
+-- four hex digits, a colon, and hex digits
+abbrev pub put_of : List ℕ → Option (ℕ × List ℕ)
+put_of t = if nat_lt (length t) 5 then None
+    else if slice_index t 4 == 58 then option_and_then (λ kind. option_map (λ payload. (slice_index kind 0 * 256 + slice_index kind 1, payload)) (result_ok (decode_of (drop 5 t)))) (result_ok (decode_sized (take 4 t) 2))
+    else None
+
+abbrev pub puts_of : Items → Option (List (ℕ × List ℕ))
+puts_of no_items = Some []
+puts_of (item d ds) = option_and_then (λ p. option_map (λ ps. p ∷ ps) (puts_of ds)) (option_and_then put_of (as_str d))
+
+abbrev pub puts_at : Data → Key → Result (List (ℕ × List ℕ)) KeyFault
+puts_at d k = at_key d k expected.Puts (Some []) (λ v. option_and_then puts_of (as_array v))
+
+-- what a reader that takes memory says: what the definition says, or nothing where memory was refused
+abbrev pub IsFaultOf : {A : Type 0} → Result A KeyFault → ReadFault → Type 0
+IsFaultOf r (read_fault.Key f) = r ≡ Err f
+IsFaultOf r (read_fault.Memory e) = ⊤

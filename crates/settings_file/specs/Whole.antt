@@ -1,0 +1,187 @@
+-- What a whole settings file says.
+use Rattle.std.specs.Prelude.{ℕ, true, ◌==◌, ◌≡◌, ◌||◌, Bool, if◌then◌else◌, List, codes, length, map, string_bytes, bytes_eq, Option, Some, None, Result, Ok, Err}
+use Rattle.std.specs.Bool.{⊤}
+use Rattle.std.specs.Option.{option_map_or}
+use Rattle.toml.specs.Data.{Data, table, Members, no_members, member, get, as_table}
+use Rattle.toml.specs.Parse.{parse_document}
+use Rattle.settings_file.specs.declared.keys.Key.TheVariants as key
+use Rattle.end_settings.specs.declared.Side.{Side}
+use Rattle.end_settings.specs.declared.Side.TheVariants as side
+use Rattle.settings_file.specs.declared.keys.KeyFault.{KeyFault}
+use Rattle.settings_file.specs.declared.keys.Expected.TheVariants as expected
+use Rattle.settings_file.specs.declared.values.Limits.{Limits}
+use Rattle.settings_file.specs.declared.values.Settings.{Settings}
+use Rattle.settings_file.specs.declared.values.Ends.{Ends}
+use Rattle.settings_file.specs.declared.values.Ends.TheVariants as ends
+use Rattle.settings_file.specs.declared.Word.{Word}
+use Rattle.settings_file.specs.declared.Word.TheVariants as word
+use Rattle.settings_file.specs.declared.keys.Found.TheVariants as found
+use Rattle.end_settings.specs.EndSettings.{EndSettings}
+use Rattle.end_settings.specs.Configured.{settings_of, code_of}
+use Rattle.settings_file.specs.declared.keys.SettingsFault.{SettingsFault}
+use Rattle.settings_file.specs.declared.keys.SettingsFault.TheVariants as fault
+use Rattle.settings_file.specs.Keys.{◌>>=◌}
+use Rattle.settings_file.specs.Readers.{addresses_at, puts_at}
+use Rattle.settings_file.specs.Groups.{IdentitySeen, BeginningSeen, identity_of, beginning_of, limits_of, put_seen}
+
+-- what a file says for an end, seen as plain values
+pub record SettingsSeen : Type 0 where
+  pub config : EndSettings
+  pub first_sn : ℕ
+  pub local : List (List ℕ)
+  pub remote : List (List ℕ)
+  pub puts : List (ℕ × List ℕ)
+
+abbrev pub settings_seen : Settings → SettingsSeen
+settings_seen s =
+    record {
+      config = settings_of s.config;
+      first_sn = s.first_sn;
+      local = map string_bytes s.local.items;
+      remote = map string_bytes s.remote.items;
+      puts = map put_seen s.puts.items;
+    }
+
+-- what the end is opened with, over so many channels
+abbrev pub configured_of : IdentitySeen → BeginningSeen → Limits → ℕ → EndSettings
+configured_of i b l channels =
+    record {
+      connection = record {
+        client = true;
+        own = i.id;
+        peer = i.peer_id;
+        n_sendmax = l.n_sendmax;
+        t_max = l.t_max;
+        t_h = l.t_heartbeat;
+        mwa = l.mwa;
+        pdu_limit = l.pdu_limit;
+        rule = record { length = code_of b.code; initial_value = b.initial_value };
+      };
+      addressing = record { protocol = i.protocol; own = i.name; peer = i.peer_name };
+      versions = b.versions;
+      checksum = b.checksum;
+      channels = channels;
+      n_maxpacket = l.n_maxpacket;
+      q = l.deferral;
+      t_seq = l.t_seq;
+    }
+
+abbrev pub as_many : List (List ℕ) → List (List ℕ) → Result (List (List ℕ)) KeyFault
+as_many local remote =
+    if length local == length remote then Ok remote else Err (record { key = key.Remote; expected = expected.Addresses; found = found.Other })
+
+-- the settings in a table whose keys are known
+abbrev pub end_of : Side → Data → Result SettingsSeen KeyFault
+end_of e d = do
+  identity ← identity_of d
+  beginning ← beginning_of e d
+  limits ← limits_of d
+  local ← addresses_at d key.Local
+  others ← addresses_at d key.Remote
+  remote ← as_many local others
+  puts ← puts_at d key.Puts
+  Ok (record { config = configured_of identity beginning limits (length local); first_sn = beginning.first_sn; local = local; remote = remote; puts = puts })
+
+-- what is wrong in a file
+pub data Wrong : Type 0 where
+  no_document : Wrong
+  no_table : Side → Wrong
+  unknown : Option Side → List ℕ → Wrong
+  at : Option Side → KeyFault → Wrong
+
+abbrev pub names_identity : List ℕ → Bool
+names_identity t = bytes_eq t (codes "id") || bytes_eq t (codes "peer_id") || bytes_eq t (codes "name") || bytes_eq t (codes "peer_name") || bytes_eq t (codes "protocol")
+
+abbrev pub names_beginning : List ℕ → Bool
+names_beginning t = bytes_eq t (codes "version") || bytes_eq t (codes "versions") || bytes_eq t (codes "code") || bytes_eq t (codes "checksum") || bytes_eq t (codes "iv") || bytes_eq t (codes "first_sn")
+
+abbrev pub names_limit : List ℕ → Bool
+names_limit t = bytes_eq t (codes "n_sendmax") || bytes_eq t (codes "n_maxpacket") || bytes_eq t (codes "q") || bytes_eq t (codes "t_max") || bytes_eq t (codes "t_h") || bytes_eq t (codes "t_seq") || bytes_eq t (codes "mwa") || bytes_eq t (codes "pdu_limit")
+
+abbrev pub names_list : List ℕ → Bool
+names_list t = bytes_eq t (codes "local") || bytes_eq t (codes "remote") || bytes_eq t (codes "puts")
+
+abbrev pub is_known : List ℕ → Bool
+is_known t = names_identity t || names_beginning t || names_limit t || names_list t
+
+-- the first key that no end has
+abbrev pub first_unknown : Members → Option (List ℕ)
+first_unknown no_members = None
+first_unknown (member k d ms) = if is_known k then first_unknown ms else Some k
+
+abbrev pub lifted : {A : Type 0} → Option Side → Result A KeyFault → Result A Wrong
+lifted named (Ok x) = Ok x
+lifted named (Err f) = Err (at named f)
+
+abbrev pub known_settings : Side → Option Side → Data → Members → Result SettingsSeen Wrong
+known_settings e named d ms = option_map_or (λ k. Err (unknown named k)) (first_unknown ms) (lifted named (end_of e d))
+
+abbrev pub end_settings : Side → Option Side → Data → Result SettingsSeen Wrong
+end_settings e named d = option_map_or (known_settings e named d) (as_table d) (Err (no_table e))
+
+-- a file for one end
+abbrev pub file_settings : Side → List ℕ → Result SettingsSeen Wrong
+file_settings e text = option_map_or (λ ms. end_settings e None (table ms)) (parse_document text) (Err no_document)
+
+-- a file for a pair: two tables and nothing else
+abbrev pub is_end : List ℕ → Bool
+is_end t = bytes_eq t (codes "il") || bytes_eq t (codes "fe")
+
+abbrev pub first_strange : Members → Option (List ℕ)
+first_strange no_members = None
+first_strange (member k d ms) = if is_end k then first_strange ms else Some k
+
+abbrev pub il_settings : Data → Result SettingsSeen Wrong
+il_settings d = option_map_or (end_settings side.Interlocking (Some side.Interlocking)) (get (codes "il") d) (Err (no_table side.Interlocking))
+
+abbrev pub fe_settings : Data → Result SettingsSeen Wrong
+fe_settings d = option_map_or (end_settings side.FieldElement (Some side.FieldElement)) (get (codes "fe") d) (Err (no_table side.FieldElement))
+
+abbrev pub both : Result SettingsSeen Wrong → Result SettingsSeen Wrong → Result (SettingsSeen × SettingsSeen) Wrong
+both (Ok x) (Ok y) = Ok (x, y)
+both (Ok x) (Err e) = Err e
+both (Err e) r = Err e
+
+abbrev pub tables_settings : Members → Result (SettingsSeen × SettingsSeen) Wrong
+tables_settings ms = option_map_or (λ k. Err (unknown None k)) (first_strange ms) (both (il_settings (table ms)) (fe_settings (table ms)))
+
+abbrev pub pair_settings : List ℕ → Result (SettingsSeen × SettingsSeen) Wrong
+pair_settings text = option_map_or tables_settings (parse_document text) (Err no_document)
+
+-- what a file says for the ends of a word
+pub data EndsSeen : Type 0 where
+  il_seen : SettingsSeen → EndsSeen
+  fe_seen : SettingsSeen → EndsSeen
+  pair_seen : SettingsSeen → SettingsSeen → EndsSeen
+
+abbrev pub ends_seen : Ends → EndsSeen
+ends_seen (ends.Il s) = il_seen (settings_seen s)
+ends_seen (ends.Fe s) = fe_seen (settings_seen s)
+ends_seen (ends.Pair s t) = pair_seen (settings_seen s) (settings_seen t)
+
+abbrev pub read_all : {A B : Type 0} → (A → B) → Result A Wrong → Result B Wrong
+read_all f (Ok x) = Ok (f x)
+read_all f (Err e) = Err e
+
+abbrev pub ends_of : Word → List ℕ → Result EndsSeen Wrong
+ends_of word.Il text = read_all il_seen (file_settings side.Interlocking text)
+ends_of word.Fe text = read_all fe_seen (file_settings side.FieldElement text)
+ends_of word.Pair text = read_all (λ both. pair_seen both.0 both.1) (pair_settings text)
+
+-- the fault that was told is the one that the definition finds; where memory was refused, nothing is said
+abbrev pub IsWrong : {A : Type 0} → Result A Wrong → SettingsFault → Type 0
+IsWrong r (fault.Document line) = r ≡ Err no_document
+IsWrong r (fault.NoTable e) = r ≡ Err (no_table e)
+IsWrong r (fault.Unknown named k) = r ≡ Err (unknown named (string_bytes k))
+IsWrong r (fault.Key named f) = r ≡ Err (at named f)
+IsWrong r (fault.Memory e) = ⊤
+
+abbrev pub IsNoDocument : List ℕ → SettingsFault → Type 0
+IsNoDocument text (fault.Document line) = parse_document text ≡ None
+IsNoDocument text (fault.Memory e) = ⊤
+IsNoDocument text _ = ⊥
+
+abbrev pub MakesUnknown : SettingsFault → Option Side → List ℕ → Type 0
+MakesUnknown (fault.Unknown n k) named t = (n ≡ named) × (string_bytes k ≡ t)
+MakesUnknown (fault.Memory e) named t = ⊤
+MakesUnknown _ named t = ⊥

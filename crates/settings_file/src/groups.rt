@@ -1,0 +1,94 @@
+//! The keys of one end, in groups.
+
+ghost use Rattle.std.specs.Prelude.{◌≡◌};
+ghost use Rattle.toml.specs.View.{view};
+ghost use Rattle.settings_file.specs.Groups.{limits_of, identity_of, identity_seen, beginning_of, beginning_seen};
+ghost use Rattle.settings_file.specs.Readers.{read_as};
+
+use crate::keys::{Expected, Key, KeyFault};
+use crate::readers::{
+    checksum, code, identifier, initial_value, name, number, octet, sequence_number, versions,
+    wrong,
+};
+use crate::values::{Beginning, Identity, Limits};
+use end_settings::Side;
+use octets::limits::{
+    MWA_MAX, PDU_LIMIT_HIGHEST, PDU_LIMIT_LOWEST, Q_MAX, T_H_LOWEST, T_MAX_HIGHEST, T_MAX_LOWEST,
+    T_SEQ_LOWEST, T_SEQ_MAX, UNIT_MESSAGES, WINDOW_MAX,
+};
+use toml::Value;
+
+/// Who the end and its peer are.
+pub fn identified(table: &Value) -> Result<Identity, KeyFault>
+    ensures { read_as identity_seen result ≡ identity_of (view table.now) }
+{
+    let id = identifier(table, Key::Id)?;
+    let peer_id = identifier(table, Key::PeerId)?;
+    if peer_id == id {
+        return Err(wrong(table, Key::PeerId, Expected::AnotherId));
+    }
+    let own_name = name(table, Key::Name)?;
+    let peer_name = name(table, Key::PeerName)?;
+    let protocol = octet(table, Key::Protocol, 1)?;
+    Ok(Identity {
+        id,
+        peer_id,
+        name: own_name,
+        peer_name,
+        protocol,
+    })
+}
+
+/// What the end begins with.
+pub fn begun(side: Side, table: &Value) -> Result<Beginning, KeyFault>
+    ensures { read_as beginning_seen result ≡ beginning_of side (view table.now) }
+{
+    let versions = versions(side, table)?;
+    let code = code(table)?;
+    let checksum = checksum(table)?;
+    let initial_value = initial_value(table)?;
+    let first_sn = sequence_number(table, Key::FirstSn)?;
+    Ok(Beginning {
+        versions,
+        code,
+        checksum,
+        initial_value,
+        first_sn,
+    })
+}
+
+/// The numbers of the layers.
+pub fn limited(table: &Value) -> Result<Limits, KeyFault>
+    ensures { result ≡ limits_of (view table.now) }
+{
+    let n_sendmax = number(table, Key::NSendmax, 1, WINDOW_MAX as u64, Some(20))?;
+    let n_maxpacket = number(table, Key::NMaxpacket, 1, UNIT_MESSAGES as u64, Some(3))?;
+    let deferral = number(table, Key::Deferral, 1, Q_MAX as u64, Some(4))?;
+    let t_max = number(table, Key::TMax, T_MAX_LOWEST, T_MAX_HIGHEST, Some(1_800))?;
+    let t_heartbeat = number(
+        table,
+        Key::THeartbeat,
+        T_H_LOWEST,
+        t_max.saturating_sub(1),
+        Some(300),
+    )?;
+    let t_seq = number(table, Key::TSeq, T_SEQ_LOWEST, T_SEQ_MAX, Some(50))?;
+    let mwa = number(table, Key::Mwa, 1, MWA_MAX as u64, Some(10))?;
+    let pdu_limit = number(
+        table,
+        Key::PduLimit,
+        PDU_LIMIT_LOWEST,
+        PDU_LIMIT_HIGHEST,
+        Some(PDU_LIMIT_HIGHEST),
+    )?;
+    Ok(Limits {
+        n_sendmax,
+        n_maxpacket,
+        deferral,
+        t_max,
+        t_heartbeat,
+        t_seq,
+        mwa,
+        pdu_limit,
+    })
+}

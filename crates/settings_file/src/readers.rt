@@ -1,0 +1,300 @@
+//! A reader for each kind of key.
+
+ghost use Rattle.std.specs.Prelude.{◌≡◌, ◌≤◌, IfOk, IfSome, length, option_map, option_and_then};
+ghost use Rattle.toml.specs.View.{view, items_view};
+ghost use Rattle.toml.specs.Data.{as_array};
+ghost use Rattle.std.specs.Prelude.{Some};
+ghost use Rattle.sci_telegram.specs.Tele.{owned_characters};
+ghost use Rattle.settings_file.specs.Readers.{wrong_at, number_at, code_at, name_at, initial_value_at, checksum_at, octets_of, short_octets, different_octets, few_octets, if_different, one_version, il_versions, fe_versions, versions_at, are_different, stands_in, read_as};
+ghost use Rattle.end_settings.specs.Lists.{versions_in, checksum_in};
+ghost use Rattle.pdi_session.specs.declared.TheConstants.{VERSIONS_MAX};
+ghost use Rattle.settings_file.specs.declared.keys.Key.TheVariants as key_of;
+
+use crate::keys::{Expected, Found, Key, KeyFault};
+use arrayvec::ArrayVec;
+use end_settings::{Checksum, Side, Versions};
+use md4::INITIAL_VALUE;
+use octets::places::u32_at;
+use pdi_session::{CHECKSUM_MAX, VERSIONS_MAX};
+use sci_telegram::{Name, OwnedName};
+use toml::Value;
+
+/// The fault at a key, with what the table has there.
+pub fn wrong(table: &Value, key: Key, expected: Expected) -> KeyFault
+    ensures { result ≡ wrong_at (view table.now) key expected }
+{
+    let found = match table.get(key.text()) {
+        None => Found::Nothing,
+        Some(value) => match value.as_integer() {
+            Some(number) => Found::Number(number),
+            None => Found::Other,
+        },
+    };
+    KeyFault {
+        key,
+        expected,
+        found,
+    }
+}
+
+/// A whole number in its range. The default is tested like a written number.
+pub fn number(
+    table: &Value,
+    key: Key,
+    low: u64,
+    high: u64,
+    default: Option<u64>,
+) -> Result<u64, KeyFault>
+    ensures read { result ≡ number_at (view table.now) key low high default }
+    ensures within { IfOk result (λ n. n ≤ high) }
+{
+    let expected = Expected::Whole { low, high };
+    let fault = wrong(table, key, expected);
+    let number = match table.get(key.text()) {
+        Some(value) => match value.as_integer() {
+            Some(whole) => match u64::try_from(whole) {
+                Ok(number) => number,
+                Err(_) => return Err(fault),
+            },
+            None => return Err(fault),
+        },
+        None => match default {
+            Some(number) => number,
+            None => return Err(fault),
+        },
+    };
+    if low <= number && number <= high {
+        Ok(number)
+    } else {
+        Err(fault)
+    }
+}
+
+/// A number of one octet.
+pub fn octet(table: &Value, key: Key, default: u8) -> Result<u8, KeyFault>
+    ensures { result ≡ number_at (view table.now) key 0 255 (Some default) }
+{
+    match number(table, key, 0, 255, Some(u64::from(default))) {
+        Ok(number) => Ok(number as u8),
+        Err(fault) => Err(fault),
+    }
+}
+
+/// A number of four octets that has no default.
+pub fn identifier(table: &Value, key: Key) -> Result<u32, KeyFault>
+    ensures { result ≡ number_at (view table.now) key 0 4294967295 None }
+{
+    match number(table, key, 0, 4_294_967_295, None) {
+        Ok(number) => Ok(number as u32),
+        Err(fault) => Err(fault),
+    }
+}
+
+/// A number of four octets, 1 where nothing is said.
+pub fn sequence_number(table: &Value, key: Key) -> Result<u32, KeyFault>
+    ensures { result ≡ number_at (view table.now) key 0 4294967295 (Some 1) }
+{
+    match number(table, key, 0, 4_294_967_295, Some(1)) {
+        Ok(number) => Ok(number as u32),
+        Err(fault) => Err(fault),
+    }
+}
+
+/// How many octets of safety code, 8 where nothing is said.
+pub fn code(table: &Value) -> Result<u64, KeyFault>
+    ensures { result ≡ code_at (view table.now) key_of.Code }
+{
+    let key = Key::Code;
+    let Some(value) = table.get(key.text()) else {
+        return Ok(8);
+    };
+    match value.as_integer() {
+        Some(8) => Ok(8),
+        Some(16) => Ok(16),
+        _ => Err(wrong(table, key, Expected::CodeLength)),
+    }
+}
+
+/// A name.
+pub fn name(table: &Value, key: Key) -> Result<OwnedName, KeyFault>
+    ensures { read_as owned_characters result ≡ name_at (view table.now) key }
+{
+    let fault = wrong(table, key, Expected::Name);
+    let Some(value) = table.get(key.text()) else {
+        return Err(fault);
+    };
+    let Some(text) = value.as_str() else {
+        return Err(fault);
+    };
+    match Name::new(text) {
+        Ok(name) => Ok(OwnedName::new(name)),
+        Err(_) => Err(fault),
+    }
+}
+
+/// The words of an initial value, which 32 hex digits spell, least significant octet of each word first; that of RFC 1320 where nothing is said.
+pub fn initial_value(table: &Value) -> Result<[u32; 4], KeyFault>
+    ensures { result ≡ initial_value_at (view table.now) key_of.InitialValue }
+{
+    let key = Key::InitialValue;
+    let fault = wrong(table, key, Expected::SixteenOctets);
+    let Some(value) = table.get(key.text()) else {
+        return Ok(INITIAL_VALUE);
+    };
+    let Some(text) = value.as_str() else {
+        return Err(fault);
+    };
+    let mut octets = [0u8; 16];
+    match hex::decode_to_slice(text, &mut octets) {
+        Ok(()) => Ok([
+            u32_at(&octets, 0),
+            u32_at(&octets, 4),
+            u32_at(&octets, 8),
+            u32_at(&octets, 12),
+        ]),
+        Err(_) => Err(fault),
+    }
+}
+
+// At most sixteen octets of hex digits.
+fn short(text: &str) -> Option<Checksum>
+    ensures { option_map checksum_in result ≡ short_octets text.now }
+{
+    let mut room = [0u8; CHECKSUM_MAX];
+    let size = text.len() / 2;
+    if size > CHECKSUM_MAX {
+        return None;
+    }
+    let octets = &mut room[..size];
+    let Ok(()) = hex::decode_to_slice(text, octets) else {
+        return None;
+    };
+    Checksum::new(octets)
+}
+
+/// At most sixteen octets, none where nothing is said.
+pub fn checksum(table: &Value) -> Result<Checksum, KeyFault>
+    ensures { read_as checksum_in result ≡ checksum_at (view table.now) key_of.Checksum }
+{
+    let key = Key::Checksum;
+    let fault = wrong(table, key, Expected::UpToSixteenOctets);
+    let text = match table.get(key.text()) {
+        None => "",
+        Some(value) => match value.as_str() {
+            Some(text) => text,
+            None => return Err(fault),
+        },
+    };
+    match short(text) {
+        Some(checksum) => Ok(checksum),
+        None => Err(fault),
+    }
+}
+
+// Whether a number stands among others.
+fn stands_among(number: u8, others: &[u8]) -> bool
+    ensures { result ≡ stands_in number others.now }
+{
+    match others {
+        [] => false,
+        [first, rest @ ..] => number == *first || stands_among(number, rest),
+    }
+}
+
+// Whether no two numbers are equal.
+fn all_differ(numbers: &[u8]) -> bool
+    ensures { result ≡ are_different numbers.now }
+{
+    match numbers {
+        [] => true,
+        [first, rest @ ..] => !stands_among(*first, rest) && all_differ(rest),
+    }
+}
+
+// Numbers of one octet.
+fn octet_list(items: &[Value]) -> Option<ArrayVec<u8, VERSIONS_MAX>>
+    requires { length items.now ≤ VERSIONS_MAX }
+    ensures { option_map (λ v. v.items) result ≡ octets_of (items_view items.now) }
+{
+    let mut list = ArrayVec::new();
+    for item in items {
+        let whole = item.as_integer()?;
+        let Ok(number) = u8::try_from(whole) else {
+            return None;
+        };
+        list.push(number);
+    }
+    Some(list)
+}
+
+// One to four numbers of one octet.
+#[tactic(auto, using(crate::proofs::Lengths::items_length_view))]
+fn few(items: &[Value]) -> Option<ArrayVec<u8, VERSIONS_MAX>>
+    ensures { option_map (λ v. v.items) result ≡ few_octets (items_view items.now) }
+{
+    if items.is_empty() || items.len() > VERSIONS_MAX {
+        return None;
+    }
+    octet_list(items)
+}
+
+fn if_differing(list: &[u8]) -> Option<Versions>
+    requires { length list.now ≤ VERSIONS_MAX }
+    ensures { option_map versions_in result ≡ if_different list.now }
+{
+    if all_differ(list) {
+        Versions::new(list)
+    } else {
+        None
+    }
+}
+
+// One to four different numbers of one octet.
+fn different(value: &Value) -> Option<Versions>
+    ensures { option_map versions_in result ≡ option_and_then different_octets (as_array (view value.now)) }
+{
+    let items = value.as_array()?;
+    let list = few(items.as_slice())?;
+    if_differing(list.as_slice())
+}
+
+fn one(table: &Value) -> Result<Versions, KeyFault>
+    ensures { read_as versions_in result ≡ one_version (view table.now) }
+{
+    let number = octet(table, Key::Version, 1)?;
+    Ok(Versions::new(&[number]).unwrap())
+}
+
+fn for_interlocking(table: &Value) -> Result<Versions, KeyFault>
+    ensures { read_as versions_in result ≡ il_versions (view table.now) }
+{
+    if table.get(Key::Versions.text()).is_some() {
+        return Err(wrong(table, Key::Versions, Expected::Absent));
+    }
+    one(table)
+}
+
+fn for_field_element(table: &Value) -> Result<Versions, KeyFault>
+    ensures { read_as versions_in result ≡ fe_versions (view table.now) }
+{
+    let Some(value) = table.get(Key::Versions.text()) else {
+        return one(table);
+    };
+    if table.get(Key::Version.text()).is_some() {
+        return Err(wrong(table, Key::Version, Expected::Absent));
+    }
+    match different(value) {
+        Some(versions) => Ok(versions),
+        None => Err(wrong(table, Key::Versions, Expected::DifferentVersions)),
+    }
+}
+
+/// The versions of an end: one at an interlocking, one to four at a field element.
+pub fn versions(side: Side, table: &Value) -> Result<Versions, KeyFault>
+    ensures { read_as versions_in result ≡ versions_at side (view table.now) }
+{
+    match side {
+        Side::Interlocking => for_interlocking(table),
+        Side::FieldElement => for_field_element(table),
+    }
+}

@@ -1,0 +1,256 @@
+//! A whole settings file.
+
+ghost use Rattle.std.specs.Prelude.{◌≡◌, Ok, IfOk, IfErr};
+ghost use Rattle.std.specs.Option.{option_copied};
+ghost use Rattle.toml.specs.View.{view, table_view};
+ghost use Rattle.settings_file.specs.Readers.{IsFaultOf};
+ghost use Rattle.end_settings.specs.Configured.{settings_of};
+ghost use Rattle.settings_file.specs.Groups.{identity_seen, beginning_seen};
+ghost use Rattle.settings_file.specs.Whole.{end_of, configured_of, settings_seen, is_known, is_end, first_unknown, first_strange, end_settings, file_settings, pair_settings, il_settings, fe_settings, IsWrong, IsNoDocument, MakesUnknown, as_many, names_identity, names_beginning, names_limit, names_list};
+ghost use Rattle.settings_file.specs.Readers.{read_as};
+ghost use Rattle.toml.specs.Parse.{parse_document};
+ghost use Rattle.std.specs.Prelude.{Some, map, string_bytes};
+
+use crate::groups::{begun, identified, limited};
+use crate::keys::{Expected, Found, Key, KeyFault, ReadFault, SettingsFault};
+use crate::lists::{addresses, puts};
+use crate::values::{Beginning, Identity, Limits, Settings};
+use end_settings::{EndConfig, Side};
+use std::alloc::{AllocError, Global};
+use toml::{Table, Value};
+
+// The remote addresses, if they are as many as the local ones.
+#[tactic(auto, using(crate::proofs::Lengths::length_texts))]
+fn matched(local: &[String], remote: Vec<String>) -> Result<Vec<String>, KeyFault>
+    ensures { read_as (λ v. map string_bytes v.items) result ≡ as_many (map string_bytes local.now) (map string_bytes remote.items) }
+{
+    if local.len() == remote.as_slice().len() {
+        Ok(remote)
+    } else {
+        Err(KeyFault {
+            key: Key::Remote,
+            expected: Expected::Addresses,
+            found: Found::Other,
+        })
+    }
+}
+
+fn read(alloc: Global, side: Side, table: &Value) -> Result<Settings, ReadFault>
+    ensures ok { IfOk result (λ s. end_of side (view table.now) ≡ Ok (settings_seen s)) }
+    ensures err { IfErr result (IsFaultOf (end_of side (view table.now))) }
+{
+    let identity = identified(table)?;
+    let beginning = begun(side, table)?;
+    let limits = limited(table)?;
+    let local = addresses(alloc, table, Key::Local)?;
+    let others = addresses(alloc, table, Key::Remote)?;
+    let remote = matched(local.as_slice(), others)?;
+    let puts = puts(alloc, table)?;
+    Ok(Settings {
+        config: configured(&identity, &beginning, &limits, local.len()),
+        first_sn: beginning.first_sn,
+        local,
+        remote,
+        puts,
+    })
+}
+
+fn configured(
+    identity: &Identity,
+    beginning: &Beginning,
+    limits: &Limits,
+    channels: usize,
+) -> EndConfig
+    ensures { settings_of result ≡ configured_of (identity_seen identity.now) (beginning_seen beginning.now) limits.now channels }
+{
+    EndConfig {
+        id: identity.id,
+        peer_id: identity.peer_id,
+        name: identity.name,
+        peer_name: identity.peer_name,
+        protocol: identity.protocol,
+        versions: beginning.versions,
+        checksum: beginning.checksum,
+        code: beginning.code,
+        initial_value: beginning.initial_value,
+        channels: channels as u64,
+        n_sendmax: limits.n_sendmax,
+        n_maxpacket: limits.n_maxpacket,
+        q: limits.deferral,
+        t_max: limits.t_max,
+        t_h: limits.t_heartbeat,
+        t_seq: limits.t_seq,
+        mwa: limits.mwa,
+        pdu_limit: limits.pdu_limit,
+    }
+}
+
+fn is_identity(key: &str) -> bool
+    ensures { result ≡ names_identity key.now }
+{
+    key == "id" || key == "peer_id" || key == "name" || key == "peer_name" || key == "protocol"
+}
+
+fn is_beginning(key: &str) -> bool
+    ensures { result ≡ names_beginning key.now }
+{
+    key == "version"
+        || key == "versions"
+        || key == "code"
+        || key == "checksum"
+        || key == "iv"
+        || key == "first_sn"
+}
+
+fn is_limit(key: &str) -> bool
+    ensures { result ≡ names_limit key.now }
+{
+    key == "n_sendmax"
+        || key == "n_maxpacket"
+        || key == "q"
+        || key == "t_max"
+        || key == "t_h"
+        || key == "t_seq"
+        || key == "mwa"
+        || key == "pdu_limit"
+}
+
+fn is_list(key: &str) -> bool
+    ensures { result ≡ names_list key.now }
+{
+    key == "local" || key == "remote" || key == "puts"
+}
+
+fn knows(key: &str) -> bool
+    ensures { result ≡ is_known key.now }
+{
+    is_identity(key) || is_beginning(key) || is_limit(key) || is_list(key)
+}
+
+fn names_end(key: &str) -> bool
+    ensures { result ≡ is_end key.now }
+{
+    key == "il" || key == "fe"
+}
+
+fn unknown_key(table: &Table) -> Option<&str>
+    ensures { option_copied result ≡ first_unknown (table_view table.now) }
+{
+    for (key, _value) in table {
+        if !knows(key.as_str()) {
+            return Some(key.as_str());
+        }
+    }
+    None
+}
+
+fn strange_key(table: &Table) -> Option<&str>
+    ensures { option_copied result ≡ first_strange (table_view table.now) }
+{
+    for (key, _value) in table {
+        if !names_end(key.as_str()) {
+            return Some(key.as_str());
+        }
+    }
+    None
+}
+
+fn unknown(alloc: Global, table: Option<Side>, key: &str) -> SettingsFault
+    ensures { MakesUnknown result table key.now }
+{
+    match String::from_str(alloc, key) {
+        Ok(key) => SettingsFault::Unknown(table, key),
+        Err(refused) => SettingsFault::Memory(refused),
+    }
+}
+
+/// The settings in a table, which a file for both ends names.
+fn of_end(
+    alloc: Global,
+    side: Side,
+    named: Option<Side>,
+    value: &Value,
+) -> Result<Settings, SettingsFault>
+    ensures ok { IfOk result (λ s. end_settings side named (view value.now) ≡ Ok (settings_seen s)) }
+    ensures err { IfErr result (IsWrong (end_settings side named (view value.now))) }
+{
+    let Some(table) = value.as_table() else {
+        return Err(SettingsFault::NoTable(side));
+    };
+    if let Some(key) = unknown_key(table) {
+        return Err(unknown(alloc, named, key));
+    }
+    match read(alloc, side, value) {
+        Ok(settings) => Ok(settings),
+        Err(ReadFault::Key(fault)) => Err(SettingsFault::Key(named, fault)),
+        Err(ReadFault::Memory(refused)) => Err(SettingsFault::Memory(refused)),
+    }
+}
+
+fn document(alloc: Global, text: &str) -> Result<Table, SettingsFault>
+    ensures ok { IfOk result (λ t. parse_document text.now ≡ Some (table_view t)) }
+    ensures err { IfErr result (IsNoDocument text.now) }
+{
+    match toml::table_from_str(alloc, text) {
+        Ok(table) => Ok(table),
+        Err(fault) => match fault.span() {
+            None => Err(SettingsFault::Memory(AllocError)),
+            Some(range) => Err(SettingsFault::Document(line_of(text, range.start))),
+        },
+    }
+}
+
+/// The line, from 1, in which an octet of the text stands.
+fn line_of(text: &str, place: usize) -> usize {
+    let mut line = 1usize;
+    for octet in text.as_bytes().iter().take(place) {
+        if *octet == b'\n' {
+            line = line.saturating_add(1);
+        }
+    }
+    line
+}
+
+/// The settings in a file for one end.
+pub fn single(alloc: Global, side: Side, text: &str) -> Result<Settings, SettingsFault>
+    ensures ok { IfOk result (λ s. file_settings side text.now ≡ Ok (settings_seen s)) }
+    ensures err { IfErr result (IsWrong (file_settings side text.now)) }
+{
+    let table = document(alloc, text)?;
+    of_end(alloc, side, None, &Value::Table(table))
+}
+
+fn il_of(alloc: Global, value: &Value) -> Result<Settings, SettingsFault>
+    ensures ok { IfOk result (λ s. il_settings (view value.now) ≡ Ok (settings_seen s)) }
+    ensures err { IfErr result (IsWrong (il_settings (view value.now))) }
+{
+    match value.get("il") {
+        Some(table) => of_end(alloc, Side::Interlocking, Some(Side::Interlocking), table),
+        None => Err(SettingsFault::NoTable(Side::Interlocking)),
+    }
+}
+
+fn fe_of(alloc: Global, value: &Value) -> Result<Settings, SettingsFault>
+    ensures ok { IfOk result (λ s. fe_settings (view value.now) ≡ Ok (settings_seen s)) }
+    ensures err { IfErr result (IsWrong (fe_settings (view value.now))) }
+{
+    match value.get("fe") {
+        Some(table) => of_end(alloc, Side::FieldElement, Some(Side::FieldElement), table),
+        None => Err(SettingsFault::NoTable(Side::FieldElement)),
+    }
+}
+
+/// The settings of both ends, that of the interlocking first.
+pub fn pair(alloc: Global, text: &str) -> Result<(Settings, Settings), SettingsFault>
+    ensures ok { IfOk result (λ s. pair_settings text.now ≡ Ok (settings_seen s.0, settings_seen s.1)) }
+    ensures err { IfErr result (IsWrong (pair_settings text.now)) }
+{
+    let table = document(alloc, text)?;
+    if let Some(key) = strange_key(&table) {
+        return Err(unknown(alloc, None, key));
+    }
+    let value = Value::Table(table);
+    let il = il_of(alloc, &value)?;
+    let fe = fe_of(alloc, &value)?;
+    Ok((il, fe))
+}

@@ -1,0 +1,13 @@
+use Rattle.std.proofs.Common.{◌≡◌, ◌≤◌, ℕ, List, length}
+use Rattle.std.specs.List.{FoldsTo}
+use Rattle.stack_end.specs.Polling.{Hears}
+use Rattle.stack_end.proofs.end.End.hear_all.Given as goal
+
+abbrev pub invariant-loop : goal.invariant-loop
+invariant-loop g l =
+    record {
+      time : l.self.time ≤ l.now;
+      along :
+          (heard : List (ℕ × List ℕ))
+          × (length heard ≡ l.counter) × FoldsTo (Hears g.C.Channels.told g.T.Taker.takes l.now) (l.initial.self, l.initial.taker) heard (l.self, l.taker);
+    }

@@ -1,0 +1,50 @@
+-- What one poll of an end does: the datagrams that its channels answer are handed in, in order, and then time passes.
+use Rattle.std.specs.Prelude.{◌≡◌, ℕ, ◌<◌, ◌⊎◌, Bool, true, false, Option, Some, None, List, length, take, Result, Ok, Err}
+use Rattle.std.specs.List.{FoldsTo}
+use Rattle.pdi_session.specs.SessionStep.{Item}
+use Rattle.channels.specs.Told.{Told, after_receive}
+use Rattle.channels.specs.declared.ChannelFault.{ChannelFault}
+use Rattle.stack_end.specs.Ends.{EndState, Deliver, Tick, call}
+use Rattle.stack_end.specs.EndValue.{EndValue, EndDoes, EndStands, channels_of}
+
+-- its channels were asked, and nothing else of it changed
+pub record Asked {C A : Type 0} (told : C → Told) (result : Result (Option (ℕ × ℕ)) ChannelFault) (buffer : List ℕ) (v w : EndValue C A) : Type 0 where
+  pub answer : told (channels_of w) ≡ after_receive result buffer (told (channels_of v))
+  pub stands : (x : EndState) → EndStands told v x → EndStands told w x
+  pub time : w.time ≡ v.time
+
+-- an end, and who takes
+abbrev pub With : Type 0 → Type 0 → Type 0 → Type 0
+With C A T = EndValue C A × T
+
+-- a datagram came on a channel, and was handed in
+abbrev pub Hears : {C A T : Type 0} → (C → Told) → (T → Item → T → Type 0) → ℕ → With C A T → ℕ × List ℕ → With C A T → Type 0
+Hears {C = C} {A = A} told takes now s d t =
+    (size : ℕ) × (buffer : List ℕ) × (asked : EndValue C A)
+    × (take size buffer ≡ d.1) × Asked told (Ok (Some (d.0, size))) buffer s.0 asked × EndDoes told takes (call (Deliver d.0 d.1 now)) asked s.1 t.0 t.1
+
+-- the channels were asked once more, and had this answer; who takes heard nothing of it
+abbrev pub AskedOnce : {C A T : Type 0} → (C → Told) → Result (Option (ℕ × ℕ)) ChannelFault → With C A T → With C A T → Type 0
+AskedOnce told answer s t = (buffer : List ℕ) × Asked told answer buffer s.0 t.0 × (t.1 ≡ s.1)
+
+-- a datagram came and was handed in, or nothing had come
+abbrev pub HeardNext : {C A T : Type 0} → (C → Told) → (T → Item → T → Type 0) → ℕ → (came : Bool) → With C A T → With C A T → Type 0
+HeardNext told takes now true s t = (d : ℕ × List ℕ) × Hears told takes now s d t
+HeardNext told takes now false s t = AskedOnce told (Ok None) s t
+
+-- up to the most datagrams were handed in: fewer only where nothing more came
+abbrev pub HeardAll : {C A T : Type 0} → (C → Told) → (T → Item → T → Type 0) → (most now : ℕ) → With C A T → With C A T → Type 0
+HeardAll {C = C} {A = A} {T = T} told takes most now s t =
+    (heard : List (ℕ × List ℕ)) × (left : With C A T) × FoldsTo (Hears told takes now) s heard left
+    × (((length heard ≡ most) × (t ≡ left)) ⊎ ((length heard < most) × AskedOnce told (Ok None) left t))
+
+-- or a reception failed before
+abbrev pub HeardUntilFault : {C A T : Type 0} → (C → Told) → (T → Item → T → Type 0) → (most now : ℕ) → With C A T → With C A T → Type 0
+HeardUntilFault {C = C} {A = A} {T = T} told takes most now s t =
+    (heard : List (ℕ × List ℕ)) × (left : With C A T) × FoldsTo (Hears told takes now) s heard left
+    × (length heard < most) × (fault : ChannelFault) × AskedOnce told (Err fault) left t
+
+-- all were handed in, and then time passed
+abbrev pub Polled : {C A T : Type 0} → (C → Told) → (T → Item → T → Type 0) → (most now : ℕ) → With C A T → With C A T → Type 0
+Polled {C = C} {A = A} {T = T} told takes most now s t =
+    (left : With C A T) × HeardAll told takes most now s left × EndDoes told takes (call (Tick now)) left.0 left.1 t.0 t.1

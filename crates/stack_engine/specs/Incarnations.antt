@@ -1,0 +1,42 @@
+-- One incarnation of an end, with all that it made, and all that was put in and taken.
+use Rattle.std.specs.Prelude.{◌≡◌, ℕ, ◌+◌, ◌≤◌, ◌/◌, min, List, [], ◌∷◌, ◌++◌, length}
+use Rattle.octets.specs.declared.limits.TheConstants.{PAYLOAD_MAX}
+use Rattle.red_pdu.specs.RedText.{red_text}
+use Rattle.safe_machine.specs.Made.{Made}
+use Rattle.pdi_session.specs.SessionStep.{Item}
+use Rattle.end_settings.specs.EndSettings.{EndSettings, rule_of}
+use Rattle.stack_end.specs.Datagrams.{upper_of}
+use Rattle.stack_end.specs.Ends.{EndState, Call, call}
+use Rattle.stack_end.specs.EndValue.{EndStands, channels_of}
+use Rattle.stack_engine.specs.declared.incarnation.Incarnation.{Incarnation}
+use Rattle.stack_engine.specs.Bounds.{FewMore, most_pdus, most_taken}
+use Rattle.stack_engine.specs.Keeping.{told_of, sure_room}
+use Rattle.stack_engine.specs.Texts.{Shelf}
+
+-- the datagrams of PDUs, the first of which has this index
+abbrev pub datagrams_of : EndSettings → ℕ → List Made → List (List ℕ)
+datagrams_of s index [] = []
+datagrams_of s index (m ∷ ms) = red_text index (upper_of (rule_of s) m) ∷ datagrams_of s (index + 1) ms
+
+-- for so many telegrams of the greatest size there is room
+abbrev pub sure_items : Shelf ℕ → ℕ
+sure_items s = min s.places (s.octets / PAYLOAD_MAX)
+
+-- a telegram is put behind the others, where there is room for it
+abbrev pub TakesItem : Shelf ℕ → Item → Shelf ℕ → Type 0
+TakesItem s item t = length item.1 ≤ PAYLOAD_MAX → 1 ≤ sure_items s → (t.texts ≡ s.texts ++ item ∷ []) × (sure_items s ≤ sure_items t + 1)
+
+-- The end stands for its state, each PDU that it made was kept, and so was all that was put in and taken.
+pub record IncStands {A : Type 0} (i : Incarnation A) (x : EndState) : Type 0 where
+  pub end : EndStands told_of i.end x
+  pub kept : (channels_of i.end).datagrams ≡ datagrams_of x.settings 0 x.machine.made
+  pub put : i.put.texts ≡ x.session.history.put
+  pub taken : i.taken.texts ≡ x.session.history.taken
+
+-- there is room for all that a call makes and takes
+abbrev pub HasRoom : {A : Type 0} → Incarnation A → Type 0
+HasRoom i = (most_pdus ≤ sure_room (channels_of i.end)) × (most_taken ≤ sure_items i.taken)
+
+-- for each state that it stood for it now stands for the state after the call
+abbrev pub IncDoes : {A : Type 0} → Call → Incarnation A → Incarnation A → Type 0
+IncDoes c i j = (x : EndState) → IncStands i x → FewMore x (call c x) → IncStands j (call c x)
