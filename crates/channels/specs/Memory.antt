@@ -12,7 +12,7 @@ pub record Kept : Type 0 where
   pub failed_sends : ℕ
   pub failed_receives : ℕ
 
--- both lists are told; no sending is sure, since a datagram may be too long
+-- both lists are told; no sending is told to be sure on a channel, since all channels share the room
 abbrev pub told_of : Kept → Told
 told_of k =
     record {

@@ -47,6 +47,7 @@ pub struct UdpChannels<A: Allocator = Global> {
     list: Vec<Channel, A>,
     failed_sends: u64,
     failed_receives: u64,
+    came: bool,
 }
 
 impl<A: Allocator> Model for UdpChannels<A> {
@@ -86,7 +87,17 @@ impl<A: Allocator + Copy> UdpChannels<A> {
             list,
             failed_sends: 0,
             failed_receives: 0,
+            came: false,
         })
+    }
+
+    /// Whether a datagram came since this was last asked. Where none did, it is time to wait.
+    pub fn has_heard(&mut self) -> bool
+        ensures { self.new ≡ self.old }
+    {
+        let came = self.came;
+        self.came = false;
+        came
     }
 }
 
@@ -103,6 +114,7 @@ impl<A: Allocator> Channels for UdpChannels<A> {
 
     fn receive(&mut self, buffer: &mut [u8]) -> Result<Option<(usize, usize)>, ChannelFault> {
         let result = ask(self.list.as_slice(), buffer);
+        self.came = self.came || matches!(result, Ok(Some(_)));
         if result.is_err() {
             self.failed_receives = self.failed_receives.wrapping_add(1);
         }
