@@ -30,16 +30,6 @@ struct Played<'a> {
     is_dead: bool,
 }
 
-impl<'a> Played<'a> {
-    /// What the last accepted event did.
-    fn present(&self) -> &[Told<'a>] {
-        match self.answers.get(self.last) {
-            Some(Ok(told)) => told,
-            _ => &[],
-        }
-    }
-}
-
 impl<'a> Stack for Played<'a> {
     fn apply(&mut self, _event: &Event<'_>) -> Result<(), Refusal> {
         let place = self.answered;
@@ -55,11 +45,17 @@ impl<'a> Stack for Played<'a> {
     }
 
     fn told_count(&self) -> usize {
-        self.present().len()
+        match self.answers.get(self.last) {
+            Some(Ok(told)) => told.len(),
+            _ => 0,
+        }
     }
 
     fn told(&self, place: usize) -> Option<Told<'_>> {
-        self.present().get(place).copied()
+        match self.answers.get(self.last) {
+            Some(Ok(told)) => told.get(place).copied(),
+            _ => None,
+        }
     }
 
     fn standing(&self, side: Side) -> Option<Standing> {
