@@ -21,3 +21,6 @@ pub use line::{Command, read_line};
 pub use script::run_over;
 pub use settings::{Key, ScriptSettings, Setting};
 pub use stack::{Doing, Event, Refusal, Stack, Standing, Told};
+
+#[cfg(test)]
+mod tests;
