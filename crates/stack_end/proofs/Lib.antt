@@ -5,3 +5,4 @@ pub mod Packs
 pub mod Receiving
 pub mod Polls
 pub mod Deadlines
+pub mod Putting

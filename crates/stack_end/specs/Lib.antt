@@ -7,5 +7,6 @@ pub mod Later
 pub mod Kept
 pub mod EndValue
 pub mod Polling
+pub mod Bounds
 pub mod Deadlines
 pub mod Lending

@@ -1,6 +1,6 @@
 //! All of an end but its redundancy layer.
 
-ghost use Rattle.std.specs.Prelude.{◌≡◌, ◌+◌, ◌*◌, ◌<◌, ◌≤◌, ◌^◌, ℕ, length, true, if◌then◌else◌, OnOk, OnErr, MatchResult, Some, None};
+ghost use Rattle.std.specs.Prelude.{◌≡◌, ◌+◌, ◌*◌, ◌<◌, ◌≤◌, ◌^◌, ℕ, length, true, false, if◌then◌else◌, OnOk, OnErr, MatchResult, Some, None};
 ghost use Rattle.octets.specs.declared.limits.TheConstants.{SAFE_PDU_MAX, UNIT_MESSAGES};
 ghost use Rattle.safe_machine.specs.Moves.Move.{Guards, Leaves, Ticks};
 ghost use Rattle.safe_machine.specs.declared.Reason.TheVariants.{ClosedByUser};
@@ -11,7 +11,7 @@ ghost use Rattle.red_layer.specs.Redundancy.{Datagram, Tick as RedTick};
 ghost use Rattle.channels.specs.Told.{SendsOne};
 ghost use Rattle.stack_end.specs.Dialogue.{Leaving};
 ghost use Rattle.stack_end.specs.Ends.{EndState, InitDone, Put, did, leaves, moved, part, receives, sends, settle};
-ghost use Rattle.stack_end.specs.Fields.{Asks, BothDo, Does, DoesAlone, can_pack, fields_of, heard_alone, leaving_at, noted_from, packed_once, rises_from};
+ghost use Rattle.stack_end.specs.Fields.{Asks, Stands, BothDo, Does, DoesAlone, can_pack, fields_of, heard_alone, leaving_at, noted_from, packed_once, rises_from};
 
 use crate::judging::{Phases, ToSession};
 use crate::sending::ToChannels;
@@ -300,6 +300,7 @@ impl<C: Channels, A: Allocator> Upper<C, A> {
         ensures refused { OnErr result (self.new ≡ self.old) }
         ensures answer { MatchResult result (λ _. put_refusal self.old.session kind payload.now (length self.old.waiting) ≡ None)
             (λ fault. put_refusal self.old.session kind payload.now (length self.old.waiting) ≡ Some fault) }
+        ensures packs { OnOk result ((x : EndState) → Stands (fields_of C.told self.new) x → can_pack x ≡ false) }
         ensures same { self.new.max ≡ self.old.max }
         ensures near { self.new.machine.expected ≡ self.old.machine.expected }
         ensures few { FewWait self.old.session self.old.waiting → FewWait self.new.session self.new.waiting }
@@ -323,6 +324,7 @@ impl<C: Channels, A: Allocator> Upper<C, A> {
         ensures refused { OnErr result (self.new ≡ self.old) }
         ensures answer { MatchResult result (λ _. init_refusal self.old.session (length self.old.waiting) ≡ None)
             (λ fault. init_refusal self.old.session (length self.old.waiting) ≡ Some fault) }
+        ensures packs { OnOk result ((x : EndState) → Stands (fields_of C.told self.new) x → can_pack x ≡ false) }
         ensures same { self.new.max ≡ self.old.max }
         ensures near { self.new.machine.expected ≡ self.old.machine.expected }
         ensures few { FewWait self.old.session self.old.waiting → FewWait self.new.session self.new.waiting }
@@ -351,6 +353,8 @@ impl<C: Channels, A: Allocator> Upper<C, A> {
         ensures same { self.new.max ≡ self.old.max }
         ensures near { self.new.machine.expected ≡ self.old.machine.expected }
         ensures few { FewWait self.old.session self.old.waiting → FewWait self.new.session self.new.waiting }
+        // Where it did not, nothing waits or the machine may not send.
+        ensures done { result ≡ false → (x : EndState) → Stands (fields_of C.told self.new) x → can_pack x ≡ false }
     {
         unit_law();
         let _before = self.machine.state();
@@ -379,6 +383,8 @@ impl<C: Channels, A: Allocator> Upper<C, A> {
         ensures same { self.new.max ≡ self.old.max }
         ensures near { self.new.machine.expected ≡ self.old.machine.expected }
         ensures few { FewWait self.old.session self.old.waiting → FewWait self.new.session self.new.waiting }
+        // Nothing waits then, or the machine may not send.
+        ensures packs { (x : EndState) → Stands (fields_of C.told self.new) x → can_pack x ≡ false }
     {
         let mut packs = true;
         while packs {
