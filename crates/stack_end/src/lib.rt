@@ -11,6 +11,9 @@ mod sending;
 mod telling;
 mod upper;
 
+#[cfg(test)]
+mod tests;
+
 pub use end::End;
 
 /// How many octets a datagram may have that a poll takes; a longer one is cut.
