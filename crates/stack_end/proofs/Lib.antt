@@ -6,3 +6,4 @@ pub mod Receiving
 pub mod Polls
 pub mod Deadlines
 pub mod Putting
+pub mod Recents

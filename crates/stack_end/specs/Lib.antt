@@ -6,6 +6,7 @@ pub mod Fields
 pub mod Later
 pub mod Kept
 pub mod EndValue
+pub mod Recent
 pub mod Polling
 pub mod Bounds
 pub mod Deadlines

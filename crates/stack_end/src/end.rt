@@ -12,6 +12,7 @@ ghost use Rattle.stack_end.specs.Ends.{Call, Close, Deliver, EndState, InitDone,
 ghost use Rattle.stack_end.specs.Datagrams.{sent_at_opening};
 ghost use Rattle.stack_end.specs.EndValue.{EndAsks, EndDoes, EndDoesAlone, EndStands, channels_of};
 ghost use Rattle.stack_end.specs.Fields.{can_pack};
+ghost use Rattle.stack_end.specs.Recent.{DatagramRecent, TickRecent};
 ghost use Rattle.stack_end.specs.Bounds.{IsBounded};
 ghost use Rattle.safe_machine.specs.Deadlines.{IsBefore, IsReachedAt};
 ghost use Rattle.stack_end.specs.Deadlines.{HasFallen, IsQuiet, earliest};
@@ -87,6 +88,8 @@ impl<C: Channels, A: Allocator> End<C, A> {
         ensures does { EndDoes C.told T.takes (call (Deliver channel octets.now now)) self.old taker.old self.new taker.new }
         // Nothing waits then, or the machine may not send.
         ensures packs { (x : EndState) → EndStands C.told self.new x → can_pack x ≡ false }
+        // What is taken is recent.
+        ensures recent { (x : EndState) → EndStands C.told self.old x → DatagramRecent now octets.now x taker.old taker.new }
         ensures time { self.new.time ≡ now }
     {
         let _channel = channel;
@@ -101,6 +104,8 @@ impl<C: Channels, A: Allocator> End<C, A> {
         ensures does { EndDoes C.told T.takes (call (Call.Tick now)) self.old taker.old self.new taker.new }
         // Nothing waits then, or the machine may not send.
         ensures packs { (x : EndState) → EndStands C.told self.new x → can_pack x ≡ false }
+        // What is taken is recent.
+        ensures recent { (x : EndState) → EndStands C.told self.old x → TickRecent now x taker.old taker.new }
         ensures time { self.new.time ≡ now }
     {
         self.layers.tick(now, taker);

@@ -4,7 +4,8 @@ ghost use Rattle.std.specs.Prelude.{◌≡◌, ℕ, false, ◌≤◌, ◌^◌, l
 ghost use Rattle.pdi_session.specs.SessionStep.{init_refusal, put_refusal};
 ghost use Rattle.red_layer.specs.Redundancy.{Datagram, Tick as RedTick};
 ghost use Rattle.stack_end.specs.Ends.{Call, Close, Deliver, EndState, InitDone, Put, did, goes_on};
-ghost use Rattle.stack_end.specs.Fields.{BothAlone, BothDo, Stands, can_pack, fields_of};
+ghost use Rattle.stack_end.specs.Fields.{BothAlone, BothDo, BothStand, Stands, can_pack, fields_of};
+ghost use Rattle.stack_end.specs.Recent.{DatagramRecent, InputRecent, TickRecent};
 ghost use Rattle.stack_end.specs.Kept.{IsKept};
 
 use crate::telling::tell_change;
@@ -34,6 +35,7 @@ impl<C: Channels, A: Allocator> Layers<C, A> {
             self.old.red (fields_of C.told self.old.upper) taker.old
             self.new.red (fields_of C.told self.new.upper) taker.new }
         ensures packs { (x : EndState) → Stands (fields_of C.told self.new.upper) x → can_pack x ≡ false }
+        ensures recent { (x : EndState) → BothStand self.old.red (fields_of C.told self.old.upper) x → DatagramRecent now octets.now x taker.old taker.new }
         ensures kept { IsKept self.new }
     {
         match self.upper.machine.state() {
@@ -56,6 +58,7 @@ impl<C: Channels, A: Allocator> Layers<C, A> {
             self.old.red (fields_of C.told self.old.upper) taker.old
             self.new.red (fields_of C.told self.new.upper) taker.new }
         ensures packs { (x : EndState) → Stands (fields_of C.told self.new.upper) x → can_pack x ≡ false }
+        ensures recent { (x : EndState) → BothStand self.old.red (fields_of C.told self.old.upper) x → InputRecent now (Datagram octets.now now) x taker.old taker.new }
         ensures kept { IsKept self.new }
     {
         match self.upper.machine.state() {
@@ -75,6 +78,7 @@ impl<C: Channels, A: Allocator> Layers<C, A> {
             self.old.red (fields_of C.told self.old.upper) taker.old
             self.new.red (fields_of C.told self.new.upper) taker.new }
         ensures packs { (x : EndState) → Stands (fields_of C.told self.new.upper) x → can_pack x ≡ false }
+        ensures recent { (x : EndState) → BothStand self.old.red (fields_of C.told self.old.upper) x → TickRecent now x taker.old taker.new }
         ensures kept { IsKept self.new }
     {
         match self.upper.machine.state() {
@@ -97,6 +101,7 @@ impl<C: Channels, A: Allocator> Layers<C, A> {
             self.old.red (fields_of C.told self.old.upper) taker.old
             self.new.red (fields_of C.told self.new.upper) taker.new }
         ensures packs { (x : EndState) → Stands (fields_of C.told self.new.upper) x → can_pack x ≡ false }
+        ensures recent { (x : EndState) → BothStand self.old.red (fields_of C.told self.old.upper) x → InputRecent now (RedTick now) x taker.old taker.new }
         ensures kept { IsKept self.new }
     {
         match self.upper.machine.state() {

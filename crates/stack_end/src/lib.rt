@@ -9,10 +9,9 @@ mod layers;
 mod opening;
 mod sending;
 mod telling;
-mod upper;
-
 #[cfg(test)]
 mod tests;
+mod upper;
 
 pub use end::End;
 

@@ -20,7 +20,9 @@ impl Taker for Taken {
     ghost takes = { λ _ _ _. Unit {0} };
 
     fn take(&mut self, kind: u16, payload: &[u8]) {
-        let _ = self.list.try_push((kind, payload.first().copied().unwrap_or(0)));
+        let _ = self
+            .list
+            .try_push((kind, payload.first().copied().unwrap_or(0)));
     }
 }
 
@@ -40,8 +42,16 @@ fn name(text: &str) -> Result<OwnedName, Fail> {
 }
 
 fn config(side: Side) -> Result<EndConfig, Fail> {
-    let own = if side == Side::Interlocking { (1, "IL1") } else { (2, "FE1") };
-    let peer = if side == Side::Interlocking { (2, "FE1") } else { (1, "IL1") };
+    let own = if side == Side::Interlocking {
+        (1, "IL1")
+    } else {
+        (2, "FE1")
+    };
+    let peer = if side == Side::Interlocking {
+        (2, "FE1")
+    } else {
+        (1, "IL1")
+    };
     Ok(EndConfig {
         id: own.0,
         peer_id: peer.0,
@@ -65,7 +75,12 @@ fn config(side: Side) -> Result<EndConfig, Fail> {
 }
 
 impl Station {
-    fn open(rt: &HostRuntime, config: EndConfig, side: Side, first_sn: u32) -> Result<Station, Fail> {
+    fn open(
+        rt: &HostRuntime,
+        config: EndConfig,
+        side: Side,
+        first_sn: u32,
+    ) -> Result<Station, Fail> {
         let channels = MemChannels::new(rt.alloc(), 400)?;
         let end = End::open(rt.alloc(), channels, config, side, first_sn, 0)
             .ok()
@@ -88,7 +103,8 @@ impl Station {
     }
 
     fn hear(&mut self, channel: usize, octets: &[u8]) {
-        self.end.arrive(channel, octets, self.clock, &mut self.taken);
+        self.end
+            .arrive(channel, octets, self.clock, &mut self.taken);
     }
 
     fn tick(&mut self) {
@@ -190,7 +206,10 @@ fn hears_both_channels(rt: HostRuntime) -> Result<(), Fail> {
             let _ = fe.next(&il, channel);
         }
     }
-    assert_eq!(rt; fe.taken.list.as_slice(), [(0x100, 1), (0x100, 2)].as_slice());
+    assert_eq!(rt;
+        fe.taken.list.as_slice(),
+        [(0x100, 1), (0x100, 2)].as_slice()
+    );
     Ok(())
 }
 
@@ -210,7 +229,10 @@ fn sends_a_lost_unit_again(rt: HostRuntime) -> Result<(), Fail> {
     assert_eq!(rt; fe.end.state(), ConnectionState::RetrReq);
     flow(&mut il, &mut fe, 1);
     assert_eq!(rt; fe.end.state(), ConnectionState::Up);
-    assert_eq!(rt; fe.taken.list.as_slice(), [(0x100, 1), (0x100, 2)].as_slice());
+    assert_eq!(rt;
+        fe.taken.list.as_slice(),
+        [(0x100, 1), (0x100, 2)].as_slice()
+    );
     Ok(())
 }
 
@@ -258,7 +280,11 @@ fn polls_its_channels(rt: HostRuntime) -> Result<(), Fail> {
     Ok(())
 }
 
-fn opens_in(heap: &LocalHeap, config: EndConfig, channels: MemChannels) -> Result<bool, MemChannels> {
+fn opens_in(
+    heap: &LocalHeap,
+    config: EndConfig,
+    channels: MemChannels,
+) -> Result<bool, MemChannels> {
     match End::open(heap, channels, config, Side::FieldElement, 1, 0) {
         Ok(_) => Ok(true),
         Err((OpenFault::Memory, back)) => Err(back),
@@ -281,7 +307,10 @@ fn opens_where_memory_is_found(rt: HostRuntime) -> Result<(), Fail> {
             Err(mut back) => {
                 let mut buffer = [0; 1];
                 assert!(rt; back.add(2, &[1]).is_ok());
-                assert_eq!(rt; channels::Channels::receive(&mut back, &mut buffer), Ok(Some((1, 1))));
+                assert_eq!(rt;
+                    channels::Channels::receive(&mut back, &mut buffer),
+                    Ok(Some((1, 1)))
+                );
                 refused = refused.wrapping_add(1);
             }
         }
