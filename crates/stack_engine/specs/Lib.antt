@@ -10,3 +10,4 @@ pub mod Events
 pub mod Keeping
 pub mod Bounds
 pub mod Incarnations
+pub mod Openings
