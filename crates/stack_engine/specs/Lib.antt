@@ -11,3 +11,4 @@ pub mod Keeping
 pub mod Bounds
 pub mod Incarnations
 pub mod Openings
+pub mod Sides
