@@ -63,3 +63,60 @@ pub enum Event<A: Allocator = Global> {
         now: u64,
     },
 }
+
+impl<A: Allocator + Copy> Event<A> {
+    ghost use Rattle.stack_engine.specs.Events.{event_of};
+
+    /// A copy, in memory of its own. The error is that memory was refused.
+    pub fn try_clone(&self, alloc: A) -> Result<Self, AllocError>
+        ensures { IfOk result (λ copy. event_of copy ≡ event_of self.now) }
+    {
+        Ok(match self {
+            Event::Open {
+                side,
+                config,
+                first_sn,
+                now,
+            } => Event::Open {
+                side: *side,
+                config: *config,
+                first_sn: *first_sn,
+                now: *now,
+            },
+            Event::Close { side, now } => Event::Close {
+                side: *side,
+                now: *now,
+            },
+            Event::Put {
+                side,
+                kind,
+                payload,
+                now,
+            } => Event::Put {
+                side: *side,
+                kind: *kind,
+                payload: Vec::from_slice(alloc, payload)?,
+                now: *now,
+            },
+            Event::InitDone { side, now } => Event::InitDone {
+                side: *side,
+                now: *now,
+            },
+            Event::Tick { side, now } => Event::Tick {
+                side: *side,
+                now: *now,
+            },
+            Event::Deliver {
+                side,
+                channel,
+                octets,
+                now,
+            } => Event::Deliver {
+                side: *side,
+                channel: *channel,
+                octets: Vec::from_slice(alloc, octets)?,
+                now: *now,
+            },
+        })
+    }
+}

@@ -180,4 +180,11 @@ impl<A: Allocator + Copy> Incarnation<A> {
         self.end.close(now);
         self.time = now;
     }
+
+    /// How many PDUs it made.
+    pub fn made(&self) -> usize
+        ensures { (x : EndState) → IncStands self.now x → result ≡ length x.machine.made }
+    {
+        self.end.channels_seen().len()
+    }
 }

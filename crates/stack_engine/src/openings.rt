@@ -6,7 +6,7 @@ ghost use Rattle.end_settings.specs.Configured.{settings_of, side_of};
 ghost use Rattle.stack_end.specs.Ends.{Call, EndState, new_end};
 ghost use Rattle.stack_end.specs.Ends.Call.{Close, Deliver, InitDone, Put};
 ghost use Rattle.stack_engine.specs.Bounds.{FewFirst};
-ghost use Rattle.stack_engine.specs.Pairs.{call_refusal, latest, open_refusal};
+ghost use Rattle.stack_engine.specs.Pairs.{call_refusal, latest, made_of, open_refusal};
 
 use crate::ApplyFault;
 use crate::incarnation::Incarnation;
@@ -193,5 +193,15 @@ impl<A: Allocator + Copy> Openings<A> {
             self.before.push_reserved(earlier);
         }
         Ok(())
+    }
+
+    /// How many PDUs the present incarnation made.
+    pub fn made(&self) -> usize
+        ensures { (xs : List EndState) → SideStands self.now xs → result ≡ length (made_of (latest xs)) }
+    {
+        match &self.present {
+            Some(present) => present.made(),
+            None => 0,
+        }
     }
 }

@@ -4,13 +4,16 @@ ghost use Rattle.std.specs.Prelude.{◌≡◌, None, MatchResult, OnOk, OnErr};
 ghost use Rattle.end_settings.specs.Configured.{settings_of, side_of};
 ghost use Rattle.stack_end.specs.Ends.{Call};
 ghost use Rattle.stack_end.specs.Ends.Call.{Close, Deliver, InitDone, Put};
+ghost use Rattle.stack_engine.specs.Bounds.{FewFirstLaw};
+ghost use Rattle.stack_engine.specs.Events.{event_of};
 ghost use Rattle.stack_engine.specs.Openings.{NamesRefusal};
 ghost use Rattle.stack_engine.specs.Pairs.{World, refusal, start};
 ghost use Rattle.stack_engine.specs.Pairs.Event.{Calls, Open};
 
 use crate::ApplyFault;
+use crate::event::Event;
 use crate::openings::Openings;
-use end_settings::Side;
+use end_settings::{EndConfig, Side};
 use std::alloc::{Allocator, Global};
 
 /// Both ends, and how many of the PDUs of either one's present incarnation are dead: made before the later opening.
@@ -38,7 +41,13 @@ impl<A: Allocator + Copy> Sides<A> {
     }
 
     /// A datagram comes to an end.
-    fn deliver(&mut self, side: Side, channel: usize, octets: &[u8], now: u64) -> Result<(), ApplyFault>
+    fn deliver(
+        &mut self,
+        side: Side,
+        channel: usize,
+        octets: &[u8],
+        now: u64,
+    ) -> Result<(), ApplyFault>
         ensures does { OnOk result (SidesDo (Calls (side_of side) (Deliver channel octets.now now)) self.old self.new) }
         ensures unchanged { OnErr result ((w : World) → SidesStand self.old w → SidesStand self.new w) }
         ensures refusal { (w : World) → SidesStand self.old w
@@ -104,6 +113,73 @@ impl<A: Allocator + Copy> Sides<A> {
         match side {
             Side::Interlocking => self.il.put(kind, payload, now),
             Side::FieldElement => self.fe.put(kind, payload, now),
+        }
+    }
+
+    /// An end is opened, or opened anew: what its peer made before is dead, and nothing that it made itself.
+    fn open(
+        &mut self,
+        alloc: A,
+        side: Side,
+        config: EndConfig,
+        first_sn: u32,
+        now: u64,
+    ) -> Result<(), ApplyFault>
+        requires first { FewFirstLaw }
+        ensures does { OnOk result (SidesDo (Open (side_of side) (settings_of config) first_sn now) self.old self.new) }
+        ensures unchanged { OnErr result ((w : World) → SidesStand self.old w → SidesStand self.new w) }
+        ensures refusal { (w : World) → SidesStand self.old w
+            → MatchResult result (λ _. refusal (Open (side_of side) (settings_of config) first_sn now) w ≡ None)
+            (λ fault. NamesRefusal fault (refusal (Open (side_of side) (settings_of config) first_sn now) w)) }
+    {
+        match side {
+            Side::Interlocking => {
+                self.il.open(alloc, side, config, first_sn, now)?;
+                self.dead_il = 0;
+                self.dead_fe = self.fe.made();
+            }
+            Side::FieldElement => {
+                self.fe.open(alloc, side, config, first_sn, now)?;
+                self.dead_il = self.il.made();
+                self.dead_fe = 0;
+            }
+        }
+        Ok(())
+    }
+
+    /// An event happens.
+    ///
+    /// Refused, and the first that holds is named; then all stays as it was.
+    pub fn step(&mut self, alloc: A, event: &Event<A>) -> Result<(), ApplyFault>
+        requires first { FewFirstLaw }
+        ensures does { OnOk result (SidesDo (event_of event.now) self.old self.new) }
+        ensures unchanged { OnErr result ((w : World) → SidesStand self.old w → SidesStand self.new w) }
+        ensures refusal { (w : World) → SidesStand self.old w
+            → MatchResult result (λ _. refusal (event_of event.now) w ≡ None)
+            (λ fault. NamesRefusal fault (refusal (event_of event.now) w)) }
+    {
+        match event {
+            Event::Open {
+                side,
+                config,
+                first_sn,
+                now,
+            } => self.open(alloc, *side, *config, *first_sn, *now),
+            Event::Close { side, now } => self.close(*side, *now),
+            Event::Put {
+                side,
+                kind,
+                payload,
+                now,
+            } => self.put(*side, *kind, payload, *now),
+            Event::InitDone { side, now } => self.init_done(*side, *now),
+            Event::Tick { side, now } => self.tick(*side, *now),
+            Event::Deliver {
+                side,
+                channel,
+                octets,
+                now,
+            } => self.deliver(*side, *channel, octets, *now),
         }
     }
 }
