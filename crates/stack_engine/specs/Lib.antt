@@ -12,3 +12,4 @@ pub mod Bounds
 pub mod Incarnations
 pub mod Openings
 pub mod Sides
+pub mod PairValue
