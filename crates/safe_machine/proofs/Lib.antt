@@ -45,6 +45,7 @@ pub mod OrderNext
 pub mod OrderStays
 pub mod OrderRow
 pub mod Views
+pub mod Deadlines
 pub mod Arriving
 pub mod Reaching
 pub mod Nearing

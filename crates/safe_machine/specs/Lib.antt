@@ -15,4 +15,5 @@ pub mod Octets
 pub mod View
 pub mod Course
 pub mod Reached
+pub mod Deadlines
 pub mod Properties

@@ -13,6 +13,7 @@ ghost use Rattle.safe_machine.specs.Made.{leaving_body, opening_body};
 ghost use Rattle.safe_machine.specs.State.{State, fresh, next_made, make, leave, opened, says_goodbye};
 ghost use Rattle.safe_machine.specs.Decision.{in_turn};
 ghost use Rattle.safe_machine.specs.Step.{guard, heartbeat, is_connected, is_live, may_send, tick};
+ghost use Rattle.safe_machine.specs.Deadlines.{deadline_of, timeout_of};
 ghost use Rattle.safe_machine.specs.View.{Does, StandsFor, beat_due, beside, has_room, leaves_units, overdue, settings_of, texts};
 
 use super::{ConnectionState, Detail, MachineConfig, PduOut, Reason, Role};
@@ -24,6 +25,7 @@ use octets::places::put_u16;
 use retrans::Unconfirmed;
 use safe_pdu::{CodeLength, CodeRule, Kind, SafePdu, encode};
 use std::alloc::{Allocator, Global};
+use std::cmp::min;
 use std::marker::Model;
 
 /// The version of this profile, 0303 in ASCII.
@@ -245,6 +247,32 @@ impl<A: Allocator> Endpoint<A> {
     {
         self.guard(now, out);
         self.beat_by_time(now, out);
+    }
+
+    /// When the first of the deadlines falls.
+    pub(crate) fn deadline(&self) -> Option<u64>
+        ensures { result ≡ deadline_of self.now }
+    {
+        if !self.connection.is_live() {
+            return None;
+        }
+        if self.connection.is_connected() {
+            return Some(min(
+                self.timeout(),
+                self.last_made.saturating_add(self.config.t_h),
+            ));
+        }
+        Some(self.timeout())
+    }
+
+    /// When the guard leaves.
+    fn timeout(&self) -> u64
+        ensures { result ≡ timeout_of self.now }
+    {
+        if self.made >= self.config.pdu_limit {
+            return 0;
+        }
+        self.confirmed_at.saturating_add(self.config.t_max)
     }
 
     /// The rule of the safety code.

@@ -1,6 +1,6 @@
 //! One end of a connection.
 
-ghost use Rattle.std.specs.Prelude.{◌≡◌, ◌+◌, ◌<◌, ◌≤◌, ◌^◌, ◌↔◌, ℕ, List, [], true, false, length, Err, ◌++◌, ◌∷◌, IfOk, IsOk, OnOk, OnErr, if◌then◌else◌};
+ghost use Rattle.std.specs.Prelude.{◌≡◌, ◌≢◌, ◌+◌, ◌<◌, ◌≤◌, ◌^◌, ◌↔◌, ℕ, List, [], true, false, length, Err, ◌++◌, ◌∷◌, IfOk, IsOk, OnOk, OnErr, if◌then◌else◌};
 ghost use Rattle.std.specs.List.{FoldsTo};
 ghost use Rattle.octets.specs.declared.limits.TheConstants.{WINDOW_MAX};
 ghost use Rattle.safe_machine.specs.Settings.{is_legal};
@@ -15,6 +15,7 @@ ghost use Rattle.safe_pdu.specs.Places.{safe_seen};
 ghost use Rattle.safe_machine.specs.Properties.{HandsIf, IsNextData, IsRecent, OnlyConfirms, index_step};
 ghost use Rattle.safe_pdu.specs.Pdu.{Pdu};
 ghost use Rattle.safe_machine.specs.declared.ConnectionState.TheVariants.{Up};
+ghost use Rattle.safe_machine.specs.Deadlines.{IsBefore, IsReachedAt};
 ghost use Rattle.safe_machine.specs.Reached.{Known};
 ghost use Rattle.safe_machine.specs.View.{HandsOut, HandsUp, StandsFor, settings_of, texts};
 
@@ -128,6 +129,16 @@ impl<A: Allocator> Machine<A> {
         ensures made { (s : State) → StandsFor self.old s → HandsOut O.makes out.old s (leave reason detail now s) out.new }
     {
         self.end.leave(reason, detail, now, out);
+    }
+
+    /// The earliest time at which `tick` does something, if nothing arrives and nothing is sent; `None` where no time does.
+    pub fn deadline(&self) -> Option<u64>
+        // Before it a tick leaves the machine as it is.
+        ensures before { (s : State) → StandsFor self.now s → (now : ℕ) → IsBefore now result → tick now s ≡ s }
+        // From it on, up to 2^62, a tick does not.
+        ensures after { (s : State) → StandsFor self.now s → (now : ℕ) → now ≤ 2 ^ 62 → IsReachedAt now result → tick now s ≢ s }
+    {
+        self.end.deadline()
     }
 
     /// The state of the connection.

@@ -4,3 +4,4 @@ pub mod Uppers
 pub mod Packs
 pub mod Receiving
 pub mod Polls
+pub mod Deadlines

@@ -54,7 +54,7 @@ end-then takes x y z q v w n t u h k e =
       took = took-alone takes t u x y z h.took e;
     }
 
-not-closed : (c : ConnectionState) → (c ≡ Closed → ⊥) → is_closed c ≡ false
+pub not-closed : (c : ConnectionState) → (c ≡ Closed → ⊥) → is_closed c ≡ false
 not-closed Closed h = absurd (h refl)
 not-closed Down h = refl
 not-closed Start h = refl

@@ -7,4 +7,5 @@ pub mod Later
 pub mod Kept
 pub mod EndValue
 pub mod Polling
+pub mod Deadlines
 pub mod Lending

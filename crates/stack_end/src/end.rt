@@ -1,6 +1,6 @@
 //! One end of a connection, as an application opens it.
 
-ghost use Rattle.std.specs.Prelude.{◌≡◌, ◌≤◌, ◌^◌, ◌↔◌, ℕ, List, false, length, Option, option_map, Some, None, Ok, Err, IfOk, IfSome, OnOk, OnErr, IfErr, IsErrAnd, MatchResult, if◌then◌else◌};
+ghost use Rattle.std.specs.Prelude.{◌≡◌, ◌≤◌, ◌^◌, ◌↔◌, ℕ, List, true, false, length, Option, option_map, Some, None, Ok, Err, IfOk, IfSome, OnOk, OnErr, IfErr, IsErrAnd, MatchResult, if◌then◌else◌};
 ghost use Rattle.std.specs.List.{FoldsTo};
 ghost use Rattle.std.specs.Borrow.{sem};
 ghost use Rattle.channels.specs.Told.{SendsOne};
@@ -8,9 +8,11 @@ ghost use Rattle.end_settings.specs.EndSettings.{are_fit};
 ghost use Rattle.end_settings.specs.Configured.{settings_of, side_of};
 ghost use Rattle.pdi_session.specs.SessionStep.{init_refusal, put_refusal};
 ghost use Rattle.stack_end.specs.Dialogue.{phase_in, session_in};
-ghost use Rattle.stack_end.specs.Ends.{Call, Close, Deliver, EndState, InitDone, Put, call, is_settled, new_end};
+ghost use Rattle.stack_end.specs.Ends.{Call, Close, Deliver, EndState, InitDone, Put, call, is_settled, is_shut, new_end};
 ghost use Rattle.stack_end.specs.Datagrams.{sent_at_opening};
 ghost use Rattle.stack_end.specs.EndValue.{EndAsks, EndDoes, EndDoesAlone, EndStands, channels_of};
+ghost use Rattle.safe_machine.specs.Deadlines.{IsBefore, IsReachedAt};
+ghost use Rattle.stack_end.specs.Deadlines.{HasFallen, IsQuiet, earliest};
 ghost use Rattle.stack_end.specs.Polling.{Asked, AskedOnce, HeardAll, HeardNext, HeardUntilFault, Polled};
 ghost use Rattle.stack_end.specs.declared.OpenFault.TheVariants.{BadConfig};
 ghost use Rattle.stack_end.specs.declared.TheConstants.{POLL_DATAGRAMS};
@@ -22,6 +24,7 @@ use end_settings::{EndConfig, Side};
 use pdi_session::{InitFault, Phase, PutFault, Taker};
 use safe_machine::ConnectionState;
 use std::alloc::{Allocator, Global};
+use std::cmp::min;
 use std::marker::Model;
 
 /// One end of a connection over channels `C`: what an application opens.
@@ -153,6 +156,7 @@ impl<C: Channels, A: Allocator> End<C, A> {
         requires later { self.old.time ≤ now }
         ensures done { OnOk result (Polled C.told T.takes POLL_DATAGRAMS now (self.old, taker.old) (self.new, taker.new)) }
         ensures failed { OnErr result (HeardUntilFault C.told T.takes POLL_DATAGRAMS now (self.old, taker.old) (self.new, taker.new)) }
+        ensures time { self.new.time ≤ now }
     {
         let mut buffer = [0; POLL_BUFFER];
         match self.hear_all(&mut buffer, now, taker) {
@@ -218,6 +222,24 @@ impl<C: Channels, A: Allocator> End<C, A> {
         self.layers.upper.channels.receive(buffer)
     }
 
+    /// The earliest time at which `tick` does something, if nothing arrives and nothing is put in: a deadline of the safety machine (T_max,
+    /// T_h, the limit of PDUs) or of the redundancy layer (T_seq). It may be past; `None` where no time does, as in a closed end.
+    pub fn next_deadline(&self) -> Option<u64>
+        // Before it a tick leaves the end as it is, but for its time, and sends nothing.
+        ensures before { (x : EndState) → EndStands C.told self.now x → is_shut x ≡ false → (now : ℕ) → IsBefore now result → IsQuiet now x }
+        // From it on it does not.
+        ensures after { (x : EndState) → EndStands C.told self.now x → (now : ℕ) → now ≤ 2 ^ 62 → IsReachedAt now result → HasFallen now x }
+        ensures closed { (x : EndState) → EndStands C.told self.now x → is_shut x ≡ true → result ≡ None }
+    {
+        match self.layers.upper.machine.state() {
+            ConnectionState::Closed => None,
+            _ => earliest(
+                self.layers.upper.machine.deadline(),
+                self.layers.red.deadline(),
+            ),
+        }
+    }
+
     /// The channels, to be looked at or changed by their owner.
     pub fn channels(&mut self) -> &mut C
         ensures* writes_back { sem 𝓛 (lends_channels C.row A.row A.Allocator self.entry result) }
@@ -266,5 +288,15 @@ impl<C: Channels, A: Allocator> End<C, A> {
             Some(octets) => Some(octets.as_slice()),
             None => None,
         }
+    }
+}
+
+/// The earlier of two deadlines.
+fn earliest(one: Option<u64>, other: Option<u64>) -> Option<u64>
+    ensures { result ≡ earliest one other }
+{
+    match (one, other) {
+        (None, deadline) | (deadline, None) => deadline,
+        (Some(first), Some(second)) => Some(min(first, second)),
     }
 }

@@ -1,0 +1,161 @@
+//! A line of a script as what it asks for.
+
+use crate::fault::LineFault;
+use crate::labels::Label;
+use crate::settings::{Key, Setting};
+use crate::words::Words;
+use arrayvec::ArrayVec;
+use end_settings::{Side, Versions};
+use pdi_session::VERSIONS_MAX;
+use std::alloc::{Allocator, Global};
+
+/// The greatest number of octets that `putlen` puts in.
+pub const ZEROS_MAX: usize = 1000;
+
+/// What a line asks for.
+#[derive(Drop)]
+pub enum Command<A: Allocator = Global> {
+    /// Nothing: the line is empty.
+    Nothing,
+    /// `set KEY N`: a setting of later openings.
+    Set(Setting),
+    /// `versions fe N ..`: the PDI versions of later field elements.
+    Versions(Versions),
+    /// `open END`.
+    Open(Side),
+    /// `close END`: its user closes it.
+    Close(Side),
+    /// `clock END MS`: the end's clock from now on.
+    Clock(Side, u64),
+    /// `tick END`: a tick at the end's clock.
+    Tick(Side),
+    /// `put END KIND HEX`: one telegram.
+    Put(Side, u16, Vec<u8, A>),
+    /// `putlen END KIND N`: one telegram with so many octets of zero.
+    PutZeros(Side, u16, usize),
+    /// `puts END N KIND`: so many telegrams, the k-th with the octet k, from 0.
+    PutCounted(Side, u64, u16),
+    /// `done`: the field element's application has put in its initial status.
+    InitDone,
+    /// `give LABEL CH`: delivers a datagram on a channel.
+    Give(Label, u64),
+    /// `hit LABEL CH PLACE XX`: the same, with the octet at a place exclusive-ored.
+    Hit(Label, u64, u64, u8),
+    /// `lose LABEL`: names a label, and no more.
+    Lose(Label),
+    /// `flow CH ..`: delivers each datagram that no line has named yet on each of these channels.
+    Flow(Vec<u64, A>),
+    /// `est`: opens both ends and sets a session up.
+    Establish,
+    /// `trace`, `trace off`: from now on each happening is printed, or not.
+    Trace(bool),
+}
+
+/// Reads a line.
+///
+/// Refused: `Unreadable`, where the line has no form of the language, or a number too large for its place; `Memory`.
+pub fn read_line<A: Allocator + Copy>(alloc: A, line: &str) -> Result<Command<A>, LineFault> {
+    let mut words = Words::new(line);
+    let Some(first) = words.next() else {
+        return Ok(Command::Nothing);
+    };
+    let found = match first {
+        "give" | "hit" | "lose" | "flow" => delivery(alloc, first, &mut words)?,
+        "put" | "putlen" | "puts" => putting(alloc, first, &mut words)?,
+        "set" => Command::Set(setting(&mut words)?),
+        "versions" => versions(alloc, &mut words)?,
+        "open" => Command::Open(words.side()?),
+        "close" => Command::Close(words.side()?),
+        "clock" => Command::Clock(words.side()?, words.number(u64::MAX)?),
+        "tick" => Command::Tick(words.side()?),
+        "done" => Command::InitDone,
+        "est" => Command::Establish,
+        "trace" => Command::Trace(trace(&mut words)?),
+        _ => return Err(LineFault::Unreadable),
+    };
+    words.end()?;
+    Ok(found)
+}
+
+/// The lines that name datagrams.
+fn delivery<A: Allocator + Copy>(
+    alloc: A,
+    first: &str,
+    words: &mut Words<'_>,
+) -> Result<Command<A>, LineFault> {
+    match first {
+        "give" => Ok(Command::Give(words.label()?, words.number(u64::MAX)?)),
+        "hit" => {
+            let label = words.label()?;
+            let channel = words.number(u64::MAX)?;
+            let place = words.number(u64::MAX)?;
+            Ok(Command::Hit(label, channel, place, words.octet()?))
+        }
+        "lose" => Ok(Command::Lose(words.label()?)),
+        _ => {
+            let channels = words.numbers(alloc, u64::MAX)?;
+            if channels.is_empty() {
+                return Err(LineFault::Unreadable);
+            }
+            Ok(Command::Flow(channels))
+        }
+    }
+}
+
+/// The lines that put telegrams in.
+fn putting<A: Allocator + Copy>(
+    alloc: A,
+    first: &str,
+    words: &mut Words<'_>,
+) -> Result<Command<A>, LineFault> {
+    let side = words.side()?;
+    match first {
+        "put" => Ok(Command::Put(side, words.kind()?, words.octets(alloc)?)),
+        "putlen" => {
+            let kind = words.kind()?;
+            let length = words.number(ZEROS_MAX as u64)?;
+            Ok(Command::PutZeros(side, kind, length as usize))
+        }
+        _ => {
+            let count = words.number(256)?;
+            Ok(Command::PutCounted(side, count, words.kind()?))
+        }
+    }
+}
+
+fn setting(words: &mut Words<'_>) -> Result<Setting, LineFault> {
+    let key = Key::of(words.word()?).ok_or(LineFault::Unreadable)?;
+    let value = words.number(u64::from(key.greatest()))?;
+    Ok(Setting {
+        key,
+        value: (value & 0xffff_ffff) as u32,
+    })
+}
+
+/// The versions of a field element; no other end has a list.
+fn versions<A: Allocator + Copy>(alloc: A, words: &mut Words<'_>) -> Result<Command<A>, LineFault> {
+    if words.side()? != Side::FieldElement {
+        return Err(LineFault::Unreadable);
+    }
+    let mut list = ArrayVec::<u8, VERSIONS_MAX>::new();
+    for version in words.numbers(alloc, u64::from(u8::MAX))?.iter() {
+        if list.try_push((*version & 0xff) as u8).is_err() {
+            return Err(LineFault::Unreadable);
+        }
+    }
+    if list.is_empty() {
+        return Err(LineFault::Unreadable);
+    }
+    match Versions::new(list.as_slice()) {
+        Some(versions) => Ok(Command::Versions(versions)),
+        None => Err(LineFault::Unreadable),
+    }
+}
+
+fn trace(words: &mut Words<'_>) -> Result<bool, LineFault> {
+    match words.next() {
+        None => Ok(true),
+        Some("off") => Ok(false),
+        Some(_) => Err(LineFault::Unreadable),
+    }
+}

@@ -1,0 +1,158 @@
+//! The words of a line: numbers, hex digits, ends and labels.
+
+ghost use Rattle.std.specs.Prelude.{◌≡◌, ◌≤◌, IfSome, true};
+ghost use Rattle.std.specs.List.{list_all};
+ghost use Rattle.std.specs.Char.{is_ascii_digit};
+ghost use Rattle.std.specs.Str.Parse.{digits_value};
+
+use crate::fault::LineFault;
+use crate::labels::Label;
+use end_settings::Side;
+use hex::FromHexError;
+use std::alloc::Allocator;
+
+/// The words of a line, which are parted by one or more spaces.
+#[derive(Drop)]
+pub struct Words<'a> {
+    parts: std::str::Split<'a, char>,
+}
+
+impl<'a> Words<'a> {
+    /// The words of a line, from its first on.
+    pub fn new(line: &'a str) -> Self {
+        Words {
+            parts: line.split(' '),
+        }
+    }
+
+    /// The next word, where there is one.
+    pub fn next(&mut self) -> Option<&'a str> {
+        self.parts.find(|part| !part.is_empty())
+    }
+
+    /// The next word, which the line must have.
+    pub fn word(&mut self) -> Result<&'a str, LineFault> {
+        self.next().ok_or(LineFault::Unreadable)
+    }
+
+    /// The end that the next word names.
+    pub fn side(&mut self) -> Result<Side, LineFault> {
+        match self.word()? {
+            "il" => Ok(Side::Interlocking),
+            "fe" => Ok(Side::FieldElement),
+            _ => Err(LineFault::Unreadable),
+        }
+    }
+
+    /// The next word as a number of at most so much.
+    pub fn number(&mut self, most: u64) -> Result<u64, LineFault> {
+        number(self.word()?, most).ok_or(LineFault::Unreadable)
+    }
+
+    /// The next word as the kind of a telegram: four hex digits.
+    pub fn kind(&mut self) -> Result<u16, LineFault> {
+        let mut octets = [0; 2];
+        match hex::decode_to_slice(self.word()?, &mut octets) {
+            Ok(()) => Ok(u16::from_be_bytes(octets)),
+            Err(_) => Err(LineFault::Unreadable),
+        }
+    }
+
+    /// The next word as one octet: two hex digits.
+    pub fn octet(&mut self) -> Result<u8, LineFault> {
+        let mut octets = [0; 1];
+        match hex::decode_to_slice(self.word()?, &mut octets) {
+            Ok(()) => Ok(octets[0]),
+            Err(_) => Err(LineFault::Unreadable),
+        }
+    }
+
+    /// The next word as octets: hex digits, two for each, or `-` for none.
+    pub fn octets<A: Allocator + Copy>(&mut self, alloc: A) -> Result<Vec<u8, A>, LineFault> {
+        let word = self.word()?;
+        if word == "-" {
+            return Ok(Vec::new(alloc));
+        }
+        match hex::decode(alloc, word) {
+            Ok(octets) => Ok(octets),
+            Err(FromHexError::OutOfMemory) => Err(LineFault::Memory),
+            Err(_) => Err(LineFault::Unreadable),
+        }
+    }
+
+    /// The next word as a label: `i` or `f`, and digits.
+    pub fn label(&mut self) -> Result<Label, LineFault> {
+        let word = self.word()?;
+        let (side, digits) = if let Some(digits) = word.strip_prefix('i') {
+            (Side::Interlocking, digits)
+        } else if let Some(digits) = word.strip_prefix('f') {
+            (Side::FieldElement, digits)
+        } else {
+            return Err(LineFault::Unreadable);
+        };
+        if digits.is_empty() || !is_digits(digits) {
+            return Err(LineFault::Unreadable);
+        }
+        Ok(Label {
+            side,
+            number: label_number(digits),
+        })
+    }
+
+    /// All further words as numbers, each of at most so much.
+    pub fn numbers<A: Allocator + Copy>(
+        &mut self,
+        alloc: A,
+        most: u64,
+    ) -> Result<Vec<u64, A>, LineFault> {
+        let mut numbers = Vec::new(alloc);
+        for part in &mut self.parts {
+            if !part.is_empty() {
+                numbers.push(number(part, most).ok_or(LineFault::Unreadable)?)?;
+            }
+        }
+        Ok(numbers)
+    }
+
+    /// The line has no further word.
+    pub fn end(&mut self) -> Result<(), LineFault> {
+        match self.next() {
+            None => Ok(()),
+            Some(_) => Err(LineFault::Unreadable),
+        }
+    }
+}
+
+/// The number that decimal digits spell, where it is at most so much.
+pub fn number(word: &str, most: u64) -> Option<u64>
+    ensures found { IfSome result (λ n. (list_all is_ascii_digit word.now ≡ true) × (digits_value 10 word.now ≡ n)) }
+    ensures bound { IfSome result (λ n. n ≤ most) }
+{
+    if !is_digits(word) {
+        return None;
+    }
+    match word.parse::<u64>() {
+        Ok(number) if number <= most => Some(number),
+        _ => None,
+    }
+}
+
+/// The number of a label; 0, which no PDU has, where no PDU has a label of these digits.
+fn label_number(digits: &str) -> u64 {
+    if digits.starts_with('0') {
+        return 0;
+    }
+    digits.parse::<u64>().unwrap_or(0)
+}
+
+fn is_digits(word: &str) -> bool
+    ensures { result ≡ list_all is_ascii_digit word.now }
+{
+    word.as_bytes().iter().all(|octet| is_digit(*octet))
+}
+
+fn is_digit(octet: u8) -> bool
+    ensures { result ≡ is_ascii_digit octet }
+{
+    octet.is_ascii_digit()
+}
