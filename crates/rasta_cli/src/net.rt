@@ -49,6 +49,14 @@ pub fn run_net<R: Net + Clock, O: Write, E: Write>(
     };
     match done {
         Ok(()) => Status::Done,
+        Err(Fault::Settings) => {
+            let status = report(err, Fault::Settings);
+            let _ = writeln!(
+                err,
+                "settings: local, remote: an address and a port expected, another text found"
+            );
+            status
+        }
         Err(fault) => report(err, fault),
     }
 }
@@ -70,7 +78,7 @@ fn run_one<R: Net + Clock, O: Write>(
         let before = actor.end.channels_seen().received();
         actor.turn(now, out)?;
         if actor.end.channels_seen().received() == before {
-            watch.wait(Duration::from_millis(pause(now, None)));
+            watch.wait(Duration::from_millis(pause(now, actor.end.next_deadline())));
         }
     }
     actor.report(out)?;
@@ -105,7 +113,11 @@ fn run_two<R: Net + Clock, O: Write>(
             field_element.end.channels_seen().received(),
         );
         if after == before {
-            watch.wait(Duration::from_millis(pause(now, None)));
+            let deadline = earlier(
+                interlocking.end.next_deadline(),
+                field_element.end.next_deadline(),
+            );
+            watch.wait(Duration::from_millis(pause(now, deadline)));
         }
     }
     interlocking.report(out)?;
@@ -176,6 +188,14 @@ fn pause(now: u64, deadline: Option<u64>) -> u64
     match deadline {
         Some(deadline) => deadline.saturating_sub(now).min(WAIT_MAX),
         None => WAIT_MAX,
+    }
+}
+
+fn earlier(first: Option<u64>, second: Option<u64>) -> Option<u64> {
+    match (first, second) {
+        (Some(first), Some(second)) => Some(first.min(second)),
+        (Some(time), None) | (None, Some(time)) => Some(time),
+        (None, None) => None,
     }
 }
 
