@@ -2,23 +2,28 @@
 #![tactic(auto)]
 
 mod command_line;
+mod end_lines;
 mod hex_text;
 mod lines;
 mod messages;
 mod names;
+mod net;
 mod runs;
 mod show;
 mod status;
+mod ticking;
+mod turns;
 
 use clap::error::ErrorKind;
 use command_line::{Request, WordsFault, command};
+use net::run_net;
 use runs::{report, run_md4, run_show};
 use status::{Fault, Status};
 use std::alloc::AllocError;
 use std::io::Write;
 use std::process::ExitCode;
 use std::rt::Env;
-use std::{env, io};
+use std::{env, fs, io};
 
 /// Prints why the words are no command, or the help that they ask for.
 fn refuse<O: Write, E: Write>(fault: &WordsFault, out: &mut O, err: &mut E) -> Status {
@@ -65,7 +70,22 @@ fn run_words(rt: &HostRuntime) -> Status {
         Ok(Request::Show { code, iv, hex }) => {
             run_show(rt.alloc(), code, iv, hex, &mut out, &mut err)
         }
-        Ok(Request::Net { .. }) => Status::WrongWords,
+        Ok(Request::Net { word, file, turns }) => match fs::read_to_string(rt, file) {
+            Ok(text) => run_net(
+                rt,
+                rt.alloc(),
+                word,
+                text.as_str(),
+                turns,
+                &mut out,
+                &mut err,
+            ),
+            Err(error) if error.kind() == io::ErrorKind::OutOfMemory => report(
+                &mut err,
+                Fault::Memory,
+            ),
+            Err(_) => report(&mut err, Fault::File),
+        },
         Err(fault) => refuse(&fault, &mut out, &mut err),
     }
 }
@@ -74,5 +94,7 @@ fn main(rt: HostRuntime) -> ExitCode {
     ExitCode::from(run_words(&rt).code())
 }
 
+#[cfg(test)]
+mod net_tests;
 #[cfg(test)]
 mod tests;
