@@ -4,6 +4,8 @@
 #![tactic(auto)]
 
 mod end;
+#[cfg(test)]
+mod fault_tests;
 mod judging;
 mod layers;
 mod opening;

@@ -12,8 +12,8 @@ use std::test::Fail;
 
 /// The kinds and the first octets of what an application took.
 #[derive(Drop)]
-struct Taken {
-    list: ArrayVec<(u16, u8), 16>,
+pub(crate) struct Taken {
+    pub(crate) list: ArrayVec<(u16, u8), 16>,
 }
 
 impl Taker for Taken {
@@ -41,7 +41,7 @@ fn name(text: &str) -> Result<OwnedName, Fail> {
     Ok(OwnedName::new(Name::new(text)?))
 }
 
-fn config(side: Side) -> Result<EndConfig, Fail> {
+pub(crate) fn config(side: Side) -> Result<EndConfig, Fail> {
     let own = if side == Side::Interlocking {
         (1, "IL1")
     } else {
