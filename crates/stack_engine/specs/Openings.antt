@@ -1,5 +1,5 @@
 -- All incarnations of one end.
-use Rattle.std.specs.Prelude.{◌≡◌, ℕ, Option, Some, None, List, [], ◌∷◌, reverse}
+use Rattle.std.specs.Prelude.{◌≡◌, ℕ, Bool, true, false, Option, Some, None, List, [], ◌∷◌, reverse}
 use Rattle.stack_end.specs.Ends.{EndState, Call, call}
 use Rattle.stack_engine.specs.declared.ApplyFault.{ApplyFault}
 use Rattle.stack_engine.specs.declared.ApplyFault.TheVariants as fault
@@ -44,3 +44,7 @@ NamesRefusal fault.BadConfig r = r ≡ Some BadConfig
 NamesRefusal fault.Clock r = r ≡ Some Clock
 NamesRefusal (fault.Put why) r = r ≡ Some (PutRefused why)
 NamesRefusal (fault.Init why) r = r ≡ Some (InitRefused why)
+
+abbrev pub is_memory : ApplyFault → Bool
+is_memory fault.Memory = true
+is_memory _ = false

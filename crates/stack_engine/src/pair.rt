@@ -3,11 +3,12 @@
 ghost use Rattle.std.specs.Prelude.{◌≡◌, ◌+◌, [], ◌∷◌, ◌++◌, length, None, MatchResult, OnOk, OnErr, IfOk};
 ghost use Rattle.stack_engine.specs.Openings.{NamesRefusal};
 ghost use Rattle.stack_engine.specs.Pairs.{refusal, run, start};
+ghost use Rattle.stack_engine.specs.Promises.{Promises};
 
+use crate::ApplyFault;
 use crate::event::Event;
 use crate::law::pair_law;
 use crate::sides::Sides;
-use crate::ApplyFault;
 use std::alloc::{Allocator, Global};
 use std::marker::Model;
 
@@ -86,15 +87,30 @@ impl<A: Allocator + Copy> Pair<A> {
         ensures ok { OnOk result (Ran self.old (events_of events.now) self.new) }
         ensures count { IfOk result (λ count. length self.new ≡ length self.old + count) }
         ensures memory { OnErr result (RanBefore self.old (events_of events.now) self.new) }
+        ensures promises { Promises self.new }
     {
         let mut count = 0;
         for event in events {
             match self.apply(event) {
                 Ok(()) => count += 1,
-                Err(ApplyFault::Memory) => return Err(Memory),
-                Err(_) => {}
+                Err(fault) => {
+                    if fault.is_memory() {
+                        let _promised = self.history();
+                        return Err(Memory);
+                    }
+                }
             }
         }
+        let _promised = self.history();
         Ok(count)
+    }
+
+    /// The events that were accepted, in order, and what they promise.
+    pub fn history(&self) -> &[Event<A>]
+        ensures events { events_of result.now ≡ self.now }
+        ensures promises { Promises self.now }
+    {
+        pair_law();
+        &self.history
     }
 }
