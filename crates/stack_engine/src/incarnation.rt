@@ -12,6 +12,7 @@ ghost use Rattle.stack_end.specs.declared.OpenFault.TheVariants.{BadConfig};
 ghost use Rattle.stack_engine.specs.Bounds.{FewFirst};
 ghost use Rattle.end_settings.specs.EndSettings.{rule_of};
 ghost use Rattle.stack_end.specs.Ends.{is_shut};
+ghost use Rattle.safe_pdu.specs.SafeText.{code_octets};
 ghost use Rattle.stack_engine.specs.Pairs.{has_made};
 ghost use Rattle.stack_engine.specs.Premise.{is_asked_of};
 
@@ -214,5 +215,12 @@ impl<A: Allocator + Copy> Incarnation<A> {
         };
         self.end.state() != ConnectionState::Closed
             && is_asked_about(&rule, self.config.id, self.config.peer_id, part)
+    }
+
+    /// The octets of its safety code.
+    pub fn code_octets(&self) -> usize
+        ensures { (x : EndState) → IncStands self.now x → result ≡ code_octets (rule_of x.settings).length }
+    {
+        self.config.code_length().octets()
     }
 }
