@@ -1,6 +1,6 @@
 -- Whether a datagram breaks the premise, by its part.
 use Rattle.std.proofs.Common.{◌≡◌, ℕ, List, Option, Some, None, Result, Ok, Err, Bool, true, false, refl, sym, ap, ◌∙◌}
-use Rattle.std.specs.Prelude.{◌&&◌, ◌==◌, not}
+use Rattle.std.specs.Prelude.{◌&&◌, not}
 use Rattle.red_pdu.specs.declared.RedFault.{RedFault}
 use Rattle.red_pdu.specs.RedText.{red_seen}
 use Rattle.red_layer.specs.Parts.{Part}

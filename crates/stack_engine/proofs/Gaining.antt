@@ -1,11 +1,11 @@
 -- What a keeper of channel 1 gains by sendings, and a list of telegrams by takings, where there is room.
-use Rattle.std.proofs.Common.{◌≡◌, ◌≢◌, ℕ, zero, suc, ◌+◌, ◌/◌, ◌*◌, ◌≤◌, List, [], ◌∷◌, ◌++◌, length, drop, Option, Some, None, Bool, true, false, refl, sym, ap, subst, ◌∙◌, arith, append_assoc, append-nil, length-append, ◌⊎◌, inl, inr}
-use Rattle.std.specs.Prelude.{◌||◌, map, option_map, min, ◌==◌, if◌then◌else◌}
+use Rattle.std.proofs.Common.{◌≡◌, ℕ, zero, suc, ◌+◌, ◌≤◌, List, [], ◌∷◌, ◌++◌, length, drop, Some, Bool, true, false, refl, sym, ap, subst, ◌∙◌, arith, append_assoc, append-nil}
+use Rattle.std.specs.Prelude.{◌||◌, map, option_map, ◌==◌, if◌then◌else◌}
 use Rattle.std.specs.List.{AllByRecursion, FoldsTo}
 use Rattle.std.proofs.lemmas.Bool.{false≢true}
 use Rattle.std.proofs.lemmas.List.{map-append}
 use Rattle.std.proofs.lemmas.Bool.Decides.{nat_tests}
-use Rattle.octets.specs.declared.limits.TheConstants.{PAYLOAD_MAX, RED_PDU_MAX, RED_HEADER}
+use Rattle.octets.specs.declared.limits.TheConstants.{RED_PDU_MAX}
 use Rattle.red_pdu.specs.RedText.{red_text}
 use Rattle.safe_machine.specs.Made.{Made}
 use Rattle.pdi_session.specs.SessionStep.{Item}

@@ -1,5 +1,4 @@
 use Rattle.std.proofs.Common.{List, [], ◌∷◌, ◌++◌, sym, ap, subst, ◌∙◌}
-use Rattle.stack_engine.specs.declared.event.Event.{Event as CodeEvent}
 use Rattle.stack_engine.specs.Events.{event_of}
 use Rattle.stack_engine.specs.PairValue.{events_of}
 use Rattle.stack_engine.specs.Pairs.{Event, start, run}

@@ -1,4 +1,4 @@
-use Rattle.std.proofs.Common.{◌≡◌, ◌<◌, sym, ◌∙◌, ◌∷◌, [], List, ap, length, length-append, arith}
+use Rattle.std.proofs.Common.{sym, ◌∙◌, ◌∷◌, [], List, ap, length, length-append, arith}
 use Rattle.stack_engine.specs.Events.{event_of}
 use Rattle.stack_engine.specs.Pairs.{Event}
 use Rattle.stack_engine.proofs.Histories.{events-length, ran-accepted, ran-refused}
