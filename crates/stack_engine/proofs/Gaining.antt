@@ -1,20 +1,22 @@
 -- What a keeper of channel 1 gains by sendings, and a list of telegrams by takings, where there is room.
-use Rattle.std.proofs.Common.{◌≡◌, ◌≢◌, ℕ, zero, suc, ◌+◌, ◌/◌, ◌*◌, ◌≤◌, List, [], ◌∷◌, ◌++◌, length, drop, Option, Some, None, Bool, true, false, refl, sym, ap, subst, ◌∙◌, arith, append_assoc, append-nil, length-append, ◌⊎◌, inl, inr}
-use Rattle.std.specs.Prelude.{map, option_map, min, ◌==◌, if◌then◌else◌}
+use Rattle.std.proofs.Common.{◌≡◌, ℕ, zero, suc, ◌+◌, ◌≤◌, List, [], ◌∷◌, ◌++◌, length, drop, Some, Bool, true, false, refl, sym, ap, subst, ◌∙◌, arith, append_assoc, append-nil}
+use Rattle.std.specs.Prelude.{◌||◌, map, option_map, ◌==◌, if◌then◌else◌}
 use Rattle.std.specs.List.{AllByRecursion, FoldsTo}
 use Rattle.std.proofs.lemmas.Bool.{false≢true}
 use Rattle.std.proofs.lemmas.List.{map-append}
 use Rattle.std.proofs.lemmas.Bool.Decides.{nat_tests}
-use Rattle.octets.specs.declared.limits.TheConstants.{PAYLOAD_MAX, RED_PDU_MAX, RED_HEADER}
+use Rattle.octets.specs.declared.limits.TheConstants.{RED_PDU_MAX}
 use Rattle.red_pdu.specs.RedText.{red_text}
 use Rattle.safe_machine.specs.Made.{Made}
 use Rattle.pdi_session.specs.SessionStep.{Item}
 use Rattle.channels.specs.Told.{Told, Sending, Sends, SendsOne}
 use Rattle.end_settings.specs.EndSettings.{EndSettings, rule_of}
 use Rattle.stack_end.specs.Datagrams.{on_channels, sendings, upper_of}
+use Rattle.std.specs.Str.{bytes_eq}
+use Rattle.stack_engine.specs.Pairs.{has_made}
 use Rattle.stack_engine.specs.Texts.{Shelf}
 use Rattle.stack_engine.specs.Bounds.{IsSmallItem, IsSmallPdu}
-use Rattle.stack_engine.specs.Keeping.{Keeping, on_first, told_of, sure_room}
+use Rattle.stack_engine.specs.Keeping.{Keeping, has_part, on_first, told_of, sure_room}
 use Rattle.stack_engine.proofs.Talking.{all-append}
 use Rattle.stack_engine.specs.Incarnations.{datagrams_of, sure_items, TakesItem}
 
@@ -163,3 +165,15 @@ datagrams-append s index [] ns = let e : index ≡ index + 0 = omega arith in ap
 datagrams-append s index (m ∷ ms) ns =
     let e : index + 1 + length ms ≡ index + length (m ∷ ms) = omega arith in
     ap (λ (ds : List (List ℕ)). red_text index (upper_of (rule_of s) m) ∷ ds) (datagrams-append s (index + 1) ms ns ∙ ap (λ (i : ℕ). datagrams_of s (index + 1) ms ++ datagrams_of s i ns) e)
+
+-- a datagram has these octets behind its header where its PDU has them
+pub has-part-made : (s : EndSettings) (index : ℕ) (octets : List ℕ) (dead : ℕ) (ms : List Made) → has_part octets (drop dead (datagrams_of s index ms)) ≡ has_made (rule_of s) octets (drop dead ms)
+has-part-made s index octets zero [] = refl
+has-part-made s index octets zero (m ∷ ms) = go (bytes_eq octets (upper_of (rule_of s) m)) (has-part-made s (index + 1) octets zero ms)
+  where
+    go : (b : Bool) → has_part octets (datagrams_of s (index + 1) ms) ≡ has_made (rule_of s) octets ms
+        → (b || has_part octets (datagrams_of s (index + 1) ms)) ≡ (if b then true else has_made (rule_of s) octets ms)
+    go true h = refl
+    go false h = h
+has-part-made s index octets (suc dead) [] = refl
+has-part-made s index octets (suc dead) (m ∷ ms) = has-part-made s (index + 1) octets dead ms

@@ -1,9 +1,10 @@
 -- An incarnation stands for its state after a call, where it had room.
-use Rattle.std.proofs.Common.{◌≡◌, ℕ, ◌+◌, ◌≤◌, List, [], ◌∷◌, ◌++◌, length, refl, sym, ap, subst, ◌∙◌, arith, append-nil, length-append, zero-add}
+use Rattle.std.proofs.Common.{◌≡◌, ℕ, ◌≤◌, List, [], ◌∷◌, ◌++◌, length, sym, ap, subst, ◌∙◌, arith, length-append, zero-add}
 use Rattle.std.specs.List.{AllByRecursion, FoldsTo}
 use Rattle.safe_machine.specs.Made.{Made}
 use Rattle.pdi_session.specs.SessionStep.{Item}
 use Rattle.end_settings.specs.EndSettings.{EndSettings}
+use Rattle.end_settings.specs.Configured.{settings_of}
 use Rattle.stack_end.specs.Ends.{EndState, Call, call, new_end}
 use Rattle.stack_end.specs.Datagrams.{sent_at_opening}
 use Rattle.safe_machine.specs.World.{Side}
@@ -38,14 +39,15 @@ kept-more i j x y room h few same sent =
     ∙ (ap (datagrams_of s 0) (sym sent.grown) ∙ ap (λ (t : EndSettings). datagrams_of t 0 y.machine.made) (sym same)))))
 
 pub went-stands : {A : Type 0} (c : Call) (i j : Incarnation A) (x : EndState) → HasRoom i → IncStands i x → FewMore x (call c x)
-    → EndWent told_of TakesItem x (call c x) i.end i.taken j.end j.taken → j.put.texts ≡ i.put.texts ++ put_in_by c x → IncStands j (call c x)
-went-stands c i j x room h few went put =
+    → EndWent told_of TakesItem x (call c x) i.end i.taken j.end j.taken → j.put.texts ≡ i.put.texts ++ put_in_by c x → j.config ≡ i.config → IncStands j (call c x)
+went-stands c i j x room h few went put config =
     let y = call c x in
     let more = went.took.more in
     let small : AllByRecursion IsSmallItem more = all-behind IsSmallItem x.session.history.taken more (subst (AllByRecursion IsSmallItem) went.took.grown few.small_items) in
     let count : length more ≤ most_taken = omega (arith, few.takes, ap (λ (is : List Item). length is) went.took.grown, length-append x.session.history.taken more) in
     record {
       end = went.stands;
+      config = ap settings_of config ∙ (h.config ∙ sym went.settings);
       kept = kept-more i j x y room.0 h few went.settings went.sent;
       put = put ∙ (ap (λ (is : List Item). is ++ put_in_by c x) h.put ∙ sym (call-put c x));
       taken = takes-all more i.taken j.taken went.took.handed small (omega (arith, count, room.1)) ∙ (ap (λ (is : List Item). is ++ more) h.taken ∙ sym went.took.grown);
@@ -53,11 +55,12 @@ went-stands c i j x room h few went put =
 
 -- a call in which nothing is taken
 pub alone-stands : {A : Type 0} (c : Call) (i j : Incarnation A) (x : EndState) → HasRoom i → IncStands i x → FewMore x (call c x)
-    → EndWentAlone told_of x (call c x) i.end j.end → j.taken ≡ i.taken → j.put.texts ≡ i.put.texts ++ put_in_by c x → IncStands j (call c x)
-alone-stands c i j x room h few went same put =
+    → EndWentAlone told_of x (call c x) i.end j.end → j.taken ≡ i.taken → j.put.texts ≡ i.put.texts ++ put_in_by c x → j.config ≡ i.config → IncStands j (call c x)
+alone-stands c i j x room h few went same put config =
     let y = call c x in
     record {
       end = went.stands;
+      config = ap settings_of config ∙ (h.config ∙ sym went.settings);
       kept = kept-more i j x y room.0 h few went.settings went.sent;
       put = put ∙ (ap (λ (is : List Item). is ++ put_in_by c x) h.put ∙ sym (call-put c x));
       taken = ap (λ (s : Shelf ℕ). s.texts) same ∙ (h.taken ∙ sym went.took_none);
@@ -66,11 +69,12 @@ alone-stands c i j x room h few went same put =
 -- when it is opened
 pub opened-stands : {A : Type 0} (side : Side) (s : EndSettings) (first now : ℕ) (k : Keeping) (i : Incarnation A) → k.datagrams ≡ [] → most_pdus ≤ sure_room k → FewFirst (new_end side s first now)
     → EndStands told_of i.end (new_end side s first now) → FoldsTo SendsOne (told_of k) (sent_at_opening (new_end side s first now)) (told_of (channels_of i.end))
-    → i.put.texts ≡ [] → i.taken.texts ≡ [] → IncStands i (new_end side s first now)
-opened-stands side s first now k i none room few stands sent put taken =
+    → i.put.texts ≡ [] → i.taken.texts ≡ [] → settings_of i.config ≡ s → IncStands i (new_end side s first now)
+opened-stands side s first now k i none room few stands sent put taken config =
     let x = new_end side s first now in
     record {
       end = stands;
+      config = config;
       kept =
           keeps-all s 0 x.machine.made k (channels_of i.end) sent few.channels few.small_pdus (omega (arith, few.pdus, room))
           ∙ ap (λ (ds : List (List ℕ)). ds ++ datagrams_of s 0 x.machine.made) none;
@@ -79,10 +83,11 @@ opened-stands side s first now k i none room few stands sent put taken =
     }
 
 -- an end left as it was
-pub same-stands : {A : Type 0} (i j : Incarnation A) (x : EndState) → j.end ≡ i.end → j.put ≡ i.put → j.taken ≡ i.taken → IncStands i x → IncStands j x
-same-stands {A} i j x same put taken h =
+pub same-stands : {A : Type 0} (i j : Incarnation A) (x : EndState) → j.end ≡ i.end → j.put ≡ i.put → j.taken ≡ i.taken → j.config ≡ i.config → IncStands i x → IncStands j x
+same-stands {A} i j x same put taken config h =
     record {
       end = subst (λ v. EndStands told_of v x) (sym same) h.end;
+      config = ap settings_of config ∙ h.config;
       kept = ap (λ (v : EndValue Keeping A). (channels_of v).datagrams) same ∙ h.kept;
       put = ap (λ (s : Shelf ℕ). s.texts) put ∙ h.put;
       taken = ap (λ (s : Shelf ℕ). s.texts) taken ∙ h.taken;

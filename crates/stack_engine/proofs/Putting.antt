@@ -1,5 +1,5 @@
 -- What is put in at an end: by a put alone.
-use Rattle.std.proofs.Common.{◌≡◌, ℕ, zero, suc, List, [], ◌∷◌, ◌++◌, length, Option, Some, None, Result, Ok, Err, Bool, true, false, cond, refl, sym, ap, ◌∙◌, append-nil}
+use Rattle.std.proofs.Common.{◌≡◌, ℕ, zero, suc, List, [], ◌∷◌, ◌++◌, length, Option, Some, None, Result, Ok, Err, Bool, true, false, cond, refl, sym, ◌∙◌, append-nil}
 use Rattle.octets.proofs.Choices.{by_cond}
 use Rattle.packing.specs.declared.PackFault.{PackFault}
 use Rattle.packing.specs.Places.{unit_seen}
@@ -14,10 +14,10 @@ use Rattle.safe_machine.specs.Octets.{arrive_octets}
 use Rattle.safe_machine.specs.Step.{may_send}
 use Rattle.safe_machine.specs.declared.Reason.TheVariants.{ClosedByUser}
 use Rattle.safe_machine.specs.declared.Detail.TheVariants.{Unspecified}
-use Rattle.pdi_session.specs.SessionStep.{Item, Arrives, Up as GoesUp, Puts, InitDone as Completes, Closes}
+use Rattle.pdi_session.specs.SessionStep.{Item, Puts, InitDone as Completes, Closes}
 use Rattle.pdi_session.specs.Histories.{put_by}
 use Rattle.stack_end.specs.Dialogue.{Dialogue, Judged, Leaving, meets, unless_leaving, judge_read, judge_messages, judge_unpacked, judge_units}
-use Rattle.stack_end.specs.Ends.{EndState, is_shut, with_machine, with_session, settle, moved, handed_up, answered, rises, comes_up, leaves, heard, part, parts, with_input, receives, packed, packed_up_to, sends, goes_on, Call, did, call}
+use Rattle.stack_end.specs.Ends.{EndState, is_shut, with_machine, with_session, settle, moved, handed_up, answered, rises, comes_up, leaves, heard, part, parts, with_input, receives, packed, packed_up_to, sends, goes_on, Call, call}
 use Rattle.stack_end.specs.Ends.Call.{Close, Put, InitDone, Tick, Deliver}
 
 abbrev SamePut : Dialogue → Dialogue → Type 0

@@ -1,14 +1,12 @@
 -- What the sides stand for after an event.
-use Rattle.std.proofs.Common.{◌≡◌, ℕ, List, [], ◌∷◌, length, refl, sym, ap, subst, ◌∙◌}
-use Rattle.stack_end.specs.Ends.{EndState, Call, call, new_end}
+use Rattle.std.proofs.Common.{◌≡◌, List, [], ◌∷◌, refl, sym, subst, ◌∙◌}
+use Rattle.stack_end.specs.Ends.{EndState, Call}
 use Rattle.safe_machine.specs.World.Side.{Il, Fe}
-use Rattle.end_settings.specs.EndSettings.{EndSettings}
-use Rattle.stack_engine.specs.declared.openings.Openings.{Openings}
 use Rattle.stack_engine.specs.declared.sides.Sides.{Sides}
 use Rattle.stack_engine.specs.Openings.{SideStands, SideDoes}
-use Rattle.stack_engine.specs.Sides.{SidesStand, SidesDo, FewAt}
-use Rattle.stack_engine.specs.Pairs.{World, JoinedEnd, ends_of, call_il, call_fe, changed, latest, made_of}
-use Rattle.stack_engine.specs.Pairs.Event.{Open, Calls}
+use Rattle.stack_engine.specs.Sides.{SidesDo}
+use Rattle.stack_engine.specs.Pairs.{JoinedEnd, ends_of, call_il, call_fe}
+use Rattle.stack_engine.specs.Pairs.Event.{Calls}
 
 pub ends-call : (c : Call) (ils : List EndState) (fes : List JoinedEnd) → ends_of (call_fe c ils fes) ≡ call_il c (ends_of fes)
 ends-call c ils [] = refl

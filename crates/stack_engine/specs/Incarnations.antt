@@ -5,6 +5,7 @@ use Rattle.red_pdu.specs.RedText.{red_text}
 use Rattle.safe_machine.specs.Made.{Made}
 use Rattle.pdi_session.specs.SessionStep.{Item}
 use Rattle.end_settings.specs.EndSettings.{EndSettings, rule_of}
+use Rattle.end_settings.specs.Configured.{settings_of}
 use Rattle.stack_end.specs.Datagrams.{upper_of}
 use Rattle.stack_end.specs.Ends.{EndState, Call, call}
 use Rattle.stack_end.specs.EndValue.{EndStands, channels_of}
@@ -29,6 +30,7 @@ TakesItem s item t = length item.1 ≤ PAYLOAD_MAX → 1 ≤ sure_items s → (t
 -- The end stands for its state, each PDU that it made was kept, and so was all that was put in and taken.
 pub record IncStands {A : Type 0} (i : Incarnation A) (x : EndState) : Type 0 where
   pub end : EndStands told_of i.end x
+  pub config : settings_of i.config ≡ x.settings
   pub kept : (channels_of i.end).datagrams ≡ datagrams_of x.settings 0 x.machine.made
   pub put : i.put.texts ≡ x.session.history.put
   pub taken : i.taken.texts ≡ x.session.history.taken

@@ -13,3 +13,4 @@ pub mod Incarnations
 pub mod Openings
 pub mod Sides
 pub mod PairValue
+pub mod Promises

@@ -1,7 +1,6 @@
 -- Both ends with all their incarnations.
-use Rattle.std.specs.Prelude.{◌≡◌, ℕ, Option, List}
-use Rattle.safe_machine.specs.World.{Side}
-use Rattle.stack_end.specs.Ends.{EndState, Call, call}
+use Rattle.std.specs.Prelude.{◌≡◌}
+use Rattle.stack_end.specs.Ends.{call}
 use Rattle.stack_engine.specs.declared.sides.Sides.{Sides}
 use Rattle.stack_engine.specs.Bounds.{FewMore}
 use Rattle.stack_engine.specs.Openings.{SideStands}

@@ -1,6 +1,6 @@
 //! One incarnation of an end: from one opening to the next.
 
-ghost use Rattle.std.specs.Prelude.{◌≡◌, ◌≤◌, ◌^◌, ◌↔◌, ℕ, true, false, length, None, Some, MatchResult, OnOk, OnErr, IfOk, IsErrAnd, drop, Option, option_map};
+ghost use Rattle.std.specs.Prelude.{◌≡◌, ◌≤◌, ◌^◌, ◌↔◌, ℕ, true, false, length, None, Some, MatchResult, OnOk, OnErr, IfOk, IsErrAnd, drop, not, ◌&&◌};
 ghost use Rattle.end_settings.specs.EndSettings.{are_fit};
 ghost use Rattle.end_settings.specs.Configured.{settings_of, side_of};
 ghost use Rattle.pdi_session.specs.SessionStep.{init_refusal, put_refusal};
@@ -10,12 +10,19 @@ ghost use Rattle.stack_end.specs.Ends.Call.{Close, Deliver, InitDone, Put};
 ghost use Rattle.stack_end.specs.EndValue.{channels_of};
 ghost use Rattle.stack_end.specs.declared.OpenFault.TheVariants.{BadConfig};
 ghost use Rattle.stack_engine.specs.Bounds.{FewFirst};
-ghost use Rattle.stack_engine.specs.Keeping.{has_part};
+ghost use Rattle.end_settings.specs.EndSettings.{rule_of};
+ghost use Rattle.stack_end.specs.Ends.{is_shut};
+ghost use Rattle.safe_pdu.specs.SafeText.{code_octets};
+ghost use Rattle.stack_engine.specs.Pairs.{has_made};
+ghost use Rattle.stack_engine.specs.Premise.{is_asked_of};
 
 use crate::keeper::Keeper;
+use crate::premise::is_asked_about;
 use crate::telegrams::{Telegrams, reserve_telegrams};
 use end_settings::{EndConfig, Side};
 use pdi_session::{InitFault, PutFault};
+use safe_machine::ConnectionState;
+use safe_pdu::CodeRule;
 use stack_end::{End, OpenFault};
 use std::alloc::{AllocError, Allocator, Global};
 
@@ -31,6 +38,8 @@ pub struct Incarnation<A: Allocator = Global> {
     pub(crate) end: End<Keeper<A>, A>,
     pub(crate) put: Telegrams<A>,
     pub(crate) taken: Telegrams<A>,
+    /// What it was opened with.
+    pub(crate) config: EndConfig,
     /// Of the last accepted call.
     pub(crate) time: u64,
     ghost timed: { end.time ≡ time },
@@ -64,6 +73,7 @@ impl<A: Allocator + Copy> Incarnation<A> {
                 end,
                 put: Telegrams::<A>::new(alloc),
                 taken: Telegrams::<A>::new(alloc),
+                config,
                 time: now,
             }),
             Err((fault, _)) => Err(fault),
@@ -186,5 +196,31 @@ impl<A: Allocator + Copy> Incarnation<A> {
         ensures { (x : EndState) → IncStands self.now x → result ≡ length x.machine.made }
     {
         self.end.channels_seen().len()
+    }
+
+    /// Whether it made a PDU of these octets, but for its first `dead` ones.
+    pub fn has_made(&self, dead: usize, part: &[u8]) -> bool
+        ensures { (x : EndState) → IncStands self.now x → result ≡ has_made (rule_of x.settings) part.now (drop dead x.machine.made) }
+    {
+        self.end.channels_seen().has_part(dead, part)
+    }
+
+    /// Whether it is open, and asked about this part.
+    pub fn is_asked(&self, part: &[u8]) -> bool
+        ensures { (x : EndState) → IncStands self.now x → result ≡ not (is_shut x) && is_asked_of x part.now }
+    {
+        let rule = CodeRule {
+            length: self.config.code_length(),
+            initial_value: self.config.initial_value,
+        };
+        self.end.state() != ConnectionState::Closed
+            && is_asked_about(&rule, self.config.id, self.config.peer_id, part)
+    }
+
+    /// The octets of its safety code.
+    pub fn code_octets(&self) -> usize
+        ensures { (x : EndState) → IncStands self.now x → result ≡ code_octets (rule_of x.settings).length }
+    {
+        self.config.code_length().octets()
     }
 }

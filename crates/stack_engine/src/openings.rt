@@ -6,11 +6,14 @@ ghost use Rattle.end_settings.specs.Configured.{settings_of, side_of};
 ghost use Rattle.stack_end.specs.Ends.{Call, EndState, new_end};
 ghost use Rattle.stack_end.specs.Ends.Call.{Close, Deliver, InitDone, Put};
 ghost use Rattle.stack_engine.specs.Bounds.{FewFirst};
+ghost use Rattle.stack_engine.specs.Premise.{breaks_at};
 ghost use Rattle.stack_engine.specs.Pairs.{call_refusal, latest, made_of, open_refusal};
 
 use crate::ApplyFault;
 use crate::incarnation::Incarnation;
+use crate::keeper::Keeper;
 use end_settings::{EndConfig, Side};
+use stack_end::End;
 use std::alloc::{Allocator, Global};
 
 /// The greatest time.
@@ -24,7 +27,7 @@ pub struct Openings<A: Allocator = Global> {
 }
 
 impl<A: Allocator + Copy> Openings<A> {
-    ghost use Rattle.stack_engine.specs.Openings.{NamesRefusal, SideDoes, SideStands};
+    ghost use Rattle.stack_engine.specs.Openings.{NamesRefusal, SideDoes, SideStands, IsEnd, breaks_with, live_in};
 
     /// The end was never opened.
     pub fn new(alloc: A) -> Self
@@ -202,6 +205,48 @@ impl<A: Allocator + Copy> Openings<A> {
         match &self.present {
             Some(present) => present.made(),
             None => 0,
+        }
+    }
+
+    /// Whether the present incarnation made this part under a code of so many octets, but for its first `dead` PDUs.
+    fn has_live(&self, code: usize, dead: usize, part: &[u8]) -> bool
+        ensures { (xs : List EndState) → SideStands self.now xs → result ≡ live_in code (latest xs) dead part.now }
+    {
+        match &self.present {
+            Some(present) => present.code_octets() == code && present.has_made(dead, part),
+            None => false,
+        }
+    }
+
+    /// Whether this part, coming to the present incarnation, is none that its peer made and that is still live.
+    fn breaks_by(&self, peer: &Openings<A>, dead: usize, part: &[u8]) -> bool
+        ensures { (xs ys : List EndState) → SideStands self.now xs → SideStands peer.now ys → result ≡ breaks_with (latest xs) (latest ys) dead part.now }
+    {
+        match &self.present {
+            Some(present) => {
+                present.is_asked(part) && !peer.has_live(present.code_octets(), dead, part)
+            }
+            None => false,
+        }
+    }
+
+    /// Whether the delivery of a datagram would break the premise at once. The peer's first `dead` PDUs are dead.
+    pub fn breaks(&self, peer: &Openings<A>, dead: usize, datagram: &[u8]) -> bool
+        ensures { (xs ys : List EndState) → SideStands self.now xs → SideStands peer.now ys → result ≡ breaks_at (latest xs) (latest ys) dead datagram.now }
+    {
+        match red_pdu::decode(datagram) {
+            Ok(pdu) => self.breaks_by(peer, dead, pdu.upper),
+            Err(_) => false,
+        }
+    }
+
+    /// The end of the present incarnation, where there is one.
+    pub fn end(&self) -> Option<&End<Keeper<A>, A>>
+        ensures { (xs : List EndState) → SideStands self.now xs → IsEnd result (latest xs) }
+    {
+        match &self.present {
+            Some(present) => Some(&present.end),
+            None => None,
         }
     }
 }

@@ -1,13 +1,19 @@
 //! Two ends in memory, with everything that ever happened to them.
 
 ghost use Rattle.std.specs.Prelude.{◌≡◌, ◌+◌, [], ◌∷◌, ◌++◌, length, None, MatchResult, OnOk, OnErr, IfOk};
-ghost use Rattle.stack_engine.specs.Openings.{NamesRefusal};
-ghost use Rattle.stack_engine.specs.Pairs.{refusal, run, start};
+ghost use Rattle.stack_engine.specs.Openings.{IsEnd, NamesRefusal};
+ghost use Rattle.stack_engine.specs.Pairs.{present, refusal, run, start};
+ghost use Rattle.end_settings.specs.Configured.{side_of};
+ghost use Rattle.stack_engine.specs.Premise.{breaks_premise};
+ghost use Rattle.stack_engine.specs.Promises.{Promises};
 
+use crate::ApplyFault;
 use crate::event::Event;
+use crate::keeper::Keeper;
 use crate::law::pair_law;
 use crate::sides::Sides;
-use crate::ApplyFault;
+use end_settings::Side;
+use stack_end::End;
 use std::alloc::{Allocator, Global};
 use std::marker::Model;
 
@@ -86,15 +92,45 @@ impl<A: Allocator + Copy> Pair<A> {
         ensures ok { OnOk result (Ran self.old (events_of events.now) self.new) }
         ensures count { IfOk result (λ count. length self.new ≡ length self.old + count) }
         ensures memory { OnErr result (RanBefore self.old (events_of events.now) self.new) }
+        ensures promises { Promises self.new }
     {
         let mut count = 0;
         for event in events {
             match self.apply(event) {
                 Ok(()) => count += 1,
-                Err(ApplyFault::Memory) => return Err(Memory),
-                Err(_) => {}
+                Err(fault) => {
+                    if fault.is_memory() {
+                        let _promised = self.history();
+                        return Err(Memory);
+                    }
+                }
             }
         }
+        let _promised = self.history();
         Ok(count)
+    }
+
+    /// The events that were accepted, in order, and what they promise.
+    pub fn history(&self) -> &[Event<A>]
+        ensures events { events_of result.now ≡ self.now }
+        ensures promises { Promises self.now }
+    {
+        pair_law();
+        &self.history
+    }
+
+    /// Whether the delivery of this datagram to an end would break the premise of the promises at once: the end is open, its part bears
+    /// both identifiers and a valid code, and is no live PDU of the peer.
+    pub fn breaks_premise(&self, side: Side, datagram: &[u8]) -> bool
+        ensures { result ≡ breaks_premise (side_of side) datagram.now (run self.now start) }
+    {
+        self.sides.breaks_premise(side, datagram)
+    }
+
+    /// The end of the present incarnation; `None` where it was never opened.
+    pub fn end_of(&self, side: Side) -> Option<&End<Keeper<A>, A>>
+        ensures { IsEnd result (present (side_of side) (run self.now start)) }
+    {
+        self.sides.end_of(side)
     }
 }

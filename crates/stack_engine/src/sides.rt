@@ -6,14 +6,17 @@ ghost use Rattle.stack_end.specs.Ends.{Call};
 ghost use Rattle.stack_end.specs.Ends.Call.{Close, Deliver, InitDone, Put};
 ghost use Rattle.stack_engine.specs.Bounds.{FewFirstLaw};
 ghost use Rattle.stack_engine.specs.Events.{event_of};
-ghost use Rattle.stack_engine.specs.Openings.{NamesRefusal};
-ghost use Rattle.stack_engine.specs.Pairs.{World, refusal, start};
+ghost use Rattle.stack_engine.specs.Openings.{IsEnd, NamesRefusal};
+ghost use Rattle.stack_engine.specs.Pairs.{World, present, refusal, start};
+ghost use Rattle.stack_engine.specs.Premise.{breaks_premise};
 ghost use Rattle.stack_engine.specs.Pairs.Event.{Calls, Open};
 
 use crate::ApplyFault;
 use crate::event::Event;
+use crate::keeper::Keeper;
 use crate::openings::Openings;
 use end_settings::{EndConfig, Side};
+use stack_end::End;
 use std::alloc::{Allocator, Global};
 
 /// Both ends, and how many of the PDUs of either one's present incarnation are dead: made before the later opening.
@@ -180,6 +183,26 @@ impl<A: Allocator + Copy> Sides<A> {
                 octets,
                 now,
             } => self.deliver(*side, *channel, octets, *now),
+        }
+    }
+
+    /// Whether the delivery of a datagram to an end would break the premise at once.
+    pub fn breaks_premise(&self, side: Side, datagram: &[u8]) -> bool
+        ensures { (w : World) → SidesStand self.now w → result ≡ breaks_premise (side_of side) datagram.now w }
+    {
+        match side {
+            Side::Interlocking => self.il.breaks(&self.fe, self.dead_fe, datagram),
+            Side::FieldElement => self.fe.breaks(&self.il, self.dead_il, datagram),
+        }
+    }
+
+    /// The end of the present incarnation, where there is one.
+    pub fn end_of(&self, side: Side) -> Option<&End<Keeper<A>, A>>
+        ensures { (w : World) → SidesStand self.now w → IsEnd result (present (side_of side) w) }
+    {
+        match side {
+            Side::Interlocking => self.il.end(),
+            Side::FieldElement => self.fe.end(),
         }
     }
 }

@@ -1,5 +1,4 @@
 use Rattle.std.proofs.Common.{List, [], ◌∷◌, ◌++◌, sym, ap, subst, ◌∙◌}
-use Rattle.stack_engine.specs.declared.event.Event.{Event as CodeEvent}
 use Rattle.stack_engine.specs.Events.{event_of}
 use Rattle.stack_engine.specs.PairValue.{events_of}
 use Rattle.stack_engine.specs.Pairs.{Event, start, run}
@@ -14,7 +13,7 @@ invariant_of-self-in-Ok-step g c =
     let e : Event = event_of c.args.event.now in
     let inv = c.self.invariant in
     let more = pushed c.self.inside.history.items c.push_reserved.new.self.items c.in-Ok.copy e
-        (c.push_reserved.ensures.items ∙ ap (λ xs. xs ++ c.in-Ok.copy ∷ []) c.in-Ok-try_reserve.ensures.items) c.in-Ok.ensures.same in
+    (c.push_reserved.ensures.items ∙ ap (λ xs. xs ++ c.in-Ok.copy ∷ []) c.in-Ok-try_reserve.ensures.items) c.in-Ok.ensures.same in
     record {
       typed = subst AreTyped (sym more) (typed-push es e inv.typed c.in-Ok.ensures.typed);
       stands =
