@@ -113,9 +113,8 @@ fn carries_datagrams_over_sockets(rt: HostRuntime) -> Result<(), Fail> {
     assert_eq!(rt; buffer[2], 3);
     assert_eq!(rt; right.receive(&mut buffer), Ok(None));
     assert_eq!(rt; left.receive(&mut buffer), Ok(None));
-    assert!(rt; right.has_heard());
-    assert!(rt; !right.has_heard());
-    assert!(rt; !left.has_heard());
+    assert_eq!(rt; right.received(), 3);
+    assert_eq!(rt; left.received(), 0);
     Ok(())
 }
 

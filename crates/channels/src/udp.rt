@@ -47,7 +47,7 @@ pub struct UdpChannels<A: Allocator = Global> {
     list: Vec<Channel, A>,
     failed_sends: u64,
     failed_receives: u64,
-    came: bool,
+    received: u64,
 }
 
 impl<A: Allocator> Model for UdpChannels<A> {
@@ -87,17 +87,13 @@ impl<A: Allocator + Copy> UdpChannels<A> {
             list,
             failed_sends: 0,
             failed_receives: 0,
-            came: false,
+            received: 0,
         })
     }
 
-    /// Whether a datagram came since this was last asked. Where none did, it is time to wait.
-    pub fn has_heard(&mut self) -> bool
-        ensures { self.new ≡ self.old }
-    {
-        let came = self.came;
-        self.came = false;
-        came
+    /// How many datagrams came, modulo 2^64. Where none came in a turn it is time to wait.
+    pub fn received(&self) -> u64 {
+        self.received
     }
 }
 
@@ -114,7 +110,9 @@ impl<A: Allocator> Channels for UdpChannels<A> {
 
     fn receive(&mut self, buffer: &mut [u8]) -> Result<Option<(usize, usize)>, ChannelFault> {
         let result = ask(self.list.as_slice(), buffer);
-        self.came = self.came || matches!(result, Ok(Some(_)));
+        if let Ok(Some(_)) = result {
+            self.received = self.received.wrapping_add(1);
+        }
         if result.is_err() {
             self.failed_receives = self.failed_receives.wrapping_add(1);
         }

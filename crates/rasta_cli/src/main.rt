@@ -2,22 +2,28 @@
 #![tactic(auto)]
 
 mod command_line;
+mod end_lines;
 mod hex_text;
 mod lines;
 mod messages;
 mod names;
+mod net;
 mod program;
 mod runs;
 mod show;
 mod status;
+mod ticking;
+mod turns;
 
 use program::run_words;
 use std::process::ExitCode;
 
 fn main(rt: HostRuntime) -> ExitCode {
-    ExitCode::from(run_words(&rt, rt.alloc(), &mut rt.stdout(), &mut rt.stderr()).code())
+    ExitCode::from(run_words(&rt, &rt, &mut rt.stdout(), &mut rt.stderr()).code())
 }
 
+#[cfg(test)]
+mod net_tests;
 #[cfg(test)]
 mod program_tests;
 #[cfg(test)]

@@ -7,24 +7,29 @@ ghost use Rattle.rasta_cli.specs.Shown.{DoneAs};
 ghost use Rattle.rasta_cli.specs.Status.{EndsBy};
 
 use crate::command_line::{Request, WordsFault, command};
+use crate::net::run_net;
 use crate::runs::{report, run_md4, run_show};
 use crate::status::{Fault, Status};
 use clap::error::ErrorKind;
+use settings_file::Word;
 use std::alloc::{AllocError, Global};
 use std::convert::AsStr;
 use std::env::{Env, FillError};
 use std::io::Write;
-use std::{env, io};
+use std::net::Net;
+use std::rt::Files;
+use std::time::Clock;
+use std::{env, fs, io};
 
-/// Runs the program on the words of its environment.
-pub fn run_words<V: Env, O: Write, E: Write>(
+/// Runs the program on the words of an environment, over a system that has files, sockets and a clock.
+pub fn run_words<R: AllocGlobal + Files + Net + Clock, V: Env, O: Write, E: Write>(
+    rt: &R,
     environment: &V,
-    alloc: Global,
     out: &mut O,
     err: &mut E,
 ) -> Status {
-    match words(environment, alloc) {
-        Ok(words) => run(alloc, words.as_slice(), out, err),
+    match words(environment, rt.alloc()) {
+        Ok(words) => run(rt, words.as_slice(), out, err),
         Err(fault) => refuse(&fault, out, err),
     }
 }
@@ -32,19 +37,38 @@ pub fn run_words<V: Env, O: Write, E: Write>(
 /// Runs the command that words ask for; the first word is the program's name.
 ///
 /// It ends as done only where it has done what they ask for, or has printed the help that they ask for.
-pub fn run<S: AsStr, O: Write, E: Write>(
-    alloc: Global,
+pub fn run<R: AllocGlobal + Files + Net + Clock, S: AsStr, O: Write, E: Write>(
+    rt: &R,
     words: &[S],
     out: &mut O,
     err: &mut E,
 ) -> Status
     ensures done { result ≡ Status.Done → fault_of rasta_app (map S.text words.now) ≡ [] → DoneAs (map S.text words.now) (O.contents out.old) (O.contents out.new) }
 {
-    match command(alloc, words) {
-        Ok(Request::Digest { hex }) => run_md4(alloc, hex, out, err),
-        Ok(Request::Show { code, iv, hex }) => run_show(alloc, code, iv, hex, out, err),
-        Ok(Request::Net { .. }) => Status::WrongWords,
+    match command(rt.alloc(), words) {
+        Ok(Request::Digest { hex }) => run_md4(rt.alloc(), hex, out, err),
+        Ok(Request::Show { code, iv, hex }) => run_show(rt.alloc(), code, iv, hex, out, err),
+        Ok(Request::Net { word, file, turns }) => run_file(rt, word, file, turns, out, err),
         Err(fault) => refuse(&fault, out, err),
+    }
+}
+
+/// Runs ends over the sockets that a settings file names.
+fn run_file<R: AllocGlobal + Files + Net + Clock, O: Write, E: Write>(
+    rt: &R,
+    word: Word,
+    file: &str,
+    turns: u32,
+    out: &mut O,
+    err: &mut E,
+) -> Status {
+    match fs::read_to_string(rt, file) {
+        Ok(text) => run_net(rt, rt.alloc(), word, text.as_str(), turns, out, err),
+        Err(error) if matches!(error.kind(), io::ErrorKind::OutOfMemory) => report(
+            err,
+            Fault::Memory,
+        ),
+        Err(_) => report(err, Fault::File),
     }
 }
 

@@ -95,7 +95,7 @@ fn runs_words(rt: HostRuntime) -> Result<(), Fail> {
     for (words, status, text, fault) in cases {
         let mut out = Vec::new(rt.alloc());
         let mut err = Vec::new(rt.alloc());
-        let ended = run(rt.alloc(), words, &mut out, &mut err);
+        let ended = run(&rt, words, &mut out, &mut err);
         assert_eq!(rt; ended, status, "at {words:?}");
         assert_eq!(rt; out.as_slice(), text.as_bytes(), "at {words:?}");
         assert_eq!(rt; err.as_slice(), fault.as_bytes(), "at {words:?}");
@@ -117,7 +117,7 @@ fn tells_wrong_words_from_help(rt: HostRuntime) -> Result<(), Fail> {
     for words in wrong {
         let mut out = Vec::new(rt.alloc());
         let mut err = Vec::new(rt.alloc());
-        let ended = run(rt.alloc(), words, &mut out, &mut err);
+        let ended = run(&rt, words, &mut out, &mut err);
         assert_eq!(rt; ended, Status::WrongWords, "at {words:?}");
         assert!(rt; out.is_empty() && !err.is_empty(), "at {words:?}");
     }
@@ -129,7 +129,7 @@ fn tells_wrong_words_from_help(rt: HostRuntime) -> Result<(), Fail> {
     for words in help {
         let mut out = Vec::new(rt.alloc());
         let mut err = Vec::new(rt.alloc());
-        let ended = run(rt.alloc(), words, &mut out, &mut err);
+        let ended = run(&rt, words, &mut out, &mut err);
         assert_eq!(rt; ended, Status::Done, "at {words:?}");
         assert!(rt; !out.is_empty() && err.is_empty(), "at {words:?}");
     }
@@ -147,7 +147,7 @@ fn tells_a_failed_output(rt: HostRuntime) -> Result<(), Fail> {
     ];
     for words in runs {
         let mut err = Vec::new(rt.alloc());
-        let ended = run(rt.alloc(), words, &mut Closed, &mut err);
+        let ended = run(&rt, words, &mut Closed, &mut err);
         assert_eq!(rt; ended, Status::Failed, "at {words:?}");
         assert_eq!(rt;
             err.as_slice(),
@@ -158,13 +158,10 @@ fn tells_a_failed_output(rt: HostRuntime) -> Result<(), Fail> {
     }
     let mut out = Vec::new(rt.alloc());
     let no_hex = ["rasta", "md4", "6"];
-    assert_eq!(rt;
-        run(rt.alloc(), &no_hex, &mut out, &mut Closed),
-        Status::Refused
-    );
+    assert_eq!(rt; run(&rt, &no_hex, &mut out, &mut Closed), Status::Refused);
     let no_words = ["rasta"];
     assert_eq!(rt;
-        run(rt.alloc(), &no_words, &mut out, &mut Closed),
+        run(&rt, &no_words, &mut out, &mut Closed),
         Status::WrongWords
     );
     assert!(rt; out.is_empty());
@@ -233,7 +230,7 @@ fn passes_over_its_path(rt: HostRuntime) -> Result<(), Fail> {
     for (words, status, text, fault) in cases {
         let mut out = Vec::new(rt.alloc());
         let mut err = Vec::new(rt.alloc());
-        let ended = run_words(&Called { words }, rt.alloc(), &mut out, &mut err);
+        let ended = run_words(&rt, &Called { words }, &mut out, &mut err);
         assert_eq!(rt; ended, status, "at {words:?}");
         assert_eq!(rt; out.as_slice(), text.as_bytes(), "at {words:?}");
         assert_eq!(rt; err.as_slice(), fault.as_bytes(), "at {words:?}");

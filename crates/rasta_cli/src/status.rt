@@ -41,13 +41,13 @@ pub enum Fault {
     /// A file cannot be read, or is no UTF-8 text.
     #[error("fault: file")]
     File,
-    /// A settings file is none.
+    /// A settings file is none, or a text of it is no address.
     #[error("fault: settings")]
     Settings,
     /// Memory was refused.
     #[error("fault: memory")]
     Memory,
-    /// The system gives no socket for an address, or a text is no address.
+    /// The system gives no socket at an address.
     #[error("fault: network")]
     Network,
     /// The clock gives no time, or one above 2^62 milliseconds.

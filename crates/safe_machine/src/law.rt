@@ -52,8 +52,8 @@ pub fn unit_law()
 
     // Where moreover each end is opened once at most, no guard leaves, and each end hears the peer's PDUs one by one in
     // the order of their making, no retransmission is asked for, an end that is not closed has the state that its
-    // arrivals make and has taken exactly the units that came, and with all arrived both are up, have taken all, and
-    // are kept from sending by a full window alone.
+    // arrivals make and has taken exactly the units that came, and with all arrived it is up, has taken all, and is
+    // kept from sending by a full window alone.
     ensures in_order { OrderLaw }
 
     // And where moreover no caller closes an end, no end that was opened is closed.

@@ -212,6 +212,9 @@ impl fmt::Display for Found {
 impl fmt::Display for KeyFault {
     fn fmt<W: fmt::Write>(&self, f: &mut fmt::Formatter<W>) -> fmt::Result {
         let key = self.key.text();
+        if self.expected == Expected::Absent {
+            return write!(f, "{key}: {}", self.expected);
+        }
         write!(f, "{key}: {} expected, {} found", self.expected, self.found)
     }
 }

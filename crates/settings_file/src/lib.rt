@@ -8,6 +8,8 @@ mod groups;
 mod keys;
 mod lists;
 mod readers;
+#[cfg(test)]
+mod tests;
 mod values;
 mod whole;
 

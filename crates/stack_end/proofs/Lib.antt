@@ -5,3 +5,5 @@ pub mod Packs
 pub mod Receiving
 pub mod Polls
 pub mod Deadlines
+pub mod Putting
+pub mod Recents

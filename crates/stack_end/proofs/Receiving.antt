@@ -89,3 +89,7 @@ end-moved x y r v w h k = record { red = h.red ∙ sym k.red; upper = k.stands }
 -- the end is open, and this is done
 pub open-then : {T : Type 0} (takes : T → Item → T → Type 0) (x z : EndState) (q : Receiver) (v n : Fields) (t u : T) (c : ConnectionState) → c ≡ x.machine.connection → (c ≡ Closed → ⊥) → BothWent takes x z v t q n u → BothWent takes x (if is_shut x then x else z) v t q n u
 open-then takes x z q v n t u c e is h = subst (λ (b : Bool). BothWent takes x (if b then x else z) v t q n u) (sym (ap is_closed (sym e) ∙ not-closed c is)) h
+
+-- the end is open, as its machine says
+pub alive : (c : ConnectionState) (x : EndState) → c ≡ x.machine.connection → (c ≡ Closed → ⊥) → is_shut x ≡ false
+alive c x e is = ap is_closed (sym e) ∙ not-closed c is

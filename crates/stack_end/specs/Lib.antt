@@ -6,6 +6,8 @@ pub mod Fields
 pub mod Later
 pub mod Kept
 pub mod EndValue
+pub mod Recent
 pub mod Polling
+pub mod Bounds
 pub mod Deadlines
 pub mod Lending

@@ -1,6 +1,6 @@
 //! One end of a connection, as an application opens it.
 
-ghost use Rattle.std.specs.Prelude.{◌≡◌, ◌≤◌, ◌^◌, ◌↔◌, ℕ, List, true, false, length, Option, option_map, Some, None, Ok, Err, IfOk, IfSome, OnOk, OnErr, IfErr, IsErrAnd, MatchResult, if◌then◌else◌};
+ghost use Rattle.std.specs.Prelude.{◌≡◌, ◌≤◌, ◌^◌, ◌↔◌, ℕ, ◌∷◌, ◌++◌, [], List, true, false, length, Option, option_map, Some, None, Ok, Err, IfOk, IfSome, OnOk, OnErr, IfErr, IsErrAnd, MatchResult, if◌then◌else◌};
 ghost use Rattle.std.specs.List.{FoldsTo};
 ghost use Rattle.std.specs.Borrow.{sem};
 ghost use Rattle.channels.specs.Told.{SendsOne};
@@ -11,6 +11,9 @@ ghost use Rattle.stack_end.specs.Dialogue.{phase_in, session_in};
 ghost use Rattle.stack_end.specs.Ends.{Call, Close, Deliver, EndState, InitDone, Put, call, is_settled, is_shut, new_end};
 ghost use Rattle.stack_end.specs.Datagrams.{sent_at_opening};
 ghost use Rattle.stack_end.specs.EndValue.{EndAsks, EndDoes, EndDoesAlone, EndStands, channels_of};
+ghost use Rattle.stack_end.specs.Fields.{can_pack};
+ghost use Rattle.stack_end.specs.Recent.{DatagramRecent, TickRecent};
+ghost use Rattle.stack_end.specs.Bounds.{IsBounded};
 ghost use Rattle.safe_machine.specs.Deadlines.{IsBefore, IsReachedAt};
 ghost use Rattle.stack_end.specs.Deadlines.{HasFallen, IsQuiet, earliest};
 ghost use Rattle.stack_end.specs.Polling.{Asked, AskedOnce, HeardAll, HeardNext, HeardUntilFault, Polled};
@@ -83,6 +86,10 @@ impl<C: Channels, A: Allocator> End<C, A> {
         requires now { now ≤ 2 ^ 62 }
         requires later { self.old.time ≤ now }
         ensures does { EndDoes C.told T.takes (call (Deliver channel octets.now now)) self.old taker.old self.new taker.new }
+        // Nothing waits then, or the machine may not send.
+        ensures packs { (x : EndState) → EndStands C.told self.new x → can_pack x ≡ false }
+        // What is taken is recent.
+        ensures recent { (x : EndState) → EndStands C.told self.old x → DatagramRecent now octets.now x taker.old taker.new }
         ensures time { self.new.time ≡ now }
     {
         let _channel = channel;
@@ -95,6 +102,10 @@ impl<C: Channels, A: Allocator> End<C, A> {
         requires now { now ≤ 2 ^ 62 }
         requires later { self.old.time ≤ now }
         ensures does { EndDoes C.told T.takes (call (Call.Tick now)) self.old taker.old self.new taker.new }
+        // Nothing waits then, or the machine may not send.
+        ensures packs { (x : EndState) → EndStands C.told self.new x → can_pack x ≡ false }
+        // What is taken is recent.
+        ensures recent { (x : EndState) → EndStands C.told self.old x → TickRecent now x taker.old taker.new }
         ensures time { self.new.time ≡ now }
     {
         self.layers.tick(now, taker);
@@ -108,6 +119,11 @@ impl<C: Channels, A: Allocator> End<C, A> {
         requires now { now ≤ 2 ^ 62 }
         requires later { self.old.time ≤ now }
         ensures does { OnOk result (EndDoesAlone C.told (call (Put kind payload.now now)) self.old self.new) }
+        // Nothing waits then, or the machine may not send.
+        ensures packs { OnOk result ((x : EndState) → EndStands C.told self.new x → can_pack x ≡ false) }
+        // What was put in stands last among all that was put in.
+        ensures last { OnOk result ((x : EndState) → EndStands C.told self.old x
+            → (y : EndState) × EndStands C.told self.new y × (y.session.history.put ≡ x.session.history.put ++ (kind, payload.now) ∷ [])) }
         ensures time { OnOk result (self.new.time ≡ now) }
         ensures refused { OnErr result (self.new ≡ self.old) }
         ensures answer { (x : EndState) → EndStands C.told self.old x
@@ -126,6 +142,8 @@ impl<C: Channels, A: Allocator> End<C, A> {
         requires now { now ≤ 2 ^ 62 }
         requires later { self.old.time ≤ now }
         ensures does { OnOk result (EndDoesAlone C.told (call (InitDone now)) self.old self.new) }
+        // Nothing waits then, or the machine may not send.
+        ensures packs { OnOk result ((x : EndState) → EndStands C.told self.new x → can_pack x ≡ false) }
         ensures time { OnOk result (self.new.time ≡ now) }
         ensures refused { OnErr result (self.new ≡ self.old) }
         ensures answer { (x : EndState) → EndStands C.told self.old x
@@ -259,8 +277,12 @@ impl<C: Channels, A: Allocator> End<C, A> {
 
     /// The state of the connection.
     pub fn state(&self) -> ConnectionState
-        ensures { EndAsks C.told (λ x. x.machine.connection) self.now result }
+        ensures state { EndAsks C.told (λ x. x.machine.connection) self.now result }
+        // No more messages, units and parts are kept than there is room for.
+        ensures bounded { (x : EndState) → EndStands C.told self.now x → IsBounded x }
     {
+        let _confirmed = self.layers.upper.machine.unconfirmed();
+        let _wait = self.layers.red.deadline();
         self.layers.upper.machine.state()
     }
 

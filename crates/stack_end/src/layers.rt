@@ -1,10 +1,11 @@
 //! The layers of an end together: what comes goes up through them, and what waits goes out.
 
-ghost use Rattle.std.specs.Prelude.{◌≡◌, ℕ, ◌≤◌, ◌^◌, length, Some, None, MatchResult, OnOk, OnErr};
+ghost use Rattle.std.specs.Prelude.{◌≡◌, ℕ, false, ◌≤◌, ◌^◌, length, Some, None, MatchResult, OnOk, OnErr};
 ghost use Rattle.pdi_session.specs.SessionStep.{init_refusal, put_refusal};
 ghost use Rattle.red_layer.specs.Redundancy.{Datagram, Tick as RedTick};
-ghost use Rattle.stack_end.specs.Ends.{Call, Close, Deliver, InitDone, Put, did, goes_on};
-ghost use Rattle.stack_end.specs.Fields.{BothAlone, BothDo, fields_of};
+ghost use Rattle.stack_end.specs.Ends.{Call, Close, Deliver, EndState, InitDone, Put, did, goes_on};
+ghost use Rattle.stack_end.specs.Fields.{BothAlone, BothDo, BothStand, Stands, can_pack, fields_of};
+ghost use Rattle.stack_end.specs.Recent.{DatagramRecent, InputRecent, TickRecent};
 ghost use Rattle.stack_end.specs.Kept.{IsKept};
 
 use crate::telling::tell_change;
@@ -33,6 +34,8 @@ impl<C: Channels, A: Allocator> Layers<C, A> {
         ensures does { BothDo T.takes (did (Deliver 0 octets.now now))
             self.old.red (fields_of C.told self.old.upper) taker.old
             self.new.red (fields_of C.told self.new.upper) taker.new }
+        ensures packs { (x : EndState) → Stands (fields_of C.told self.new.upper) x → can_pack x ≡ false }
+        ensures recent { (x : EndState) → BothStand self.old.red (fields_of C.told self.old.upper) x → DatagramRecent now octets.now x taker.old taker.new }
         ensures kept { IsKept self.new }
     {
         match self.upper.machine.state() {
@@ -54,6 +57,8 @@ impl<C: Channels, A: Allocator> Layers<C, A> {
         ensures does { BothDo T.takes (goes_on now (Datagram octets.now now))
             self.old.red (fields_of C.told self.old.upper) taker.old
             self.new.red (fields_of C.told self.new.upper) taker.new }
+        ensures packs { (x : EndState) → Stands (fields_of C.told self.new.upper) x → can_pack x ≡ false }
+        ensures recent { (x : EndState) → BothStand self.old.red (fields_of C.told self.old.upper) x → InputRecent now (Datagram octets.now now) x taker.old taker.new }
         ensures kept { IsKept self.new }
     {
         match self.upper.machine.state() {
@@ -72,6 +77,8 @@ impl<C: Channels, A: Allocator> Layers<C, A> {
         ensures does { BothDo T.takes (did (Call.Tick now))
             self.old.red (fields_of C.told self.old.upper) taker.old
             self.new.red (fields_of C.told self.new.upper) taker.new }
+        ensures packs { (x : EndState) → Stands (fields_of C.told self.new.upper) x → can_pack x ≡ false }
+        ensures recent { (x : EndState) → BothStand self.old.red (fields_of C.told self.old.upper) x → TickRecent now x taker.old taker.new }
         ensures kept { IsKept self.new }
     {
         match self.upper.machine.state() {
@@ -93,6 +100,8 @@ impl<C: Channels, A: Allocator> Layers<C, A> {
         ensures does { BothDo T.takes (goes_on now (RedTick now))
             self.old.red (fields_of C.told self.old.upper) taker.old
             self.new.red (fields_of C.told self.new.upper) taker.new }
+        ensures packs { (x : EndState) → Stands (fields_of C.told self.new.upper) x → can_pack x ≡ false }
+        ensures recent { (x : EndState) → BothStand self.old.red (fields_of C.told self.old.upper) x → InputRecent now (RedTick now) x taker.old taker.new }
         ensures kept { IsKept self.new }
     {
         match self.upper.machine.state() {
@@ -112,6 +121,7 @@ impl<C: Channels, A: Allocator> Layers<C, A> {
         ensures refused { OnErr result (self.new ≡ self.old) }
         ensures answer { MatchResult result (λ _. put_refusal self.old.upper.session kind payload.now (length self.old.upper.waiting) ≡ None)
             (λ fault. put_refusal self.old.upper.session kind payload.now (length self.old.upper.waiting) ≡ Some fault) }
+        ensures packs { OnOk result ((x : EndState) → Stands (fields_of C.told self.new.upper) x → can_pack x ≡ false) }
         ensures kept { IsKept self.new }
     {
         self.upper.put(kind, payload, now)
@@ -125,6 +135,7 @@ impl<C: Channels, A: Allocator> Layers<C, A> {
         ensures refused { OnErr result (self.new ≡ self.old) }
         ensures answer { MatchResult result (λ _. init_refusal self.old.upper.session (length self.old.upper.waiting) ≡ None)
             (λ fault. init_refusal self.old.upper.session (length self.old.upper.waiting) ≡ Some fault) }
+        ensures packs { OnOk result ((x : EndState) → Stands (fields_of C.told self.new.upper) x → can_pack x ≡ false) }
         ensures kept { IsKept self.new }
     {
         self.upper.init_done(now)

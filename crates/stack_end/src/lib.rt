@@ -9,6 +9,8 @@ mod layers;
 mod opening;
 mod sending;
 mod telling;
+#[cfg(test)]
+mod tests;
 mod upper;
 
 pub use end::End;

@@ -1,17 +1,18 @@
 //! All of an end but its redundancy layer.
 
-ghost use Rattle.std.specs.Prelude.{◌≡◌, ◌+◌, ◌*◌, ◌<◌, ◌≤◌, ◌^◌, ℕ, length, true, if◌then◌else◌, OnOk, OnErr, MatchResult, Some, None};
+ghost use Rattle.std.specs.Prelude.{◌≡◌, ◌⊎◌, ◌+◌, ◌*◌, ◌<◌, ◌≤◌, ◌^◌, ℕ, length, true, false, if◌then◌else◌, OnOk, OnErr, MatchResult, Some, None};
 ghost use Rattle.octets.specs.declared.limits.TheConstants.{SAFE_PDU_MAX, UNIT_MESSAGES};
 ghost use Rattle.safe_machine.specs.Moves.Move.{Guards, Leaves, Ticks};
 ghost use Rattle.safe_machine.specs.declared.Reason.TheVariants.{ClosedByUser};
 ghost use Rattle.safe_machine.specs.declared.Detail.TheVariants.{Unspecified};
 ghost use Rattle.pdi_session.specs.SessionStep.{FewWait, init_refusal, put_refusal};
 ghost use Rattle.safe_machine.specs.Properties.{index_step};
-ghost use Rattle.red_layer.specs.Redundancy.{Datagram, Tick as RedTick};
+ghost use Rattle.red_layer.specs.Redundancy.{Datagram, Tick as RedTick, passed_by};
+ghost use Rattle.stack_end.specs.Recent.{RecentAt, TakesRecent};
 ghost use Rattle.channels.specs.Told.{SendsOne};
 ghost use Rattle.stack_end.specs.Dialogue.{Leaving};
-ghost use Rattle.stack_end.specs.Ends.{EndState, InitDone, Put, did, leaves, moved, part, receives, sends, settle};
-ghost use Rattle.stack_end.specs.Fields.{Asks, BothDo, Does, DoesAlone, can_pack, fields_of, heard_alone, leaving_at, noted_from, packed_once, rises_from};
+ghost use Rattle.stack_end.specs.Ends.{EndState, InitDone, Put, did, leaves, moved, part, receives, sends, settle, with_input};
+ghost use Rattle.stack_end.specs.Fields.{Asks, BothDo, BothStand, Stands, Does, DoesAlone, can_pack, fields_of, heard_alone, leaving_at, noted_from, packed_once, rises_from};
 
 use crate::judging::{Phases, ToSession};
 use crate::sending::ToChannels;
@@ -72,6 +73,8 @@ impl<C: Channels, A: Allocator> Upper<C, A> {
             (fields_of C.told self.new) taker.new }
         ensures asks { Asks (leaving_at now octets.now)
             (fields_of C.told self.old) result.asked }
+        // Where something is taken, the PDU is recent.
+        ensures recent { (x : EndState) → Stands (fields_of C.told self.old) x → (taker.new ≡ taker.old) ⊎ RecentAt now octets.now x }
         ensures same { self.new.max ≡ self.old.max }
         ensures near { self.new.machine.expected ≤ self.old.machine.expected + index_step }
         ensures few { FewWait self.new.session self.new.waiting }
@@ -157,6 +160,8 @@ impl<C: Channels, A: Allocator> Upper<C, A> {
         ensures does { Does T.takes (part now octets.now)
             (fields_of C.told self.old) taker.old
             (fields_of C.told self.new) taker.new }
+        // Where something is taken, the PDU is recent.
+        ensures recent { (x : EndState) → Stands (fields_of C.told self.old) x → (taker.new ≡ taker.old) ⊎ RecentAt now octets.now x }
         ensures same { self.new.max ≡ self.old.max }
         ensures near { self.new.machine.expected ≤ self.old.machine.expected + index_step }
         ensures few { FewWait self.new.session self.new.waiting }
@@ -187,6 +192,8 @@ impl<C: Channels, A: Allocator> Upper<C, A> {
             (fields_of C.told self.new) taker.new }
         ensures asks { Asks (leaving_at now octets.now)
             (fields_of C.told self.old) result }
+        // Where something is taken, the PDU is recent.
+        ensures recent { (x : EndState) → Stands (fields_of C.told self.old) x → (taker.new ≡ taker.old) ⊎ RecentAt now octets.now x }
         ensures same { self.new.max ≡ self.old.max }
         ensures near { self.new.machine.expected ≤ self.old.machine.expected + index_step }
         ensures few { FewWait self.new.session self.new.waiting }
@@ -300,6 +307,7 @@ impl<C: Channels, A: Allocator> Upper<C, A> {
         ensures refused { OnErr result (self.new ≡ self.old) }
         ensures answer { MatchResult result (λ _. put_refusal self.old.session kind payload.now (length self.old.waiting) ≡ None)
             (λ fault. put_refusal self.old.session kind payload.now (length self.old.waiting) ≡ Some fault) }
+        ensures packs { OnOk result ((x : EndState) → Stands (fields_of C.told self.new) x → can_pack x ≡ false) }
         ensures same { self.new.max ≡ self.old.max }
         ensures near { self.new.machine.expected ≡ self.old.machine.expected }
         ensures few { FewWait self.old.session self.old.waiting → FewWait self.new.session self.new.waiting }
@@ -323,6 +331,7 @@ impl<C: Channels, A: Allocator> Upper<C, A> {
         ensures refused { OnErr result (self.new ≡ self.old) }
         ensures answer { MatchResult result (λ _. init_refusal self.old.session (length self.old.waiting) ≡ None)
             (λ fault. init_refusal self.old.session (length self.old.waiting) ≡ Some fault) }
+        ensures packs { OnOk result ((x : EndState) → Stands (fields_of C.told self.new) x → can_pack x ≡ false) }
         ensures same { self.new.max ≡ self.old.max }
         ensures near { self.new.machine.expected ≡ self.old.machine.expected }
         ensures few { FewWait self.old.session self.old.waiting → FewWait self.new.session self.new.waiting }
@@ -351,6 +360,8 @@ impl<C: Channels, A: Allocator> Upper<C, A> {
         ensures same { self.new.max ≡ self.old.max }
         ensures near { self.new.machine.expected ≡ self.old.machine.expected }
         ensures few { FewWait self.old.session self.old.waiting → FewWait self.new.session self.new.waiting }
+        // Where it did not, nothing waits or the machine may not send.
+        ensures done { result ≡ false → (x : EndState) → Stands (fields_of C.told self.new) x → can_pack x ≡ false }
     {
         unit_law();
         let _before = self.machine.state();
@@ -379,6 +390,8 @@ impl<C: Channels, A: Allocator> Upper<C, A> {
         ensures same { self.new.max ≡ self.old.max }
         ensures near { self.new.machine.expected ≡ self.old.machine.expected }
         ensures few { FewWait self.old.session self.old.waiting → FewWait self.new.session self.new.waiting }
+        // Nothing waits then, or the machine may not send.
+        ensures packs { (x : EndState) → Stands (fields_of C.told self.new) x → can_pack x ≡ false }
     {
         let mut packs = true;
         while packs {
@@ -414,7 +427,8 @@ impl<'a, 'b, C: Channels, A: Allocator, T: Taker> Upward for ToUpper<'a, 'b, C, 
         × (t.upper.now.max ≡ s.upper.now.max)
         × Does T.takes (part s.now p.1)
         (fields_of C.told s.upper.now) s.taker.now
-        (fields_of C.told t.upper.now) t.taker.now };
+        (fields_of C.told t.upper.now) t.taker.now
+        × ((x : EndState) → Stands (fields_of C.told s.upper.now) x → (t.taker.now ≡ s.taker.now) ⊎ RecentAt s.now p.1 x) };
 
     ghost ready = { λ s n. (s.upper.now.machine.expected ≤ 321 * n) × FewWait s.upper.now.session s.upper.now.waiting };
 
@@ -440,6 +454,7 @@ impl<C: Channels, A: Allocator> Upper<C, A> {
         ensures does { BothDo T.takes (receives now (Datagram octets.now now))
             red.old (fields_of C.told self.old) taker.old
             red.new (fields_of C.told self.new) taker.new }
+        ensures recent { (x : EndState) → BothStand red.old (fields_of C.told self.old) x → TakesRecent now (passed_by (Datagram octets.now now) x.red) (with_input (Datagram octets.now now) x) taker.old taker.new }
         ensures reach { self.new.machine.expected ≤ 321 * red.new.expected }
         ensures same { self.new.max ≡ self.old.max }
         ensures few { FewWait self.new.session self.new.waiting }
@@ -466,6 +481,7 @@ impl<C: Channels, A: Allocator> Upper<C, A> {
         ensures does { BothDo T.takes (receives now (RedTick now))
             red.old (fields_of C.told self.old) taker.old
             red.new (fields_of C.told self.new) taker.new }
+        ensures recent { (x : EndState) → BothStand red.old (fields_of C.told self.old) x → TakesRecent now (passed_by (RedTick now) x.red) (with_input (RedTick now) x) taker.old taker.new }
         ensures reach { self.new.machine.expected ≤ 321 * red.new.expected }
         ensures same { self.new.max ≡ self.old.max }
         ensures few { FewWait self.new.session self.new.waiting }

@@ -134,7 +134,7 @@ octets-of : (ds : List (List ℕ)) → map (λ (x : Sending). x.1) (map on_first
 octets-of [] = refl
 octets-of (d ∷ ds) = ap (λ es. d ∷ es) (octets-of ds)
 
-datagrams-length : (s : EndSettings) (index : ℕ) (ms : List Made) → length (datagrams_of s index ms) ≡ length ms
+pub datagrams-length : (s : EndSettings) (index : ℕ) (ms : List Made) → length (datagrams_of s index ms) ≡ length ms
 datagrams-length s index [] = refl
 datagrams-length s index (m ∷ ms) = ap suc (datagrams-length s (index + 1) ms)
 

@@ -1,16 +1,19 @@
 -- An incarnation stands for its state after a call, where it had room.
 use Rattle.std.proofs.Common.{◌≡◌, ℕ, ◌+◌, ◌≤◌, List, [], ◌∷◌, ◌++◌, length, refl, sym, ap, subst, ◌∙◌, arith, append-nil, length-append, zero-add}
-use Rattle.std.specs.List.{AllByRecursion}
+use Rattle.std.specs.List.{AllByRecursion, FoldsTo}
 use Rattle.safe_machine.specs.Made.{Made}
 use Rattle.pdi_session.specs.SessionStep.{Item}
 use Rattle.end_settings.specs.EndSettings.{EndSettings}
-use Rattle.stack_end.specs.Ends.{EndState, Call, call}
-use Rattle.stack_end.specs.EndValue.{EndStands, EndWent, EndWentAlone, channels_of}
+use Rattle.stack_end.specs.Ends.{EndState, Call, call, new_end}
+use Rattle.stack_end.specs.Datagrams.{sent_at_opening}
+use Rattle.safe_machine.specs.World.{Side}
+use Rattle.channels.specs.Told.{SendsOne}
+use Rattle.stack_end.specs.EndValue.{EndValue, EndStands, EndWent, EndWentAlone, channels_of}
 use Rattle.stack_end.specs.Fields.{Sent}
 use Rattle.stack_engine.specs.declared.incarnation.Incarnation.{Incarnation}
-use Rattle.stack_engine.specs.Bounds.{FewMore, IsSmallPdu, IsSmallItem, most_pdus, most_taken}
+use Rattle.stack_engine.specs.Bounds.{FewMore, FewFirst, IsSmallPdu, IsSmallItem, most_pdus, most_taken}
 use Rattle.stack_engine.specs.Texts.{Shelf}
-use Rattle.stack_engine.specs.Keeping.{told_of, sure_room}
+use Rattle.stack_engine.specs.Keeping.{Keeping, told_of, sure_room}
 use Rattle.stack_engine.specs.Incarnations.{IncStands, HasRoom, TakesItem, datagrams_of}
 use Rattle.stack_engine.proofs.Gaining.{keeps-all, takes-all, datagrams-append}
 use Rattle.stack_engine.proofs.Putting.{put_in_by, call-put}
@@ -58,4 +61,29 @@ alone-stands c i j x room h few went same put =
       kept = kept-more i j x y room.0 h few went.settings went.sent;
       put = put ∙ (ap (λ (is : List Item). is ++ put_in_by c x) h.put ∙ sym (call-put c x));
       taken = ap (λ (s : Shelf ℕ). s.texts) same ∙ (h.taken ∙ sym went.took_none);
+    }
+
+-- when it is opened
+pub opened-stands : {A : Type 0} (side : Side) (s : EndSettings) (first now : ℕ) (k : Keeping) (i : Incarnation A) → k.datagrams ≡ [] → most_pdus ≤ sure_room k → FewFirst (new_end side s first now)
+    → EndStands told_of i.end (new_end side s first now) → FoldsTo SendsOne (told_of k) (sent_at_opening (new_end side s first now)) (told_of (channels_of i.end))
+    → i.put.texts ≡ [] → i.taken.texts ≡ [] → IncStands i (new_end side s first now)
+opened-stands side s first now k i none room few stands sent put taken =
+    let x = new_end side s first now in
+    record {
+      end = stands;
+      kept =
+          keeps-all s 0 x.machine.made k (channels_of i.end) sent few.channels few.small_pdus (omega (arith, few.pdus, room))
+          ∙ ap (λ (ds : List (List ℕ)). ds ++ datagrams_of s 0 x.machine.made) none;
+      put = put;
+      taken = taken ∙ sym few.takes;
+    }
+
+-- an end left as it was
+pub same-stands : {A : Type 0} (i j : Incarnation A) (x : EndState) → j.end ≡ i.end → j.put ≡ i.put → j.taken ≡ i.taken → IncStands i x → IncStands j x
+same-stands {A} i j x same put taken h =
+    record {
+      end = subst (λ v. EndStands told_of v x) (sym same) h.end;
+      kept = ap (λ (v : EndValue Keeping A). (channels_of v).datagrams) same ∙ h.kept;
+      put = ap (λ (s : Shelf ℕ). s.texts) put ∙ h.put;
+      taken = ap (λ (s : Shelf ℕ). s.texts) taken ∙ h.taken;
     }

@@ -10,3 +10,6 @@ pub mod Events
 pub mod Keeping
 pub mod Bounds
 pub mod Incarnations
+pub mod Openings
+pub mod Sides
+pub mod PairValue

@@ -43,10 +43,6 @@ WasTaken x taken =
     is_shut x ≡ false →
     (confirmed : List Item) × IsBeginning confirmed taken × (put_at x ≡ confirmed ++ items_unconfirmed x ++ items_waiting x)
 
-
-
-
-
 -- what the end joined to one took
 abbrev pub taken_by : Option EndState → List Item
 taken_by None = []

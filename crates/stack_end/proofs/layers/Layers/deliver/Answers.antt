@@ -1,6 +1,8 @@
 use Rattle.red_layer.specs.Redundancy.{Datagram}
 use Rattle.stack_end.specs.Ends.{EndState, receives, sends}
 use Rattle.stack_end.proofs.Receiving.{end-then, goes-on}
+use Rattle.stack_end.proofs.Receiving.{alive}
+use Rattle.stack_end.proofs.Recents.{open-recent}
 use Rattle.stack_end.proofs.layers.Layers.deliver.Goals as goal
 
 pub returns-in_default-clause-does : goal.returns-in_default-clause-does
@@ -11,3 +13,8 @@ returns-in_default-clause-does g c x h =
     let b = c.send_waiting.ensures.does y a.stands.upper in
     goes-on g.T.Taker.takes c.args.now i x _ _ _ _ _ c.state.result (c.state.ensures.state x.machine h.upper.machine) c.in_default.not-Closed
     (end-then g.T.Taker.takes x y (sends c.args.now y) _ _ _ _ _ _ a b.0 b.1)
+
+pub returns-in_default-clause-recent : goal.returns-in_default-clause-recent
+returns-in_default-clause-recent g c x h =
+    open-recent c.args.now (Datagram c.args.octets.now c.args.now) x _ _
+    (alive c.state.result x (c.state.ensures.state x.machine h.upper.machine) c.in_default.not-Closed) (c.receive.ensures.recent x h)

@@ -6,6 +6,12 @@ use Rattle.stack_end.specs.Talk.{talk}
 use Rattle.octets.proofs.Steps.{FoldsTo-keeps}
 use Rattle.stack_end.proofs.Talking.{judges-units}
 use Rattle.stack_end.proofs.Uppers.{sends-between, went-of}
+use Rattle.std.proofs.Common.{◌≡◌, ◌⊎◌, inl, inr, subst, ⊎_elim}
+use Rattle.safe_pdu.specs.Places.{safe_seen}
+use Rattle.safe_machine.specs.Properties.{IsRecent}
+use Rattle.safe_machine.specs.View.{View}
+use Rattle.stack_end.specs.Recent.{RecentAt}
+use Rattle.stack_end.proofs.Recents.{handed}
 use Rattle.stack_end.proofs.upper.Upper.hear.Goals as goal
 
 pub shape_of-self : goal.shape_of-self
@@ -40,3 +46,12 @@ returns-clause-does g c x h =
       went-of x (heard_alone c.args.now c.args.octets.now x) _ _ one.more_made h refl refl (c.unit_law.ensures.settings (heard (seen_by s c.args.octets.now) c.args.now) s) one.made (c.arrive-step.ensures.stands s h.machine) judged.0.speaks h.request refl refl sent,
       (let took = judged.0.took in search (rules, took, same)),
     )
+
+pub returns-clause-recent : goal.returns-clause-recent
+returns-clause-recent g c x h =
+    let octets = c.args.octets.now in
+    let fact = handed (λ s. s.taker.now) _ _ _ _ c.arrive-step.ensures.recent in
+    let recent : (c.arrive-step.new.units.taker.now ≡ c.args.taker.now) ⊎ RecentAt c.args.now octets x =
+    ⊎_elim (λ e. inl e) (λ r. inr (subst (λ (v : View). IsRecent (safe_seen v.settings.rule octets) c.args.now v) h.machine r)) fact in
+    let same = FoldsTo-keeps (λ s. s.taker.ghost_name) _ (λ s x t h. h.2) _ _ _ (c.arrive-step.ensures.taken x.machine h.machine) in
+    search (rules, recent, same)

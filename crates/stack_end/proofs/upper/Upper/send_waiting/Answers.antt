@@ -17,6 +17,7 @@ loop-packs-preserved g c =
       same = c.pack_one-packs.ensures.same ∙ c.loop-packs.invariant.same;
       near = c.pack_one-packs.ensures.near ∙ c.loop-packs.invariant.near;
       few = λ h. c.pack_one-packs.ensures.few (c.loop-packs.invariant.few h);
+      done = c.pack_one-packs.ensures.done;
       along = λ x h.
           let a = c.loop-packs.invariant.along x h in
           let y : EndState = a.0 in

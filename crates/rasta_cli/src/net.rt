@@ -1,0 +1,207 @@
+//! Ends over sockets: the words il, fe and pair.
+
+ghost use Rattle.std.specs.Prelude.{◌≡◌, ◌≢◌, ◌≤◌, ◌^◌, IfOk};
+
+use crate::runs::report;
+use crate::status::{Fault, Status};
+use crate::ticking::RunClock;
+use crate::turns::Actor;
+use channels::{UdpChannels, UdpFault, Watch};
+use end_settings::Side;
+use settings_file::{Ends, Settings, SettingsFault, Word, settings};
+use stack_end::{End, OpenFault};
+use std::alloc::Global;
+use std::io::Write;
+use std::net::Net;
+use std::time::{Clock, Duration};
+
+/// The longest wait of a turn that found nothing, in milliseconds; the system may wait one longer.
+const WAIT_MAX: u64 = 4;
+
+/// Runs `il`, `fe` or `pair` for so many turns over the sockets that the text of a settings file names, prints each telegram that
+/// an end takes, and at last how each end stands.
+///
+/// A text that is no settings is `fault: settings`, and behind it stands the key and what is wrong with it.
+pub fn run_net<R: Net + Clock, O: Write, E: Write>(
+    rt: &R,
+    alloc: Global,
+    word: Word,
+    text: &str,
+    turns: u32,
+    out: &mut O,
+    err: &mut E,
+) -> Status
+    ensures words { result ≢ Status.WrongWords }
+{
+    let ends = match settings(alloc, word, text) {
+        Ok(ends) => ends,
+        Err(SettingsFault::Memory(_)) => return report(err, Fault::Memory),
+        Err(fault) => {
+            let status = report(err, Fault::Settings);
+            let _ = writeln!(err, "settings: {fault}");
+            return status;
+        }
+    };
+    let done = match &ends {
+        Ends::Il(il) => run_one(rt, alloc, Side::Interlocking, il, turns, out),
+        Ends::Fe(fe) => run_one(rt, alloc, Side::FieldElement, fe, turns, out),
+        Ends::Pair(il, fe) => run_two(rt, alloc, il, fe, turns, out),
+    };
+    match done {
+        Ok(()) => Status::Done,
+        Err(Fault::Settings) => {
+            let status = report(err, Fault::Settings);
+            let _ = writeln!(
+                err,
+                "settings: local, remote: an address and a port expected, another text found"
+            );
+            status
+        }
+        Err(fault) => report(err, fault),
+    }
+}
+
+fn run_one<R: Net + Clock, O: Write>(
+    rt: &R,
+    alloc: Global,
+    side: Side,
+    settings: &Settings,
+    turns: u32,
+    out: &mut O,
+) -> Result<(), Fault> {
+    let mut watch = watch(rt, alloc)?;
+    let channels = bound(rt, alloc, settings, &watch)?;
+    let mut clock = RunClock::start(rt)?;
+    let mut actor = opened(alloc, channels, side, settings, clock.read(rt)?)?;
+    'turns: for _ in 0..turns {
+        let now = clock.read(rt)?;
+        let before = actor.end.channels_seen().received();
+        actor.turn(now, out)?;
+        if actor.end.channels_seen().received() == before {
+            watch.wait(Duration::from_millis(pause(now, actor.end.next_deadline())));
+        }
+    }
+    actor.report(out)?;
+    sent_off(out)
+}
+
+fn run_two<R: Net + Clock, O: Write>(
+    rt: &R,
+    alloc: Global,
+    il: &Settings,
+    fe: &Settings,
+    turns: u32,
+    out: &mut O,
+) -> Result<(), Fault> {
+    let mut watch = watch(rt, alloc)?;
+    let il_channels = bound(rt, alloc, il, &watch)?;
+    let fe_channels = bound(rt, alloc, fe, &watch)?;
+    let mut clock = RunClock::start(rt)?;
+    let now = clock.read(rt)?;
+    let mut field_element = opened(alloc, fe_channels, Side::FieldElement, fe, now)?;
+    let mut interlocking = opened(alloc, il_channels, Side::Interlocking, il, now)?;
+    'turns: for _ in 0..turns {
+        let now = clock.read(rt)?;
+        let before = (
+            interlocking.end.channels_seen().received(),
+            field_element.end.channels_seen().received(),
+        );
+        interlocking.turn(now, out)?;
+        field_element.turn(now, out)?;
+        let after = (
+            interlocking.end.channels_seen().received(),
+            field_element.end.channels_seen().received(),
+        );
+        if after == before {
+            let deadline = earlier(
+                interlocking.end.next_deadline(),
+                field_element.end.next_deadline(),
+            );
+            watch.wait(Duration::from_millis(pause(now, deadline)));
+        }
+    }
+    interlocking.report(out)?;
+    field_element.report(out)?;
+    sent_off(out)
+}
+
+fn watch<R: Net>(rt: &R, alloc: Global) -> Result<Watch, Fault> {
+    Watch::open(alloc, rt).map_err(fault_of)
+}
+
+/// The channels of an end, which the wait watches.
+fn bound<R: Net>(
+    rt: &R,
+    alloc: Global,
+    settings: &Settings,
+    watch: &Watch,
+) -> Result<UdpChannels, Fault> {
+    let mut channels = UdpChannels::open(
+        alloc,
+        rt,
+        settings.local.as_slice(),
+        settings.remote.as_slice(),
+    )
+    .map_err(fault_of)?;
+    match watch.add(&mut channels) {
+        Ok(()) => Ok(channels),
+        Err(_) => Err(Fault::Network),
+    }
+}
+
+fn fault_of(fault: UdpFault) -> Fault {
+    match fault {
+        UdpFault::Memory => Fault::Memory,
+        UdpFault::Address => Fault::Settings,
+        UdpFault::Bind => Fault::Network,
+    }
+}
+
+fn opened<'a>(
+    alloc: Global,
+    channels: UdpChannels,
+    side: Side,
+    settings: &'a Settings,
+    now: u64,
+) -> Result<Actor<'a, UdpChannels>, Fault>
+    requires { now ≤ 2 ^ 62 }
+    ensures { IfOk result (λ actor. actor.end.time ≤ now) }
+{
+    match End::open(
+        alloc,
+        channels,
+        settings.config,
+        side,
+        settings.first_sn,
+        now,
+    ) {
+        Ok(end) => Ok(Actor::new(end, side, settings.puts.as_slice())),
+        Err((OpenFault::Memory, _channels)) => Err(Fault::Memory),
+        Err((OpenFault::BadConfig, _channels)) => Err(Fault::Settings),
+    }
+}
+
+/// How long to wait, in milliseconds: no longer than to the deadline.
+fn pause(now: u64, deadline: Option<u64>) -> u64
+    ensures { result ≤ WAIT_MAX }
+{
+    match deadline {
+        Some(deadline) => deadline.saturating_sub(now).min(WAIT_MAX),
+        None => WAIT_MAX,
+    }
+}
+
+fn earlier(first: Option<u64>, second: Option<u64>) -> Option<u64> {
+    match (first, second) {
+        (Some(first), Some(second)) => Some(first.min(second)),
+        (Some(time), None) | (None, Some(time)) => Some(time),
+        (None, None) => None,
+    }
+}
+
+fn sent_off<O: Write>(out: &mut O) -> Result<(), Fault> {
+    match out.flush() {
+        Ok(()) => Ok(()),
+        Err(_) => Err(Fault::Output),
+    }
+}

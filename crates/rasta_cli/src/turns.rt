@@ -1,0 +1,150 @@
+//! The part of one end in a turn: what has come, what is to be put, and how it stands.
+
+ghost use Rattle.std.specs.Prelude.{◌≡◌, ◌≤◌, ◌^◌};
+
+use crate::end_lines::{
+    name_of_init_fault, name_of_put_fault, write_refused, write_report, write_take,
+};
+use crate::status::Fault;
+use channels::Channels;
+use end_settings::Side;
+use pdi_session::{InitFault, Phase, PutFault, Taker};
+use settings_file::Put;
+use stack_end::End;
+use std::alloc::{Allocator, Global};
+use std::io::Write;
+
+/// Prints each telegram that the application takes, until an output fails.
+#[derive(Drop)]
+struct Printer<'a, W> {
+    side: Side,
+    writer: &'a mut W,
+    taken: u64,
+    failed: bool,
+}
+
+impl<W: Write> Taker for Printer<'_, W> {
+    ghost takes = { λ _ _ _. Unit {0} };
+
+    fn take(&mut self, kind: u16, payload: &[u8]) {
+        self.taken = self.taken.wrapping_add(1);
+        if !self.failed && write_take(self.writer, self.side, kind, payload).is_err() {
+            self.failed = true;
+        }
+    }
+}
+
+/// An end that is run by turns, with what is left to be put.
+#[derive(Drop)]
+pub struct Actor<'a, C, A: Allocator = Global> {
+    /// The end.
+    pub end: End<C, A>,
+    side: Side,
+    left: &'a [Put],
+    put: u64,
+    taken: u64,
+}
+
+impl<'a, C: Channels, A: Allocator + Copy> Actor<'a, C, A> {
+    /// An end that was opened, with the telegrams that it is to put.
+    pub fn new(end: End<C, A>, side: Side, puts: &'a [Put]) -> Self
+        ensures { result.end ≡ end }
+    {
+        Actor {
+            end,
+            side,
+            left: puts,
+            put: 0,
+            taken: 0,
+        }
+    }
+
+    /// Its part of a turn: it takes what has come; then an interlocking whose session is established, and a field element that
+    /// initialises, put what is left until a put is refused as Full. The field element then calls `init_done`, once nothing is left.
+    /// Refused as Output. That a reception fails is no fault of a turn: it counts as nothing received.
+    pub fn turn<W: Write>(&mut self, now: u64, writer: &mut W) -> Result<(), Fault>
+        requires now { now ≤ 2 ^ 62 }
+        requires later { self.old.end.time ≤ now }
+        ensures time { self.new.end.time ≤ now }
+    {
+        self.hear(now, writer)?;
+        match (self.side, self.end.phase()) {
+            (Side::Interlocking, Phase::Established) => self.put_left(now, writer),
+            (Side::FieldElement, Phase::Initialising) => {
+                self.put_left(now, writer)?;
+                self.end_initialising(now, writer)
+            }
+            _ => Ok(()),
+        }
+    }
+
+    /// Writes how the end stands. Refused as Output.
+    pub fn report<W: Write>(&self, writer: &mut W) -> Result<(), Fault> {
+        let (state, phase) = (self.end.state(), self.end.phase());
+        match write_report(writer, self.side, state, phase, self.put, self.taken) {
+            Ok(()) => Ok(()),
+            Err(_) => Err(Fault::Output),
+        }
+    }
+
+    fn hear<W: Write>(&mut self, now: u64, writer: &mut W) -> Result<(), Fault>
+        requires now { now ≤ 2 ^ 62 }
+        requires later { self.old.end.time ≤ now }
+        ensures time { self.new.end.time ≤ now }
+    {
+        let mut printer = Printer {
+            side: self.side,
+            writer,
+            taken: 0,
+            failed: false,
+        };
+        let _heard = self.end.poll(now, &mut printer);
+        self.taken = self.taken.wrapping_add(printer.taken);
+        if printer.failed {
+            return Err(Fault::Output);
+        }
+        Ok(())
+    }
+
+    fn put_left<W: Write>(&mut self, now: u64, writer: &mut W) -> Result<(), Fault>
+        requires now { now ≤ 2 ^ 62 }
+        requires later { self.old.end.time ≤ now }
+        ensures time { self.new.end.time ≤ now }
+    {
+        let puts = self.left;
+        'puts: for (place, put) in puts.iter().enumerate() {
+            match self.end.put(put.kind, put.payload.as_slice(), now) {
+                Ok(()) => self.put = self.put.wrapping_add(1),
+                Err(PutFault::Full) => {
+                    self.left = &puts[place..];
+                    return Ok(());
+                }
+                Err(fault) => {
+                    if write_refused(writer, name_of_put_fault(fault)).is_err() {
+                        return Err(Fault::Output);
+                    }
+                }
+            }
+        }
+        self.left = &[];
+        Ok(())
+    }
+
+    /// Ends the initialisation, once nothing is left to be put. Where it is refused as Full it is tried again in the next turn.
+    fn end_initialising<W: Write>(&mut self, now: u64, writer: &mut W) -> Result<(), Fault>
+        requires now { now ≤ 2 ^ 62 }
+        requires later { self.old.end.time ≤ now }
+        ensures time { self.new.end.time ≤ now }
+    {
+        if !self.left.is_empty() {
+            return Ok(());
+        }
+        match self.end.init_done(now) {
+            Ok(()) | Err(InitFault::Full) => Ok(()),
+            Err(fault) => match write_refused(writer, name_of_init_fault(fault)) {
+                Ok(()) => Ok(()),
+                Err(_) => Err(Fault::Output),
+            },
+        }
+    }
+}

@@ -1,0 +1,326 @@
+ghost use Rattle.std.specs.Prelude.{◌≡◌, ◌≤◌, ◌^◌};
+
+use crate::{End, OpenFault, PollFault};
+use arrayvec::ArrayVec;
+use channels::MemChannels;
+use end_settings::{Checksum, EndConfig, Side, Versions};
+use linked_list_allocator::LocalHeap;
+use pdi_session::{InitFault, Phase, PutFault, Taker};
+use safe_machine::ConnectionState;
+use sci_telegram::{Name, OwnedName};
+use std::test::Fail;
+
+/// The kinds and the first octets of what an application took.
+#[derive(Drop)]
+struct Taken {
+    list: ArrayVec<(u16, u8), 16>,
+}
+
+impl Taker for Taken {
+    ghost takes = { λ _ _ _. Unit {0} };
+
+    fn take(&mut self, kind: u16, payload: &[u8]) {
+        let _ = self
+            .list
+            .try_push((kind, payload.first().copied().unwrap_or(0)));
+    }
+}
+
+/// An end with its clock, in milliseconds, and what its application took.
+#[derive(Drop)]
+struct Station {
+    end: End<MemChannels>,
+    clock: u64,
+    taken: Taken,
+    heard: usize,
+    ghost timely: { end.time ≤ clock },
+    ghost small: { clock ≤ 2 ^ 62 },
+}
+
+fn name(text: &str) -> Result<OwnedName, Fail> {
+    Ok(OwnedName::new(Name::new(text)?))
+}
+
+fn config(side: Side) -> Result<EndConfig, Fail> {
+    let own = if side == Side::Interlocking {
+        (1, "IL1")
+    } else {
+        (2, "FE1")
+    };
+    let peer = if side == Side::Interlocking {
+        (2, "FE1")
+    } else {
+        (1, "IL1")
+    };
+    Ok(EndConfig {
+        id: own.0,
+        peer_id: peer.0,
+        name: name(own.1)?,
+        peer_name: name(peer.1)?,
+        protocol: 1,
+        versions: Versions::new(&[3]).ok_or("versions")?,
+        checksum: Checksum::new(&[]).ok_or("checksum")?,
+        code: 8,
+        initial_value: [1, 2, 3, 4],
+        channels: 2,
+        n_sendmax: 20,
+        n_maxpacket: 3,
+        q: 4,
+        t_max: 1_800,
+        t_h: 300,
+        t_seq: 50,
+        mwa: 10,
+        pdu_limit: 4_294_901_760,
+    })
+}
+
+impl Station {
+    fn open(
+        rt: &HostRuntime,
+        config: EndConfig,
+        side: Side,
+        first_sn: u32,
+    ) -> Result<Station, Fail> {
+        let channels = MemChannels::new(rt.alloc(), 400)?;
+        let end = End::open(rt.alloc(), channels, config, side, first_sn, 0)
+            .ok()
+            .ok_or("not opened")?;
+        Ok(Station {
+            end,
+            clock: 0,
+            taken: Taken {
+                list: ArrayVec::new(),
+            },
+            heard: 0,
+        })
+    }
+
+    fn later(&mut self, milliseconds: u32) {
+        let clock = self.clock.saturating_add(u64::from(milliseconds));
+        if clock <= 1 << 62 {
+            self.clock = clock;
+        }
+    }
+
+    fn hear(&mut self, channel: usize, octets: &[u8]) {
+        self.end
+            .arrive(channel, octets, self.clock, &mut self.taken);
+    }
+
+    fn tick(&mut self) {
+        self.end.tick(self.clock, &mut self.taken);
+    }
+
+    fn poll(&mut self) -> Result<(), PollFault> {
+        self.end.poll(self.clock, &mut self.taken)
+    }
+
+    fn put(&mut self, kind: u16, octet: u8) -> Result<(), PutFault> {
+        self.end.put(kind, &[octet], self.clock)
+    }
+
+    fn done(&mut self) -> Result<(), InitFault> {
+        self.end.init_done(self.clock)
+    }
+
+    fn close(&mut self) {
+        self.end.close(self.clock);
+    }
+
+    fn seen(&self) -> (ConnectionState, Phase) {
+        (self.end.state(), self.end.phase())
+    }
+
+    /// The next datagram that the peer sent on this channel comes here; answers whether there was one.
+    fn next(&mut self, peer: &Station, on: usize) -> bool {
+        loop {
+            let Some((channel, octets)) = peer.end.channels_seen().sent(self.heard) else {
+                return false;
+            };
+            self.heard = self.heard.wrapping_add(1);
+            if channel == on {
+                self.hear(channel, octets);
+                return true;
+            }
+        }
+    }
+}
+
+/// All that the two have sent on a channel comes to the other, the one opened first being the field element.
+fn flow(il: &mut Station, fe: &mut Station, on: usize) {
+    for _ in 0..100 {
+        let to_fe = fe.next(il, on);
+        let to_il = il.next(fe, on);
+        if !to_fe && !to_il {
+            return;
+        }
+    }
+}
+
+fn established(rt: &HostRuntime) -> Result<(Station, Station), Fail> {
+    let mut fe = Station::open(rt, config(Side::FieldElement)?, Side::FieldElement, 500)?;
+    let mut il = Station::open(rt, config(Side::Interlocking)?, Side::Interlocking, 100)?;
+    flow(&mut il, &mut fe, 1);
+    fe.done()?;
+    flow(&mut il, &mut fe, 1);
+    Ok((il, fe))
+}
+
+// A connection and a session are set up, and a command and a status are taken. An end that has put something in is settled once a
+// heartbeat of its peer has confirmed it.
+#[test]
+fn sets_up_a_session(rt: HostRuntime) -> Result<(), Fail> {
+    let (mut il, mut fe) = established(&rt)?;
+    assert_eq!(rt; il.seen(), (ConnectionState::Up, Phase::Established));
+    assert_eq!(rt; fe.seen(), (ConnectionState::Up, Phase::Established));
+    assert!(rt; fe.end.request().is_some());
+    assert!(rt; il.end.request().is_none());
+    il.put(0x100, 7)?;
+    fe.put(0x200, 9)?;
+    flow(&mut il, &mut fe, 2);
+    assert_eq!(rt; fe.taken.list.as_slice(), [(0x100, 7)].as_slice());
+    assert_eq!(rt; il.taken.list.as_slice(), [(0x200, 9)].as_slice());
+    assert!(rt; !fe.end.settled());
+    il.later(300);
+    fe.later(300);
+    assert_eq!(rt; il.end.next_deadline(), Some(300));
+    il.tick();
+    fe.tick();
+    flow(&mut il, &mut fe, 1);
+    assert!(rt; il.end.settled());
+    assert!(rt; fe.end.settled());
+    assert_eq!(rt; il.put(0x24, 0), Err(PutFault::ReservedType));
+    Ok(())
+}
+
+// The same datagrams on the second channel change nothing; what is lost on the first is taken from the second.
+#[test]
+fn hears_both_channels(rt: HostRuntime) -> Result<(), Fail> {
+    let (mut il, mut fe) = established(&rt)?;
+    let heard = fe.heard;
+    il.put(0x100, 1)?;
+    il.put(0x100, 2)?;
+    for channel in [2, 1, 2] {
+        fe.heard = heard;
+        for _ in 0..4 {
+            let _ = fe.next(&il, channel);
+        }
+    }
+    assert_eq!(rt;
+        fe.taken.list.as_slice(),
+        [(0x100, 1), (0x100, 2)].as_slice()
+    );
+    Ok(())
+}
+
+// A unit that is lost on both channels is sent again once the wait for it is over, and taken in its place.
+#[test]
+fn sends_a_lost_unit_again(rt: HostRuntime) -> Result<(), Fail> {
+    let (mut il, mut fe) = established(&rt)?;
+    il.put(0x100, 1)?;
+    fe.heard = fe.heard.wrapping_add(2);
+    il.put(0x100, 2)?;
+    flow(&mut il, &mut fe, 1);
+    assert_eq!(rt; fe.taken.list.as_slice(), [].as_slice());
+    assert_eq!(rt; fe.end.next_deadline(), Some(50));
+    il.later(50);
+    fe.later(50);
+    fe.tick();
+    assert_eq!(rt; fe.end.state(), ConnectionState::RetrReq);
+    flow(&mut il, &mut fe, 1);
+    assert_eq!(rt; fe.end.state(), ConnectionState::Up);
+    assert_eq!(rt;
+        fe.taken.list.as_slice(),
+        [(0x100, 1), (0x100, 2)].as_slice()
+    );
+    Ok(())
+}
+
+// A user closes; the peer follows, and both refuse what is put in. Another version ends the session at both ends.
+#[test]
+fn closes_at_both_ends(rt: HostRuntime) -> Result<(), Fail> {
+    let (mut il, mut fe) = established(&rt)?;
+    il.close();
+    flow(&mut il, &mut fe, 1);
+    assert_eq!(rt; il.seen(), (ConnectionState::Closed, Phase::Ended));
+    assert_eq!(rt; fe.seen(), (ConnectionState::Closed, Phase::Ended));
+    assert_eq!(rt; fe.put(0x200, 1), Err(PutFault::NotEstablished));
+    assert_eq!(rt; fe.end.next_deadline(), None);
+    let mut other = config(Side::Interlocking)?;
+    other.versions = Versions::new(&[4]).ok_or("versions")?;
+    let mut fe = Station::open(&rt, config(Side::FieldElement)?, Side::FieldElement, 500)?;
+    let mut il = Station::open(&rt, other, Side::Interlocking, 100)?;
+    flow(&mut il, &mut fe, 1);
+    assert_eq!(rt; il.seen(), (ConnectionState::Closed, Phase::Ended));
+    assert_eq!(rt; fe.seen(), (ConnectionState::Closed, Phase::Ended));
+    Ok(())
+}
+
+// A poll hands in what the channels answer and then lets time pass; a failed reception stops it before that.
+#[test]
+fn polls_its_channels(rt: HostRuntime) -> Result<(), Fail> {
+    let (il, mut fe) = established(&rt)?;
+    let Some((_, first)) = il.end.channels_seen().sent(0) else {
+        return Err(Fail::from("nothing sent"));
+    };
+    fe.end.channels().add(1, first)?;
+    fe.later(300);
+    assert_eq!(rt; fe.poll(), Ok(()));
+    let before = fe.end.channels_seen().sent(8).is_some();
+    let mut deaf = Station::open(&rt, config(Side::Interlocking)?, Side::Interlocking, 1)?;
+    for _ in 0..400 {
+        let _ = deaf.poll();
+    }
+    deaf.later(5_000);
+    assert_eq!(rt; deaf.poll(), Err(PollFault::Channel));
+    assert_eq!(rt; deaf.end.state(), ConnectionState::Start);
+    deaf.tick();
+    assert_eq!(rt; deaf.end.state(), ConnectionState::Closed);
+    assert!(rt; before);
+    Ok(())
+}
+
+fn opens_in(
+    heap: &LocalHeap,
+    config: EndConfig,
+    channels: MemChannels,
+) -> Result<bool, MemChannels> {
+    match End::open(heap, channels, config, Side::FieldElement, 1, 0) {
+        Ok(_) => Ok(true),
+        Err((OpenFault::Memory, back)) => Err(back),
+        Err((OpenFault::BadConfig, _)) => Ok(false),
+    }
+}
+
+// Heaps of rising size: each allocation is refused at some, the channels come back, and the largest is enough. Settings out of range are
+// refused before memory is asked for.
+#[test]
+fn opens_where_memory_is_found(rt: HostRuntime) -> Result<(), Fail> {
+    let mut refused = 0u32;
+    let mut opened = false;
+    for step in 0..120 {
+        let heap = LocalHeap::new(rt.alloc(), step * 1024)?;
+        let mut channels = MemChannels::new(rt.alloc(), 2)?;
+        channels.add(1, &[step as u8])?;
+        match opens_in(&heap, config(Side::FieldElement)?, channels) {
+            Ok(answer) => opened = answer,
+            Err(mut back) => {
+                let mut buffer = [0; 1];
+                assert!(rt; back.add(2, &[1]).is_ok());
+                assert_eq!(rt;
+                    channels::Channels::receive(&mut back, &mut buffer),
+                    Ok(Some((1, 1)))
+                );
+                refused = refused.wrapping_add(1);
+            }
+        }
+    }
+    assert!(rt; refused > 60);
+    assert!(rt; opened);
+    let heap = LocalHeap::new(rt.alloc(), 0)?;
+    let mut bad = config(Side::FieldElement)?;
+    bad.code = 9;
+    let channels = MemChannels::new(rt.alloc(), 2)?;
+    assert!(rt; opens_in(&heap, bad, channels).is_ok_and(|answer| !answer));
+    Ok(())
+}

@@ -1,0 +1,27 @@
+-- What a pair keeps of its history.
+use Rattle.std.specs.Prelude.{◌≡◌, ◌<◌, ℕ, List, ◌++◌, length, take, map}
+use Rattle.stack_engine.specs.declared.event.Event.{Event as CodeEvent}
+use Rattle.stack_engine.specs.declared.pair.Pair.TheInside.{Inside}
+use Rattle.stack_engine.specs.Events.{event_of}
+use Rattle.stack_engine.specs.Pairs.{Event, accepted, start, run}
+use Rattle.stack_engine.specs.Premise.{AreTyped}
+use Rattle.stack_engine.specs.Sides.{SidesStand}
+
+abbrev pub events_of : {A : Type 0} → List (CodeEvent A) → List Event
+events_of events = map event_of events
+
+abbrev pub history_of : {A : Type 0} → Inside A → List Event
+history_of p = events_of p.history.items
+
+-- the ends stand for the world that its events lead to
+pub record IsPair {A : Type 0} (p : Inside A) : Type 0 where
+  pub typed : AreTyped (history_of p)
+  pub stands : SidesStand p.sides (run (history_of p) start)
+
+-- Events in turn: those that are accepted came to the history, and they are so many.
+abbrev pub Ran : List Event → List Event → List Event → Type 0
+Ran before es after = after ≡ before ++ accepted es (run before start)
+
+-- one of them was refused for memory: those before it were run
+abbrev pub RanBefore : List Event → List Event → List Event → Type 0
+RanBefore before es after = (k : ℕ) × (k < length es) × Ran before (take k es) after

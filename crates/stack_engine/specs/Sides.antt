@@ -1,0 +1,25 @@
+-- Both ends with all their incarnations.
+use Rattle.std.specs.Prelude.{◌≡◌, ℕ, Option, List}
+use Rattle.safe_machine.specs.World.{Side}
+use Rattle.stack_end.specs.Ends.{EndState, Call, call}
+use Rattle.stack_engine.specs.declared.sides.Sides.{Sides}
+use Rattle.stack_engine.specs.Bounds.{FewMore}
+use Rattle.stack_engine.specs.Openings.{SideStands}
+use Rattle.stack_engine.specs.Pairs.{World, Event, changed, ends_of, present}
+use Rattle.stack_engine.specs.Pairs.Event.{Open, Calls}
+use Rattle.stack_engine.specs.Premise.{AtOpened}
+
+pub record SidesStand {A : Type 0} (s : Sides A) (w : World) : Type 0 where
+  pub il : SideStands s.il w.ils
+  pub fe : SideStands s.fe (ends_of w.fes)
+  pub dead_il : s.dead_il ≡ w.dead_il
+  pub dead_fe : s.dead_fe ≡ w.dead_fe
+
+-- a call makes little
+abbrev pub FewAt : Event → World → Type 0
+FewAt (Open side s first now) w = Unit {0}
+FewAt (Calls side c) w = AtOpened (λ x. FewMore x (call c x)) (present side w)
+
+-- for each world that they stood for they now stand for the one after the event
+abbrev pub SidesDo : {A : Type 0} → Event → Sides A → Sides A → Type 0
+SidesDo e s t = (w : World) → SidesStand s w → FewAt e w → SidesStand t (changed e w)

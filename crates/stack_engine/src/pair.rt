@@ -1,0 +1,100 @@
+//! Two ends in memory, with everything that ever happened to them.
+
+ghost use Rattle.std.specs.Prelude.{◌≡◌, ◌+◌, [], ◌∷◌, ◌++◌, length, None, MatchResult, OnOk, OnErr, IfOk};
+ghost use Rattle.stack_engine.specs.Openings.{NamesRefusal};
+ghost use Rattle.stack_engine.specs.Pairs.{refusal, run, start};
+
+use crate::event::Event;
+use crate::law::pair_law;
+use crate::sides::Sides;
+use crate::ApplyFault;
+use std::alloc::{Allocator, Global};
+use std::marker::Model;
+
+/// There was no memory for an event.
+#[derive(Clone, Copy, Debug, PartialEq, Eq)]
+pub struct Memory;
+
+/// Two ends in memory with the events that were accepted: a value of it is its history.
+///
+/// It sends no datagram anywhere: what is lost between the ends is what is never delivered.
+#[derive(Drop)]
+pub struct Pair<A: Allocator = Global> {
+    alloc: A,
+    history: Vec<Event<A>, A>,
+    sides: Sides<A>,
+}
+
+impl<A: Allocator> Model for Pair<A> {
+    ghost use Rattle.std.specs.Prelude.{List};
+    ghost use Rattle.stack_engine.specs.Pairs.{Event};
+
+    ghost Value = { List Event };
+
+    ghost use Rattle.stack_engine.specs.PairValue.{history_of, IsPair};
+
+    ghost view = { history_of };
+
+    ghost invariant = { IsPair };
+}
+
+impl<A: Allocator + Copy> Pair<A> {
+    ghost use Rattle.stack_engine.specs.Events.{event_of};
+    ghost use Rattle.stack_engine.specs.PairValue.{events_of, Ran, RanBefore};
+
+    /// Neither end was opened, and nothing happened. It takes no memory.
+    pub fn new(alloc: A) -> Self
+        ensures { result ≡ [] }
+    {
+        Pair {
+            alloc,
+            history: Vec::new(alloc),
+            sides: Sides::new(alloc),
+        }
+    }
+
+    /// An event happens, exactly as the definition of a pair says.
+    ///
+    /// Refused, and the first that holds is named; then nothing changes: `EndNotOpen`, `BadConfig`, `Clock`, `Memory`, `Put` and `Init`
+    /// with their faults.
+    pub fn apply(&mut self, event: &Event<A>) -> Result<(), ApplyFault>
+        ensures ok { OnOk result (self.new ≡ self.old ++ event_of event.now ∷ []) }
+        ensures err { OnErr result (self.new ≡ self.old) }
+        ensures refusal { MatchResult result (λ _. refusal (event_of event.now) (run self.old start) ≡ None)
+            (λ fault. NamesRefusal fault (refusal (event_of event.now) (run self.old start))) }
+    {
+        pair_law();
+        let Ok(copy) = event.try_clone(self.alloc) else {
+            return Err(ApplyFault::Memory);
+        };
+        let Ok(()) = self.history.try_reserve(1) else {
+            return Err(ApplyFault::Memory);
+        };
+        match self.sides.step(self.alloc, event) {
+            Ok(()) => {
+                self.history.push_reserved(copy);
+                Ok(())
+            }
+            Err(fault) => Err(fault),
+        }
+    }
+
+    /// Events happen in turn; one that is refused changes nothing, and the next one follows. The answer is how many were accepted.
+    ///
+    /// The error is that memory was refused for one of them: then those before it happened, and none behind it.
+    pub fn run(&mut self, events: &[Event<A>]) -> Result<usize, Memory>
+        ensures ok { OnOk result (Ran self.old (events_of events.now) self.new) }
+        ensures count { IfOk result (λ count. length self.new ≡ length self.old + count) }
+        ensures memory { OnErr result (RanBefore self.old (events_of events.now) self.new) }
+    {
+        let mut count = 0;
+        for event in events {
+            match self.apply(event) {
+                Ok(()) => count += 1,
+                Err(ApplyFault::Memory) => return Err(Memory),
+                Err(_) => {}
+            }
+        }
+        Ok(count)
+    }
+}
