@@ -1,11 +1,16 @@
 -- What a run of the program's words has done.
-use Rattle.std.specs.Prelude.{◌≡◌, ℕ, Bool, List, ◌++◌, Option, Some, codes}
+use Rattle.std.specs.Prelude.{◌≡◌, ℕ, ⊤, Bool, true, List, ◌++◌, Option, Some, codes}
 use Rattle.std.specs.Io.KnownBytes.{Appends}
 use Rattle.hex.specs.Hex.{encode_lower}
 use Rattle.md4.specs.Digest.{digest}
 use Rattle.md4.specs.declared.TheConstants.{INITIAL_VALUE}
 use Rattle.safe_pdu.specs.declared.CodeLength.{CodeLength}
 use Rattle.safe_pdu.specs.declared.CodeRule.{CodeRule}
+use Rattle.std.specs.Option.{option_copied}
+use Rattle.clap.specs.Words.{Text}
+use Rattle.rasta_cli.specs.CommandLine.{Asks}
+use Rattle.rasta_cli.specs.declared.command_line.Request.{Request}
+use Rattle.rasta_cli.specs.declared.command_line.Request.TheVariants.{Digest, Show, Net}
 use Rattle.rasta_cli.specs.HexText.{octets_of, message_of, initial_value_of}
 use Rattle.rasta_cli.specs.ShowText.{show_text, is_clean}
 
@@ -30,3 +35,13 @@ pub record HasDigested (hex : List ℕ) (old new : Option (List ℕ)) : Type 0 w
   pub octets : List ℕ
   pub spelled : message_of hex ≡ Some octets
   pub printed : Appends old new (digest_line octets)
+
+-- What a request asks for was done. Of a run over sockets no more is said than that it ended.
+abbrev pub HasDone : Request → Option (List ℕ) → Option (List ℕ) → Type 0
+HasDone (Digest hex) old new = HasDigested hex.now old new
+HasDone (Show code iv hex) old new = HasShown code (option_copied iv) hex.now true old new
+HasDone (Net word file turns) old new = ⊤
+
+-- the words ask for a request, and it was done
+abbrev pub DoneAs : List Text → Option (List ℕ) → Option (List ℕ) → Type 0
+DoneAs words old new = (request : Request) × Asks words request × HasDone request old new

@@ -15,11 +15,8 @@ mod stack;
 mod trace;
 mod words;
 
-pub use fault::{LineFault, ScriptFault, SimStatus};
-pub use labels::{Label, Labels};
-pub use line::{Command, read_line};
+pub use fault::{ScriptFault, SimStatus};
 pub use script::run_over;
-pub use settings::{Key, ScriptSettings, Setting};
 pub use stack::{Doing, Event, Refusal, Stack, Standing, Told};
 
 #[cfg(test)]

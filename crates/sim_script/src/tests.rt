@@ -1,7 +1,7 @@
-use crate::{
-    Command, Event, Key, Label, LineFault, Refusal, ScriptSettings, Setting, SimStatus, Stack,
-    Standing, Told, read_line, run_over,
-};
+use crate::labels::Label;
+use crate::line::{Command, read_line};
+use crate::settings::{Key, ScriptSettings, Setting};
+use crate::{Event, Refusal, SimStatus, Stack, Standing, Told, run_over};
 use channels::Note;
 use end_settings::Side;
 use linked_list_allocator::LocalHeap;

@@ -1,0 +1,259 @@
+use crate::program::{run, run_words};
+use crate::status::{Fault, Status};
+use std::env::{Env, FillError};
+use std::io;
+use std::io::{ErrorKind, Write};
+use std::test::Fail;
+
+const HEARTBEAT: &str = "24000000000000001c004c18020000000100000065000000f40100000a00000005000000";
+
+// The code of 8 octets of this one is made under an initial value of its own.
+const CODED: &str =
+    "2c0000000000000024004c180200000001000000640000000000000000000000000000001fce7b94c43aaf48";
+
+const OWN_VALUE: &str = "01000000020000000300000004000000";
+
+/// A writer that fails.
+#[derive(Drop)]
+struct Closed;
+
+impl Write for Closed {
+    fn write(&mut self, _octets: &[u8]) -> io::Result<usize> {
+        Err(io::Error::from(ErrorKind::Other))
+    }
+
+    fn flush(&mut self) -> io::Result<()> {
+        Ok(())
+    }
+}
+
+// What lists of words print on either output, and how they end.
+#[test]
+fn runs_words(rt: HostRuntime) -> Result<(), Fail> {
+    let cases: [(&[&str], Status, &str, &str); 10] = [
+        (
+            &["rasta", "md4", "616263"],
+            Status::Done,
+            "a448017aaf21d8525fc10ae87aa6729d\n",
+            "",
+        ),
+        (
+            &["rasta", "md4", "empty"],
+            Status::Done,
+            "31d6cfe0d16ae931b73c59d7e0c089c0\n",
+            "",
+        ),
+        (
+            &["rasta", "md4", "6162639"],
+            Status::Refused,
+            "",
+            "fault: hex\n",
+        ),
+        (
+            &["rasta", "show", "--code", "0", HEARTBEAT],
+            Status::Done,
+            "red length 36 seq 0\nHB receiver 2 sender 1 sn 101 cs 500 ts 10 cts 5\n",
+            "",
+        ),
+        (
+            &["rasta", "show", "--code", "8", HEARTBEAT],
+            Status::Refused,
+            "red length 36 seq 0\nsafe fault 1 Short\n",
+            "",
+        ),
+        (
+            &["rasta", "show", "--code", "8", "--iv", OWN_VALUE, CODED],
+            Status::Done,
+            "red length 44 seq 0\nHB receiver 2 sender 1 sn 100 cs 0 ts 0 cts 0\n",
+            "",
+        ),
+        (
+            &["rasta", "show", "--code", "8", CODED],
+            Status::Refused,
+            "red length 44 seq 0\nsafe fault 3 Code\n",
+            "",
+        ),
+        (
+            &["rasta", "show", "--code", "8", "--iv", "0102", CODED],
+            Status::Refused,
+            "",
+            "fault: hex\n",
+        ),
+        (
+            &["rasta", "show", "--code", "8", "zz"],
+            Status::Refused,
+            "",
+            "fault: hex\n",
+        ),
+        (
+            &["rasta", "show", "--code", "9", "00"],
+            Status::WrongWords,
+            "",
+            "error: a code has 0, 8 or 16 octets\n\nUsage: rasta show [--iv <iv>] --code <0|8|16> <hex>\n\nFor more information, try 'rasta show --help'.\n",
+        ),
+    ];
+    for (words, status, text, fault) in cases {
+        let mut out = Vec::new(rt.alloc());
+        let mut err = Vec::new(rt.alloc());
+        let ended = run(&rt, words, &mut out, &mut err);
+        assert_eq!(rt; ended, status, "at {words:?}");
+        assert_eq!(rt; out.as_slice(), text.as_bytes(), "at {words:?}");
+        assert_eq!(rt; err.as_slice(), fault.as_bytes(), "at {words:?}");
+    }
+    Ok(())
+}
+
+// Wrong words have their usage on standard error and status 2; help that is asked for is on standard output, with status 0.
+#[test]
+fn tells_wrong_words_from_help(rt: HostRuntime) -> Result<(), Fail> {
+    let wrong: [&[&str]; 6] = [
+        &["rasta"],
+        &["rasta", "shew"],
+        &["rasta", "show", "00"],
+        &["rasta", "show", "--code", "0"],
+        &["rasta", "md4"],
+        &["rasta", "md4", "00", "00"],
+    ];
+    for words in wrong {
+        let mut out = Vec::new(rt.alloc());
+        let mut err = Vec::new(rt.alloc());
+        let ended = run(&rt, words, &mut out, &mut err);
+        assert_eq!(rt; ended, Status::WrongWords, "at {words:?}");
+        assert!(rt; out.is_empty() && !err.is_empty(), "at {words:?}");
+    }
+    let help: [&[&str]; 3] = [
+        &["rasta", "--help"],
+        &["rasta", "show", "--help"],
+        &["rasta", "help"],
+    ];
+    for words in help {
+        let mut out = Vec::new(rt.alloc());
+        let mut err = Vec::new(rt.alloc());
+        let ended = run(&rt, words, &mut out, &mut err);
+        assert_eq!(rt; ended, Status::Done, "at {words:?}");
+        assert!(rt; !out.is_empty() && err.is_empty(), "at {words:?}");
+    }
+    Ok(())
+}
+
+// An output that fails ends each run with status 3; where a fault can't be told, its status stays.
+#[test]
+fn tells_a_failed_output(rt: HostRuntime) -> Result<(), Fail> {
+    let runs: [&[&str]; 4] = [
+        &["rasta", "md4", "616263"],
+        &["rasta", "show", "--code", "0", HEARTBEAT],
+        &["rasta", "show", "--code", "8", HEARTBEAT],
+        &["rasta", "--help"],
+    ];
+    for words in runs {
+        let mut err = Vec::new(rt.alloc());
+        let ended = run(&rt, words, &mut Closed, &mut err);
+        assert_eq!(rt; ended, Status::Failed, "at {words:?}");
+        assert_eq!(rt;
+            err.as_slice(),
+            b"fault: output\n".as_slice(),
+            "at {words:?}"
+        );
+        assert_eq!(rt; ended.code(), 3);
+    }
+    let mut out = Vec::new(rt.alloc());
+    let no_hex = ["rasta", "md4", "6"];
+    assert_eq!(rt; run(&rt, &no_hex, &mut out, &mut Closed), Status::Refused);
+    let no_words = ["rasta"];
+    assert_eq!(rt;
+        run(&rt, &no_words, &mut out, &mut Closed),
+        Status::WrongWords
+    );
+    assert!(rt; out.is_empty());
+    Ok(())
+}
+
+/// A program's path and its words, as octets.
+#[derive(Clone, Copy)]
+struct Called<'a> {
+    words: &'a [&'a [u8]],
+}
+
+impl<'a> Env for Called<'a> {
+    fn arg(&self, i: usize, buf: &mut [u8]) -> Result<usize, FillError> {
+        let Some(word) = self.words.get(i) else {
+            return Err(FillError::NotPresent);
+        };
+        let size = word.len();
+        match buf.get_mut(..size) {
+            Some(front) => {
+                front.copy_from_slice(word);
+                Ok(size)
+            }
+            None => Err(FillError::TooLong),
+        }
+    }
+
+    fn var(&self, _name: &str, _buf: &mut [u8]) -> Result<usize, FillError> {
+        Err(FillError::NotPresent)
+    }
+
+    fn var_at(&self, _i: usize, _buf: &mut [u8]) -> Result<usize, FillError> {
+        Err(FillError::NotPresent)
+    }
+}
+
+// A path of the program that is no UTF-8 text is no word; a word that is none is a fault.
+#[test]
+fn passes_over_its_path(rt: HostRuntime) -> Result<(), Fail> {
+    let cases: [(&[&[u8]], Status, &str, &str); 4] = [
+        (
+            &[b"\xff\xfe/rasta", b"md4", b"616263"],
+            Status::Done,
+            "a448017aaf21d8525fc10ae87aa6729d\n",
+            "",
+        ),
+        (
+            &[b"", b"md4", b"616263"],
+            Status::Done,
+            "a448017aaf21d8525fc10ae87aa6729d\n",
+            "",
+        ),
+        (
+            &[b"rasta", b"md4", b"\xff"],
+            Status::WrongWords,
+            "",
+            "error: a word is no UTF-8 text\n\nUsage: rasta <COMMAND>\n\nFor more information, try 'rasta --help'.\n",
+        ),
+        (
+            &[b"rasta", b"md4", b"6"],
+            Status::Refused,
+            "",
+            "fault: hex\n",
+        ),
+    ];
+    for (words, status, text, fault) in cases {
+        let mut out = Vec::new(rt.alloc());
+        let mut err = Vec::new(rt.alloc());
+        let ended = run_words(&rt, &Called { words }, &mut out, &mut err);
+        assert_eq!(rt; ended, status, "at {words:?}");
+        assert_eq!(rt; out.as_slice(), text.as_bytes(), "at {words:?}");
+        assert_eq!(rt; err.as_slice(), fault.as_bytes(), "at {words:?}");
+    }
+    Ok(())
+}
+
+// The text of each fault, and how the program ends with it.
+#[test]
+fn names_each_fault(rt: HostRuntime) -> Result<(), Fail> {
+    let cases = [
+        (Fault::Hex, "fault: hex", 1),
+        (Fault::File, "fault: file", 1),
+        (Fault::Settings, "fault: settings", 1),
+        (Fault::Memory, "fault: memory", 1),
+        (Fault::Network, "fault: network", 3),
+        (Fault::Clock, "fault: clock", 3),
+        (Fault::Output, "fault: output", 3),
+    ];
+    for (fault, text, code) in cases {
+        let line = format!(in rt.alloc(); "{fault}")?;
+        assert_eq!(rt; line.as_str(), text);
+        assert_eq!(rt; fault.status().code(), code, "at {text}");
+    }
+    Ok(())
+}
