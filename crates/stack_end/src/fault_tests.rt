@@ -113,7 +113,10 @@ impl Station {
 
     /// What the peer has sent comes to the channels, but for one datagram that is lost; then the end polls until nothing is left to take.
     fn turn(&mut self, peer: &Station, lost: usize) -> Result<(), Fail> {
-        while let Some((channel, octets)) = peer.end.channels_seen().inner.sent(self.heard) {
+        for _ in 0..400 {
+            let Some((channel, octets)) = peer.end.channels_seen().inner.sent(self.heard) else {
+                break;
+            };
             if self.heard != lost {
                 self.end.channels().inner.add(channel, octets)?;
             }
@@ -124,6 +127,14 @@ impl Station {
             self.faults = self.faults.wrapping_add(1);
         }
         Ok(())
+    }
+
+    fn put(&mut self, octet: u8) {
+        let _ = self.end.put(0x100, &[octet], self.clock);
+    }
+
+    fn done(&mut self) {
+        let _ = self.end.init_done(self.clock);
     }
 
     fn seen(&self) -> (ConnectionState, Phase) {
@@ -160,10 +171,10 @@ fn run(rt: &HostRuntime, mishap: Mishap) -> Result<(Station, Station), Fail> {
         fe.turn(&il, mishap.lost)?;
         il.turn(&fe, NONE)?;
         if turn == 20 {
-            let _ = fe.end.init_done(fe.clock);
+            fe.done();
         }
         if turn == 40 || turn == 60 {
-            let _ = il.end.put(0x100, &[turn], il.clock);
+            il.put(turn);
         }
     }
     Ok((il, fe))

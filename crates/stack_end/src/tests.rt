@@ -133,7 +133,7 @@ impl Station {
 
     /// The next datagram that the peer sent on this channel comes here; answers whether there was one.
     fn next(&mut self, peer: &Station, on: usize) -> bool {
-        loop {
+        for _ in 0..400 {
             let Some((channel, octets)) = peer.end.channels_seen().sent(self.heard) else {
                 return false;
             };
@@ -143,6 +143,7 @@ impl Station {
                 return true;
             }
         }
+        false
     }
 }
 
