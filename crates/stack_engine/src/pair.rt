@@ -61,8 +61,8 @@ impl<A: Allocator + Copy> Pair<A> {
 
     /// An event happens, exactly as the definition of a pair says.
     ///
-    /// Refused, and the first that holds is named; then nothing changes: `EndNotOpen`, `BadConfig`, `Clock`, `Memory`, `Put` and `Init`
-    /// with their faults.
+    /// Refused, and then nothing changes: `EndNotOpen`, `BadConfig`, `Clock`, and last `Put` and `Init` with their faults, of which the first
+    /// that holds is named; or `Memory`, where a growth was refused, which comes before all others.
     pub fn apply(&mut self, event: &Event<A>) -> Result<(), ApplyFault>
         ensures ok { OnOk result (self.new ≡ self.old ++ event_of event.now ∷ []) }
         ensures err { OnErr result (self.new ≡ self.old) }
