@@ -131,6 +131,10 @@ impl Station {
         (self.end.state(), self.end.phase())
     }
 
+    fn hear_again_from(&mut self, place: usize) {
+        self.heard = place;
+    }
+
     /// The next datagram that the peer sent on this channel comes here; answers whether there was one.
     fn next(&mut self, peer: &Station, on: usize) -> bool {
         for _ in 0..400 {
@@ -202,7 +206,7 @@ fn hears_both_channels(rt: HostRuntime) -> Result<(), Fail> {
     il.put(0x100, 1)?;
     il.put(0x100, 2)?;
     for channel in [2, 1, 2] {
-        fe.heard = heard;
+        fe.hear_again_from(heard);
         for _ in 0..4 {
             let _ = fe.next(&il, channel);
         }
