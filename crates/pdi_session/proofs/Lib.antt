@@ -1,6 +1,7 @@
 pub mod TableLemmas
 pub mod Growing
 pub mod Rows
+mod SessionRow
 pub mod RowLaws
 pub mod Added
 pub mod ItemLists

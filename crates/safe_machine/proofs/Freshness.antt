@@ -8,6 +8,7 @@ use Rattle.safe_machine.specs.declared.ConnectionState.{ConnectionState}
 use Rattle.safe_machine.specs.declared.ConnectionState.TheVariants.{Closed, Down, Start}
 use Rattle.safe_pdu.specs.Pdu.{Pdu}
 use Rattle.safe_machine.specs.Made.{Made, carries, opening_body}
+use Rattle.safe_machine.specs.Numbers.{sn_of}
 use Rattle.safe_machine.specs.Settings.{Settings, is_legal}
 use Rattle.safe_machine.specs.State.{State, unconfirmed, make, move_to, pass, confirm_units, hand_up, note_request, reply, ask, leave, opened, fresh, next_made}
 use Rattle.safe_machine.specs.Decision.{Decision, decide, distance, in_turn}
@@ -18,8 +19,8 @@ use Rattle.safe_machine.specs.World.Event.{Open, Send, Close, Guard, Tick, Arriv
 use Rattle.safe_machine.specs.Law.{Fresh, FreshEvent, AllFresh, FreshLaw, FreshAtLastLaw}
 use Rattle.safe_machine.proofs.Legal.{legal as lawful}
 use Rattle.safe_machine.proofs.Cases.{if_both}
-use Rattle.safe_machine.proofs.Runs.{Every, every-weaken, every-drop_all, at-length}
-use Rattle.safe_machine.proofs.Invariant.{NotOpening, Solo, Half, Pair}
+use Rattle.safe_machine.proofs.Runs.{Every, every-at, every-weaken, every-drop_all, at-length, numbered-at}
+use Rattle.safe_machine.proofs.Invariant.{NotOpening, Solo, Half, Pair, Told}
 use Rattle.safe_machine.proofs.Deciding.{Fits, listens-live, decide-fits}
 use Rattle.safe_machine.proofs.Counting.{Bounded, bounded-guard}
 use Rattle.safe_machine.proofs.Receiving.{Incoming}
@@ -162,6 +163,9 @@ met-arrive clock other now n p x y later h peer bounded bounded_peer short both 
               let live = listens-live g.connection g.settings.client took.table.listens_now in
               let r = fresh-take now now i m rest g y is.0 (omega arith) (guarded live) short a h took in
               let whole : g ≡ x = guard-live now x live in
+              let told : Told g.first y.expected m = every-at (Told g.first y.expected) 0 i y.made m rest a.pair.1.told (omega arith) a.at in
+              let own = numbered-at g.first 0 (m.behind - 1) g.made r.0 r.1 a.pair.0.numbered r.3 in
+              let stamped : Stamped r.0 = every-at Stamped 0 (m.behind - 1) g.made r.0 r.1 h.stamped (omega arith) r.3 in
               record {
                 index = i;
                 carrier = m;
@@ -172,6 +176,8 @@ met-arrive clock other now n p x y later h peer bounded bounded_peer short both 
                 basis = r.0;
                 own_rest = r.1;
                 own_at = subst (λ (z : State). drop (m.behind - 1) z.made ≡ r.0 ∷ r.1) whole r.3;
+                number = own ∙ (ap (sn_of g.first) (omega arith) ∙ sym (told.cs r.2));
+                stamp = stamped ∙ sym (h.cts i (m.behind - 1) m r.0 rest r.1 a.at r.3 (omega (arith, r.2)));
                 recent = subst (λ (z : State). now < r.0.time + z.settings.t_max) whole r.4;
               }
         ]

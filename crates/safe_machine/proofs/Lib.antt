@@ -33,6 +33,8 @@ pub mod Identified
 pub mod Texts
 pub mod Carriers
 pub mod Rows
+mod LossRow
+mod ClosingRow
 pub mod Opened
 pub mod OrderKinds
 pub mod OrderEnds

@@ -123,6 +123,8 @@ pub record Fresh (s : State) (p : Pdu) (now : ℕ) (peer : List Made) : Type 0 w
   pub basis : Made
   pub own_rest : List Made
   pub own_at : drop (carrier.behind - 1) s.made ≡ basis ∷ own_rest
+  pub number : basis.pdu.sn ≡ p.cs  -- the carrier confirms the number of its basis
+  pub stamp : basis.pdu.ts ≡ p.cts  -- and its timestamp
   pub recent : now < basis.time + s.settings.t_max
 
 -- an arrival that hands up a unit is fresh

@@ -1,0 +1,68 @@
+-- A list in order, with all arrived, after which both ends are closed: a closing is allowed in order.
+use Rattle.std.proofs.Common.{◌≡◌, inl, inr, ℕ, List, [], ◌∷◌, true, refl, arith}
+use Rattle.safe_pdu.specs.declared.CodeLength.TheVariants.{Eight}
+use Rattle.safe_pdu.specs.declared.Kind.TheVariants.{ConnReq, ConnResp, Heartbeat, Data, DiscReq}
+use Rattle.safe_pdu.specs.Pdu.{Pdu}
+use Rattle.safe_machine.specs.Numbers.{sn_of, ahead}
+use Rattle.safe_machine.specs.Made.{opening_body, leaving_body}
+use Rattle.safe_machine.specs.Settings.{Settings}
+use Rattle.safe_machine.specs.World.{Event, start, run, Genuine, Timely}
+use Rattle.safe_machine.specs.World.Side.{Il, Fe}
+use Rattle.safe_machine.specs.World.Event.{Open, Send, Close, Arrive}
+use Rattle.safe_machine.specs.InOrder.{InOrder, all_heard_by_il, all_heard_by_fe}
+use Rattle.std.specs.Prelude.{length}
+use Rattle.safe_machine.specs.declared.ConnectionState.TheVariants.{Closed}
+use Rattle.safe_machine.specs.declared.Reason.TheVariants.{ClosedByUser}
+use Rattle.safe_machine.specs.declared.Detail.TheVariants.{Unspecified}
+
+-- the two ends bear 1 and 2, and their first numbers are 10 and 500
+abbrev row_settings : (own peer n_sendmax : ℕ) → Settings
+row_settings own peer n_sendmax =
+    record {
+      client = true;
+      own = own;
+      peer = peer;
+      n_sendmax = n_sendmax;
+      t_max = 1000;
+      t_h = 300;
+      mwa = 4;
+      pdu_limit = 1000;
+      rule = record { length = Eight; initial_value = [] };
+    }
+
+abbrev row_unit : List ℕ
+row_unit = 1 ∷ 2 ∷ 3 ∷ []
+
+abbrev asks : Pdu
+asks = record { kind = ConnReq; receiver = 2; sender = 1; sn = 10; cs = 0; ts = 100; cts = 0; body = opening_body 2 }
+
+abbrev grants : Pdu
+grants = record { kind = ConnResp; receiver = 1; sender = 2; sn = 500; cs = 10; ts = 5010; cts = 100; body = opening_body 3 }
+
+abbrev beats : Pdu
+beats = record { kind = Heartbeat; receiver = 2; sender = 1; sn = 11; cs = 500; ts = 130; cts = 5010; body = [] }
+
+abbrev brings : Pdu
+brings = record { kind = Data; receiver = 2; sender = 1; sn = 12; cs = 500; ts = 140; cts = 5010; body = row_unit }
+
+abbrev leaves : Pdu
+leaves = record { kind = DiscReq; receiver = 2; sender = 1; sn = 12; cs = 500; ts = 140; cts = 5010; body = leaving_body ClosedByUser Unspecified }
+
+abbrev closing_events : List Event
+closing_events =
+    Open Fe (row_settings 2 1 3) 500 5000 ∷ Open Il (row_settings 1 2 2) 10 100 ∷ Arrive Fe asks 5010 ∷ Arrive Il grants 130 ∷ Arrive Fe beats 5040
+    ∷ Close Il ClosedByUser Unspecified 140 ∷ Arrive Fe leaves 5050 ∷ []
+
+pub closing : Genuine closing_events start × Timely closing_events start × InOrder 0 0 closing_events start
+    × (all_heard_by_il closing_events 0 ≡ length (run closing_events start).fe.made) × (all_heard_by_fe closing_events 0 ≡ length (run closing_events start).il.made)
+    × ((run closing_events start).fe.connection ≡ Closed) × ((run closing_events start).il.connection ≡ Closed)
+unfolding sn_of ahead
+closing = (
+  (tt, (tt, ((λ on meant. inl refl), ((λ on meant. inl refl), ((λ on meant. inr (inl refl)), (tt, ((λ on meant. inr (inr (inl refl))), tt))))))),
+  (omega arith, (omega arith, (omega arith, (omega arith, (omega arith, (omega arith, (omega arith, tt))))))),
+  (refl, (refl, (((λ e. cc), record { made = _; later = _; at = refl; is = refl; ours = refl; holds = refl }), (((λ e. cc), record { made = _; later = _; at = refl; is = refl; ours = refl; holds = refl }), (((λ e. cc), record { made = _; later = _; at = refl; is = refl; ours = refl; holds = refl }), (tt, (((λ e. cc), record { made = _; later = _; at = refl; is = refl; ours = refl; holds = refl }), tt))))))),
+  refl,
+  refl,
+  refl,
+  refl,
+)
