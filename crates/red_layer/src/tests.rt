@@ -179,3 +179,13 @@ fn numbers_count_from_zero(rt: HostRuntime) -> Result<(), Fail> {
     assert_eq!(rt; numbers.next(), 2);
     Ok(())
 }
+
+// A receiving half is opened at each q of the profile, and nothing waits in it.
+#[test]
+fn opens_at_each_q(rt: HostRuntime) -> Result<(), Fail> {
+    for q in 1..9 {
+        let layer = RedLayer::open(rt.alloc(), RedConfig { q, t_seq: 50 })?;
+        assert_eq!(rt; layer.deadline(), None, "at {q}");
+    }
+    Ok(())
+}
