@@ -1,14 +1,16 @@
 //! MD4, the decoders and the layers for C, as `bench/` times and compares them. No part of the stack.
 #![tactic(auto)]
 
-ghost use Rattle.std.specs.Prelude.{◌≡◌, ◌<◌, ◌++◌, length};
+ghost use Rattle.std.specs.Prelude.{◌≡◌, ◌<◌, ◌≤◌, ◌++◌, length};
 ghost use Rattle.md4.specs.Digest.{digest};
 
 use md4::{INITIAL_VALUE, Md4};
+use octets::places::put_octets;
 use red_layer::{RedConfig, RedEvent, RedLayer, Upward};
 use safe_pdu::{CodeLength, CodeRule};
 use std::alloc::Global;
 
+mod end;
 mod machine;
 
 /// The digest of octets, written to 16 octets. C: `bench_md4(const uint8_t *, size_t, uint8_t *, size_t)`.
@@ -98,4 +100,16 @@ pub extern "C" fn bench_repeats(alloc: Global, datagrams: &[u8], size: usize, ti
         }
     }
     dropped
+}
+
+/// Writes octets behind the filled front of a row, where there is room, and answers how much is filled then.
+fn append(row: &mut [u8], filled: usize, more: &[u8]) -> usize
+    requires { filled ≤ length row.old }
+    ensures { result ≤ length row.new }
+{
+    if more.len() > row.len() - filled {
+        return filled;
+    }
+    put_octets(row, filled, more);
+    filled + more.len()
 }

@@ -4,11 +4,10 @@ ghost use Rattle.std.specs.Prelude.{◌≡◌, ◌+◌, ◌≤◌, ◌<◌, ◌^
 ghost use Rattle.octets.specs.declared.limits.TheConstants.{UNIT_MAX};
 ghost use Rattle.safe_machine.specs.Moves.{IsUnitSized};
 
-use super::rule_of;
+use crate::{append, rule_of};
 use arrayvec::ArrayVec;
 use linked_list_allocator::LocalHeap;
 use octets::limits::SAFE_PDU_MAX;
-use octets::places::put_octets;
 use safe_machine::{ConnectionState, Machine, MachineConfig, PduOut, Role, Unit, UnitIn};
 use std::alloc::Global;
 
@@ -166,18 +165,6 @@ impl Ends {
             self.client.arrive(heartbeat.pdu.as_slice(), 0, data, units);
         }
     }
-}
-
-/// Writes a PDU behind the filled front of a row, where there is room, and answers how much is filled then.
-fn append(row: &mut [u8], filled: usize, pdu: &[u8]) -> usize
-    requires { filled ≤ length row.old }
-    ensures { result ≤ length row.new }
-{
-    if pdu.len() > row.len() - filled {
-        return filled;
-    }
-    put_octets(row, filled, pdu);
-    filled + pdu.len()
 }
 
 /// A unit of these octets.

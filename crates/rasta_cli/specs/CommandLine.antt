@@ -6,7 +6,7 @@ use Rattle.clap.specs.Words.{App, HasKind, Row, Rule, Text, fault_of, first_of, 
 use Rattle.safe_pdu.specs.declared.CodeLength.{CodeLength}
 use Rattle.safe_pdu.specs.declared.CodeLength.TheVariants.{Zero, Eight, Sixteen}
 use Rattle.rasta_cli.specs.declared.command_line.Request.{Request}
-use Rattle.rasta_cli.specs.declared.command_line.Request.TheVariants.{Digest, Show, Net}
+use Rattle.rasta_cli.specs.declared.command_line.Request.TheVariants.{Digest, Show, Sim, Net}
 use Rattle.rasta_cli.specs.declared.command_line.WordsFault.{WordsFault}
 use Rattle.rasta_cli.specs.declared.command_line.WordsFault.TheVariants.{Words, BadCode, BadTurns, NotText, Memory}
 use Rattle.settings_file.specs.declared.Word.{Word}
@@ -32,6 +32,13 @@ show_app = with_rule coded_app hex_rule
 abbrev pub md4_app : App
 md4_app = with_rule (new_app (codes "md4")) hex_rule
 
+-- sim SCRIPT
+abbrev pub script_rule : Rule
+script_rule = record (new_rule (codes "script")) { required = true }
+
+abbrev pub sim_app : App
+sim_app = with_rule (new_app (codes "sim")) script_rule
+
 -- il FILE --turns N, and so for fe and pair
 abbrev pub ends_word : Word → Text
 ends_word Il = codes "il"
@@ -51,9 +58,13 @@ net_app name = with_rule (with_rule (new_app name) turns_rule) file_rule
 abbrev pub bare_app : App
 bare_app = record (new_app (codes "rasta")) { top = record (new_app (codes "rasta")).top { subcommand_required = true } }
 
--- with the commands that use no sockets
+-- with the commands that read no file
+abbrev pub plain_app : App
+plain_app = with_subcommand (with_subcommand bare_app md4_app.top) show_app.top
+
+-- with those that use no sockets
 abbrev pub local_app : App
-local_app = with_subcommand (with_subcommand bare_app md4_app.top) show_app.top
+local_app = with_subcommand plain_app sim_app.top
 
 abbrev pub rasta_app : App
 rasta_app =
@@ -76,6 +87,7 @@ HasEntries (Digest hex) name rows = (name ≡ codes "md4") × (first_of (codes "
 HasEntries (Show code iv hex) name rows =
     (name ≡ codes "show") × (first_of (codes "code") rows ≡ Some (code_word code)) × (first_of (codes "iv") rows ≡ option_copied iv)
     × (first_of (codes "hex") rows ≡ Some hex.now)
+HasEntries (Sim script) name rows = (name ≡ codes "sim") × (first_of (codes "script") rows ≡ Some script.now)
 HasEntries (Net word file turns) name rows =
     (name ≡ ends_word word) × (first_of (codes "file") rows ≡ Some file.now)
     × ((text : Text) × (first_of (codes "turns") rows ≡ Some text) × IsTurns text turns)

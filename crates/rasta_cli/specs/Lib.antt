@@ -5,4 +5,4 @@ pub mod ShowText
 pub mod Shown
 pub mod CommandLine
 pub mod Status
-pub mod EndLines
+pub mod Waiting

@@ -1,11 +1,7 @@
--- Lines of text.
-use Rattle.std.specs.Prelude.{ℕ, List, [], ◌∷◌, ◌++◌, codes}
+-- The line of a layer's fault.
+use Rattle.std.specs.Prelude.{ℕ, List, [], ◌∷◌, codes}
 use Rattle.std.specs.Fmt.{decimal}
-
--- the pieces, one after the other
-abbrev pub joined : List (List ℕ) → List ℕ
-joined [] = []
-joined (piece ∷ pieces) = piece ++ joined pieces
+use Rattle.sim_script.specs.Lines.{joined}
 
 -- LAYER fault NUMBER NAME
 abbrev pub fault_line : List ℕ → ℕ → List ℕ → List ℕ

@@ -12,7 +12,8 @@ use Rattle.sci_telegram.specs.declared.TeleFault.{TeleFault}
 use Rattle.sci_telegram.specs.declared.TeleFault.TheVariants as telegram
 use Rattle.sci_telegram.specs.Places.{tele_seen}
 use Rattle.sci_telegram.specs.Tele.{Tele}
-use Rattle.rasta_cli.specs.Lines.{joined, fault_line}
+use Rattle.rasta_cli.specs.Lines.{fault_line}
+use Rattle.sim_script.specs.Lines.{joined, octets_text}
 
 abbrev pub unit_number : PackFault → ℕ
 unit_number unit.Empty = 1
@@ -41,11 +42,6 @@ message_label number = joined (codes "message " ∷ decimal number ∷ [])
 abbrev pub names_text : List ℕ → List ℕ → List ℕ
 names_text sender receiver = joined (codes " from " ∷ sender ∷ codes " to " ∷ receiver ∷ codes " payload " ∷ [])
 
--- a payload in hex digits, and a dash for one of no octets
-abbrev pub payload_text : List ℕ → List ℕ
-payload_text [] = codes "-"
-payload_text (octet ∷ octets) = encode_lower (octet ∷ octets)
-
 -- a label and octets in hex digits
 abbrev pub hex_field : List ℕ → List ℕ → List ℕ
 hex_field label octets = label ++ encode_lower octets
@@ -56,7 +52,7 @@ telegram_head number t =
 
 abbrev pub telegram_line : ℕ → Tele → List ℕ
 telegram_line number t =
-    joined (telegram_head number t ∷ names_text t.sender t.receiver ∷ payload_text t.payload ∷ codes "\n" ∷ [])
+    joined (telegram_head number t ∷ names_text t.sender t.receiver ∷ octets_text t.payload ∷ codes "\n" ∷ [])
 
 -- the line of a message, the number-th of its unit from 1, by what is read of it
 abbrev pub message_line : ℕ → Result Tele TeleFault → List ℕ

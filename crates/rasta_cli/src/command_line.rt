@@ -4,7 +4,7 @@ ghost use Rattle.std.specs.Prelude.{◌≡◌, ℕ, [], Some, IsOk, IfOk, IfErr,
 ghost use Rattle.std.specs.Option.{option_copied};
 ghost use Rattle.clap.specs.declared.Command.TheViews.{out-Command};
 ghost use Rattle.clap.specs.Words.{app_of, fault_of, first_of, found_of, rows_of, subcommand_of, subcommand_rows_of};
-ghost use Rattle.rasta_cli.specs.CommandLine.{Asks, FindsNone, HasEntries, HasNoEntries, IsFaultOf, IsFound, IsTurns, Refuses, code_word, coded_app, ends_word, local_app, md4_app, net_app, rasta_app, show_app};
+ghost use Rattle.rasta_cli.specs.CommandLine.{Asks, FindsNone, HasEntries, HasNoEntries, IsFaultOf, IsFound, IsTurns, Refuses, code_word, coded_app, ends_word, local_app, md4_app, net_app, plain_app, rasta_app, show_app, sim_app};
 
 use clap::{Arg, ArgMatches, Command};
 use safe_pdu::CodeLength;
@@ -29,6 +29,11 @@ pub enum Request<'a> {
         iv: Option<&'a str>,
         /// The datagram as hex digits.
         hex: &'a str,
+    },
+    /// `sim SCRIPT`: both ends in memory, as a script plays with them.
+    Sim {
+        /// The name of the script's file.
+        script: &'a str,
     },
     /// `il FILE --turns N`, `fe FILE --turns N` or `pair FILE --turns N`: ends over sockets.
     Net {
@@ -100,6 +105,10 @@ fn asked_by<'a>(name: &str, entries: &ArgMatches<'a>) -> Option<Request<'a>>
             let iv = entry(entries, "iv");
             let hex = entry(entries, "hex")?;
             Some(Request::Show { code, iv, hex })
+        }
+        "sim" => {
+            let script = entry(entries, "script")?;
+            Some(Request::Sim { script })
         }
         _ => {
             let word = ends(name)?;
@@ -185,6 +194,14 @@ fn local_command<'a>(alloc: Global) -> Result<Command<'a>, AllocError>
     ensures app { IfOk result (λ command. app_of command ≡ local_app) }
     ensures local { IfOk result (λ command. (out-Command command).has_globals ≡ false) }
 {
+    plain_command(alloc)?.subcommand(sim_command(alloc)?)
+}
+
+/// The program with the commands that read no file.
+fn plain_command<'a>(alloc: Global) -> Result<Command<'a>, AllocError>
+    ensures app { IfOk result (λ command. app_of command ≡ plain_app) }
+    ensures local { IfOk result (λ command. (out-Command command).has_globals ≡ false) }
+{
     Command::new(alloc, "rasta")
         .about("A proved RaSTA stack: its command line.")
         .after_help(
@@ -234,6 +251,18 @@ fn coded_command<'a>(alloc: Global) -> Result<Command<'a>, AllocError>
         .about("Prints the fields of a captured datagram, or the first fault of each layer")
         .arg(code)?
         .arg(iv)
+}
+
+fn sim_command<'a>(alloc: Global) -> Result<Command<'a>, AllocError>
+    ensures app { IfOk result (λ command. app_of command ≡ sim_app) }
+    ensures local { IfOk result (λ command. (out-Command command).has_globals ≡ false) }
+{
+    let script = Arg::new(alloc, "script")
+        .required(true)
+        .help("The file of the script");
+    Command::new(alloc, "sim")
+        .about("Plays with an interlocking and a field element in memory, as a script says")
+        .arg(script)
 }
 
 fn md4_command<'a>(alloc: Global) -> Result<Command<'a>, AllocError>

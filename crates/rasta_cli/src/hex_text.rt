@@ -1,18 +1,13 @@
-//! Texts of hex digits: reading those of the command line, and writing octets as one.
+//! Texts of hex digits on the command line.
 
-ghost use Rattle.std.specs.Prelude.{◌≡◌, ◌⊎◌, ◌≤◌, None, Some, Err, IfOk, IsErr, OnOk, length};
+ghost use Rattle.std.specs.Prelude.{◌≡◌, ◌⊎◌, None, Some, Err, IfOk, IsErr};
 ghost use Rattle.std.specs.Option.{option_copied};
-ghost use Rattle.std.specs.Io.KnownBytes.{Appends};
-ghost use Rattle.hex.specs.Hex.{encode_lower};
 ghost use Rattle.rasta_cli.specs.HexText.{initial_value_of, octets_of};
 
 use crate::status::Fault;
 use hex::FromHexError;
-use octets::limits::PAYLOAD_MAX;
 use octets::places::u32_at;
 use std::alloc::Global;
-use std::io;
-use std::io::Write;
 
 /// The initial value that 32 hex digits name, least significant octet of each word first.
 pub fn initial_value(iv: Option<&str>) -> Option<[u32; 4]>
@@ -48,15 +43,4 @@ pub fn hex_octets(alloc: Global, text: &str) -> Result<Vec<u8>, Fault>
         Err(FromHexError::OutOfMemory) => Err(Fault::Memory),
         Err(_) => Err(Fault::Hex),
     }
-}
-
-/// Writes octets, at most 357, as hex digits in lower case, two for each.
-pub fn write_hex<W: Write>(writer: &mut W, octets: &[u8]) -> io::Result<()>
-    requires { length octets.now ≤ PAYLOAD_MAX }
-    ensures { OnOk result (Appends (W.contents writer.old) (W.contents writer.new) (encode_lower octets.now)) }
-{
-    let mut text = [0u8; 2 * PAYLOAD_MAX];
-    let (digits, _) = text.split_at_mut(2 * octets.len());
-    let _ = hex::encode_to_slice(octets, digits);
-    writer.write_all(digits)
 }

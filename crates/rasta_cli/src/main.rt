@@ -2,7 +2,6 @@
 #![tactic(auto)]
 
 mod command_line;
-mod end_lines;
 mod hex_text;
 mod lines;
 mod messages;
@@ -11,6 +10,7 @@ mod net;
 mod program;
 mod runs;
 mod show;
+mod sim;
 mod status;
 mod ticking;
 mod turns;

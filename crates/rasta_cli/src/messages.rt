@@ -2,18 +2,18 @@
 
 ghost use Rattle.std.specs.Prelude.{◌≡◌, ◌+◌, ◌≤◌, ◌<◌, ◌^◌, [], ◌∷◌, codes, length, map, OnOk, IfOk};
 ghost use Rattle.std.specs.Io.KnownBytes.{Appends};
-ghost use Rattle.octets.specs.declared.limits.TheConstants.{PAYLOAD_MAX};
 ghost use Rattle.sci_telegram.specs.Places.{tele_seen};
 ghost use Rattle.sci_telegram.specs.Tele.{tele_of};
-ghost use Rattle.rasta_cli.specs.Lines.{fault_line, joined};
-ghost use Rattle.rasta_cli.specs.MessageText.{are_telegrams, hex_field, telegram_head, is_clean_body, is_telegram, message_label, message_line, message_lines, names_text, payload_text, telegram_line, unit_lines, unit_text, is_clean_unit};
+ghost use Rattle.rasta_cli.specs.Lines.{fault_line};
+ghost use Rattle.sim_script.specs.Lines.{joined};
+ghost use Rattle.rasta_cli.specs.MessageText.{are_telegrams, hex_field, telegram_head, is_clean_body, is_telegram, message_label, message_line, message_lines, names_text, telegram_line, unit_lines, unit_text, is_clean_unit};
 ghost use Rattle.packing.specs.Places.{unit_seen};
 
-use crate::hex_text::write_hex;
-use crate::lines::{write_fault, write_text};
+use crate::lines::write_fault;
 use crate::names::{name_of_telegram, name_of_unit, number_of_telegram, number_of_unit};
 use safe_pdu::Kind;
 use sci_telegram::Telegram;
+use sim_script::{write_hex, write_octets, write_text};
 use std::io;
 use std::io::Write;
 
@@ -100,12 +100,11 @@ fn write_telegram<W: Write>(
     number: usize,
     telegram: &Telegram<'_>,
 ) -> io::Result<()>
-    requires { length telegram.now.payload.now ≤ PAYLOAD_MAX }
     ensures { OnOk result (Appends (W.contents writer.old) (W.contents writer.new) (telegram_line number (tele_of telegram.now))) }
 {
     write_head(writer, number, telegram)?;
     write_names(writer, telegram.sender.as_str(), telegram.receiver.as_str())?;
-    write_payload(writer, telegram.payload)?;
+    write_octets(writer, telegram.payload)?;
     write_text(writer, "\n")
 }
 
@@ -117,9 +116,8 @@ fn write_head<W: Write>(writer: &mut W, number: usize, telegram: &Telegram<'_>) 
     write_hex_field(writer, " type ", &telegram.kind.to_be_bytes())
 }
 
-/// Writes a label and octets, at most 357, in hex digits.
+/// Writes a label and octets in hex digits.
 fn write_hex_field<W: Write>(writer: &mut W, label: &str, octets: &[u8]) -> io::Result<()>
-    requires { length octets.now ≤ PAYLOAD_MAX }
     ensures { OnOk result (Appends (W.contents writer.old) (W.contents writer.new) (hex_field label.now octets.now)) }
 {
     write_text(writer, label)?;
@@ -136,14 +134,4 @@ fn write_names<W: Write>(writer: &mut W, sender: &str, receiver: &str) -> io::Re
     ensures { OnOk result (Appends (W.contents writer.old) (W.contents writer.new) (names_text sender.now receiver.now)) }
 {
     write!(writer, " from {sender} to {receiver} payload ")
-}
-
-fn write_payload<W: Write>(writer: &mut W, payload: &[u8]) -> io::Result<()>
-    requires { length payload.now ≤ PAYLOAD_MAX }
-    ensures { OnOk result (Appends (W.contents writer.old) (W.contents writer.new) (payload_text payload.now)) }
-{
-    match payload {
-        [] => write_text(writer, "-"),
-        octets => write_hex(writer, octets),
-    }
 }

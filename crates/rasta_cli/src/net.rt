@@ -1,6 +1,8 @@
 //! Ends over sockets: the words il, fe and pair.
 
 ghost use Rattle.std.specs.Prelude.{◌≡◌, ◌≢◌, ◌≤◌, ◌^◌, IfOk};
+ghost use Rattle.stack_end.specs.Deadlines.{earliest};
+ghost use Rattle.rasta_cli.specs.Waiting.{pause_of};
 
 use crate::runs::report;
 use crate::status::{Fault, Status};
@@ -11,6 +13,7 @@ use end_settings::Side;
 use settings_file::{Ends, Settings, SettingsFault, Word, settings};
 use stack_end::{End, OpenFault};
 use std::alloc::Global;
+use std::cmp::min;
 use std::io::Write;
 use std::net::Net;
 use std::time::{Clock, Duration};
@@ -181,9 +184,9 @@ fn opened<'a>(
     }
 }
 
-/// How long to wait, in milliseconds: no longer than to the deadline.
+/// How long to wait, in milliseconds: to the deadline, and no longer than the longest wait.
 fn pause(now: u64, deadline: Option<u64>) -> u64
-    ensures { result ≤ WAIT_MAX }
+    ensures { result ≡ pause_of WAIT_MAX now deadline }
 {
     match deadline {
         Some(deadline) => deadline.saturating_sub(now).min(WAIT_MAX),
@@ -191,11 +194,13 @@ fn pause(now: u64, deadline: Option<u64>) -> u64
     }
 }
 
-fn earlier(first: Option<u64>, second: Option<u64>) -> Option<u64> {
+/// The earlier of two deadlines, where there is one.
+fn earlier(first: Option<u64>, second: Option<u64>) -> Option<u64>
+    ensures { result ≡ earliest first second }
+{
     match (first, second) {
-        (Some(first), Some(second)) => Some(first.min(second)),
-        (Some(time), None) | (None, Some(time)) => Some(time),
-        (None, None) => None,
+        (None, deadline) | (deadline, None) => deadline,
+        (Some(first), Some(second)) => Some(min(first, second)),
     }
 }
 

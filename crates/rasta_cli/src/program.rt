@@ -9,6 +9,7 @@ ghost use Rattle.rasta_cli.specs.Status.{EndsBy};
 use crate::command_line::{Request, WordsFault, command};
 use crate::net::run_net;
 use crate::runs::{report, run_md4, run_show};
+use crate::sim::run_sim;
 use crate::status::{Fault, Status};
 use clap::error::ErrorKind;
 use settings_file::Word;
@@ -48,8 +49,26 @@ pub fn run<R: AllocGlobal + Files + Net + Clock, S: AsStr, O: Write, E: Write>(
     match command(rt.alloc(), words) {
         Ok(Request::Digest { hex }) => run_md4(rt.alloc(), hex, out, err),
         Ok(Request::Show { code, iv, hex }) => run_show(rt.alloc(), code, iv, hex, out, err),
+        Ok(Request::Sim { script }) => run_script(rt, script, out, err),
         Ok(Request::Net { word, file, turns }) => run_file(rt, word, file, turns, out, err),
         Err(fault) => refuse(&fault, out, err),
+    }
+}
+
+/// Runs the script of a file.
+fn run_script<R: AllocGlobal + Files, O: Write, E: Write>(
+    rt: &R,
+    script: &str,
+    out: &mut O,
+    err: &mut E,
+) -> Status {
+    match fs::open(rt, script) {
+        Ok(file) => run_sim(rt.alloc(), file, out, err),
+        Err(error) if matches!(error.kind(), io::ErrorKind::OutOfMemory) => report(
+            err,
+            Fault::Memory,
+        ),
+        Err(_) => report(err, Fault::File),
     }
 }
 

@@ -7,10 +7,11 @@ ghost use Rattle.rasta_cli.specs.HexText.{initial_value_of, message_of, octets_o
 ghost use Rattle.rasta_cli.specs.Shown.{HasDigested, HasShown, digest_line};
 ghost use Rattle.rasta_cli.specs.Status.{status_of};
 
-use crate::hex_text::{hex_octets, initial_value, write_hex};
+use crate::hex_text::{hex_octets, initial_value};
 use crate::show::show;
 use crate::status::{Fault, Status};
 use safe_pdu::{CodeLength, CodeRule};
+use sim_script::write_hex;
 use std::alloc::Global;
 use std::io;
 use std::io::Write;

@@ -2,16 +2,17 @@
 
 ghost use Rattle.std.specs.Prelude.{◌≡◌, ◌≤◌, ◌^◌};
 
-use crate::end_lines::{
-    name_of_init_fault, name_of_put_fault, write_refused, write_report, write_take,
-};
 use crate::status::Fault;
 use channels::Channels;
 use end_settings::Side;
 use pdi_session::{InitFault, Phase, PutFault, Taker};
 use settings_file::Put;
+use sim_script::{
+    Standing, init_fault_name, put_fault_name, write_refusal, write_report, write_take,
+};
 use stack_end::End;
 use std::alloc::{Allocator, Global};
+use std::io;
 use std::io::Write;
 
 /// Prints each telegram that the application takes, until an output fails.
@@ -28,9 +29,17 @@ impl<W: Write> Taker for Printer<'_, W> {
 
     fn take(&mut self, kind: u16, payload: &[u8]) {
         self.taken = self.taken.wrapping_add(1);
-        if !self.failed && write_take(self.writer, self.side, kind, payload).is_err() {
+        if !self.failed && self.print(kind, payload).is_err() {
             self.failed = true;
         }
+    }
+}
+
+impl<W: Write> Printer<'_, W> {
+    /// Prints a telegram's line, and sends it off at once.
+    fn print(&mut self, kind: u16, payload: &[u8]) -> io::Result<()> {
+        write_take(self.writer, self.side, kind, payload)?;
+        self.writer.flush()
     }
 }
 
@@ -80,8 +89,13 @@ impl<'a, C: Channels, A: Allocator + Copy> Actor<'a, C, A> {
 
     /// Writes how the end stands. Refused as Output.
     pub fn report<W: Write>(&self, writer: &mut W) -> Result<(), Fault> {
-        let (state, phase) = (self.end.state(), self.end.phase());
-        match write_report(writer, self.side, state, phase, self.put, self.taken) {
+        let standing = Standing {
+            state: self.end.state(),
+            phase: self.end.phase(),
+            put: self.put,
+            taken: self.taken,
+        };
+        match write_report(writer, self.side, Some(standing)) {
             Ok(()) => Ok(()),
             Err(_) => Err(Fault::Output),
         }
@@ -120,7 +134,7 @@ impl<'a, C: Channels, A: Allocator + Copy> Actor<'a, C, A> {
                     return Ok(());
                 }
                 Err(fault) => {
-                    if write_refused(writer, name_of_put_fault(fault)).is_err() {
+                    if write_refusal(writer, put_fault_name(fault)).is_err() {
                         return Err(Fault::Output);
                     }
                 }
@@ -141,7 +155,7 @@ impl<'a, C: Channels, A: Allocator + Copy> Actor<'a, C, A> {
         }
         match self.end.init_done(now) {
             Ok(()) | Err(InitFault::Full) => Ok(()),
-            Err(fault) => match write_refused(writer, name_of_init_fault(fault)) {
+            Err(fault) => match write_refusal(writer, init_fault_name(fault)) {
                 Ok(()) => Ok(()),
                 Err(_) => Err(Fault::Output),
             },

@@ -1,0 +1,3 @@
+pub mod HexLines
+pub mod LedgerLemmas
+pub mod MadeLemmas

@@ -7,17 +7,21 @@
 mod fault;
 mod labels;
 mod line;
+mod lines;
+mod made;
 mod names;
 mod script;
 mod settings;
 mod sides;
-mod stack;
 mod trace;
 mod words;
 
 pub use fault::{ScriptFault, SimStatus};
-pub use script::run_over;
-pub use stack::{Doing, Event, Refusal, Stack, Standing, Told};
+pub use lines::{
+    Standing, write_hex, write_octets, write_refusal, write_report, write_take, write_text,
+};
+pub use names::{init_fault_name, put_fault_name};
+pub use script::run;
 
 #[cfg(test)]
 mod tests;

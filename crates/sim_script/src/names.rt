@@ -1,15 +1,21 @@
-//! The words in which scripts and traces name things.
+//! The words in which scripts, traces and reports name things.
 
-use crate::stack::Refusal;
+ghost use Rattle.std.specs.Prelude.{◌≡◌};
+ghost use Rattle.std.specs.Option.{option_copied};
+ghost use Rattle.sim_script.specs.Names as names;
+
 use end_settings::Side;
 use pdi_session::{InitFault, Phase, PutFault};
 use red_layer::RedEvent;
 use red_pdu::RedFault;
 use safe_machine::{ConnectionState, DropCause, Step};
 use safe_pdu::SafeFault;
+use stack_engine::ApplyFault;
 
-/// The word for an end.
-pub fn side_name(side: Side) -> &'static str {
+/// The word for an end: `il` or `fe`.
+pub fn side_name(side: Side) -> &'static str
+    ensures { result.now ≡ names.side_name side }
+{
     match side {
         Side::Interlocking => "il",
         Side::FieldElement => "fe",
@@ -17,15 +23,19 @@ pub fn side_name(side: Side) -> &'static str {
 }
 
 /// The letter with which the labels of an end's PDUs begin.
-pub fn side_letter(side: Side) -> char {
+pub fn side_letter(side: Side) -> &'static str
+    ensures { result.now ≡ names.side_letter side }
+{
     match side {
-        Side::Interlocking => 'i',
-        Side::FieldElement => 'f',
+        Side::Interlocking => "i",
+        Side::FieldElement => "f",
     }
 }
 
 /// The name of a connection's state.
-pub fn state_name(state: ConnectionState) -> &'static str {
+pub fn state_name(state: ConnectionState) -> &'static str
+    ensures { result.now ≡ names.state_name state }
+{
     match state {
         ConnectionState::Closed => "Closed",
         ConnectionState::Down => "Down",
@@ -37,7 +47,9 @@ pub fn state_name(state: ConnectionState) -> &'static str {
 }
 
 /// The name of a session's phase.
-pub fn phase_name(phase: Phase) -> &'static str {
+pub fn phase_name(phase: Phase) -> &'static str
+    ensures { result.now ≡ names.phase_name phase }
+{
     match phase {
         Phase::Idle => "Idle",
         Phase::Checking => "Checking",
@@ -51,24 +63,46 @@ pub fn phase_name(phase: Phase) -> &'static str {
     }
 }
 
+/// The name of a telegram's refusal.
+pub fn put_fault_name(fault: PutFault) -> &'static str
+    ensures { result.now ≡ names.put_fault_name fault }
+{
+    match fault {
+        PutFault::NotEstablished => "NotEstablished",
+        PutFault::Full => "Full",
+        PutFault::ReservedType => "ReservedType",
+        PutFault::TooLong => "TooLong",
+    }
+}
+
+/// The name of the refusal of an initialisation's end.
+pub fn init_fault_name(fault: InitFault) -> &'static str
+    ensures { result.now ≡ names.init_fault_name fault }
+{
+    match fault {
+        InitFault::NotInitialising => "NotInitialising",
+        InitFault::Full => "Full",
+    }
+}
+
 /// The name of a refusal.
-pub fn refusal_name(refusal: Refusal) -> &'static str {
+pub fn refusal_name(refusal: ApplyFault) -> &'static str
+    ensures { result.now ≡ names.refusal_name refusal }
+{
     match refusal {
-        Refusal::Memory => "Memory",
-        Refusal::EndNotOpen => "EndNotOpen",
-        Refusal::BadConfig => "BadConfig",
-        Refusal::Clock => "Clock",
-        Refusal::Put(PutFault::NotEstablished) => "NotEstablished",
-        Refusal::Put(PutFault::Full) => "Full",
-        Refusal::Put(PutFault::ReservedType) => "ReservedType",
-        Refusal::Put(PutFault::TooLong) => "TooLong",
-        Refusal::Init(InitFault::NotInitialising) => "NotInitialising",
-        Refusal::Init(InitFault::Full) => "Full",
+        ApplyFault::Memory => "Memory",
+        ApplyFault::EndNotOpen => "EndNotOpen",
+        ApplyFault::BadConfig => "BadConfig",
+        ApplyFault::Clock => "Clock",
+        ApplyFault::Put(fault) => put_fault_name(fault),
+        ApplyFault::Init(fault) => init_fault_name(fault),
     }
 }
 
 /// Why the redundancy layer dropped a datagram; `None` where it passed it on or lets it wait.
-pub fn red_cause(event: RedEvent) -> Option<&'static str> {
+pub fn red_cause(event: RedEvent) -> Option<&'static str>
+    ensures { option_copied result ≡ names.red_cause event }
+{
     match event {
         RedEvent::Passed | RedEvent::Wait => None,
         RedEvent::Old => Some("old"),
@@ -82,7 +116,9 @@ pub fn red_cause(event: RedEvent) -> Option<&'static str> {
 }
 
 /// Why the safety machine dropped a part; `None` where it did not.
-pub fn step_cause(step: Step) -> Option<&'static str> {
+pub fn step_cause(step: Step) -> Option<&'static str>
+    ensures { option_copied result ≡ names.step_cause step }
+{
     match step {
         Step::Dropped(cause) => Some(drop_cause(cause)),
         Step::Gap => Some("gap"),
@@ -90,7 +126,9 @@ pub fn step_cause(step: Step) -> Option<&'static str> {
     }
 }
 
-fn drop_cause(cause: DropCause) -> &'static str {
+fn drop_cause(cause: DropCause) -> &'static str
+    ensures { result.now ≡ names.drop_cause cause }
+{
     match cause {
         DropCause::Fault(SafeFault::Short) => "Short",
         DropCause::Fault(SafeFault::Length) => "Length",

@@ -1,14 +1,15 @@
 //! Running a script, line by line.
 
 use crate::fault::{LineFault, ScriptFault, SimStatus};
-use crate::labels::Label;
+use crate::labels::{Label, Labels};
 use crate::line::{Command, ZEROS_MAX, read_line};
+use crate::lines::Standing;
 use crate::names::refusal_name;
 use crate::settings::ScriptSettings;
 use crate::sides::{Sides, other};
-use crate::stack::{Doing, Event, Refusal, Stack};
 use crate::trace::{Happening, Trace};
 use end_settings::Side;
+use stack_engine::{ApplyFault, Call, Doing, Event, Pair};
 use std::alloc::Allocator;
 use std::io;
 use std::io::{ErrorKind, Read, Write};
@@ -22,14 +23,13 @@ const CLOCK_MAX: u64 = 1 << 62;
 /// Runs the script that a reader holds, on two ends that were never opened. Its lines go to `out`, a fault to `err`.
 ///
 /// What was printed before a fault stays printed; a report follows where the script ran to its end.
-pub fn run_over<S: Stack + Drop, R: Read + Drop, O: Write, E: Write, A: Allocator + Copy>(
+pub fn run<R: Read + Drop, O: Write, E: Write, A: Allocator + Copy>(
     alloc: A,
-    stack: S,
     reader: R,
     out: &mut O,
     err: &mut E,
 ) -> SimStatus {
-    match run(alloc, stack, reader, out) {
+    match ran(alloc, reader, out) {
         Ok(()) => SimStatus::Done,
         Err(fault) => {
             // Where this output fails too, the status alone tells.
@@ -40,9 +40,8 @@ pub fn run_over<S: Stack + Drop, R: Read + Drop, O: Write, E: Write, A: Allocato
 }
 
 /// Runs the script that a reader holds.
-fn run<S: Stack + Drop, R: Read + Drop, O: Write, A: Allocator + Copy>(
+fn ran<R: Read + Drop, O: Write, A: Allocator + Copy>(
     alloc: A,
-    stack: S,
     reader: R,
     out: &mut O,
 ) -> Result<(), ScriptFault> {
@@ -55,7 +54,7 @@ fn run<S: Stack + Drop, R: Read + Drop, O: Write, A: Allocator + Copy>(
     };
     let mut script = Script {
         alloc,
-        stack,
+        pair: Pair::new(alloc),
         settings,
         clocks: Sides { il: 0, fe: 0 },
         trace,
@@ -82,15 +81,15 @@ fn read<R: Read + Drop, A: Allocator + Copy>(
 
 /// A script that runs.
 #[derive(Drop)]
-struct Script<S: Stack + Drop, W: Write + Drop, A: Allocator + Copy> {
+struct Script<W: Write + Drop, A: Allocator + Copy> {
     alloc: A,
-    stack: S,
+    pair: Pair<A>,
     settings: ScriptSettings,
     clocks: Sides<u64>,
     trace: Trace<W, A>,
 }
 
-impl<S: Stack + Drop, W: Write + Drop, A: Allocator + Copy> Script<S, W, A> {
+impl<W: Write + Drop, A: Allocator + Copy> Script<W, A> {
     /// Runs the lines of a text, and prints the report.
     fn lines(&mut self, text: &str) -> Result<(), ScriptFault> {
         let mut number = 0u64;
@@ -109,7 +108,7 @@ impl<S: Stack + Drop, W: Write + Drop, A: Allocator + Copy> Script<S, W, A> {
 
     fn report(&mut self) -> Result<(), LineFault> {
         for side in [Side::Interlocking, Side::FieldElement] {
-            self.trace.report(side, self.stack.standing(side))?;
+            self.trace.report(side, standing(&self.pair, side))?;
         }
         Ok(())
     }
@@ -120,8 +119,8 @@ impl<S: Stack + Drop, W: Write + Drop, A: Allocator + Copy> Script<S, W, A> {
             Command::Give(label, channel) => self.give(label, channel),
             Command::Hit(label, channel, place, bits) => self.hit(label, channel, place, bits),
             Command::Lose(label) => {
-                let place = self.find(label)?;
-                self.trace.labels.name(place);
+                self.check_label(label)?;
+                self.trace.labels.name(label);
                 Ok(())
             }
             Command::Flow(channels) => self.flow(channels.as_slice()),
@@ -129,10 +128,10 @@ impl<S: Stack + Drop, W: Write + Drop, A: Allocator + Copy> Script<S, W, A> {
             Command::PutZeros(side, kind, length) => self.put_zeros(side, kind, length),
             Command::PutCounted(side, count, kind) => self.put_counted(side, count, kind),
             Command::Clock(side, now) => self.set_clock(side, now),
-            Command::Tick(side) => self.tick(side),
+            Command::Tick(side) => self.call(side, Call::Tick),
             Command::Open(side) => self.open(side),
-            Command::Close(side) => self.close(side),
-            Command::InitDone => self.init_done(),
+            Command::Close(side) => self.call(side, Call::Close),
+            Command::InitDone => self.call(Side::FieldElement, Call::InitDone),
             Command::Establish => self.establish(),
             Command::Set(setting) => {
                 self.settings.set(setting);
@@ -149,70 +148,66 @@ impl<S: Stack + Drop, W: Write + Drop, A: Allocator + Copy> Script<S, W, A> {
         }
     }
 
+    fn call(&mut self, side: Side, call: Call<'_>) -> Result<(), LineFault> {
+        let now = *self.clocks.of(side);
+        let is_tick = matches!(call, Call::Tick);
+        let event = Event {
+            side,
+            time: now,
+            doing: Doing::Call(call),
+        };
+        self.happen(&event, is_tick)
+    }
+
     /// Lets an event happen, but a delivery, and prints what it did or why it is refused.
-    fn happen(&mut self, event: &Event<'_>) -> Result<(), LineFault> {
-        if let Err(refusal) = self.stack.apply(event) {
-            return self.trace.refuse(refusal_name(refusal));
+    fn happen(&mut self, event: &Event<'_>, is_tick: bool) -> Result<(), LineFault> {
+        match self.pair.apply(event) {
+            Ok(()) => self.tell(Happening {
+                side: event.side,
+                came: None,
+                is_tick,
+            }),
+            Err(fault) => self.trace.refuse(refusal_name(fault)),
         }
-        if matches!(event.doing, Doing::Open(_, _)) {
-            self.trace.forget_waiting(event.side);
-        }
-        self.tell(Happening {
-            side: event.side,
-            came: None,
-            is_tick: matches!(event.doing, Doing::Tick),
-        })
     }
 
     /// Prints what the last event did.
     fn tell(&mut self, happening: Happening) -> Result<(), LineFault> {
         self.trace.begin();
-        for place in 0..self.stack.told_count() {
-            if let Some(told) = self.stack.told(place) {
-                self.trace.tell(happening, told)?;
+        if let Some(notes) = self.pair.notes() {
+            for place in 0..notes.len() {
+                if let Some(told) = notes.get(place) {
+                    self.trace.tell(happening, told)?;
+                }
             }
         }
         self.trace.finish()
     }
 
     fn open(&mut self, side: Side) -> Result<(), LineFault> {
-        let now = *self.clocks.of(side);
         let event = Event {
             side,
-            now,
-            doing: Doing::Open(self.settings.config(side), self.settings.first_sn(side)),
+            time: *self.clocks.of(side),
+            doing: Doing::Open {
+                config: self.settings.config(side),
+                first_sn: self.settings.first_sn(side),
+            },
         };
-        self.happen(&event)
-    }
-
-    fn close(&mut self, side: Side) -> Result<(), LineFault> {
-        let now = *self.clocks.of(side);
-        let event = Event {
-            side,
-            now,
-            doing: Doing::Close,
-        };
-        self.happen(&event)
-    }
-
-    fn tick(&mut self, side: Side) -> Result<(), LineFault> {
-        let now = *self.clocks.of(side);
-        let event = Event {
-            side,
-            now,
-            doing: Doing::Tick,
-        };
-        self.happen(&event)
+        match self.pair.apply(&event) {
+            Ok(()) => {
+                self.trace.forget_waiting(side);
+                self.tell(Happening {
+                    side,
+                    came: None,
+                    is_tick: false,
+                })
+            }
+            Err(fault) => self.trace.refuse(refusal_name(fault)),
+        }
     }
 
     fn put(&mut self, side: Side, kind: u16, payload: &[u8]) -> Result<(), LineFault> {
-        let now = *self.clocks.of(side);
-        let event = Event {
-            side,
-            now,
-            doing: Doing::Put(kind, payload),
-        };
-        self.happen(&event)
+        self.call(side, Call::Put { kind, payload })
     }
 
     fn put_zeros(&mut self, side: Side, kind: u16, length: usize) -> Result<(), LineFault> {
@@ -230,27 +225,19 @@ impl<S: Stack + Drop, W: Write + Drop, A: Allocator + Copy> Script<S, W, A> {
         Ok(())
     }
 
-    fn init_done(&mut self) -> Result<(), LineFault> {
-        self.happen(&Event {
-            side: Side::FieldElement,
-            now: self.clocks.fe,
-            doing: Doing::InitDone,
-        })
-    }
-
     /// Opens both ends, and lets all that they make arrive until a session is set up.
     fn establish(&mut self) -> Result<(), LineFault> {
         self.open(Side::FieldElement)?;
         self.open(Side::Interlocking)?;
         self.flow(&[1])?;
-        self.init_done()?;
+        self.call(Side::FieldElement, Call::InitDone)?;
         self.flow(&[1])
     }
 
     fn set_clock(&mut self, side: Side, now: u64) -> Result<(), LineFault> {
         let clock = self.clocks.of_mut(side);
         if now < *clock || now > CLOCK_MAX {
-            return self.trace.refuse(refusal_name(Refusal::Clock));
+            return self.trace.refuse(refusal_name(ApplyFault::Clock));
         }
         *clock = now;
         Ok(())
@@ -258,37 +245,33 @@ impl<S: Stack + Drop, W: Write + Drop, A: Allocator + Copy> Script<S, W, A> {
 
     fn give(&mut self, label: Label, channel: u64) -> Result<(), LineFault> {
         self.check_channel(channel)?;
-        let place = self.find(label)?;
-        self.trace.labels.name(place);
-        self.deliver(place, channel)
+        self.check_label(label)?;
+        self.trace.labels.name(label);
+        self.deliver(label, channel)
     }
 
     fn hit(&mut self, label: Label, channel: u64, at: u64, bits: u8) -> Result<(), LineFault> {
         self.check_channel(channel)?;
-        let place = self.find(label)?;
-        let side = self.receiver(place)?;
-        let now = *self.clocks.of(side);
-        let is_on = self.trace.is_on;
-        let datagram = self
-            .trace
-            .labels
-            .datagram(place)
-            .ok_or(LineFault::NoSuchLabel)?;
+        self.check_label(label)?;
+        let datagram = datagram(&self.trace.labels, label)?;
         let mut damaged = Vec::from_slice(self.alloc, datagram)?;
         match damaged.get_mut(at as usize) {
             Some(octet) => *octet ^= bits,
             None => return Err(LineFault::Unreadable),
         }
-        self.trace.labels.name(place);
+        self.trace.labels.name(label);
+        let side = other(label.side);
+        let now = *self.clocks.of(side);
+        let is_on = self.trace.is_on;
         let arrival = arrive(
-            &mut self.stack,
+            &mut self.pair,
             side,
             now,
             channel,
             damaged.as_slice(),
             is_on,
         );
-        self.arrived(side, place, arrival)
+        self.arrived(label, arrival)
     }
 
     fn flow(&mut self, channels: &[u64]) -> Result<(), LineFault> {
@@ -296,12 +279,12 @@ impl<S: Stack + Drop, W: Write + Drop, A: Allocator + Copy> Script<S, W, A> {
             self.check_channel(*channel)?;
         }
         for _ in 0..FLOW_MAX {
-            let Some(place) = self.trace.labels.first_unnamed() else {
+            let Some(label) = self.trace.labels.first_unnamed() else {
                 break;
             };
-            self.trace.labels.name(place);
+            self.trace.labels.name(label);
             for channel in channels {
-                self.deliver(place, *channel)?;
+                self.deliver(label, *channel)?;
             }
         }
         Ok(())
@@ -314,42 +297,31 @@ impl<S: Stack + Drop, W: Write + Drop, A: Allocator + Copy> Script<S, W, A> {
         Ok(())
     }
 
-    /// The place of the PDU of a label.
-    fn find(&self, label: Label) -> Result<usize, LineFault> {
-        self.trace.labels.find(label).ok_or(LineFault::NoSuchLabel)
+    /// The PDU of a label is made.
+    fn check_label(&self, label: Label) -> Result<(), LineFault> {
+        let _datagram = datagram(&self.trace.labels, label)?;
+        Ok(())
     }
 
     /// Delivers the datagram of a PDU to the end that did not make it.
-    fn deliver(&mut self, place: usize, channel: u64) -> Result<(), LineFault> {
-        let side = self.receiver(place)?;
+    fn deliver(&mut self, label: Label, channel: u64) -> Result<(), LineFault> {
+        let side = other(label.side);
         let now = *self.clocks.of(side);
         let is_on = self.trace.is_on;
-        let datagram = self
-            .trace
-            .labels
-            .datagram(place)
-            .ok_or(LineFault::NoSuchLabel)?;
-        let arrival = arrive(&mut self.stack, side, now, channel, datagram, is_on);
-        self.arrived(side, place, arrival)
-    }
-
-    /// The end to which the datagram of a PDU is delivered.
-    fn receiver(&self, place: usize) -> Result<Side, LineFault> {
-        match self.trace.labels.label(place) {
-            Some(label) => Ok(other(label.side)),
-            None => Err(LineFault::NoSuchLabel),
-        }
+        let datagram = datagram(&self.trace.labels, label)?;
+        let arrival = arrive(&mut self.pair, side, now, channel, datagram, is_on);
+        self.arrived(label, arrival)
     }
 
     /// Prints what a delivery did.
-    fn arrived(&mut self, side: Side, place: usize, arrival: Arrival) -> Result<(), LineFault> {
+    fn arrived(&mut self, label: Label, arrival: Arrival) -> Result<(), LineFault> {
         if arrival.is_dead {
-            self.trace.warn(place)?;
+            self.trace.warn(label)?;
         }
         match arrival.answer {
             Ok(()) => self.tell(Happening {
-                side,
-                came: Some(place),
+                side: other(label.side),
+                came: Some(label),
                 is_tick: false,
             }),
             Err(refusal) => self.trace.refuse(refusal_name(refusal)),
@@ -357,17 +329,22 @@ impl<S: Stack + Drop, W: Write + Drop, A: Allocator + Copy> Script<S, W, A> {
     }
 }
 
+/// The datagram of a PDU. Refused as `NoSuchLabel`, where it is not made yet.
+fn datagram<A: Allocator>(labels: &Labels<A>, label: Label) -> Result<&[u8], LineFault> {
+    labels.datagram(label).ok_or(LineFault::NoSuchLabel)
+}
+
 /// How a delivery went.
 #[derive(Clone, Copy, Debug)]
 struct Arrival {
     /// It broke the premise that valid datagrams carry live PDUs.
     is_dead: bool,
-    answer: Result<(), Refusal>,
+    answer: Result<(), ApplyFault>,
 }
 
 /// Lets octets arrive at an end.
-fn arrive<S: Stack>(
-    stack: &mut S,
+fn arrive<A: Allocator + Copy>(
+    pair: &mut Pair<A>,
     side: Side,
     now: u64,
     channel: u64,
@@ -375,14 +352,29 @@ fn arrive<S: Stack>(
     is_traced: bool,
 ) -> Arrival {
     // The question is dear, and its answer is for traces alone.
-    let is_dead = is_traced && stack.breaks_premise(side, octets);
+    let is_dead = is_traced && pair.breaks_premise(side, octets);
+    let channel = channel as usize;
+    let call = Call::Deliver { channel, octets };
     let event = Event {
         side,
-        now,
-        doing: Doing::Deliver(channel, octets),
+        time: now,
+        doing: Doing::Call(call),
     };
     Arrival {
         is_dead,
-        answer: stack.apply(&event),
+        answer: pair.apply(&event),
     }
+}
+
+/// How an end stands; `None` where it was never opened.
+fn standing<A: Allocator + Copy>(pair: &Pair<A>, side: Side) -> Option<Standing> {
+    let end = pair.end_of(side)?;
+    let last = pair.incarnations(side).checked_sub(1)?;
+    let entry = pair.report(side, last)?;
+    Some(Standing {
+        state: end.state(),
+        phase: end.phase(),
+        put: entry.put.len() as u64,
+        taken: entry.taken.len() as u64,
+    })
 }

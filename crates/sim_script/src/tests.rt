@@ -1,321 +1,23 @@
 use crate::labels::Label;
 use crate::line::{Command, read_line};
 use crate::settings::{Key, ScriptSettings, Setting};
-use crate::{Event, Refusal, SimStatus, Stack, Standing, Told, run_over};
-use channels::Note;
+use crate::{SimStatus, run};
 use end_settings::Side;
-use linked_list_allocator::LocalHeap;
-use pdi_session::{InitFault, Phase, PutFault};
-use red_layer::RedEvent;
-use red_pdu::RedFault;
-use safe_machine::{ConnectionState, DropCause, Step};
-use safe_pdu::SafeFault;
-use std::alloc::Global;
-use std::io;
-use std::io::{ErrorKind, Read, Write};
 use std::process::Abort;
 use std::test::Fail;
 
-/// What the events of a script are answered, one after the other.
-type Answers<'a> = &'a [Result<&'a [Told<'a>], Refusal>];
-
-/// Two ends that answer as a test says.
-#[derive(Drop)]
-struct Played<'a> {
-    answers: Answers<'a>,
-    // How many events were answered, and which of them was accepted last.
-    answered: usize,
-    last: usize,
-    standing: Option<Standing>,
-    is_dead: bool,
-}
-
-impl<'a> Stack for Played<'a> {
-    fn apply(&mut self, _event: &Event<'_>) -> Result<(), Refusal> {
-        let place = self.answered;
-        self.answered = place.saturating_add(1);
-        match self.answers.get(place) {
-            Some(Ok(_)) => {
-                self.last = place;
-                Ok(())
-            }
-            Some(Err(refusal)) => Err(*refusal),
-            None => Err(Refusal::EndNotOpen),
-        }
-    }
-
-    fn told_count(&self) -> usize {
-        match self.answers.get(self.last) {
-            Some(Ok(told)) => told.len(),
-            _ => 0,
-        }
-    }
-
-    fn told(&self, place: usize) -> Option<Told<'_>> {
-        match self.answers.get(self.last) {
-            Some(Ok(told)) => told.get(place).copied(),
-            _ => None,
-        }
-    }
-
-    fn standing(&self, side: Side) -> Option<Standing> {
-        match side {
-            Side::Interlocking => self.standing,
-            Side::FieldElement => None,
-        }
-    }
-
-    fn breaks_premise(&self, _side: Side, _datagram: &[u8]) -> bool {
-        self.is_dead
-    }
-}
-
-fn ends_that_answer<'a>(answers: Answers<'a>) -> Played<'a> {
-    Played {
-        answers,
-        answered: 0,
-        last: 0,
-        standing: None,
-        is_dead: false,
-    }
-}
-
-// Datagrams with the numbers that a line tells: type, SN and CS; a DiscReq has its detail and reason behind.
-static HEARTBEAT: [u8; 36] = [
-    36, 0, 0, 0, 0, 0, 0, 0, 28, 0, 0x4c, 0x18, 2, 0, 0, 0, 1, 0, 0, 0, 9, 0, 0, 0, 7, 0, 0, 0, 0,
-    0, 0, 0, 0, 0, 0, 0,
-];
-
-static UNIT: [u8; 36] = [
-    36, 0, 0, 0, 0, 0, 0, 0, 28, 0, 0x60, 0x18, 2, 0, 0, 0, 1, 0, 0, 0, 8, 0, 0, 0, 6, 0, 0, 0, 0,
-    0, 0, 0, 0, 0, 0, 0,
-];
-
-static REQUEST: [u8; 36] = [
-    36, 0, 0, 0, 0, 0, 0, 0, 28, 0, 0x44, 0x18, 2, 0, 0, 0, 1, 0, 0, 0, 8, 1, 0, 0, 6, 0, 0, 0, 0,
-    0, 0, 0, 0, 0, 0, 0,
-];
-
-static LEAVING: [u8; 40] = [
-    40, 0, 0, 0, 0, 0, 0, 0, 32, 0, 0x48, 0x18, 2, 0, 0, 0, 1, 0, 0, 0, 10, 0, 0, 0, 7, 0, 0, 0, 0,
-    0, 0, 0, 0, 0, 0, 0, 2, 0, 4, 0,
-];
-
-/// Runs a script over ends that answer so: what it prints on either output, and how it ends.
-fn runs(
-    rt: &impl Abort,
-    alloc: Global,
+/// Runs a script that stops at a line: what it prints on either output.
+fn stops(
+    rt: &(impl Abort + AllocGlobal),
     script: &str,
-    answers: Answers<'_>,
     lines: &str,
     fault: &str,
-    status: SimStatus,
 ) -> Result<(), Fail> {
-    let mut out = Vec::new(alloc);
-    let mut err = Vec::new(alloc);
-    let ended = run_over(
-        alloc,
-        ends_that_answer(answers),
-        script.as_bytes(),
-        &mut out,
-        &mut err,
-    );
-    assert_eq!(rt;
-        String::from_utf8(out).map_err(|_| "no text")?.as_str(),
-        lines,
-        "of {script}"
-    );
-    assert_eq!(rt;
-        String::from_utf8(err).map_err(|_| "no text")?.as_str(),
-        fault,
-        "of {script}"
-    );
-    assert_eq!(rt; ended, status, "of {script}");
-    Ok(())
-}
-
-// One step: drop, what the unit does in the session, PDUs made, state; then the closing that the session asked for, and
-// what is packed.
-#[test]
-fn prints_a_step_in_order(rt: HostRuntime) -> Result<(), Fail> {
-    let opening = [
-        Told::Made(&UNIT),
-        Told::Note(Note::State(ConnectionState::Start)),
-    ];
-    let step = [
-        Told::Made(&HEARTBEAT),
-        Told::Made(&HEARTBEAT),
-        Told::Note(Note::Step(3, Step::Taken)),
-        Told::Note(Note::Take(0x0abc, &[])),
-        Told::Note(Note::Take(0x0100, &[0x1f, 0x02])),
-        Told::Note(Note::Phase(Phase::Ended)),
-        Told::Note(Note::State(ConnectionState::Up)),
-        Told::Made(&LEAVING),
-        Told::Note(Note::State(ConnectionState::Closed)),
-        Told::Note(Note::Redundancy(Some(3), RedEvent::Passed)),
-        Told::Made(&UNIT),
-    ];
-    let gap = [
-        Told::Made(&REQUEST),
-        Told::Note(Note::Step(0, Step::Gap)),
-        Told::Note(Note::State(ConnectionState::RetrReq)),
-        Told::Note(Note::Redundancy(Some(0), RedEvent::Passed)),
-    ];
-    runs(
-        &rt,
-        rt.alloc(),
-        "trace\nopen il\ngive i1 1\ngive i1 2\n",
-        &[Ok(&opening), Ok(&step), Ok(&gap)],
-        "i1 Data 8 6\nil state Start\nfe takes 0abc -\nfe takes 0100 1f02\nfe phase Ended\nf1 HB 9 7\nf2 HB 9 7\nfe state Up\nf3 DiscReq 10 7 reason 4 detail 2\nfe state Closed\nf4 Data 8 6\nfe drop i1 gap\nf5 RetrReq 264 6\nfe state RetrReq\nil none\nfe none\n",
-        "",
-        SimStatus::Done,
-    )
-}
-
-// A part that waited is named by the label under which it came first; the heartbeat of a tick comes before the step of a
-// part that the tick lets through, and one that the step makes behind it.
-#[test]
-fn names_what_waited(rt: HostRuntime) -> Result<(), Fail> {
-    let opening = [Told::Made(&UNIT), Told::Made(&UNIT)];
-    let waits = [Told::Note(Note::Redundancy(Some(5), RedEvent::Wait))];
-    let again = [Told::Note(Note::Redundancy(Some(5), RedEvent::Again))];
-    let tick = [
-        Told::Made(&UNIT),
-        Told::Note(Note::Step(5, Step::Dropped(DropCause::Number))),
-    ];
-    let own = [
-        Told::Made(&HEARTBEAT),
-        Told::Note(Note::Step(5, Step::Taken)),
-        Told::Note(Note::Take(1, &[2])),
-    ];
-    runs(
-        &rt,
-        rt.alloc(),
-        "trace\nopen fe\ngive f2 1\ngive f1 1\ntick il\ntrace off\ngive f2 1\ntrace\ntick il",
-        &[
-            Ok(&opening),
-            Ok(&waits),
-            Ok(&again),
-            Ok(&tick),
-            Ok(&waits),
-            Ok(&own),
-        ],
-        "f1 Data 8 6\nf2 Data 8 6\nil wait f2\nil drop f1 again\nil drop f2 number\ni1 Data 8 6\ni2 HB 9 7\nil takes 0001 02\nil none\nfe none\n",
-        "",
-        SimStatus::Done,
-    )
-}
-
-// Every word for a drop, a refusal, and a delivery outside the premise.
-#[test]
-fn prints_each_word(rt: HostRuntime) -> Result<(), Fail> {
-    let opening = [Told::Made(&UNIT)];
-    let layer = [
-        (RedEvent::Old, "fe drop i1 old\n"),
-        (RedEvent::Far, "fe drop i1 far\n"),
-        (RedEvent::Full, "fe drop i1 full\n"),
-        (RedEvent::Again, "fe drop i1 again\n"),
-        (RedEvent::Fault(RedFault::Short), "fe drop i1 red-Short\n"),
-        (RedEvent::Fault(RedFault::Length), "fe drop i1 red-Length\n"),
-        (
-            RedEvent::Fault(RedFault::Reserve),
-            "fe drop i1 red-Reserve\n",
-        ),
-        (RedEvent::Passed, ""),
-    ];
-    for (event, line) in layer {
-        let arrival = [Told::Note(Note::Redundancy(None, event))];
-        let lines = format!(in rt.alloc(); "{line}il none\nfe none\n")?;
-        runs(
-            &rt,
-            rt.alloc(),
-            "open il\ntrace\ngive i1 1",
-            &[Ok(&opening), Ok(&arrival)],
-            lines.as_str(),
-            "",
-            SimStatus::Done,
-        )?;
-    }
-    let machine = [
-        (DropCause::Fault(SafeFault::Short), "Short"),
-        (DropCause::Fault(SafeFault::Length), "Length"),
-        (DropCause::Fault(SafeFault::Code), "Code"),
-        (DropCause::Fault(SafeFault::BadType), "Type"),
-        (DropCause::Fault(SafeFault::Body), "Body"),
-        (DropCause::Stranger, "stranger"),
-        (DropCause::NotOpened, "down"),
-        (DropCause::Number, "number"),
-        (DropCause::Request, "request"),
-        (DropCause::Answered, "answered"),
-        (DropCause::Below, "below"),
-    ];
-    for (cause, word) in machine {
-        let arrival = [Told::Note(Note::Step(0, Step::Dropped(cause)))];
-        let lines = format!(in rt.alloc(); "fe drop i1 {word}\nil none\nfe none\n")?;
-        runs(
-            &rt,
-            rt.alloc(),
-            "open il\ntrace\ngive i1 1",
-            &[Ok(&opening), Ok(&arrival)],
-            lines.as_str(),
-            "",
-            SimStatus::Done,
-        )?;
-    }
-    let refusals = [
-        (Refusal::Memory, "Memory"),
-        (Refusal::EndNotOpen, "EndNotOpen"),
-        (Refusal::BadConfig, "BadConfig"),
-        (Refusal::Clock, "Clock"),
-        (Refusal::Put(PutFault::NotEstablished), "NotEstablished"),
-        (Refusal::Put(PutFault::Full), "Full"),
-        (Refusal::Put(PutFault::ReservedType), "ReservedType"),
-        (Refusal::Put(PutFault::TooLong), "TooLong"),
-        (Refusal::Init(InitFault::NotInitialising), "NotInitialising"),
-        (Refusal::Init(InitFault::Full), "Full"),
-    ];
-    for (refusal, word) in refusals {
-        let lines = format!(in rt.alloc(); "refused {word}\nil none\nfe none\n")?;
-        runs(
-            &rt,
-            rt.alloc(),
-            "tick il",
-            &[Err(refusal)],
-            lines.as_str(),
-            "",
-            SimStatus::Done,
-        )?;
-    }
-    Ok(())
-}
-
-// Each datagram that no line has named goes to the other end once on each channel, those made meanwhile too; a delivery
-// outside the premise is said before what it does.
-#[test]
-fn flows(rt: HostRuntime) -> Result<(), Fail> {
-    let made = [Told::Made(&UNIT)];
-    let answers: Answers<'_> = &[Ok(&made), Ok(&made), Ok(&made), Ok(&[]), Ok(&[]), Ok(&[])];
-    let mut out = Vec::new(rt.alloc());
-    let mut err = Vec::new(rt.alloc());
-    let stack = Played {
-        answers,
-        answered: 0,
-        last: 0,
-        standing: Some(Standing {
-            state: ConnectionState::Up,
-            phase: Phase::Established,
-            put: 3,
-            taken: 2,
-        }),
-        is_dead: true,
-    };
-    let script = "open il\nopen fe\nlose i1\ntrace\nflow 2 1\nflow 1\n".as_bytes();
-    let ended = run_over(rt.alloc(), stack, script, &mut out, &mut err);
-    assert_eq!(rt; ended, SimStatus::Done);
-    assert_eq!(rt;
-        String::from_utf8(out).map_err(|_| "no text")?.as_str(),
-        "note f1 not live\ni2 Data 8 6\nnote f1 not live\nnote i2 not live\nnote i2 not live\nil Up Established put 3 taken 2\nfe none\n"
-    );
+    let (mut out, mut err) = (Vec::new(rt.alloc()), Vec::new(rt.alloc()));
+    let ended = run(rt.alloc(), script.as_bytes(), &mut out, &mut err);
+    assert_eq!(rt; out.as_slice(), lines.as_bytes(), "of {script}");
+    assert_eq!(rt; err.as_slice(), fault.as_bytes(), "of {script}");
+    assert_eq!(rt; ended, SimStatus::Refused, "of {script}");
     Ok(())
 }
 
@@ -365,7 +67,7 @@ fn stops_at_a_line(rt: HostRuntime) -> Result<(), Fail> {
         "give i1 3",
         "give i1 x",
         "give i9 3",
-        "hit i1 1 36 01",
+        "hit i1 1 58 01",
         "hit i1 1 0 1",
         "hit i1 1 0 100",
         "hit i1 1 18446744073709551616 01",
@@ -381,17 +83,13 @@ fn stops_at_a_line(rt: HostRuntime) -> Result<(), Fail> {
         "open il\r",
         "Open il",
     ];
-    let made = [Told::Made(&UNIT)];
     for line in unreadable {
         let script = format!(in rt.alloc(); "open il\n\n  tick   fe \n{line}\ntick fe\n")?;
-        runs(
+        stops(
             &rt,
-            rt.alloc(),
             script.as_str(),
-            &[Ok(&made)],
             "refused EndNotOpen\n",
             "line 4: unreadable\n",
-            SimStatus::Refused,
         )?;
     }
     for line in [
@@ -404,15 +102,7 @@ fn stops_at_a_line(rt: HostRuntime) -> Result<(), Fail> {
         "give i99999999999999999999999999 1",
     ] {
         let script = format!(in rt.alloc(); "open il\n{line}\n")?;
-        runs(
-            &rt,
-            rt.alloc(),
-            script.as_str(),
-            &[Ok(&made)],
-            "",
-            "line 2: no such label\n",
-            SimStatus::Refused,
-        )?;
+        stops(&rt, script.as_str(), "", "line 2: no such label\n")?;
     }
     Ok(())
 }
@@ -468,7 +158,7 @@ fn reads_lines(rt: HostRuntime) -> Result<(), Fail> {
     };
     let twelfth = Label {
         side: Side::FieldElement,
-        number: 12,
+        place: 11,
     };
     assert_eq!(rt; label, twelfth);
     assert!(rt;
@@ -574,112 +264,5 @@ fn sets(rt: HostRuntime) -> Result<(), Fail> {
         settings.config(Side::FieldElement).versions.as_slice(),
         [214].as_slice()
     );
-    Ok(())
-}
-
-/// A reader that fails.
-#[derive(Drop)]
-struct Torn;
-
-impl Read for Torn {
-    fn read(&mut self, _octets: &mut [u8]) -> io::Result<usize> {
-        Err(io::Error::from(ErrorKind::Other))
-    }
-}
-
-/// A writer that takes a number of octets and then fails.
-#[derive(Drop)]
-struct Narrow {
-    room: usize,
-}
-
-impl Write for Narrow {
-    fn write(&mut self, octets: &[u8]) -> io::Result<usize> {
-        if self.room < octets.len() {
-            return Err(io::Error::from(ErrorKind::Other));
-        }
-        self.room -= octets.len();
-        Ok(octets.len())
-    }
-
-    fn flush(&mut self) -> io::Result<()> {
-        Ok(())
-    }
-}
-
-// A script that can't be read or is no text, and an output that fails, at once or behind a full buffer.
-#[test]
-fn ends_where_files_fail(rt: HostRuntime) -> Result<(), Fail> {
-    let mut out = Vec::new(rt.alloc());
-    let mut err = Vec::new(rt.alloc());
-    let torn = run_over(rt.alloc(), ends_that_answer(&[]), Torn, &mut out, &mut err);
-    let no_text = run_over(
-        rt.alloc(),
-        ends_that_answer(&[]),
-        [0x74, 0xff].as_slice(),
-        &mut out,
-        &mut err,
-    );
-    assert_eq!(rt; (torn, no_text), (SimStatus::Refused, SimStatus::Refused));
-    assert_eq!(rt; err.as_slice(), b"fault: file\nfault: file\n".as_slice());
-    assert!(rt; out.is_empty());
-    let mut script = String::new(rt.alloc());
-    for _ in 0..2000 {
-        script.push_str("tick il\n")?;
-    }
-    for (text, room) in [
-        ("", 0),
-        ("x", 0),
-        ("tick il\nx", 18),
-        (script.as_str(), 10_000),
-    ] {
-        let mut err = Vec::new(rt.alloc());
-        let mut narrow = Narrow { room };
-        let ended = run_over(
-            rt.alloc(),
-            ends_that_answer(&[]),
-            text.as_bytes(),
-            &mut narrow,
-            &mut err,
-        );
-        if text == "x" {
-            // Nothing was due.
-            assert_eq!(rt; err.as_slice(), b"line 1: unreadable\n".as_slice());
-        } else {
-            assert_eq!(rt; ended, SimStatus::Failed, "at {room}");
-            assert_eq!(rt; err.as_slice(), b"fault: output\n".as_slice(), "at {room}");
-        }
-    }
-    Ok(())
-}
-
-// Heaps of rising size: where memory is refused the run says so, and what it printed before is a beginning of the lines.
-#[test]
-fn says_where_memory_is_refused(rt: HostRuntime) -> Result<(), Fail> {
-    let made = [Told::Made(&UNIT)];
-    let answers: Answers<'_> = &[Ok(&made), Ok(&[]), Ok(&[])];
-    let lines = "refused EndNotOpen\nil none\nfe none\n".as_bytes();
-    let mut refused = 0u32;
-    let mut done = false;
-    for step in 0..800 {
-        let heap = LocalHeap::new(rt.alloc(), step * 16)?;
-        let mut out = Vec::new(rt.alloc());
-        let mut err = Vec::new(rt.alloc());
-        let script = "open il\nput il 0100 00\nhit i1 1 8 01\nflow 1\ntick fe\n".as_bytes();
-        match run_over(&heap, ends_that_answer(answers), script, &mut out, &mut err) {
-            SimStatus::Done => {
-                assert_eq!(rt; out.as_slice(), lines);
-                done = true;
-            }
-            ended => {
-                refused = refused.wrapping_add(1);
-                assert!(rt; !done, "at {step}");
-                assert_eq!(rt; ended, SimStatus::Refused);
-                assert_eq!(rt; err.as_slice(), b"fault: memory\n".as_slice(), "at {step}");
-                assert!(rt; lines.starts_with(out.as_slice()), "at {step}");
-            }
-        }
-    }
-    assert!(rt; done && refused > 500);
     Ok(())
 }

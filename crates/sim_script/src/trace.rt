@@ -1,10 +1,12 @@
 //! What is printed of what the ends do.
 
+ghost use Rattle.std.specs.Prelude.{◌≡◌, MatchResult, IsOk, IsErr};
+
 use crate::fault::LineFault;
-use crate::labels::Labels;
-use crate::names::{phase_name, red_cause, side_letter, side_name, state_name, step_cause};
-use crate::sides::Sides;
-use crate::stack::{Standing, Told};
+use crate::labels::{Label, Labels};
+use crate::lines::{Standing, write_refusal, write_report, write_take};
+use crate::names::{phase_name, red_cause, side_name, state_name, step_cause};
+use crate::sides::{Sides, other};
 use arrayvec::ArrayVec;
 use channels::Note;
 use end_settings::Side;
@@ -12,11 +14,13 @@ use octets::limits::{Q_MAX, RED_HEADER, SAFE_HEADER};
 use octets::places::{u16_at, u32_at};
 use red_layer::RedEvent;
 use safe_machine::Step;
+use stack_engine::Told;
 use std::alloc::{Allocator, Global};
 use std::fmt::Display;
+use std::io;
 use std::io::{BufWriter, Write};
 
-/// The parts that wait in an end's redundancy layer: number, and place of the PDU that came first under it.
+/// The parts that wait in an end's redundancy layer: number, and place of the peer's PDU that came first under it.
 type Waits = ArrayVec<(u32, usize), Q_MAX>;
 
 /// The event whose doings are told.
@@ -24,8 +28,8 @@ type Waits = ArrayVec<(u32, usize), Q_MAX>;
 pub struct Happening {
     /// The end that it happened to.
     pub side: Side,
-    /// The place of the PDU whose datagram came; none where none came.
-    pub came: Option<usize>,
+    /// The PDU whose datagram came; none where none came.
+    pub came: Option<Label>,
     /// Whether it is a tick.
     pub is_tick: bool,
 }
@@ -123,40 +127,23 @@ impl<W: Write + Drop, A: Allocator + Copy> Trace<W, A> {
     }
 
     /// Prints that a delivery breaks the premise of the promises.
-    pub fn warn(&mut self, place: usize) -> Result<(), LineFault> {
-        match self.labels.label(place) {
-            Some(label) => {
-                let letter = side_letter(label.side);
-                let number = label.number;
-                self.traced(format_args!("note {letter}{number} not live"))
-            }
-            None => Ok(()),
-        }
+    pub fn warn(&mut self, label: Label) -> Result<(), LineFault> {
+        self.traced(format_args!("note {label} not live"))
     }
 
     /// Prints a refusal.
     pub fn refuse(&mut self, name: &str) -> Result<(), LineFault> {
-        self.print(format_args!("refused {name}"))
+        told(write_refusal(&mut self.out, name))
     }
 
     /// Prints how an end stands at the end of a script.
     pub fn report(&mut self, side: Side, standing: Option<Standing>) -> Result<(), LineFault> {
-        let side = side_name(side);
-        match standing {
-            None => self.print(format_args!("{side} none")),
-            Some(standing) => {
-                let state = state_name(standing.state);
-                let phase = phase_name(standing.phase);
-                let put = standing.put;
-                let taken = standing.taken;
-                self.print(format_args!("{side} {state} {phase} put {put} taken {taken}"))
-            }
-        }
+        told(write_report(&mut self.out, side, standing))
     }
 
     /// Writes out all that was printed.
     pub fn flush(&mut self) -> Result<(), LineFault> {
-        self.out.flush().map_err(|_| LineFault::Output)
+        told(self.out.flush())
     }
 
     /// The machine step of a part: what it drops comes before all that it hands up and makes.
@@ -171,18 +158,21 @@ impl<W: Write + Drop, A: Allocator + Copy> Trace<W, A> {
         self.progress.in_step = true;
         self.progress.had_step = true;
         match (step_cause(step), part) {
-            (Some(cause), Some(place)) => self.dropped(event.side, place, cause),
+            (Some(cause), Some(label)) => self.dropped(event.side, label, cause),
             _ => Ok(()),
         }
     }
 
     /// The PDU of the part that goes up under a number: the one that waited under it, or the one that came.
-    fn part(&mut self, event: Happening, number: u32) -> Option<usize> {
+    fn part(&mut self, event: Happening, number: u32) -> Option<Label> {
         let waits = self.waits.of_mut(event.side);
         match waits.iter().position(|(waiting, _)| *waiting == number) {
             Some(at) => {
                 let (_, place) = waits.remove(at);
-                Some(place)
+                Some(Label {
+                    side: other(event.side),
+                    place,
+                })
             }
             None => event.came,
         }
@@ -191,9 +181,12 @@ impl<W: Write + Drop, A: Allocator + Copy> Trace<W, A> {
     /// Prints the heartbeat that a tick makes on its own, before the first step of a part that a deadline lets through.
     ///
     /// It confirms what was taken before that part; one that the step makes confirms the part.
-    fn own_heartbeat(&mut self, part: Option<usize>, step: Step) -> Result<(), LineFault> {
+    fn own_heartbeat(&mut self, part: Option<Label>, step: Step) -> Result<(), LineFault> {
         let first = self.progress.unprinted;
-        let (Some(made), Some(part)) = (self.header(first), part) else {
+        let (Some(label), Some(part)) = (self.labels.label(first), part) else {
+            return Ok(());
+        };
+        let Some(made) = self.header(label) else {
             return Ok(());
         };
         let of_step = step == Step::Taken
@@ -202,7 +195,7 @@ impl<W: Write + Drop, A: Allocator + Copy> Trace<W, A> {
             return Ok(());
         }
         self.progress.unprinted = first.saturating_add(1);
-        self.made(first)
+        self.made(label)
     }
 
     /// What the redundancy layer did with the datagram that came.
@@ -213,16 +206,19 @@ impl<W: Write + Drop, A: Allocator + Copy> Trace<W, A> {
         answer: RedEvent,
     ) -> Result<(), LineFault> {
         self.catch_up()?;
-        let Some(place) = event.came else {
+        let Some(label) = event.came else {
             return Ok(());
         };
         if let (RedEvent::Wait, Some(number)) = (answer, number) {
             // No more wait than there is room for.
-            let _ = self.waits.of_mut(event.side).try_push((number, place));
-            return self.waiting(event.side, place);
+            let _ = self
+                .waits
+                .of_mut(event.side)
+                .try_push((number, label.place));
+            return self.waiting(event.side, label);
         }
         match red_cause(answer) {
-            Some(cause) => self.dropped(event.side, place, cause),
+            Some(cause) => self.dropped(event.side, label, cause),
             None => Ok(()),
         }
     }
@@ -244,81 +240,67 @@ impl<W: Write + Drop, A: Allocator + Copy> Trace<W, A> {
             return Ok(());
         }
         for place in first..self.labels.len() {
-            self.made(place)?;
+            if let Some(label) = self.labels.label(place) {
+                self.made(label)?;
+            }
         }
         Ok(())
     }
 
-    fn made(&mut self, place: usize) -> Result<(), LineFault> {
-        let (Some(label), Some(header)) = (self.labels.label(place), self.header(place)) else {
+    fn made(&mut self, label: Label) -> Result<(), LineFault> {
+        let Some(header) = self.header(label) else {
             return Ok(());
         };
-        let letter = side_letter(label.side);
-        let number = label.number;
         let name = kind_name(header.kind);
         let sn = header.sn;
         let cs = header.cs;
         match header.leaving {
             Some((detail, reason)) => self.traced(format_args!(
-                "{letter}{number} {name} {sn} {cs} reason {reason} detail {detail}"
+                "{label} {name} {sn} {cs} reason {reason} detail {detail}"
             )),
-            None => self.traced(format_args!("{letter}{number} {name} {sn} {cs}")),
+            None => self.traced(format_args!("{label} {name} {sn} {cs}")),
         }
     }
 
     fn take(&mut self, side: Side, kind: u16, payload: &[u8]) -> Result<(), LineFault> {
+        if self.is_on {
+            told(write_take(&mut self.out, side, kind, payload))
+        } else {
+            Ok(())
+        }
+    }
+
+    fn dropped(&mut self, side: Side, label: Label, cause: &str) -> Result<(), LineFault> {
         let side = side_name(side);
-        if !self.is_on {
-            return Ok(());
-        }
-        self.write(format_args!("{side} takes {kind:04x} "))?;
-        if payload.is_empty() {
-            self.write("-")?;
-        }
-        for octet in payload {
-            self.write(format_args!("{octet:02x}"))?;
-        }
-        self.print("")
+        self.traced(format_args!("{side} drop {label} {cause}"))
     }
 
-    fn dropped(&mut self, side: Side, place: usize, cause: &str) -> Result<(), LineFault> {
-        match self.labels.label(place) {
-            Some(label) => {
-                let side = side_name(side);
-                let letter = side_letter(label.side);
-                let number = label.number;
-                self.traced(format_args!("{side} drop {letter}{number} {cause}"))
-            }
-            None => Ok(()),
-        }
+    fn waiting(&mut self, side: Side, label: Label) -> Result<(), LineFault> {
+        let side = side_name(side);
+        self.traced(format_args!("{side} wait {label}"))
     }
 
-    fn waiting(&mut self, side: Side, place: usize) -> Result<(), LineFault> {
-        match self.labels.label(place) {
-            Some(label) => {
-                let side = side_name(side);
-                let letter = side_letter(label.side);
-                let number = label.number;
-                self.traced(format_args!("{side} wait {letter}{number}"))
-            }
-            None => Ok(()),
-        }
+    fn header(&self, label: Label) -> Option<Header> {
+        Header::of(self.labels.datagram(label)?)
     }
 
-    fn header(&self, place: usize) -> Option<Header> {
-        Header::of(self.labels.datagram(place)?)
-    }
-
+    /// Prints a line, where lines are traced.
     fn traced(&mut self, line: impl Display + Drop) -> Result<(), LineFault> {
-        if self.is_on { self.print(line) } else { Ok(()) }
+        if self.is_on {
+            told(writeln!(self.out, "{line}"))
+        } else {
+            Ok(())
+        }
     }
+}
 
-    fn print(&mut self, line: impl Display + Drop) -> Result<(), LineFault> {
-        writeln!(self.out, "{line}").map_err(|_| LineFault::Output)
-    }
-
-    fn write(&mut self, text: impl Display + Drop) -> Result<(), LineFault> {
-        write!(self.out, "{text}").map_err(|_| LineFault::Output)
+/// What an output answered: all that it can say is that it failed.
+fn told(answer: io::Result<()>) -> Result<(), LineFault>
+    ensures { MatchResult result (λ _. IsOk answer) (λ fault. (fault ≡ LineFault.Output) × IsErr answer) }
+{
+    match answer {
+        Ok(()) => Ok(()),
+        Err(_) => Err(LineFault::Output),
     }
 }
 

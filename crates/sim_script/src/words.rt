@@ -95,7 +95,7 @@ impl<'a> Words<'a> {
         }
         Ok(Label {
             side,
-            number: label_number(digits),
+            place: label_place(digits),
         })
     }
 
@@ -137,12 +137,15 @@ pub fn number(word: &str, most: u64) -> Option<u64>
     }
 }
 
-/// The number of a label; 0, which no PDU has, where no PDU has a label of these digits.
-fn label_number(digits: &str) -> u64 {
+/// The place of a label's PDU; where no PDU has a label of these digits, one that no PDU has.
+fn label_place(digits: &str) -> usize {
     if digits.starts_with('0') {
-        return 0;
+        return usize::MAX;
     }
-    digits.parse::<u64>().unwrap_or(0)
+    match digits.parse::<usize>() {
+        Ok(number) => number.saturating_sub(1),
+        Err(_) => usize::MAX,
+    }
 }
 
 fn is_digits(word: &str) -> bool

@@ -7,3 +7,4 @@ pub mod Polls
 pub mod Deadlines
 pub mod Putting
 pub mod Recents
+pub mod Outstanding

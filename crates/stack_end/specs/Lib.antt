@@ -11,3 +11,4 @@ pub mod Polling
 pub mod Bounds
 pub mod Deadlines
 pub mod Lending
+pub mod Outstanding

@@ -12,6 +12,7 @@ ghost use Rattle.stack_end.specs.Ends.{Call, Close, Deliver, EndState, InitDone,
 ghost use Rattle.stack_end.specs.Datagrams.{sent_at_opening};
 ghost use Rattle.stack_end.specs.EndValue.{EndAsks, EndDoes, EndDoesAlone, EndStands, channels_of};
 ghost use Rattle.stack_end.specs.Fields.{can_pack};
+ghost use Rattle.stack_end.specs.Outstanding.{PutOut};
 ghost use Rattle.stack_end.specs.Recent.{DatagramRecent, TickRecent};
 ghost use Rattle.stack_end.specs.Bounds.{IsBounded};
 ghost use Rattle.safe_machine.specs.Deadlines.{IsBefore, IsReachedAt};
@@ -36,8 +37,8 @@ use std::marker::Model;
 /// are whole milliseconds of one clock, which never falls and is at most 2^62; beyond that a caller keeps nothing.
 #[derive(Drop)]
 pub struct End<C, A: Allocator = Global> {
-    layers: Layers<C, A>,
-    time: u64,
+    pub(crate) layers: Layers<C, A>,
+    pub(crate) time: u64,
 }
 
 impl<C, A: Allocator> Model for End<C, A> {
@@ -90,11 +91,11 @@ impl<C: Channels, A: Allocator> End<C, A> {
         ensures packs { (x : EndState) → EndStands C.told self.new x → can_pack x ≡ false }
         // What is taken is recent.
         ensures recent { (x : EndState) → EndStands C.told self.old x → DatagramRecent now octets.now x taker.old taker.new }
+        // The end is left as any other channel would leave it.
+        ensures any_channel { (x : EndState) (other : ℕ) → EndStands C.told self.old x → EndStands C.told self.new (call (Deliver other octets.now now) x) }
         ensures time { self.new.time ≡ now }
     {
-        let _channel = channel;
-        self.layers.arrive(octets, now, taker);
-        self.time = now;
+        self.take_datagram(channel, octets, now, taker);
     }
 
     /// Time passes: the deadlines of the safety machine and of the redundancy layer.
@@ -108,8 +109,7 @@ impl<C: Channels, A: Allocator> End<C, A> {
         ensures recent { (x : EndState) → EndStands C.told self.old x → TickRecent now x taker.old taker.new }
         ensures time { self.new.time ≡ now }
     {
-        self.layers.tick(now, taker);
-        self.time = now;
+        self.let_time_pass(now, taker);
     }
 
     /// Puts in a command or status of this kind and payload (0 to 357 octets), behind all that waits.
@@ -124,15 +124,15 @@ impl<C: Channels, A: Allocator> End<C, A> {
         // What was put in stands last among all that was put in.
         ensures last { OnOk result ((x : EndState) → EndStands C.told self.old x
             → (y : EndState) × EndStands C.told self.new y × (y.session.history.put ≡ x.session.history.put ++ (kind, payload.now) ∷ [])) }
+        // It waits, or stands in an unconfirmed unit, and so does all that waited.
+        ensures kept { OnOk result ((x y : EndState) → EndStands C.told self.old x → EndStands C.told self.new y → PutOut kind payload.now x y) }
         ensures time { OnOk result (self.new.time ≡ now) }
         ensures refused { OnErr result (self.new ≡ self.old) }
         ensures answer { (x : EndState) → EndStands C.told self.old x
             → MatchResult result (λ _. put_refusal (session_in x.session) kind payload.now (length x.session.waiting) ≡ None)
             (λ fault. put_refusal (session_in x.session) kind payload.now (length x.session.waiting) ≡ Some fault) }
     {
-        self.layers.put(kind, payload, now)?;
-        self.time = now;
-        Ok(())
+        self.put_behind(kind, payload, now)
     }
 
     /// The application of a field element has put in its initial status: the end of the initialisation is sent behind it.
@@ -179,7 +179,7 @@ impl<C: Channels, A: Allocator> End<C, A> {
         let mut buffer = [0; POLL_BUFFER];
         match self.hear_all(&mut buffer, now, taker) {
             Ok(()) => {
-                self.tick(now, taker);
+                self.let_time_pass(now, taker);
                 Ok(())
             }
             Err(_) => Err(PollFault::Channel),
@@ -224,7 +224,7 @@ impl<C: Channels, A: Allocator> End<C, A> {
     {
         match self.ask(buffer) {
             Ok(Some((channel, size))) => {
-                self.arrive(channel, &buffer[..size], now, taker);
+                self.take_datagram(channel, &buffer[..size], now, taker);
                 Ok(true)
             }
             Ok(None) => Ok(false),

@@ -1,12 +1,13 @@
 //! The layers of an end together: what comes goes up through them, and what waits goes out.
 
-ghost use Rattle.std.specs.Prelude.{◌≡◌, ℕ, false, ◌≤◌, ◌^◌, length, Some, None, MatchResult, OnOk, OnErr};
+ghost use Rattle.std.specs.Prelude.{◌≡◌, ℕ, ◌∷◌, ◌++◌, [], false, ◌≤◌, ◌^◌, length, Some, None, MatchResult, OnOk, OnErr};
 ghost use Rattle.pdi_session.specs.SessionStep.{init_refusal, put_refusal};
 ghost use Rattle.red_layer.specs.Redundancy.{Datagram, Tick as RedTick};
 ghost use Rattle.stack_end.specs.Ends.{Call, Close, Deliver, EndState, InitDone, Put, did, goes_on};
 ghost use Rattle.stack_end.specs.Fields.{BothAlone, BothDo, BothStand, Stands, can_pack, fields_of};
 ghost use Rattle.stack_end.specs.Recent.{DatagramRecent, InputRecent, TickRecent};
 ghost use Rattle.stack_end.specs.Kept.{IsKept};
+ghost use Rattle.stack_end.specs.Outstanding.{GoesOut, put_message};
 
 use crate::telling::tell_change;
 use crate::upper::Upper;
@@ -122,6 +123,8 @@ impl<C: Channels, A: Allocator> Layers<C, A> {
         ensures answer { MatchResult result (λ _. put_refusal self.old.upper.session kind payload.now (length self.old.upper.waiting) ≡ None)
             (λ fault. put_refusal self.old.upper.session kind payload.now (length self.old.upper.waiting) ≡ Some fault) }
         ensures packs { OnOk result ((x : EndState) → Stands (fields_of C.told self.new.upper) x → can_pack x ≡ false) }
+        ensures goes_out { OnOk result (GoesOut (fields_of C.told self.old.upper)
+            (self.old.upper.waiting ++ put_message self.old.upper.session.addressing kind payload.now ∷ []) (fields_of C.told self.new.upper)) }
         ensures kept { IsKept self.new }
     {
         self.upper.put(kind, payload, now)

@@ -1,6 +1,6 @@
 //! All of an end but its redundancy layer.
 
-ghost use Rattle.std.specs.Prelude.{◌≡◌, ◌⊎◌, ◌+◌, ◌*◌, ◌<◌, ◌≤◌, ◌^◌, ℕ, length, true, false, if◌then◌else◌, OnOk, OnErr, MatchResult, Some, None};
+ghost use Rattle.std.specs.Prelude.{◌≡◌, ◌⊎◌, ◌∷◌, ◌++◌, [], ◌+◌, ◌*◌, ◌<◌, ◌≤◌, ◌^◌, ℕ, length, true, false, if◌then◌else◌, OnOk, OnErr, MatchResult, Some, None};
 ghost use Rattle.octets.specs.declared.limits.TheConstants.{SAFE_PDU_MAX, UNIT_MESSAGES};
 ghost use Rattle.safe_machine.specs.Moves.Move.{Guards, Leaves, Ticks};
 ghost use Rattle.safe_machine.specs.declared.Reason.TheVariants.{ClosedByUser};
@@ -11,6 +11,7 @@ ghost use Rattle.red_layer.specs.Redundancy.{Datagram, Tick as RedTick, passed_b
 ghost use Rattle.stack_end.specs.Recent.{RecentAt, TakesRecent};
 ghost use Rattle.channels.specs.Told.{SendsOne};
 ghost use Rattle.stack_end.specs.Dialogue.{Leaving};
+ghost use Rattle.stack_end.specs.Outstanding.{GoesOut, put_message};
 ghost use Rattle.stack_end.specs.Ends.{EndState, InitDone, Put, did, leaves, moved, part, receives, sends, settle, with_input};
 ghost use Rattle.stack_end.specs.Fields.{Asks, BothDo, BothStand, Stands, Does, DoesAlone, can_pack, fields_of, heard_alone, leaving_at, noted_from, packed_once, rises_from};
 
@@ -308,6 +309,8 @@ impl<C: Channels, A: Allocator> Upper<C, A> {
         ensures answer { MatchResult result (λ _. put_refusal self.old.session kind payload.now (length self.old.waiting) ≡ None)
             (λ fault. put_refusal self.old.session kind payload.now (length self.old.waiting) ≡ Some fault) }
         ensures packs { OnOk result ((x : EndState) → Stands (fields_of C.told self.new) x → can_pack x ≡ false) }
+        ensures kept { OnOk result (GoesOut (fields_of C.told self.old)
+            (self.old.waiting ++ put_message self.old.session.addressing kind payload.now ∷ []) (fields_of C.told self.new)) }
         ensures same { self.new.max ≡ self.old.max }
         ensures near { self.new.machine.expected ≡ self.old.machine.expected }
         ensures few { FewWait self.old.session self.old.waiting → FewWait self.new.session self.new.waiting }
@@ -360,6 +363,8 @@ impl<C: Channels, A: Allocator> Upper<C, A> {
         ensures same { self.new.max ≡ self.old.max }
         ensures near { self.new.machine.expected ≡ self.old.machine.expected }
         ensures few { FewWait self.old.session self.old.waiting → FewWait self.new.session self.new.waiting }
+        // No message is let go.
+        ensures kept { GoesOut (fields_of C.told self.old) self.old.waiting (fields_of C.told self.new) }
         // Where it did not, nothing waits or the machine may not send.
         ensures done { result ≡ false → (x : EndState) → Stands (fields_of C.told self.new) x → can_pack x ≡ false }
     {
@@ -390,6 +395,8 @@ impl<C: Channels, A: Allocator> Upper<C, A> {
         ensures same { self.new.max ≡ self.old.max }
         ensures near { self.new.machine.expected ≡ self.old.machine.expected }
         ensures few { FewWait self.old.session self.old.waiting → FewWait self.new.session self.new.waiting }
+        // No message is let go.
+        ensures kept { GoesOut (fields_of C.told self.old) self.old.waiting (fields_of C.told self.new) }
         // Nothing waits then, or the machine may not send.
         ensures packs { (x : EndState) → Stands (fields_of C.told self.new) x → can_pack x ≡ false }
     {

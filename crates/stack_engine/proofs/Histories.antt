@@ -2,7 +2,6 @@
 use Rattle.std.proofs.Common.{◌≡◌, ℕ, zero, suc, ◌+◌, ◌<◌, Bool, true, false, is_none, take, Some, append_assoc, append-nil, add-one, List, [], ◌∷◌, ◌++◌, length, get_or, Option, None, refl, sym, ap, subst, ◌∙◌, arith}
 use Rattle.std.specs.Prelude.{if◌then◌else◌}
 use Rattle.std.specs.List.{AllByRecursion}
-use Rattle.std.proofs.lemmas.List.{map-append}
 use Rattle.stack_engine.specs.declared.event.Event.{Event as CodeEvent}
 use Rattle.stack_engine.specs.declared.sides.Sides.{Sides}
 use Rattle.stack_engine.specs.Bounds.{FewMoreLaw}
@@ -29,10 +28,6 @@ few-at law es typed (Calls side c) t = law es typed side c t
 pub octets-typed : (xs : List ℕ) → ((i : ℕ) → i < length xs → get_or xs i 0 < 256) → AllByRecursion (λ o. o < 256) xs
 octets-typed [] h = tt
 octets-typed (x ∷ xs) h = (h 0 (omega arith), octets-typed xs (λ i lt. h (suc i) (omega arith)))
-
-pub pushed : {A : Type 0} (items more : List (CodeEvent A)) (copy : CodeEvent A) (e : Event) → more ≡ items ++ copy ∷ [] → event_of copy ≡ e → events_of more ≡ events_of items ++ e ∷ []
-pushed {A} items more copy e grown same =
-    ap (λ (xs : List (CodeEvent A)). events_of xs) grown ∙ (map-append event_of items (copy ∷ []) ∙ ap (λ (d : Event). events_of items ++ d ∷ []) same)
 
 pub grown-stands : {A : Type 0} (s t : Sides A) (es : List Event) (e : Event) → FewMoreLaw → AreTyped es → IsTyped e → refusal e (run es start) ≡ None → SidesDo e s t
     → SidesStand s (run es start) → SidesStand t (run (es ++ e ∷ []) start)
@@ -86,22 +81,22 @@ ran-more old es mid e h b is =
     ∙ (ap (λ (ds : List Event). old ++ (accepted es w ++ ds)) (sym last) ∙ ap (λ (ds : List Event). old ++ ds) (sym (accepted-append es (e ∷ []) w))))
 
 -- the events up to a place, and the one there
-events-more : {A : Type 0} (items : List (CodeEvent A)) (i : ℕ) (x : CodeEvent A) → i < length items → x ≡ get_or items i x → take (suc i) (events_of items) ≡ take i (events_of items) ++ event_of x ∷ []
+events-more : (items : List CodeEvent) (i : ℕ) (x : CodeEvent) → i < length items → x ≡ get_or items i x → take (suc i) (events_of items) ≡ take i (events_of items) ++ event_of x ∷ []
 events-more [] i x lt is = absurd (omega arith)
 events-more (y ∷ items) zero x lt is = ap (λ z. event_of z ∷ []) (sym is)
 events-more (y ∷ items) (suc i) x lt is = ap (λ (es : List Event). event_of y ∷ es) (events-more items i x (omega arith) is)
 
-pub events-length : {A : Type 0} (items : List (CodeEvent A)) → length (events_of items) ≡ length items
+pub events-length : (items : List CodeEvent) → length (events_of items) ≡ length items
 events-length [] = refl
 events-length (x ∷ items) = ap suc (events-length items)
 
-pub ran-accepted : {A : Type 0} (old mid new : List Event) (items : List (CodeEvent A)) (i : ℕ) (x : CodeEvent A) → i < length items → x ≡ get_or items i x → Ran old (take i (events_of items)) mid
+pub ran-accepted : (old mid new : List Event) (items : List CodeEvent) (i : ℕ) (x : CodeEvent) → i < length items → x ≡ get_or items i x → Ran old (take i (events_of items)) mid
     → refusal (event_of x) (run mid start) ≡ None → new ≡ mid ++ event_of x ∷ [] → Ran old (take (i + 1) (events_of items)) new
 ran-accepted old mid new items i x lt is h none e =
     rw (add-one, events-more items i x lt is)
     (e ∙ ran-more old (take i (events_of items)) mid (event_of x) h true (ap (λ (r : Option Refusal). is_none r) none))
 
-pub ran-refused : {A : Type 0} (old mid new : List Event) (items : List (CodeEvent A)) (i : ℕ) (x : CodeEvent A) (fault : ApplyFault) → i < length items → x ≡ get_or items i x → Ran old (take i (events_of items)) mid
+pub ran-refused : (old mid new : List Event) (items : List CodeEvent) (i : ℕ) (x : CodeEvent) (fault : ApplyFault) → i < length items → x ≡ get_or items i x → Ran old (take i (events_of items)) mid
     → is_memory fault ≡ false → NamesRefusal fault (refusal (event_of x) (run mid start)) → new ≡ mid → Ran old (take (i + 1) (events_of items)) new
 ran-refused old mid new items i x fault lt is h other why e =
     rw (add-one, events-more items i x lt is)

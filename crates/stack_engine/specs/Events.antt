@@ -1,15 +1,33 @@
 -- What an event of the code says.
+use Rattle.std.specs.Prelude.{ℕ, length}
 use Rattle.end_settings.specs.Configured.{settings_of, side_of}
+use Rattle.stack_end.specs.Ends.{Call}
 use Rattle.stack_end.specs.Ends.Call.{Close, Put, InitDone, Tick, Deliver}
 use Rattle.stack_engine.specs.Pairs.{Event}
 use Rattle.stack_engine.specs.Pairs.Event.{Open, Calls}
+use Rattle.safe_machine.specs.World.{Side}
+use Rattle.stack_engine.specs.declared.event.Call.{Call as CodeCall}
+use Rattle.stack_engine.specs.declared.event.Call.TheVariants as call
+use Rattle.stack_engine.specs.declared.event.Doing.{Doing}
+use Rattle.stack_engine.specs.declared.event.Doing.TheVariants as doing
 use Rattle.stack_engine.specs.declared.event.Event.{Event as CodeEvent}
-use Rattle.stack_engine.specs.declared.event.Event.TheVariants as code
 
-abbrev pub event_of : {A : Type 0} → CodeEvent A → Event
-event_of (code.Open side config first_sn now) = Open (side_of side) (settings_of config) first_sn now
-event_of (code.Close side now) = Calls (side_of side) (Close now)
-event_of (code.Put side kind payload now) = Calls (side_of side) (Put kind payload.items now)
-event_of (code.InitDone side now) = Calls (side_of side) (InitDone now)
-event_of (code.Tick side now) = Calls (side_of side) (Tick now)
-event_of (code.Deliver side channel octets now) = Calls (side_of side) (Deliver channel octets.items now)
+-- a call at a time
+abbrev pub call_of : CodeCall → ℕ → Call
+call_of call.Close now = Close now
+call_of (call.Put kind payload) now = Put kind payload.now now
+call_of call.InitDone now = InitDone now
+call_of call.Tick now = Tick now
+call_of (call.Deliver channel octets) now = Deliver channel octets.now now
+
+abbrev pub doing_of : Side → ℕ → Doing → Event
+doing_of side now (doing.Open config first_sn) = Open side (settings_of config) first_sn now
+doing_of side now (doing.Call c) = Calls side (call_of c now)
+
+abbrev pub event_of : CodeEvent → Event
+event_of e = doing_of (side_of e.side) e.time e.doing
+
+-- the octets of the telegram that is put in
+abbrev pub put_size : CodeCall → ℕ
+put_size (call.Put kind payload) = length payload.now
+put_size _ = 0

@@ -13,6 +13,8 @@ use Rattle.stack_engine.specs.declared.incarnation.Incarnation.{Incarnation}
 use Rattle.stack_engine.specs.Bounds.{FewMore, most_pdus, most_taken}
 use Rattle.stack_engine.specs.Keeping.{told_of, sure_room}
 use Rattle.stack_engine.specs.Texts.{Shelf}
+use Rattle.stack_engine.specs.Events.{put_size}
+use Rattle.stack_engine.specs.declared.event.Call.{Call as CodeCall}
 
 -- the datagrams of PDUs, the first of which has this index
 abbrev pub datagrams_of : EndSettings → ℕ → List Made → List (List ℕ)
@@ -38,6 +40,10 @@ pub record IncStands {A : Type 0} (i : Incarnation A) (x : EndState) : Type 0 wh
 -- there is room for all that a call makes and takes
 abbrev pub HasRoom : {A : Type 0} → Incarnation A → Type 0
 HasRoom i = (most_pdus ≤ sure_room (channels_of i.end)) × (most_taken ≤ sure_items i.taken)
+
+-- and for the telegram that it puts in
+abbrev pub HasRoomFor : {A : Type 0} → CodeCall → Incarnation A → Type 0
+HasRoomFor c i = HasRoom i × (1 ≤ i.put.places) × (put_size c ≤ i.put.octets)
 
 -- for each state that it stood for it now stands for the state after the call
 abbrev pub IncDoes : {A : Type 0} → Call → Incarnation A → Incarnation A → Type 0

@@ -7,10 +7,14 @@ pub mod Faithful
 pub mod Texts
 pub mod TextPlaces
 pub mod Events
+pub mod Histories
+pub mod HistoryPlaces
 pub mod Keeping
 pub mod Bounds
 pub mod Incarnations
 pub mod Openings
 pub mod Sides
+pub mod Joins
+pub mod Reports
 pub mod PairValue
 pub mod Promises

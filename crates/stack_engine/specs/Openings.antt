@@ -1,5 +1,5 @@
 -- All incarnations of one end.
-use Rattle.std.specs.Prelude.{◌≡◌, ◌==◌, ◌&&◌, not, ℕ, drop, Bool, true, false, Option, Some, None, List, [], ◌∷◌, reverse}
+use Rattle.std.specs.Prelude.{◌≡◌, ◌≤◌, ◌^◌, MatchOption, ◌==◌, ◌&&◌, not, ℕ, drop, Bool, true, false, Option, Some, None, List, [], ◌∷◌, reverse}
 use Rattle.safe_pdu.specs.SafeText.{code_octets}
 use Rattle.end_settings.specs.EndSettings.{rule_of}
 use Rattle.stack_end.specs.Ends.{EndState, Call, call, is_shut}
@@ -41,9 +41,16 @@ pub record SideStands {A : Type 0} (o : Openings A) (xs : List EndState) : Type 
 abbrev pub SideDoes : {A : Type 0} → Call → Openings A → Openings A → Type 0
 SideDoes c o p = (xs : List EndState) → SideStands o xs → AtOpened (λ x. FewMore x (call c x)) (latest xs) → SideStands p (call_il c xs)
 
--- Why it is refused; that memory is refused says nothing of the others.
+-- a refusal of the session alone, or none: memory is asked for before the session
+abbrev pub IsOfSession : Option Refusal → Type 0
+IsOfSession (Some EndNotOpen) = ⊥
+IsOfSession (Some BadConfig) = ⊥
+IsOfSession (Some Clock) = ⊥
+IsOfSession _ = Unit {0}
+
+-- Why it is refused. Memory is refused only where nothing that is tested before it holds.
 abbrev pub NamesRefusal : ApplyFault → Option Refusal → Type 0
-NamesRefusal fault.Memory r = Unit {0}
+NamesRefusal fault.Memory r = IsOfSession r
 NamesRefusal fault.EndNotOpen r = r ≡ Some EndNotOpen
 NamesRefusal fault.BadConfig r = r ≡ Some BadConfig
 NamesRefusal fault.Clock r = r ≡ Some Clock
@@ -53,6 +60,10 @@ NamesRefusal (fault.Init why) r = r ≡ Some (InitRefused why)
 abbrev pub is_memory : ApplyFault → Bool
 is_memory fault.Memory = true
 is_memory _ = false
+
+-- it was opened, and this time is none below its last
+abbrev pub IsOpenAt : {A : Type 0} → ℕ → Openings A → Type 0
+IsOpenAt now o = MatchOption o.present ⊥ (λ i. (i.time ≤ now) × (now ≤ 2 ^ 62))
 
 -- under a code of so many octets the end made a PDU of these octets, but for its first ones
 abbrev pub live_in : (code : ℕ) → Option EndState → (dead : ℕ) → List ℕ → Bool

@@ -7,11 +7,11 @@ use Rattle.stack_engine.specs.Pairs.{Event, accepted, start, run}
 use Rattle.stack_engine.specs.Premise.{AreTyped}
 use Rattle.stack_engine.specs.Sides.{SidesStand}
 
-abbrev pub events_of : {A : Type 0} → List (CodeEvent A) → List Event
+abbrev pub events_of : List CodeEvent → List Event
 events_of events = map event_of events
 
 abbrev pub history_of : {A : Type 0} → Inside A → List Event
-history_of p = events_of p.history.items
+history_of p = p.history.events
 
 -- the ends stand for the world that its events lead to
 pub record IsPair {A : Type 0} (p : Inside A) : Type 0 where

@@ -1,8 +1,11 @@
 -- Both ends with all their incarnations.
-use Rattle.std.specs.Prelude.{◌≡◌}
-use Rattle.stack_end.specs.Ends.{call}
+use Rattle.std.specs.Prelude.{◌≡◌, List}
+use Rattle.safe_machine.specs.World.{Side}
+use Rattle.safe_machine.specs.World.Side.{Il, Fe}
+use Rattle.stack_end.specs.Ends.{EndState, call}
 use Rattle.stack_engine.specs.declared.sides.Sides.{Sides}
 use Rattle.stack_engine.specs.Bounds.{FewMore}
+use Rattle.stack_engine.specs.Joins.{joins_of, joins_in}
 use Rattle.stack_engine.specs.Openings.{SideStands}
 use Rattle.stack_engine.specs.Pairs.{World, Event, changed, ends_of, present}
 use Rattle.stack_engine.specs.Pairs.Event.{Open, Calls}
@@ -11,8 +14,13 @@ use Rattle.stack_engine.specs.Premise.{AtOpened}
 pub record SidesStand {A : Type 0} (s : Sides A) (w : World) : Type 0 where
   pub il : SideStands s.il w.ils
   pub fe : SideStands s.fe (ends_of w.fes)
+  pub joins : joins_of s.fe ≡ joins_in w.fes
   pub dead_il : s.dead_il ≡ w.dead_il
   pub dead_fe : s.dead_fe ≡ w.dead_fe
+
+abbrev pub ends_at : Side → World → List EndState
+ends_at Il w = w.ils
+ends_at Fe w = ends_of w.fes
 
 -- a call makes little
 abbrev pub FewAt : Event → World → Type 0

@@ -1,139 +1,93 @@
 //! What happens to a pair.
 
-ghost use Rattle.std.specs.Prelude.{◌≡◌, ◌<◌, IfOk};
+ghost use Rattle.std.specs.Prelude.{◌≡◌, ◌<◌, ◌^◌};
 ghost use Rattle.std.specs.List.{AllByRecursion};
+ghost use Rattle.stack_engine.specs.Events.{event_of, put_size};
 ghost use Rattle.stack_engine.specs.Premise.{IsTyped};
 
 use end_settings::{EndConfig, Side};
-use std::alloc::{AllocError, Allocator, Global};
 
-/// What happens to one of two ends, at a time of its clock in milliseconds.
-#[derive(Drop)]
-pub enum Event<A: Allocator = Global> {
-    /// The end is opened, or opened anew, with the sequence number of its first PDU.
+/// What happens to one of two ends, at a time of that end's clock in milliseconds.
+#[derive(Clone, Copy, Debug)]
+pub struct Event<'a> {
+    /// Which end.
+    pub side: Side,
+    /// The time.
+    pub time: u64,
+    /// What happens to it.
+    pub doing: Doing<'a>,
+}
+
+/// What happens to an end.
+#[derive(Clone, Copy, Debug)]
+pub enum Doing<'a> {
+    /// It is opened, or opened anew.
     Open {
-        /// Which end.
-        side: Side,
         /// What it is opened with.
         config: EndConfig,
         /// The sequence number of its first PDU.
         first_sn: u32,
-        /// The time.
-        now: u64,
     },
+    /// It is called.
+    Call(Call<'a>),
+}
+
+/// A call of an end that was opened.
+#[derive(Clone, Copy, Debug)]
+pub enum Call<'a> {
     /// The end leaves its connection.
-    Close {
-        /// Which end.
-        side: Side,
-        /// The time.
-        now: u64,
-    },
+    Close,
     /// The application puts a telegram in.
     Put {
-        /// Which end.
-        side: Side,
         /// The kind of the telegram.
         kind: u16,
         /// Its payload, 0 to 357 octets.
-        payload: Vec<u8, A>,
-        /// The time.
-        now: u64,
+        payload: &'a [u8],
     },
     /// The application of the field element has put in its initial status.
-    InitDone {
-        /// Which end.
-        side: Side,
-        /// The time.
-        now: u64,
-    },
+    InitDone,
     /// Time passes.
-    Tick {
-        /// Which end.
-        side: Side,
-        /// The time.
-        now: u64,
-    },
+    Tick,
     /// A datagram comes, of any octets.
     Deliver {
-        /// Which end.
-        side: Side,
         /// On which channel.
         channel: usize,
         /// The octets.
-        octets: Vec<u8, A>,
-        /// The time.
-        now: u64,
+        octets: &'a [u8],
     },
 }
 
-impl<A: Allocator + Copy> Event<A> {
-    ghost use Rattle.stack_engine.specs.Events.{event_of};
-
-    /// A copy, in memory of its own. The error is that memory was refused.
-    pub fn try_clone(&self, alloc: A) -> Result<Self, AllocError>
-        ensures same { IfOk result (λ copy. event_of copy ≡ event_of self.now) }
-        ensures typed { IfOk result (λ copy. IsTyped (event_of self.now)) }
+impl<'a> Event<'a> {
+    /// Its octets are below 256, and its kind is below 65,536: their types say so.
+    pub(crate) fn is_typed(&self)
+        ensures { IsTyped (event_of self.now) }
     {
-        match self {
-            Event::Open {
-                side,
-                config,
-                first_sn,
-                now,
-            } => Ok(Event::Open {
-                side: *side,
-                config: *config,
-                first_sn: *first_sn,
-                now: *now,
-            }),
-            Event::Close { side, now } => Ok(Event::Close {
-                side: *side,
-                now: *now,
-            }),
-            Event::Put {
-                side,
-                kind,
-                payload,
-                now,
-            } => {
-                let payload = copied(alloc, payload)?;
-                Ok(Event::Put {
-                    side: *side,
-                    kind: *kind,
-                    payload,
-                    now: *now,
-                })
-            }
-            Event::InitDone { side, now } => Ok(Event::InitDone {
-                side: *side,
-                now: *now,
-            }),
-            Event::Tick { side, now } => Ok(Event::Tick {
-                side: *side,
-                now: *now,
-            }),
-            Event::Deliver {
-                side,
-                channel,
-                octets,
-                now,
-            } => {
-                let octets = copied(alloc, octets)?;
-                Ok(Event::Deliver {
-                    side: *side,
-                    channel: *channel,
-                    octets,
-                    now: *now,
-                })
-            }
+        match &self.doing {
+            Doing::Call(Call::Put { kind, .. }) => is_kind(*kind),
+            Doing::Call(Call::Deliver { octets, .. }) => are_octets(octets),
+            _ => {}
         }
     }
 }
 
-/// A copy of octets.
-fn copied<A: Allocator>(alloc: A, octets: &[u8]) -> Result<Vec<u8, A>, AllocError>
-    ensures same { IfOk result (λ copy. copy.items ≡ octets.now) }
-    ensures typed { AllByRecursion (λ o. o < 256) octets.now }
-{
-    Vec::from_slice(alloc, octets)
+/// A kind has two octets.
+fn is_kind(kind: u16)
+    ensures { kind < 256 ^ 2 }
+{}
+
+/// Octets are below 256.
+fn are_octets(octets: &[u8])
+    ensures { AllByRecursion (λ o. o < 256) octets.now }
+{}
+
+impl<'a> Call<'a> {
+    /// How many octets the telegram has that is put in.
+    pub fn put_size(&self) -> usize
+        ensures { result ≡ put_size self.now }
+    {
+        match self {
+            Call::Put { payload, .. } => payload.len(),
+            Call::Close | Call::InitDone | Call::Tick | Call::Deliver { .. } => 0,
+        }
+    }
 }

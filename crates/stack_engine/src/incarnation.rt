@@ -1,22 +1,25 @@
 //! One incarnation of an end: from one opening to the next.
 
-ghost use Rattle.std.specs.Prelude.{◌≡◌, ◌≤◌, ◌^◌, ◌↔◌, ℕ, true, false, length, None, Some, MatchResult, OnOk, OnErr, IfOk, IsErrAnd, drop, not, ◌&&◌};
+ghost use Rattle.std.specs.Prelude.{◌≡◌, ◌≤◌, ◌^◌, ◌↔◌, ℕ, true, false, length, None, Some, MatchResult, OnOk, OnErr, IfOk, IsErrAnd, drop, not, ◌&&◌, option_map};
 ghost use Rattle.end_settings.specs.EndSettings.{are_fit};
 ghost use Rattle.end_settings.specs.Configured.{settings_of, side_of};
 ghost use Rattle.pdi_session.specs.SessionStep.{init_refusal, put_refusal};
 ghost use Rattle.stack_end.specs.Dialogue.{session_in};
-ghost use Rattle.stack_end.specs.Ends.{Call, EndState, new_end};
-ghost use Rattle.stack_end.specs.Ends.Call.{Close, Deliver, InitDone, Put};
-ghost use Rattle.stack_end.specs.EndValue.{channels_of};
+ghost use Rattle.stack_end.specs.Ends.{EndState, new_end};
+ghost use Rattle.stack_end.specs.Ends.Call.{Close, Deliver, InitDone, Put, Tick};
 ghost use Rattle.stack_end.specs.declared.OpenFault.TheVariants.{BadConfig};
 ghost use Rattle.stack_engine.specs.Bounds.{FewFirst};
 ghost use Rattle.end_settings.specs.EndSettings.{rule_of};
 ghost use Rattle.stack_end.specs.Ends.{is_shut};
 ghost use Rattle.safe_pdu.specs.SafeText.{code_octets};
-ghost use Rattle.stack_engine.specs.Pairs.{has_made};
+ghost use Rattle.stack_engine.specs.Events.{call_of};
+ghost use Rattle.stack_engine.specs.Pairs.{has_made, session_refusal};
 ghost use Rattle.stack_engine.specs.Premise.{is_asked_of};
 
+use crate::ApplyFault;
+use crate::event::Call;
 use crate::keeper::Keeper;
+use crate::notes::Notes;
 use crate::premise::is_asked_about;
 use crate::telegrams::{Telegrams, reserve_telegrams};
 use end_settings::{EndConfig, Side};
@@ -42,11 +45,17 @@ pub struct Incarnation<A: Allocator = Global> {
     pub(crate) config: EndConfig,
     /// Of the last accepted call.
     pub(crate) time: u64,
+    /// Of a field element: the number, from 1, of the interlocking's incarnation whose ConnReq it took.
+    pub(crate) joined: Option<usize>,
+    /// How many of the first remarks of its keeper are those of an earlier event.
+    pub(crate) told: usize,
     ghost timed: { end.time ≡ time },
 }
 
 impl<A: Allocator + Copy> Incarnation<A> {
-    ghost use Rattle.stack_engine.specs.Incarnations.{HasRoom, IncDoes, IncStands};
+    ghost use Rattle.stack_engine.specs.Incarnations.{HasRoom, HasRoomFor, IncDoes, IncStands};
+    ghost use Rattle.stack_engine.specs.Openings.{NamesRefusal};
+    ghost use Rattle.stack_engine.specs.Reports.{place_of};
 
     /// The end is opened. The settings are tested before memory is taken.
     pub fn open(
@@ -59,6 +68,7 @@ impl<A: Allocator + Copy> Incarnation<A> {
         requires now { now ≤ 2 ^ 62 }
         requires few { are_fit (side_of side) (settings_of config) ≡ true → FewFirst (new_end (side_of side) (settings_of config) first_sn now) }
         ensures bad_config { IsErrAnd result (λ fault. fault ≡ BadConfig) ↔ (are_fit (side_of side) (settings_of config) ≡ false) }
+        ensures joined { IfOk result (λ i. i.joined ≡ None) }
         ensures stands { IfOk result (λ i. IncStands i (new_end (side_of side) (settings_of config) first_sn now)) }
     {
         if !config.is_fit(side) {
@@ -75,54 +85,103 @@ impl<A: Allocator + Copy> Incarnation<A> {
                 taken: Telegrams::<A>::new(alloc),
                 config,
                 time: now,
+                joined: None,
+                told: 0,
             }),
             Err((fault, _)) => Err(fault),
         }
     }
 
     /// Makes room for all that one event makes and takes. The error is that memory was refused.
-    pub fn reserve(&mut self) -> Result<(), AllocError>
+    fn reserve(&mut self) -> Result<(), AllocError>
         ensures room { OnOk result (HasRoom self.new) }
         ensures stands { (x : EndState) → IncStands self.old x → IncStands self.new x }
         ensures time { self.new.time ≡ self.old.time }
+        ensures joined { self.new.joined ≡ self.old.joined }
         ensures put { self.new.put ≡ self.old.put }
     {
+        let told = self.told;
         let keeper = self.end.channels();
+        keeper.forget(told);
+        self.told = 0;
         keeper.reserve(EVENT_PDUS)?;
         reserve_telegrams(&mut self.taken, EVENT_TAKEN)
     }
 
-    /// Makes room for a put of so many octets as well. The error is that memory was refused.
-    pub fn reserve_put(&mut self, octets: usize) -> Result<(), AllocError>
-        ensures room { OnOk result (HasRoom self.new) }
-        ensures place { OnOk result (1 ≤ self.new.put.places) }
-        ensures octets { OnOk result (octets ≤ self.new.put.octets) }
+    /// Makes room for a call, and for the octets of the telegram that it puts in. The error is that memory was refused.
+    pub fn reserve_for(&mut self, call: &Call<'_>) -> Result<(), AllocError>
+        ensures room { OnOk result (HasRoomFor call.now self.new) }
         ensures stands { (x : EndState) → IncStands self.old x → IncStands self.new x }
         ensures time { self.new.time ≡ self.old.time }
+        ensures joined { self.new.joined ≡ self.old.joined }
     {
-        self.put.reserve(1, octets)?;
+        self.put.reserve(1, call.put_size())?;
         self.reserve()
     }
 
+    /// The end is called.
+    ///
+    /// Refused as the end refuses it, and then nothing changes: `Put` and `Init`, each with its fault.
+    pub fn call(&mut self, call: &Call<'_>, now: u64) -> Result<(), ApplyFault>
+        requires now { now ≤ 2 ^ 62 }
+        requires later { self.old.time ≤ now }
+        requires room { HasRoomFor call.now self.old }
+        ensures does { OnOk result (IncDoes (call_of call.now now) self.old self.new) }
+        ensures refused { OnErr result ((x : EndState) → IncStands self.old x → IncStands self.new x) }
+        ensures joined { self.new.joined ≡ self.old.joined }
+        ensures refusal { (x : EndState) → IncStands self.old x
+            → MatchResult result (λ _. session_refusal (call_of call.now now) x ≡ None)
+            (λ fault. NamesRefusal fault (session_refusal (call_of call.now now) x)) }
+    {
+        let told = self.end.channels_seen().remarks();
+        self.step(call, now)?;
+        self.told = told;
+        Ok(())
+    }
+
+    /// The end is called, and what it did before is not forgotten.
+    fn step(&mut self, call: &Call<'_>, now: u64) -> Result<(), ApplyFault>
+        requires now { now ≤ 2 ^ 62 }
+        requires later { self.old.time ≤ now }
+        requires room { HasRoomFor call.now self.old }
+        ensures does { OnOk result (IncDoes (call_of call.now now) self.old self.new) }
+        ensures refused { OnErr result ((x : EndState) → IncStands self.old x → IncStands self.new x) }
+        ensures joined { self.new.joined ≡ self.old.joined }
+        ensures refusal { (x : EndState) → IncStands self.old x
+            → MatchResult result (λ _. session_refusal (call_of call.now now) x ≡ None)
+            (λ fault. NamesRefusal fault (session_refusal (call_of call.now now) x)) }
+    {
+        match *call {
+            Call::Close => self.close(now),
+            Call::Put { kind, payload } => {
+                return self.put(kind, payload, now).map_err(ApplyFault::Put);
+            }
+            Call::InitDone => return self.init_done(now).map_err(ApplyFault::Init),
+            Call::Tick => self.tick(now),
+            Call::Deliver { channel, octets } => self.deliver(channel, octets, now),
+        }
+        Ok(())
+    }
+
     /// A datagram comes.
-    pub fn deliver(&mut self, channel: usize, octets: &[u8], now: u64)
+    fn deliver(&mut self, channel: usize, octets: &[u8], now: u64)
         requires now { now ≤ 2 ^ 62 }
         requires later { self.old.time ≤ now }
         requires room { HasRoom self.old }
         ensures does { IncDoes (Deliver channel octets.now now) self.old self.new }
-        ensures time { self.new.time ≡ now }
+        ensures joined { self.new.joined ≡ self.old.joined }
     {
         self.end.arrive(channel, octets, now, &mut self.taken);
         self.time = now;
     }
 
     /// Time passes.
-    pub fn tick(&mut self, now: u64)
+    fn tick(&mut self, now: u64)
         requires now { now ≤ 2 ^ 62 }
         requires later { self.old.time ≤ now }
         requires room { HasRoom self.old }
-        ensures does { IncDoes (Call.Tick now) self.old self.new }
-        ensures time { self.new.time ≡ now }
+        ensures does { IncDoes (Tick now) self.old self.new }
+        ensures joined { self.new.joined ≡ self.old.joined }
     {
         self.end.tick(now, &mut self.taken);
         self.time = now;
@@ -131,16 +190,15 @@ impl<A: Allocator + Copy> Incarnation<A> {
     /// The application puts a telegram in. The caller has made room for it.
     ///
     /// Refused as the end refuses it, and then nothing changes.
-    pub fn put(&mut self, kind: u16, payload: &[u8], now: u64) -> Result<(), PutFault>
+    fn put(&mut self, kind: u16, payload: &[u8], now: u64) -> Result<(), PutFault>
         requires now { now ≤ 2 ^ 62 }
         requires later { self.old.time ≤ now }
         requires room { HasRoom self.old }
         requires place { 1 ≤ self.old.put.places }
         requires octets { length payload.now ≤ self.old.put.octets }
         ensures does { OnOk result (IncDoes (Put kind payload.now now) self.old self.new) }
-        ensures time { OnOk result (self.new.time ≡ now) }
+        ensures joined { self.new.joined ≡ self.old.joined }
         ensures refused { OnErr result ((x : EndState) → IncStands self.old x → IncStands self.new x) }
-        ensures same_time { OnErr result (self.new.time ≡ self.old.time) }
         ensures answer { (x : EndState) → IncStands self.old x
             → MatchResult result (λ _. put_refusal (session_in x.session) kind payload.now (length x.session.waiting) ≡ None)
             (λ fault. put_refusal (session_in x.session) kind payload.now (length x.session.waiting) ≡ Some fault) }
@@ -158,14 +216,13 @@ impl<A: Allocator + Copy> Incarnation<A> {
     /// The application of a field element has put in its initial status.
     ///
     /// Refused as the end refuses it, and then nothing changes.
-    pub fn init_done(&mut self, now: u64) -> Result<(), InitFault>
+    fn init_done(&mut self, now: u64) -> Result<(), InitFault>
         requires now { now ≤ 2 ^ 62 }
         requires later { self.old.time ≤ now }
         requires room { HasRoom self.old }
         ensures does { OnOk result (IncDoes (InitDone now) self.old self.new) }
-        ensures time { OnOk result (self.new.time ≡ now) }
+        ensures joined { self.new.joined ≡ self.old.joined }
         ensures refused { OnErr result ((x : EndState) → IncStands self.old x → IncStands self.new x) }
-        ensures same_time { OnErr result (self.new.time ≡ self.old.time) }
         ensures answer { (x : EndState) → IncStands self.old x
             → MatchResult result (λ _. init_refusal (session_in x.session) (length x.session.waiting) ≡ None)
             (λ fault. init_refusal (session_in x.session) (length x.session.waiting) ≡ Some fault) }
@@ -180,15 +237,37 @@ impl<A: Allocator + Copy> Incarnation<A> {
     }
 
     /// The end leaves its connection.
-    pub fn close(&mut self, now: u64)
+    fn close(&mut self, now: u64)
         requires now { now ≤ 2 ^ 62 }
         requires later { self.old.time ≤ now }
         requires room { HasRoom self.old }
         ensures does { IncDoes (Close now) self.old self.new }
-        ensures time { self.new.time ≡ now }
+        ensures joined { self.new.joined ≡ self.old.joined }
     {
         self.end.close(now);
         self.time = now;
+    }
+
+    /// The place, from 0, of the interlocking's incarnation that it is joined to.
+    pub fn joined_place(&self) -> Option<usize>
+        ensures { result ≡ place_of self.now.joined }
+    {
+        match self.joined {
+            Some(number) => Some(number.saturating_sub(1)),
+            None => None,
+        }
+    }
+
+    /// What the last accepted event did.
+    pub fn notes(&self) -> Notes<'_, A> {
+        self.end.channels_seen().notes(self.told, &self.taken)
+    }
+
+    /// The octets of the ConnReq that it took.
+    pub fn request(&self) -> Option<&[u8]>
+        ensures { (x : EndState) → IncStands self.now x → option_map (λ octets. octets.now) result ≡ x.request }
+    {
+        self.end.request()
     }
 
     /// How many PDUs it made.

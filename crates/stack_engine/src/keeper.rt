@@ -6,14 +6,21 @@ ghost use Rattle.std.specs.Str.{bytes_eq};
 ghost use Rattle.octets.specs.declared.limits.TheConstants.{RED_HEADER, RED_PDU_MAX};
 ghost use Rattle.stack_engine.specs.Keeping.{Keeping, has_part};
 
+use crate::notes::{Notes, Remark};
+use crate::telegrams::Telegrams;
 use crate::texts::Texts;
-use channels::{ChannelFault, Channels};
+use channels::{ChannelFault, Channels, Note};
 use octets::limits::{RED_HEADER, RED_PDU_MAX};
 use std::alloc::{AllocError, Allocator, Global};
+use std::collections::VecDeque;
 use std::marker::Model;
 
 /// On which channel datagrams are kept: every PDU is sent on it first.
 const KEPT_CHANNEL: usize = 1;
+
+/// How many remarks one event makes at most beside its PDUs: of each of nine parts a redundancy event, a step, three telegrams,
+/// three phases and two states, and as many again around them.
+const EVENT_REMARKS: usize = 200;
 
 /// Keeps what is sent on channel 1, in order. What is sent on another channel is a copy of it, and fails. Nothing is received.
 ///
@@ -22,6 +29,10 @@ const KEPT_CHANNEL: usize = 1;
 pub struct Keeper<A: Allocator = Global> {
     datagrams: Texts<(), A>,
     failed_sends: u64,
+    /// What the end did, in order.
+    remarks: VecDeque<Remark, A>,
+    /// How many telegrams its application took.
+    takes: usize,
 }
 
 impl<A: Allocator> Model for Keeper<A> {
@@ -46,21 +57,46 @@ impl<A: Allocator + Copy> Keeper<A> {
         Keeper {
             datagrams: Texts::new(alloc),
             failed_sends: 0,
+            remarks: VecDeque::new(alloc),
+            takes: 0,
         }
     }
 
-    /// Makes room for so many datagrams. The error is that memory was refused.
+    /// Makes room for so many datagrams, and for what one event does beside. The error is that memory was refused.
     pub fn reserve(&mut self, datagrams: usize) -> Result<(), AllocError>
         requires { datagrams ≤ 1000 }
         ensures same { self.new.datagrams ≡ self.old.datagrams }
         ensures places { OnOk result (datagrams ≤ self.new.places) }
         ensures octets { OnOk result (datagrams * RED_PDU_MAX ≤ self.new.octets) }
     {
+        self.remarks.try_reserve(datagrams + EVENT_REMARKS)?;
         self.datagrams.reserve(datagrams, datagrams * RED_PDU_MAX)
+    }
+
+    /// Forgets the first so many remarks.
+    pub fn forget(&mut self, remarks: usize)
+        ensures { self.new ≡ self.old }
+    {
+        forget_first(&mut self.remarks, remarks);
     }
 }
 
 impl<A: Allocator> Keeper<A> {
+    /// How many remarks there are.
+    pub fn remarks(&self) -> usize {
+        self.remarks.len()
+    }
+
+    /// What was done behind the first so many remarks; the telegrams are those that the end's application took.
+    pub fn notes<'a>(&'a self, earlier: usize, taken: &'a Telegrams<A>) -> Notes<'a, A> {
+        Notes {
+            remarks: &self.remarks,
+            earlier,
+            datagrams: &self.datagrams,
+            taken,
+        }
+    }
+
     /// How many datagrams were kept.
     pub fn len(&self) -> usize
         ensures { result ≡ length self.now.datagrams }
@@ -118,12 +154,42 @@ impl<A: Allocator + Copy> Channels for Keeper<A> {
             self.failed_sends = self.failed_sends.wrapping_add(1);
             return Err(ChannelFault::Room);
         }
+        let place = self.datagrams.len();
         self.datagrams.add((), datagram);
+        remark(&mut self.remarks, Remark::Made(place));
         Ok(())
     }
 
     fn receive(&mut self, buffer: &mut [u8]) -> Result<Option<(usize, usize)>, ChannelFault> {
         let _none = buffer;
         Ok(None)
+    }
+
+    fn note(&mut self, note: &Note<'_>) {
+        let made = match note {
+            Note::Redundancy(number, event) => Remark::Redundancy(*number, *event),
+            Note::Step(number, step) => Remark::Step(*number, *step),
+            Note::Take(_, _) => Remark::Take(self.takes),
+            Note::State(state) => Remark::State(*state),
+            Note::Phase(phase) => Remark::Phase(*phase),
+        };
+        if let Remark::Take(place) = made {
+            self.takes = place.wrapping_add(1);
+        }
+        remark(&mut self.remarks, made);
+    }
+}
+
+/// Adds a remark, where there is room for it.
+fn remark<A: Allocator>(remarks: &mut VecDeque<Remark, A>, made: Remark) {
+    if remarks.len() < remarks.capacity() {
+        remarks.push_back_reserved(made);
+    }
+}
+
+/// Forgets the first so many remarks.
+fn forget_first<A: Allocator>(remarks: &mut VecDeque<Remark, A>, count: usize) {
+    for _ in 0..count {
+        let _forgotten = remarks.pop_front();
     }
 }

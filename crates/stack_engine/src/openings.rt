@@ -1,17 +1,22 @@
 //! One end with all its incarnations.
 
-ghost use Rattle.std.specs.Prelude.{◌≡◌, ◌≤◌, ◌^◌, ◌↔◌, ℕ, true, List, [], ◌∷◌, length, None, Some, MatchResult, OnOk, OnErr};
+ghost use Rattle.std.specs.Prelude.{◌≡◌, ◌≤◌, ◌^◌, true, false, List, [], ◌∷◌, length, reverse, slice_get, option_map, None, MatchResult, OnOk, OnErr, IfErr};
 ghost use Rattle.end_settings.specs.EndSettings.{are_fit};
 ghost use Rattle.end_settings.specs.Configured.{settings_of, side_of};
-ghost use Rattle.stack_end.specs.Ends.{Call, EndState, new_end};
-ghost use Rattle.stack_end.specs.Ends.Call.{Close, Deliver, InitDone, Put};
+ghost use Rattle.stack_end.specs.Ends.{Call, EndState, new_end, time_of};
 ghost use Rattle.stack_engine.specs.Bounds.{FewFirst};
 ghost use Rattle.stack_engine.specs.Premise.{breaks_at};
-ghost use Rattle.stack_engine.specs.Pairs.{call_refusal, latest, made_of, open_refusal};
+ghost use Rattle.stack_engine.specs.Events.{call_of};
+ghost use Rattle.stack_engine.specs.Joins.{joins_of, rejoined, request_in};
+ghost use Rattle.stack_engine.specs.Openings.{BeforeStand, IsOfSession, is_memory};
+ghost use Rattle.stack_engine.specs.Pairs.{call_refusal, latest, latest_maker, made_of, open_refusal};
+ghost use Rattle.stack_engine.specs.Reports.{entry_of, incarnations_of, joined_entry, seen_entry};
 
-use crate::ApplyFault;
 use crate::incarnation::Incarnation;
 use crate::keeper::Keeper;
+use crate::notes::Notes;
+use crate::report::{Entry, report_on};
+use crate::{ApplyFault, event};
 use end_settings::{EndConfig, Side};
 use stack_end::End;
 use std::alloc::{Allocator, Global};
@@ -27,11 +32,12 @@ pub struct Openings<A: Allocator = Global> {
 }
 
 impl<A: Allocator + Copy> Openings<A> {
-    ghost use Rattle.stack_engine.specs.Openings.{NamesRefusal, SideDoes, SideStands, IsEnd, breaks_with, live_in};
+    ghost use Rattle.stack_engine.specs.Openings.{IsOpenAt, NamesRefusal, SideDoes, SideStands, IsEnd, breaks_with, live_in};
 
     /// The end was never opened.
     pub fn new(alloc: A) -> Self
-        ensures { SideStands result [] }
+        ensures stands { SideStands result [] }
+        ensures joins { joins_of result ≡ [] }
     {
         Openings {
             present: None,
@@ -39,123 +45,65 @@ impl<A: Allocator + Copy> Openings<A> {
         }
     }
 
-    /// A datagram comes.
+    /// Whether a call at this time is refused before the session is asked.
     ///
-    /// Refused, and the first that holds is named: `EndNotOpen`, `Clock`, `Memory`.
-    pub fn deliver(&mut self, channel: usize, octets: &[u8], now: u64) -> Result<(), ApplyFault>
-        ensures does { OnOk result (SideDoes (Deliver channel octets.now now) self.old self.new) }
-        ensures unchanged { OnErr result ((xs : List EndState) → SideStands self.old xs → SideStands self.new xs) }
-        ensures refusal { (xs : List EndState) → SideStands self.old xs
-            → MatchResult result (λ _. call_refusal (Deliver channel octets.now now) (latest xs) ≡ None)
-            (λ fault. NamesRefusal fault (call_refusal (Deliver channel octets.now now) (latest xs))) }
+    /// Refused, and the first that holds is named: `EndNotOpen`, `Clock`.
+    pub fn admits_call(&self, now: u64) -> Result<(), ApplyFault>
+        ensures refusal { (xs : List EndState) (c : Call) → SideStands self.now xs → time_of c ≡ now
+            → MatchResult result (λ _. IsOfSession (call_refusal c (latest xs))) (λ fault. NamesRefusal fault (call_refusal c (latest xs))) }
+        ensures open { OnOk result (IsOpenAt now self.now) }
+        ensures no_memory { IfErr result (λ fault. is_memory fault ≡ false) }
     {
+        match &self.present {
+            None => Err(ApplyFault::EndNotOpen),
+            Some(present) if now < present.time || now > TIME_MAX => Err(ApplyFault::Clock),
+            Some(_) => Ok(()),
+        }
+    }
+
+    /// The end is called.
+    ///
+    /// Refused, and the first that holds is named: `EndNotOpen`, `Clock`, `Memory`, `Put` and `Init` with their faults.
+    pub fn call(&mut self, call: &event::Call<'_>, now: u64) -> Result<(), ApplyFault>
+        ensures does { OnOk result (SideDoes (call_of call.now now) self.old self.new) }
+        ensures unchanged { OnErr result ((xs : List EndState) → SideStands self.old xs → SideStands self.new xs) }
+        ensures joins { joins_of self.new ≡ joins_of self.old }
+        ensures refusal { (xs : List EndState) → SideStands self.old xs
+            → MatchResult result (λ _. call_refusal (call_of call.now now) (latest xs) ≡ None)
+            (λ fault. NamesRefusal fault (call_refusal (call_of call.now now) (latest xs))) }
+    {
+        self.admits_call(now)?;
         let Some(present) = &mut self.present else {
             return Err(ApplyFault::EndNotOpen);
         };
-        if now < present.time || now > TIME_MAX {
-            return Err(ApplyFault::Clock);
-        }
-        let Ok(()) = present.reserve() else {
+        let Ok(()) = present.reserve_for(call) else {
             return Err(ApplyFault::Memory);
         };
-        present.deliver(channel, octets, now);
+        present.call(call, now)
+    }
+
+    /// Whether an opening with these settings at this time is refused.
+    ///
+    /// Refused, and the first that holds is named: `BadConfig`, `Clock`.
+    pub fn admits_opening(&self, side: Side, config: &EndConfig, now: u64) -> Result<(), ApplyFault>
+        ensures refusal { (xs : List EndState) → SideStands self.now xs
+            → MatchResult result (λ _. open_refusal (side_of side) (settings_of config.now) now (latest xs) ≡ None)
+            (λ fault. NamesRefusal fault (open_refusal (side_of side) (settings_of config.now) now (latest xs))) }
+        ensures fit { OnOk result (are_fit (side_of side) (settings_of config.now) ≡ true) }
+        ensures now { OnOk result (now ≤ 2 ^ 62) }
+        ensures no_memory { IfErr result (λ fault. is_memory fault ≡ false) }
+    {
+        if !config.is_fit(side) {
+            return Err(ApplyFault::BadConfig);
+        }
+        let last = match &self.present {
+            Some(present) => present.time,
+            None => 0,
+        };
+        if now < last || now > TIME_MAX {
+            return Err(ApplyFault::Clock);
+        }
         Ok(())
-    }
-
-    /// Time passes.
-    ///
-    /// Refused, and the first that holds is named: `EndNotOpen`, `Clock`, `Memory`.
-    pub fn tick(&mut self, now: u64) -> Result<(), ApplyFault>
-        ensures does { OnOk result (SideDoes (Call.Tick now) self.old self.new) }
-        ensures unchanged { OnErr result ((xs : List EndState) → SideStands self.old xs → SideStands self.new xs) }
-        ensures refusal { (xs : List EndState) → SideStands self.old xs
-            → MatchResult result (λ _. call_refusal (Call.Tick now) (latest xs) ≡ None)
-            (λ fault. NamesRefusal fault (call_refusal (Call.Tick now) (latest xs))) }
-    {
-        let Some(present) = &mut self.present else {
-            return Err(ApplyFault::EndNotOpen);
-        };
-        if now < present.time || now > TIME_MAX {
-            return Err(ApplyFault::Clock);
-        }
-        let Ok(()) = present.reserve() else {
-            return Err(ApplyFault::Memory);
-        };
-        present.tick(now);
-        Ok(())
-    }
-
-    /// The end leaves its connection.
-    ///
-    /// Refused, and the first that holds is named: `EndNotOpen`, `Clock`, `Memory`.
-    pub fn close(&mut self, now: u64) -> Result<(), ApplyFault>
-        ensures does { OnOk result (SideDoes (Close now) self.old self.new) }
-        ensures unchanged { OnErr result ((xs : List EndState) → SideStands self.old xs → SideStands self.new xs) }
-        ensures refusal { (xs : List EndState) → SideStands self.old xs
-            → MatchResult result (λ _. call_refusal (Close now) (latest xs) ≡ None)
-            (λ fault. NamesRefusal fault (call_refusal (Close now) (latest xs))) }
-    {
-        let Some(present) = &mut self.present else {
-            return Err(ApplyFault::EndNotOpen);
-        };
-        if now < present.time || now > TIME_MAX {
-            return Err(ApplyFault::Clock);
-        }
-        let Ok(()) = present.reserve() else {
-            return Err(ApplyFault::Memory);
-        };
-        present.close(now);
-        Ok(())
-    }
-
-    /// The application of a field element has put in its initial status.
-    ///
-    /// Refused, and the first that holds is named: `EndNotOpen`, `Clock`, `Memory`, `Init` with its fault.
-    pub fn init_done(&mut self, now: u64) -> Result<(), ApplyFault>
-        ensures does { OnOk result (SideDoes (InitDone now) self.old self.new) }
-        ensures unchanged { OnErr result ((xs : List EndState) → SideStands self.old xs → SideStands self.new xs) }
-        ensures refusal { (xs : List EndState) → SideStands self.old xs
-            → MatchResult result (λ _. call_refusal (InitDone now) (latest xs) ≡ None)
-            (λ fault. NamesRefusal fault (call_refusal (InitDone now) (latest xs))) }
-    {
-        let Some(present) = &mut self.present else {
-            return Err(ApplyFault::EndNotOpen);
-        };
-        if now < present.time || now > TIME_MAX {
-            return Err(ApplyFault::Clock);
-        }
-        let Ok(()) = present.reserve() else {
-            return Err(ApplyFault::Memory);
-        };
-        match present.init_done(now) {
-            Ok(()) => Ok(()),
-            Err(fault) => Err(ApplyFault::Init(fault)),
-        }
-    }
-
-    /// The application puts a telegram in.
-    ///
-    /// Refused, and the first that holds is named: `EndNotOpen`, `Clock`, `Memory`, `Put` with its fault.
-    pub fn put(&mut self, kind: u16, payload: &[u8], now: u64) -> Result<(), ApplyFault>
-        ensures does { OnOk result (SideDoes (Put kind payload.now now) self.old self.new) }
-        ensures unchanged { OnErr result ((xs : List EndState) → SideStands self.old xs → SideStands self.new xs) }
-        ensures refusal { (xs : List EndState) → SideStands self.old xs
-            → MatchResult result (λ _. call_refusal (Put kind payload.now now) (latest xs) ≡ None)
-            (λ fault. NamesRefusal fault (call_refusal (Put kind payload.now now) (latest xs))) }
-    {
-        let Some(present) = &mut self.present else {
-            return Err(ApplyFault::EndNotOpen);
-        };
-        if now < present.time || now > TIME_MAX {
-            return Err(ApplyFault::Clock);
-        }
-        let Ok(()) = present.reserve_put(payload.len()) else {
-            return Err(ApplyFault::Memory);
-        };
-        match present.put(kind, payload, now) {
-            Ok(()) => Ok(()),
-            Err(fault) => Err(ApplyFault::Put(fault)),
-        }
     }
 
     /// The end is opened, or opened anew.
@@ -172,20 +120,13 @@ impl<A: Allocator + Copy> Openings<A> {
         requires few { are_fit (side_of side) (settings_of config) ≡ true → FewFirst (new_end (side_of side) (settings_of config) first_sn now) }
         ensures does { OnOk result ((xs : List EndState) → SideStands self.old xs → SideStands self.new (new_end (side_of side) (settings_of config) first_sn now ∷ xs)) }
         ensures unchanged { OnErr result ((xs : List EndState) → SideStands self.old xs → SideStands self.new xs) }
+        ensures joins { OnOk result ((xs : List EndState) → SideStands self.old xs → joins_of self.new ≡ None ∷ joins_of self.old) }
+        ensures same_joins { OnErr result (joins_of self.new ≡ joins_of self.old) }
         ensures refusal { (xs : List EndState) → SideStands self.old xs
             → MatchResult result (λ _. open_refusal (side_of side) (settings_of config) now (latest xs) ≡ None)
             (λ fault. NamesRefusal fault (open_refusal (side_of side) (settings_of config) now (latest xs))) }
     {
-        if !config.is_fit(side) {
-            return Err(ApplyFault::BadConfig);
-        }
-        let last = match &self.present {
-            Some(present) => present.time,
-            None => 0,
-        };
-        if now < last || now > TIME_MAX {
-            return Err(ApplyFault::Clock);
-        }
+        self.admits_opening(side, &config, now)?;
         let Ok(()) = self.before.try_reserve(1) else {
             return Err(ApplyFault::Memory);
         };
@@ -196,6 +137,95 @@ impl<A: Allocator + Copy> Openings<A> {
             self.before.push_reserved(earlier);
         }
         Ok(())
+    }
+
+    /// The octets of the ConnReq that the present incarnation took.
+    pub fn request(&self) -> Option<&[u8]>
+        ensures { (xs : List EndState) → SideStands self.now xs → option_map (λ octets. octets.now) result ≡ request_in (latest xs) }
+    {
+        match &self.present {
+            Some(present) => present.request(),
+            None => None,
+        }
+    }
+
+    /// Joins the present incarnation to that of the peer with this number.
+    pub fn join(&mut self, number: Option<usize>)
+        ensures stands { (xs : List EndState) → SideStands self.old xs → SideStands self.new xs }
+        ensures joins { joins_of self.new ≡ rejoined number (joins_of self.old) }
+    {
+        if let Some(present) = &mut self.present {
+            present.joined = number;
+        }
+    }
+
+    /// The number, from 1, of the latest incarnation that made a PDU of these octets.
+    pub fn latest_maker(&self, octets: &[u8]) -> Option<usize>
+        ensures { (xs : List EndState) → SideStands self.now xs → result ≡ latest_maker octets.now xs }
+    {
+        match &self.present {
+            Some(present) if present.has_made(0, octets) => Some(self.before.len() + 1),
+            Some(_) => latest_maker_of(&self.before, octets),
+            None => None,
+        }
+    }
+
+    /// The report on the incarnation at a place, from 0, which is joined to none.
+    pub fn entry(&self, place: usize) -> Option<Entry<'_, A>>
+        ensures { option_map seen_entry result ≡ option_map (entry_of None) (slice_get (incarnations_of self.now) place) }
+    {
+        match self.incarnation(place) {
+            Some(incarnation) => Some(report_on(incarnation, None)),
+            None => None,
+        }
+    }
+
+    /// The report on the incarnation at a place, from 0, and to which one of its peer it is joined.
+    pub fn joined_entry(&self, place: usize) -> Option<Entry<'_, A>>
+        ensures { option_map seen_entry result ≡ option_map joined_entry (slice_get (incarnations_of self.now) place) }
+    {
+        match self.incarnation(place) {
+            Some(incarnation) => Some(report_on(incarnation, incarnation.joined_place())),
+            None => None,
+        }
+    }
+
+    /// The incarnation at a place, from 0, the first opened one first.
+    fn incarnation(&self, place: usize) -> Option<&Incarnation<A>>
+        ensures { option_map (λ i. i.now) result ≡ slice_get (incarnations_of self.now) place }
+    {
+        if place == self.before.len() {
+            return self.present.as_ref();
+        }
+        self.earlier(place)
+    }
+
+    /// The one at a place among those before the present one.
+    fn earlier(&self, place: usize) -> Option<&Incarnation<A>>
+        ensures { option_map (λ i. i.now) result ≡ slice_get self.now.before.items place }
+    {
+        if place < self.before.len() {
+            return Some(&self.before[place]);
+        }
+        None
+    }
+
+    /// How many incarnations there are.
+    pub fn len(&self) -> usize
+        ensures { result ≡ length (incarnations_of self.now) }
+    {
+        match &self.present {
+            Some(_) => self.before.len() + 1,
+            None => self.before.len(),
+        }
+    }
+
+    /// What the last accepted event of the present incarnation did.
+    pub fn notes(&self) -> Option<Notes<'_, A>> {
+        match &self.present {
+            Some(present) => Some(present.notes()),
+            None => None,
+        }
     }
 
     /// How many PDUs the present incarnation made.
@@ -249,4 +279,21 @@ impl<A: Allocator + Copy> Openings<A> {
             None => None,
         }
     }
+}
+
+/// The number, from 1, of the latest of these incarnations that made a PDU of these octets; the first opened one stands first.
+fn latest_maker_of<A: Allocator + Copy>(
+    incarnations: &[Incarnation<A>],
+    octets: &[u8],
+) -> Option<usize>
+    ensures { (xs : List EndState) → BeforeStand (reverse incarnations.now) xs → result ≡ latest_maker octets.now xs }
+{
+    let mut number = incarnations.len();
+    while number > 0 {
+        if incarnations[number - 1].has_made(0, octets) {
+            return Some(number);
+        }
+        number -= 1;
+    }
+    None
 }

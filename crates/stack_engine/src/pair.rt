@@ -1,16 +1,20 @@
 //! Two ends in memory, with everything that ever happened to them.
 
-ghost use Rattle.std.specs.Prelude.{◌≡◌, ◌+◌, [], ◌∷◌, ◌++◌, length, None, MatchResult, OnOk, OnErr, IfOk};
+ghost use Rattle.std.specs.Prelude.{◌≡◌, ◌+◌, [], ◌∷◌, ◌++◌, length, None, MatchResult, OnOk, OnErr, IfOk, option_map, slice_get};
 ghost use Rattle.stack_engine.specs.Openings.{IsEnd, NamesRefusal};
 ghost use Rattle.stack_engine.specs.Pairs.{present, refusal, run, start};
 ghost use Rattle.end_settings.specs.Configured.{side_of};
 ghost use Rattle.stack_engine.specs.Premise.{breaks_premise};
 ghost use Rattle.stack_engine.specs.Promises.{Promises};
+ghost use Rattle.stack_engine.specs.Reports.{report_of, seen_entry};
 
 use crate::ApplyFault;
 use crate::event::Event;
+use crate::history::History;
 use crate::keeper::Keeper;
 use crate::law::pair_law;
+use crate::notes::Notes;
+use crate::report::Entry;
 use crate::sides::Sides;
 use end_settings::Side;
 use stack_end::End;
@@ -27,8 +31,10 @@ pub struct Memory;
 #[derive(Drop)]
 pub struct Pair<A: Allocator = Global> {
     alloc: A,
-    history: Vec<Event<A>, A>,
+    history: History<A>,
     sides: Sides<A>,
+    /// The end that the last accepted event happened to.
+    last: Option<Side>,
 }
 
 impl<A: Allocator> Model for Pair<A> {
@@ -54,31 +60,45 @@ impl<A: Allocator + Copy> Pair<A> {
     {
         Pair {
             alloc,
-            history: Vec::new(alloc),
+            history: History::new(alloc),
             sides: Sides::new(alloc),
+            last: None,
         }
     }
 
     /// An event happens, exactly as the definition of a pair says.
     ///
-    /// Refused, and then nothing changes: `EndNotOpen`, `BadConfig`, `Clock`, and last `Put` and `Init` with their faults, of which the first
-    /// that holds is named; or `Memory`, where a growth was refused, which comes before all others.
-    pub fn apply(&mut self, event: &Event<A>) -> Result<(), ApplyFault>
+    /// Refused, and then nothing changes; the first that holds is named: `EndNotOpen`, `BadConfig`, `Clock`, `Memory` where a growth was
+    /// refused, `Put` and `Init` with their faults.
+    pub fn apply(&mut self, event: &Event<'_>) -> Result<(), ApplyFault>
+        ensures ok { OnOk result (self.new ≡ self.old ++ event_of event.now ∷ []) }
+        ensures err { OnErr result (self.new ≡ self.old) }
+        ensures refusal { MatchResult result (λ _. refusal (event_of event.now) (run self.old start) ≡ None)
+            (λ fault. NamesRefusal fault (refusal (event_of event.now) (run self.old start))) }
+        ensures promises { Promises self.new }
+    {
+        let result = self.happen(event);
+        let _promised = self.history();
+        result
+    }
+
+    /// An event happens.
+    fn happen(&mut self, event: &Event<'_>) -> Result<(), ApplyFault>
         ensures ok { OnOk result (self.new ≡ self.old ++ event_of event.now ∷ []) }
         ensures err { OnErr result (self.new ≡ self.old) }
         ensures refusal { MatchResult result (λ _. refusal (event_of event.now) (run self.old start) ≡ None)
             (λ fault. NamesRefusal fault (refusal (event_of event.now) (run self.old start))) }
     {
         pair_law();
-        let Ok(copy) = event.try_clone(self.alloc) else {
-            return Err(ApplyFault::Memory);
-        };
-        let Ok(()) = self.history.try_reserve(1) else {
+        event.is_typed();
+        self.sides.admits(event)?;
+        let Ok(()) = self.history.reserve(event) else {
             return Err(ApplyFault::Memory);
         };
         match self.sides.step(self.alloc, event) {
             Ok(()) => {
-                self.history.push_reserved(copy);
+                self.history.add(event);
+                self.last = Some(event.side);
                 Ok(())
             }
             Err(fault) => Err(fault),
@@ -88,7 +108,7 @@ impl<A: Allocator + Copy> Pair<A> {
     /// Events happen in turn; one that is refused changes nothing, and the next one follows. The answer is how many were accepted.
     ///
     /// The error is that memory was refused for one of them: then those before it happened, and none behind it.
-    pub fn run(&mut self, events: &[Event<A>]) -> Result<usize, Memory>
+    pub fn run(&mut self, events: &[Event<'_>]) -> Result<usize, Memory>
         ensures ok { OnOk result (Ran self.old (events_of events.now) self.new) }
         ensures count { IfOk result (λ count. length self.new ≡ length self.old + count) }
         ensures memory { OnErr result (RanBefore self.old (events_of events.now) self.new) }
@@ -96,7 +116,7 @@ impl<A: Allocator + Copy> Pair<A> {
     {
         let mut count = 0;
         for event in events {
-            match self.apply(event) {
+            match self.happen(event) {
                 Ok(()) => count += 1,
                 Err(fault) => {
                     if fault.is_memory() {
@@ -111,12 +131,26 @@ impl<A: Allocator + Copy> Pair<A> {
     }
 
     /// The events that were accepted, in order, and what they promise.
-    pub fn history(&self) -> &[Event<A>]
-        ensures events { events_of result.now ≡ self.now }
+    pub fn history(&self) -> &History<A>
+        ensures events { result.now.events ≡ self.now }
         ensures promises { Promises self.now }
     {
         pair_law();
         &self.history
+    }
+
+    /// How many incarnations of an end there are in the report.
+    pub fn incarnations(&self, side: Side) -> usize
+        ensures { result ≡ length (report_of (side_of side) (run self.now start)) }
+    {
+        self.sides.incarnations(side)
+    }
+
+    /// The report on one incarnation of an end: what was put in and taken, and to whom it is joined. The first opened one has place 0.
+    pub fn report(&self, side: Side, place: usize) -> Option<Entry<'_, A>>
+        ensures { option_map seen_entry result ≡ slice_get (report_of (side_of side) (run self.now start)) place }
+    {
+        self.sides.entry(side, place)
     }
 
     /// Whether the delivery of this datagram to an end would break the premise of the promises at once: the end is open, its part bears
@@ -132,5 +166,10 @@ impl<A: Allocator + Copy> Pair<A> {
         ensures { IsEnd result (present (side_of side) (run self.now start)) }
     {
         self.sides.end_of(side)
+    }
+
+    /// What the last accepted event did, one thing after the other; `None` where nothing was accepted yet.
+    pub fn notes(&self) -> Option<Notes<'_, A>> {
+        self.sides.notes(self.last?)
     }
 }

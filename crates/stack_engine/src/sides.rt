@@ -1,20 +1,23 @@
 //! Both ends with all their incarnations.
 
-ghost use Rattle.std.specs.Prelude.{◌≡◌, None, MatchResult, OnOk, OnErr};
+ghost use Rattle.std.specs.Prelude.{◌≡◌, None, List, length, slice_get, option_map, MatchResult, OnOk, OnErr, IfErr, false};
 ghost use Rattle.end_settings.specs.Configured.{settings_of, side_of};
 ghost use Rattle.stack_end.specs.Ends.{Call};
-ghost use Rattle.stack_end.specs.Ends.Call.{Close, Deliver, InitDone, Put};
 ghost use Rattle.stack_engine.specs.Bounds.{FewFirstLaw};
-ghost use Rattle.stack_engine.specs.Events.{event_of};
-ghost use Rattle.stack_engine.specs.Openings.{IsEnd, NamesRefusal};
+ghost use Rattle.stack_engine.specs.Events.{call_of, event_of};
+ghost use Rattle.stack_engine.specs.Openings.{IsEnd, IsOfSession, NamesRefusal, is_memory};
 ghost use Rattle.stack_engine.specs.Pairs.{World, present, refusal, start};
 ghost use Rattle.stack_engine.specs.Premise.{breaks_premise};
 ghost use Rattle.stack_engine.specs.Pairs.Event.{Calls, Open};
+ghost use Rattle.stack_engine.specs.Reports.{report_of, seen_entry};
+ghost use Rattle.safe_machine.specs.World.Side.{Fe};
 
 use crate::ApplyFault;
-use crate::event::Event;
+use crate::event::{self, Doing, Event};
 use crate::keeper::Keeper;
+use crate::notes::Notes;
 use crate::openings::Openings;
+use crate::report::Entry;
 use end_settings::{EndConfig, Side};
 use stack_end::End;
 use std::alloc::{Allocator, Global};
@@ -29,7 +32,8 @@ pub struct Sides<A: Allocator = Global> {
 }
 
 impl<A: Allocator + Copy> Sides<A> {
-    ghost use Rattle.stack_engine.specs.Sides.{SidesDo, SidesStand};
+    ghost use Rattle.stack_engine.specs.Openings.{SideStands};
+    ghost use Rattle.stack_engine.specs.Sides.{SidesDo, SidesStand, ends_at};
 
     /// Neither end was opened.
     pub fn new(alloc: A) -> Self
@@ -43,80 +47,84 @@ impl<A: Allocator + Copy> Sides<A> {
         }
     }
 
-    /// A datagram comes to an end.
-    fn deliver(
-        &mut self,
-        side: Side,
-        channel: usize,
-        octets: &[u8],
-        now: u64,
-    ) -> Result<(), ApplyFault>
-        ensures does { OnOk result (SidesDo (Calls (side_of side) (Deliver channel octets.now now)) self.old self.new) }
-        ensures unchanged { OnErr result ((w : World) → SidesStand self.old w → SidesStand self.new w) }
-        ensures refusal { (w : World) → SidesStand self.old w
-            → MatchResult result (λ _. refusal (Calls (side_of side) (Deliver channel octets.now now)) w ≡ None)
-            (λ fault. NamesRefusal fault (refusal (Calls (side_of side) (Deliver channel octets.now now)) w)) }
+    /// Whether an event is refused before memory is asked for.
+    ///
+    /// Refused, and the first that holds is named: `EndNotOpen`, `BadConfig`, `Clock`.
+    pub fn admits(&self, event: &Event<'_>) -> Result<(), ApplyFault>
+        ensures refusal { (w : World) → SidesStand self.now w
+            → MatchResult result (λ _. IsOfSession (refusal (event_of event.now) w)) (λ fault. NamesRefusal fault (refusal (event_of event.now) w)) }
+        ensures no_memory { IfErr result (λ fault. is_memory fault ≡ false) }
     {
-        match side {
-            Side::Interlocking => self.il.deliver(channel, octets, now),
-            Side::FieldElement => self.fe.deliver(channel, octets, now),
+        let openings = self.openings(event.side);
+        match &event.doing {
+            Doing::Open { config, .. } => openings.admits_opening(event.side, config, event.time),
+            Doing::Call(_) => openings.admits_call(event.time),
         }
     }
 
-    /// Time passes at an end.
-    fn tick(&mut self, side: Side, now: u64) -> Result<(), ApplyFault>
-        ensures does { OnOk result (SidesDo (Calls (side_of side) (Call.Tick now)) self.old self.new) }
-        ensures unchanged { OnErr result ((w : World) → SidesStand self.old w → SidesStand self.new w) }
-        ensures refusal { (w : World) → SidesStand self.old w
-            → MatchResult result (λ _. refusal (Calls (side_of side) (Call.Tick now)) w ≡ None)
-            (λ fault. NamesRefusal fault (refusal (Calls (side_of side) (Call.Tick now)) w)) }
+    /// An end with all its incarnations.
+    fn openings(&self, side: Side) -> &Openings<A>
+        ensures { (w : World) → SidesStand self.now w → SideStands result.now (ends_at (side_of side) w) }
     {
         match side {
-            Side::Interlocking => self.il.tick(now),
-            Side::FieldElement => self.fe.tick(now),
+            Side::Interlocking => &self.il,
+            Side::FieldElement => &self.fe,
         }
     }
 
-    /// An end leaves its connection.
-    fn close(&mut self, side: Side, now: u64) -> Result<(), ApplyFault>
-        ensures does { OnOk result (SidesDo (Calls (side_of side) (Close now)) self.old self.new) }
+    /// An event happens.
+    ///
+    /// Refused, and the first that holds is named; then all stays as it was.
+    pub fn step(&mut self, alloc: A, event: &Event<'_>) -> Result<(), ApplyFault>
+        requires first { FewFirstLaw }
+        ensures does { OnOk result (SidesDo (event_of event.now) self.old self.new) }
         ensures unchanged { OnErr result ((w : World) → SidesStand self.old w → SidesStand self.new w) }
         ensures refusal { (w : World) → SidesStand self.old w
-            → MatchResult result (λ _. refusal (Calls (side_of side) (Close now)) w ≡ None)
-            (λ fault. NamesRefusal fault (refusal (Calls (side_of side) (Close now)) w)) }
+            → MatchResult result (λ _. refusal (event_of event.now) w ≡ None)
+            (λ fault. NamesRefusal fault (refusal (event_of event.now) w)) }
     {
-        match side {
-            Side::Interlocking => self.il.close(now),
-            Side::FieldElement => self.fe.close(now),
+        let now = event.time;
+        match &event.doing {
+            Doing::Open { config, first_sn } => {
+                self.open(alloc, event.side, *config, *first_sn, now)
+            }
+            Doing::Call(call) => self.call(event.side, call, now),
         }
     }
 
-    /// The application of an end has put in its initial status.
-    fn init_done(&mut self, side: Side, now: u64) -> Result<(), ApplyFault>
-        ensures does { OnOk result (SidesDo (Calls (side_of side) (InitDone now)) self.old self.new) }
+    /// An end is called.
+    fn call(&mut self, side: Side, call: &event::Call<'_>, now: u64) -> Result<(), ApplyFault>
+        ensures does { OnOk result (SidesDo (Calls (side_of side) (call_of call.now now)) self.old self.new) }
         ensures unchanged { OnErr result ((w : World) → SidesStand self.old w → SidesStand self.new w) }
         ensures refusal { (w : World) → SidesStand self.old w
-            → MatchResult result (λ _. refusal (Calls (side_of side) (InitDone now)) w ≡ None)
-            (λ fault. NamesRefusal fault (refusal (Calls (side_of side) (InitDone now)) w)) }
+            → MatchResult result (λ _. refusal (Calls (side_of side) (call_of call.now now)) w ≡ None)
+            (λ fault. NamesRefusal fault (refusal (Calls (side_of side) (call_of call.now now)) w)) }
     {
         match side {
-            Side::Interlocking => self.il.init_done(now),
-            Side::FieldElement => self.fe.init_done(now),
+            Side::Interlocking => self.il.call(call, now),
+            Side::FieldElement => self.call_fe(call, now),
         }
     }
 
-    /// The application of an end puts a telegram in.
-    fn put(&mut self, side: Side, kind: u16, payload: &[u8], now: u64) -> Result<(), ApplyFault>
-        ensures does { OnOk result (SidesDo (Calls (side_of side) (Put kind payload.now now)) self.old self.new) }
+    /// The field element is called: where it takes a ConnReq, it is joined to the latest interlocking that made it.
+    fn call_fe(&mut self, call: &event::Call<'_>, now: u64) -> Result<(), ApplyFault>
+        ensures does { OnOk result (SidesDo (Calls Fe (call_of call.now now)) self.old self.new) }
         ensures unchanged { OnErr result ((w : World) → SidesStand self.old w → SidesStand self.new w) }
         ensures refusal { (w : World) → SidesStand self.old w
-            → MatchResult result (λ _. refusal (Calls (side_of side) (Put kind payload.now now)) w ≡ None)
-            (λ fault. NamesRefusal fault (refusal (Calls (side_of side) (Put kind payload.now now)) w)) }
+            → MatchResult result (λ _. refusal (Calls Fe (call_of call.now now)) w ≡ None)
+            (λ fault. NamesRefusal fault (refusal (Calls Fe (call_of call.now now)) w)) }
     {
-        match side {
-            Side::Interlocking => self.il.put(kind, payload, now),
-            Side::FieldElement => self.fe.put(kind, payload, now),
+        let had = self.fe.request().is_some();
+        self.fe.call(call, now)?;
+        if had {
+            return Ok(());
         }
+        let joined = match self.fe.request() {
+            Some(octets) => self.il.latest_maker(octets),
+            None => return Ok(()),
+        };
+        self.fe.join(joined);
+        Ok(())
     }
 
     /// An end is opened, or opened anew: what its peer made before is dead, and nothing that it made itself.
@@ -150,42 +158,6 @@ impl<A: Allocator + Copy> Sides<A> {
         Ok(())
     }
 
-    /// An event happens.
-    ///
-    /// Refused, and the first that holds is named; then all stays as it was.
-    pub fn step(&mut self, alloc: A, event: &Event<A>) -> Result<(), ApplyFault>
-        requires first { FewFirstLaw }
-        ensures does { OnOk result (SidesDo (event_of event.now) self.old self.new) }
-        ensures unchanged { OnErr result ((w : World) → SidesStand self.old w → SidesStand self.new w) }
-        ensures refusal { (w : World) → SidesStand self.old w
-            → MatchResult result (λ _. refusal (event_of event.now) w ≡ None)
-            (λ fault. NamesRefusal fault (refusal (event_of event.now) w)) }
-    {
-        match event {
-            Event::Open {
-                side,
-                config,
-                first_sn,
-                now,
-            } => self.open(alloc, *side, *config, *first_sn, *now),
-            Event::Close { side, now } => self.close(*side, *now),
-            Event::Put {
-                side,
-                kind,
-                payload,
-                now,
-            } => self.put(*side, *kind, payload, *now),
-            Event::InitDone { side, now } => self.init_done(*side, *now),
-            Event::Tick { side, now } => self.tick(*side, *now),
-            Event::Deliver {
-                side,
-                channel,
-                octets,
-                now,
-            } => self.deliver(*side, *channel, octets, *now),
-        }
-    }
-
     /// Whether the delivery of a datagram to an end would break the premise at once.
     pub fn breaks_premise(&self, side: Side, datagram: &[u8]) -> bool
         ensures { (w : World) → SidesStand self.now w → result ≡ breaks_premise (side_of side) datagram.now w }
@@ -203,6 +175,34 @@ impl<A: Allocator + Copy> Sides<A> {
         match side {
             Side::Interlocking => self.il.end(),
             Side::FieldElement => self.fe.end(),
+        }
+    }
+
+    /// How many incarnations an end has.
+    pub fn incarnations(&self, side: Side) -> usize
+        ensures { (w : World) → SidesStand self.now w → result ≡ length (report_of (side_of side) w) }
+    {
+        match side {
+            Side::Interlocking => self.il.len(),
+            Side::FieldElement => self.fe.len(),
+        }
+    }
+
+    /// The incarnation of an end at a place, from 0, in the report.
+    pub fn entry(&self, side: Side, place: usize) -> Option<Entry<'_, A>>
+        ensures { (w : World) → SidesStand self.now w → option_map seen_entry result ≡ slice_get (report_of (side_of side) w) place }
+    {
+        match side {
+            Side::Interlocking => self.il.entry(place),
+            Side::FieldElement => self.fe.joined_entry(place),
+        }
+    }
+
+    /// What the last accepted event of an end's present incarnation did.
+    pub fn notes(&self, side: Side) -> Option<Notes<'_, A>> {
+        match side {
+            Side::Interlocking => self.il.notes(),
+            Side::FieldElement => self.fe.notes(),
         }
     }
 }

@@ -1,4 +1,4 @@
-use crate::{ApplyFault, Event, Pair};
+use crate::{ApplyFault, Call, Doing, Event, Pair};
 use end_settings::{Checksum, EndConfig, Side, Versions};
 use sci_telegram::{Name, OwnedName};
 use std::test::Fail;
@@ -27,19 +27,22 @@ fn config() -> Result<EndConfig, Fail> {
     })
 }
 
-fn tick(now: u64) -> Event {
-    Event::Tick {
+fn tick(now: u64) -> Event<'static> {
+    Event {
         side: Side::FieldElement,
-        now,
+        time: now,
+        doing: Doing::Call(Call::Tick),
     }
 }
 
-fn opening(config: EndConfig) -> Event {
-    Event::Open {
+fn opening(config: EndConfig) -> Event<'static> {
+    Event {
         side: Side::FieldElement,
-        config,
-        first_sn: 500,
-        now: 10,
+        time: 10,
+        doing: Doing::Open {
+            config,
+            first_sn: 500,
+        },
     }
 }
 

@@ -1,10 +1,12 @@
-use Rattle.std.proofs.Common.{refl, drop}
+use Rattle.std.proofs.Common.{◌∙◌, ap, refl, drop, sym}
 use Rattle.safe_machine.specs.Moves.{OneMove}
 use Rattle.safe_machine.specs.Moves.Move.{Sends}
 use Rattle.safe_machine.specs.Step.{send}
 use Rattle.stack_end.specs.Ends.{EndState}
 use Rattle.stack_end.specs.Fields.{packed_once}
+use Rattle.stack_end.specs.Outstanding.{each}
 use Rattle.stack_end.proofs.Packs.{sent_out, can-pack, packs-as, went-is}
+use Rattle.stack_end.proofs.Outstanding.{each-append, goes-none, goes-one, on-ok}
 use Rattle.stack_end.proofs.Uppers.{sends-between, went-of}
 use Rattle.stack_end.proofs.upper.Upper.pack_one.Goals as goal
 
@@ -26,3 +28,11 @@ returns-clause-does g c x h =
     went-is x y (packed_once c.args.now x) _ _
     (packs-as c.args.now x unit rest c.args.self.now.waiting max c.in-Some.ensures.packed.spelled refl h.max h.speaks.waits
     (can-pack x c.args.self.now.waiting max unit h.speaks.waits (c.if-not-may_send.ensures s h.machine) c.in-Some.ensures.packed)) went refl
+
+pub returns-clause-kept : goal.returns-clause-kept
+returns-clause-kept g c =
+    let k = c.state-before.ensures.known in
+    let ok = (c.send-sent.ensures.sent k.0 k.1).1 (sym (c.if-not-may_send.ensures k.0 k.1)) in
+    let kept = on-ok _ _ ok c.send-sent.ensures.kept in
+    goes-one _ _ c.args.self.now.max _ c.in-Some.ensures.packed.spelled c.pack.ensures.left
+    (ap (λ r. each r (λ u. u.octets)) kept ∙ each-append _ _ (λ u. u.octets))

@@ -3,6 +3,7 @@ use Rattle.std.specs.Prelude.{if◌then◌else◌}
 use Rattle.stack_end.specs.Ends.{EndState, sends}
 use Rattle.stack_end.specs.Fields.{packed_once}
 use Rattle.stack_end.proofs.Packs.{sends-step, turn-fewer}
+use Rattle.stack_end.proofs.Outstanding.{goes-then}
 use Rattle.stack_end.proofs.Uppers.{went-then}
 use Rattle.stack_end.proofs.upper.Upper.send_waiting.Goals as goal
 
@@ -17,6 +18,7 @@ loop-packs-preserved g c =
       same = c.pack_one-packs.ensures.same ∙ c.loop-packs.invariant.same;
       near = c.pack_one-packs.ensures.near ∙ c.loop-packs.invariant.near;
       few = λ h. c.pack_one-packs.ensures.few (c.loop-packs.invariant.few h);
+      kept = goes-then _ _ _ _ c.loop-packs.invariant.kept c.pack_one-packs.ensures.kept;
       done = c.pack_one-packs.ensures.done;
       along = λ x h.
           let a = c.loop-packs.invariant.along x h in

@@ -4,6 +4,7 @@ use Rattle.octets.specs.declared.limits.TheConstants.{UNIT_MESSAGES}
 use Rattle.pdi_session.specs.SessionStep.{FewWait}
 use Rattle.stack_end.specs.Ends.{EndState, sends}
 use Rattle.stack_end.specs.Fields.{Stands, Went, can_pack, fields_of}
+use Rattle.stack_end.specs.Outstanding.{GoesOut}
 use Rattle.stack_end.proofs.upper.Upper.send_waiting.Given as goal
 
 abbrev pub invariant-loop-packs : goal.invariant-loop-packs
@@ -16,6 +17,7 @@ invariant-loop-packs g l =
       same : l.self.max ≡ l.initial.self.max;
       near : l.self.machine.expected ≡ l.initial.self.machine.expected;
       few : FewWait l.initial.self.session l.initial.self.waiting → FewWait l.self.session l.self.waiting;
+      kept : GoesOut v l.initial.self.waiting w;
       done : l.packs ≡ false → (x : EndState) → Stands w x → can_pack x ≡ false;
       along :
           (x : EndState) → Stands v x →

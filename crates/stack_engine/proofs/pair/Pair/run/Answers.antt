@@ -11,9 +11,9 @@ returns-then-is_memory-clause-memory g c =
 
 pub loop-event-preserved : goal.loop-event-preserved
 loop-event-preserved g c =
-    elim c.match-apply.branch [
+    elim c.match-happen.branch [
       | in-Ok w ↦ record {
-        ran = ran-accepted c.args.self.now c.loop-event.self c.apply.new.self c.args.events.now c.loop-event.event-index c.event-item.result
+        ran = ran-accepted c.args.self.now c.loop-event.self c.happen.new.self c.args.events.now c.loop-event.event-index c.event-item.result
             c.loop-event-test.true c.event-item.is c.loop-event.invariant.ran w.in-Ok.ensures.refusal w.in-Ok.ensures.ok;
         count = omega (
           arith,
@@ -25,7 +25,7 @@ loop-event-preserved g c =
         within = omega (arith, c.loop-event.invariant.within, w.count-is);
       }
       | in-Err+else-is_memory w ↦ record {
-        ran = ran-refused c.args.self.now c.loop-event.self c.apply.new.self c.args.events.now c.loop-event.event-index c.event-item.result w.in-Err.fault
+        ran = ran-refused c.args.self.now c.loop-event.self c.happen.new.self c.args.events.now c.loop-event.event-index c.event-item.result w.in-Err.fault
             c.loop-event-test.true c.event-item.is c.loop-event.invariant.ran (sym w.if-is_memory.ensures) w.in-Err.ensures.refusal w.in-Err.ensures.err;
         count = omega (arith, ap (λ (es : List Event). length es) w.in-Err.ensures.err, c.loop-event.invariant.count, w.count-is);
         within = omega (arith, c.loop-event.invariant.within, w.count-is);

@@ -1,0 +1,46 @@
+-- The lines of what ends take, refuse and are.
+use Rattle.std.specs.Prelude.{ℕ, List, [], ◌∷◌, ◌++◌, codes, Option, Some, None}
+use Rattle.std.specs.Fmt.{decimal}
+use Rattle.std.specs.Int.{w16, to_be_bytes}
+use Rattle.hex.specs.Hex.{encode_lower}
+use Rattle.end_settings.specs.declared.Side.{Side}
+use Rattle.sim_script.specs.Names.{side_name, state_name, phase_name}
+use Rattle.sim_script.specs.declared.lines.Standing.{Standing}
+
+-- the pieces, one after the other
+abbrev pub joined : List (List ℕ) → List ℕ
+joined [] = []
+joined (piece ∷ pieces) = piece ++ joined pieces
+
+-- an octet in two hex digits of lower case
+abbrev pub octet_text : ℕ → List ℕ
+octet_text octet = encode_lower (octet ∷ [])
+
+-- octets in hex digits, and a dash for none
+abbrev pub octets_text : List ℕ → List ℕ
+octets_text [] = codes "-"
+octets_text (octet ∷ octets) = encode_lower (octet ∷ octets)
+
+-- END takes KIND HEX
+abbrev pub take_line : Side → ℕ → List ℕ → List ℕ
+take_line side kind payload =
+    joined (side_name side ∷ codes " takes " ∷ encode_lower (to_be_bytes w16 kind) ∷ codes " " ∷ octets_text payload ∷ codes "\n" ∷ [])
+
+-- refused NAME
+abbrev pub refusal_line : List ℕ → List ℕ
+refusal_line name = joined (codes "refused " ∷ name ∷ codes "\n" ∷ [])
+
+-- SIDE STATE PHASE put N taken N
+abbrev pub standing_line : List ℕ → Standing → List ℕ
+standing_line side s =
+    joined
+    (side ∷ codes " " ∷ state_name s.state ∷ codes " " ∷ phase_name s.phase ∷ codes " put " ∷ decimal s.put ∷ codes " taken " ∷ decimal s.taken
+    ∷ codes "\n" ∷ [])
+
+abbrev pub none_line : List ℕ → List ℕ
+none_line side = joined (side ∷ codes " none\n" ∷ [])
+
+-- how an end stands, or that it was never opened
+abbrev pub report_line : Side → Option Standing → List ℕ
+report_line side None = none_line (side_name side)
+report_line side (Some s) = standing_line (side_name side) s

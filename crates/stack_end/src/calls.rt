@@ -1,0 +1,79 @@
+//! The calls of an end by its layers, with the time of each.
+
+ghost use Rattle.std.specs.Prelude.{◌≡◌, ◌≤◌, ◌^◌, ℕ, ◌∷◌, ◌++◌, [], length, false, Some, None, OnOk, OnErr, MatchResult};
+ghost use Rattle.pdi_session.specs.SessionStep.{put_refusal};
+ghost use Rattle.stack_end.specs.Dialogue.{session_in};
+ghost use Rattle.stack_end.specs.Ends.{Call, Deliver, EndState, Put, call};
+ghost use Rattle.stack_end.specs.EndValue.{EndDoes, EndDoesAlone, EndStands};
+ghost use Rattle.stack_end.specs.Fields.{can_pack};
+ghost use Rattle.stack_end.specs.Outstanding.{PutOut};
+ghost use Rattle.stack_end.specs.Recent.{DatagramRecent, TickRecent};
+
+use crate::End;
+use channels::Channels;
+use pdi_session::{PutFault, Taker};
+use std::alloc::Allocator;
+
+impl<C: Channels, A: Allocator> End<C, A> {
+    /// The layers take a datagram: what `arrive` does.
+    pub(crate) fn take_datagram<T: Taker>(
+        &mut self,
+        channel: usize,
+        octets: &[u8],
+        now: u64,
+        taker: &mut T,
+    )
+        requires now { now ≤ 2 ^ 62 }
+        requires later { self.old.time ≤ now }
+        ensures does { EndDoes C.told T.takes (call (Deliver channel octets.now now)) self.old taker.old self.new taker.new }
+        // Nothing waits then, or the machine may not send.
+        ensures packs { (x : EndState) → EndStands C.told self.new x → can_pack x ≡ false }
+        // What is taken is recent.
+        ensures recent { (x : EndState) → EndStands C.told self.old x → DatagramRecent now octets.now x taker.old taker.new }
+        // The end is left as any other channel would leave it.
+        ensures any_channel { (x : EndState) (other : ℕ) → EndStands C.told self.old x → EndStands C.told self.new (call (Deliver other octets.now now) x) }
+        ensures time { self.new.time ≡ now }
+    {
+        let _channel = channel;
+        self.layers.arrive(octets, now, taker);
+        self.time = now;
+    }
+
+    /// The layers let time pass: what `tick` does.
+    pub(crate) fn let_time_pass<T: Taker>(&mut self, now: u64, taker: &mut T)
+        requires now { now ≤ 2 ^ 62 }
+        requires later { self.old.time ≤ now }
+        ensures does { EndDoes C.told T.takes (call (Call.Tick now)) self.old taker.old self.new taker.new }
+        // Nothing waits then, or the machine may not send.
+        ensures packs { (x : EndState) → EndStands C.told self.new x → can_pack x ≡ false }
+        // What is taken is recent.
+        ensures recent { (x : EndState) → EndStands C.told self.old x → TickRecent now x taker.old taker.new }
+        ensures time { self.new.time ≡ now }
+    {
+        self.layers.tick(now, taker);
+        self.time = now;
+    }
+
+    /// The layers take what is put in: what `put` does.
+    pub(crate) fn put_behind(&mut self, kind: u16, payload: &[u8], now: u64) -> Result<(), PutFault>
+        requires now { now ≤ 2 ^ 62 }
+        requires later { self.old.time ≤ now }
+        ensures does { OnOk result (EndDoesAlone C.told (call (Put kind payload.now now)) self.old self.new) }
+        // Nothing waits then, or the machine may not send.
+        ensures packs { OnOk result ((x : EndState) → EndStands C.told self.new x → can_pack x ≡ false) }
+        // What was put in stands last among all that was put in.
+        ensures last { OnOk result ((x : EndState) → EndStands C.told self.old x
+            → (y : EndState) × EndStands C.told self.new y × (y.session.history.put ≡ x.session.history.put ++ (kind, payload.now) ∷ [])) }
+        // It waits, or stands in an unconfirmed unit, and so does all that waited.
+        ensures kept { OnOk result ((x y : EndState) → EndStands C.told self.old x → EndStands C.told self.new y → PutOut kind payload.now x y) }
+        ensures time { OnOk result (self.new.time ≡ now) }
+        ensures refused { OnErr result (self.new ≡ self.old) }
+        ensures answer { (x : EndState) → EndStands C.told self.old x
+            → MatchResult result (λ _. put_refusal (session_in x.session) kind payload.now (length x.session.waiting) ≡ None)
+            (λ fault. put_refusal (session_in x.session) kind payload.now (length x.session.waiting) ≡ Some fault) }
+    {
+        self.layers.put(kind, payload, now)?;
+        self.time = now;
+        Ok(())
+    }
+}

@@ -1,0 +1,28 @@
+-- The events of a pair, and the room for more.
+use Rattle.std.specs.Prelude.{ℕ, ◌≤◌, List, [], length}
+use Rattle.stack_engine.specs.declared.event.Call.{Call}
+use Rattle.stack_engine.specs.declared.event.Call.TheVariants as call
+use Rattle.stack_engine.specs.declared.event.Doing.{Doing}
+use Rattle.stack_engine.specs.declared.event.Doing.TheVariants as doing
+use Rattle.stack_engine.specs.declared.event.Event.{Event as CodeEvent}
+use Rattle.stack_engine.specs.Pairs.{Event}
+
+pub record Events : Type 0 where
+  pub events : List Event  -- the first one first
+  pub places : ℕ  -- for so many more
+  pub octets : ℕ  -- of so many octets together
+  pub openings : ℕ  -- and so many openings among them
+
+-- the octets that a call brings: of a telegram, or of a datagram
+abbrev pub call_octets : Call → List ℕ
+call_octets (call.Put kind payload) = payload.now
+call_octets (call.Deliver channel octets) = octets.now
+call_octets _ = []
+
+abbrev pub HasPlaceFor : Doing → Events → Type 0
+HasPlaceFor (doing.Open config first_sn) h = (1 ≤ h.places) × (1 ≤ h.openings)
+HasPlaceFor (doing.Call c) h = (1 ≤ h.places) × (length (call_octets c) ≤ h.octets)
+
+-- there is room for this event
+abbrev pub HasPlace : CodeEvent → Events → Type 0
+HasPlace e h = HasPlaceFor e.doing h

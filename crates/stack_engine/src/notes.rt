@@ -1,0 +1,75 @@
+//! What the last accepted event did.
+
+use crate::telegrams::Telegrams;
+use crate::texts::Texts;
+use channels::Note;
+use pdi_session::Phase;
+use red_layer::RedEvent;
+use safe_machine::{ConnectionState, Step};
+use std::alloc::{Allocator, Global};
+use std::collections::VecDeque;
+
+/// One thing that an event did.
+#[derive(Clone, Copy, Debug, PartialEq, Eq)]
+pub enum Told<'a> {
+    /// The end made a PDU, and this is its datagram.
+    Made(&'a [u8]),
+    /// What the end told of its doings.
+    Note(Note<'a>),
+}
+
+/// What is kept of it: datagrams and telegrams stand elsewhere.
+#[derive(Clone, Copy, Debug)]
+pub enum Remark {
+    /// The PDU with this place among all that the end made.
+    Made(usize),
+    Redundancy(Option<u32>, RedEvent),
+    Step(u32, Step),
+    /// The telegram with this place among all that the application took.
+    Take(usize),
+    State(ConnectionState),
+    Phase(Phase),
+}
+
+/// What an event did, one thing after the other. No promise speaks of it.
+#[derive(Clone, Copy)]
+pub struct Notes<'a, A: Allocator = Global> {
+    pub(crate) remarks: &'a VecDeque<Remark, A>,
+    /// How many of the first remarks are those of an earlier event.
+    pub(crate) earlier: usize,
+    pub(crate) datagrams: &'a Texts<(), A>,
+    pub(crate) taken: &'a Telegrams<A>,
+}
+
+impl<'a, A: Allocator> Notes<'a, A> {
+    /// How many things it did.
+    pub fn len(&self) -> usize {
+        self.remarks.len().saturating_sub(self.earlier)
+    }
+
+    /// Whether it did nothing.
+    pub fn is_empty(&self) -> bool {
+        self.len() == 0
+    }
+
+    /// The thing at a place, from 0.
+    pub fn get(&self, place: usize) -> Option<Told<'a>> {
+        let remark = self.remarks.get(self.earlier.checked_add(place)?)?;
+        match *remark {
+            Remark::Made(place) => {
+                let (_, datagram) = self.datagrams.get(place)?;
+                Some(Told::Made(datagram))
+            }
+            Remark::Take(place) => {
+                let (kind, payload) = self.taken.get(place)?;
+                Some(Told::Note(Note::Take(*kind, payload)))
+            }
+            Remark::Redundancy(number, event) => {
+                Some(Told::Note(Note::Redundancy(number, event)))
+            }
+            Remark::Step(number, step) => Some(Told::Note(Note::Step(number, step))),
+            Remark::State(state) => Some(Told::Note(Note::State(state))),
+            Remark::Phase(phase) => Some(Told::Note(Note::Phase(phase))),
+        }
+    }
+}

@@ -1,0 +1,138 @@
+"""The promises of a pair, as sentences that hold or not: those of crates/stack_engine/specs, read aloud.
+
+Each function answers None where its promise holds, and else what is false.
+"""
+from texts import tele_seen, unit_seen
+from pair import other
+from session import RESERVED
+
+
+def is_beginning(front, whole):
+    return whole[:len(front)] == front
+
+
+def headline(pair):
+    """What an application takes is a beginning of what was put in at the end joined to it."""
+    ils, fes = pair.ends['il'], pair.ends['fe']
+    partners = [g for g in pair.joined if g is not None]
+    if any(later <= earlier for earlier, later in zip(partners, partners[1:])):
+        return 'headline: later field elements are joined to later interlockings (joined to %s)' % partners
+    for f, g in zip(fes, pair.joined):
+        if g is None and f.session.taken:
+            return 'headline: a field element that is joined to none took %s' % shown(f.session.taken)
+        for taker, maker in ((f, ils[g]), (ils[g], f)) if g is not None else ():
+            if not is_beginning(taker.session.taken, maker.session.put_in):
+                return 'headline: %s took %s of %s put in' % (taker.side, shown(taker.session.taken), shown(maker.session.put_in))
+    for place, g in enumerate(ils):
+        if g.session.taken and place not in partners:
+            return 'headline: an interlocking to which none is joined took %s' % shown(g.session.taken)
+    return None
+
+
+def freshness(pair):
+    """What was taken in the last call came in a PDU made upon one that this end made less than its T_max before."""
+    end, peer = pair.present(pair.last), pair.present(other(pair.last))
+    for now, part in end.takings:
+        if peer is None or not any(is_fresh(end, now, part, made) for made in peer.machine.made):
+            return 'freshness: %s took at %d what came upon no PDU of its own made after %d' % (end.side, now, now - end.settings.t_max)
+    return None
+
+
+def is_fresh(end, now, part, made):
+    """The part is this PDU of the peer, and its basis is recent: it confirms the basis by number and timestamp."""
+    if end.reads(part).seen() != made.seen() or not 1 <= made.behind <= len(end.machine.made):
+        return False
+    basis = end.machine.made[made.behind - 1]
+    return (basis.sn, basis.ts) == (made.cs, made.cts) and now < basis.time + end.settings.t_max
+
+
+def items_of(messages):
+    telegrams = [tele_seen(message) for message in messages]
+    return [(t[1], t[4]) for t in telegrams if not isinstance(t, str) and t[1] not in RESERVED]
+
+
+def messages_in(units):
+    return [message for unit in units if not isinstance(unit_seen(unit), str) for message in unit_seen(unit)]
+
+
+def taken_by_joined(pair, side):
+    """What the end took that is joined to the present one."""
+    ils, fes = pair.ends['il'], pair.ends['fe']
+    if side == 'fe':
+        return ils[pair.joined[-1]].session.taken if pair.joined[-1] is not None else []
+    takers = [f for f, g in zip(fes, pair.joined) if g == len(ils) - 1]
+    return takers[-1].session.taken if takers else []
+
+
+def confirmed_taken(pair):
+    """What was put in is a beginning of what the joined end took, then what is unconfirmed, then what waits."""
+    for side in ('il', 'fe'):
+        end = pair.present(side)
+        if end is None or end.is_shut():
+            continue
+        taken, put = taken_by_joined(pair, side), end.session.put_in
+        rest = items_of(messages_in(end.machine.unconfirmed())) + items_of(end.session.waiting)
+        front = put[:len(put) - len(rest)] if len(rest) <= len(put) else None
+        if front is None or front + rest != put or not is_beginning(front, taken):
+            return 'confirmed is taken: put in at %s %s, taken %s, unconfirmed and waiting %s' % (side, shown(put), shown(taken), shown(rest))
+    return None
+
+
+def settled(pair):
+    """Of an end that is settled all that was put in was taken."""
+    for side in ('il', 'fe'):
+        end = pair.present(side)
+        if end and end.is_settled() and not is_beginning(end.session.put_in, taken_by_joined(pair, side)):
+            return 'settled: put in at %s %s, taken %s' % (side, shown(end.session.put_in), shown(taken_by_joined(pair, side)))
+    return None
+
+
+def bounded(pair):
+    """What an end keeps has its bounds (said of one end, under no premise)."""
+    for side in ('il', 'fe'):
+        end = pair.present(side)
+        if end and len(end.red.waiting) > end.settings.q:
+            return 'bounded: %d parts are deferred at %s, q is %d' % (len(end.red.waiting), side, end.settings.q)
+        if end and len(end.machine.unconfirmed()) > end.machine.window:
+            return 'bounded: %d units are unconfirmed at %s, the window is %d' % (len(end.machine.unconfirmed()), side, end.machine.window)
+        if end and len(end.session.waiting) > 64:
+            return 'bounded: %d messages wait at %s' % (len(end.session.waiting), side)
+    return None
+
+
+def nothing_lost(pair):
+    """Over faithful lists: nothing is asked for again, and with all arrived what was put in was taken but what waits for the window."""
+    il, fe = pair.present('il'), pair.present('fe')
+    for end in (il, fe):
+        if end and any(p.kind == 'RetrReq' for p in end.machine.made):
+            return 'nothing lost: %s asked for a retransmission' % end.side
+    if il is None or fe is None or not (has_all(il, fe) and has_all(fe, il)):
+        return None
+    for end, peer in ((il, fe), (fe, il)):
+        if not end.is_shut() and end.session.waiting and len(end.machine.unconfirmed()) < end.machine.window:
+            return 'nothing lost: a message waits at %s, and its window is not full' % end.side
+        there = peer.session.taken + items_of(end.session.waiting)
+        if end.session.put_in != there:
+            return 'nothing lost: put in at %s %s, taken and waiting %s' % (end.side, shown(end.session.put_in), shown(there))
+        if match(il, fe) and end.machine.state != 'Up':
+            return 'nothing lost: %s is %s' % (end.side, end.machine.state)
+    phases = (il.session.phase, fe.session.phase)
+    wanted = 'Established' if fe.session.was_established else 'Initialising'
+    if match(il, fe) and not il.session.waiting and not fe.session.waiting and phases != (wanted, wanted):
+        return 'nothing lost: in phases %s and %s' % phases
+    return None
+
+
+def has_all(end, peer):
+    """Every PDU that the peer made has arrived; asked of an open end."""
+    return end.is_shut() or end.red.wait.arrived >= set(range(len(peer.texts)))
+
+
+def match(il, fe):
+    a, b = il.settings, fe.settings
+    return (a.rule.same(b.rule) and a.protocol == b.protocol and a.versions[0] in b.versions and (a.own, a.peer) == (b.peer, b.own)
+            and (a.name, a.peer_name) == (b.peer_name, b.name))
+
+
+def shown(items):
+    return '[' + ' '.join('%04x:%s' % (kind, payload.hex()) for kind, payload in items) + ']'
