@@ -38,7 +38,7 @@ fn config(side: Side) -> Result<EndConfig, Fail> {
     })
 }
 
-fn tick(now: u64) -> Event<'static> {
+fn tick<'a>(now: u64) -> Event<'a> {
     Event {
         side: Side::FieldElement,
         time: now,
@@ -46,7 +46,7 @@ fn tick(now: u64) -> Event<'static> {
     }
 }
 
-fn opening(side: Side, first_sn: u32) -> Result<Event<'static>, Fail> {
+fn opening<'a>(side: Side, first_sn: u32) -> Result<Event<'a>, Fail> {
     let config = config(side)?;
     Ok(Event {
         side,
@@ -110,9 +110,8 @@ fn joins_the_latest_maker(rt: HostRuntime) -> Result<(), Fail> {
         (Side::Interlocking, 100),
         (Side::Interlocking, 100),
     ] {
-        pair.apply(&opening(side, first_sn)?)
-            .ok()
-            .ok_or("not opened")?;
+        let open = opening(side, first_sn)?;
+        pair.apply(&open).ok().ok_or("not opened")?;
     }
     let request = made(&rt, &pair)?;
     let delivered = pair.apply(&delivery(Side::FieldElement, request.as_slice()));
