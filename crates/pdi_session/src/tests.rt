@@ -415,49 +415,65 @@ fn numbers_the_details(rt: HostRuntime) {
 fn opens_two_sessions(rt: HostRuntime) -> Result<(), Fail> {
     let mut il = interlocking(&rt, 3)?;
     let mut fe = field(&rt, &[4, 3], &[0xc0, 0xde])?;
-    up(&mut il).ok_or("up")?;
+    sets_up(&rt, &mut il, &mut fe)?;
+    initialises(&rt, &mut il, &mut fe)?;
+    takes_telegrams(&rt, &mut il, &mut fe)
+}
+
+// The telegrams of the set-up, up to the initialisation.
+fn sets_up(rt: &impl Abort, il: &mut Seat, fe: &mut Seat) -> Result<(), Fail> {
+    up(il).ok_or("up")?;
     assert_eq!(rt; il.session.phase(), Phase::Checking);
-    up(&mut fe).ok_or("up")?;
+    up(fe).ok_or("up")?;
     assert_eq!(rt; fe.session.phase(), Phase::AwaitCheck);
     let check = b"\x01\x24\x00IL1_________________FE1_________________\x03";
     let answer = b"\x01\x25\x00FE1_________________IL1_________________\x02\x03\x02\xc0\xde";
     let request = b"\x01\x21\x00IL1_________________FE1_________________";
     let start = b"\x01\x22\x00FE1_________________IL1_________________";
-    let done = b"\x01\x23\x00FE1_________________IL1_________________";
-    carry(&rt, &mut il, &mut fe, check)?;
+    carry(rt, il, fe, check)?;
     assert_eq!(rt; fe.session.phase(), Phase::AwaitRequest);
-    carry(&rt, &mut fe, &mut il, answer)?;
+    carry(rt, fe, il, answer)?;
     assert_eq!(rt; il.session.phase(), Phase::Requesting);
-    carry(&rt, &mut il, &mut fe, request)?;
+    carry(rt, il, fe, request)?;
     assert_eq!(rt; fe.session.phase(), Phase::Initialising);
-    carry(&rt, &mut fe, &mut il, start)?;
+    carry(rt, fe, il, start)?;
     assert_eq!(rt; il.session.phase(), Phase::Initialising);
-    // Initial status waits in front of the end of the initialisation, and is taken before it.
+    Ok(())
+}
+
+// Initial status waits in front of the end of the initialisation, and is taken before it.
+fn initialises(rt: &impl Abort, il: &mut Seat, fe: &mut Seat) -> Result<(), Fail> {
+    let done = b"\x01\x23\x00FE1_________________IL1_________________";
     assert!(rt; fe.session.put(0x0201, &[1, 2], &mut fe.waiting).is_ok());
     assert!(rt; fe.session.init_done(&mut fe.waiting).is_ok());
     assert_eq!(rt; fe.session.phase(), Phase::Established);
     assert!(rt; fe.session.put(0x0202, &[], &mut fe.waiting).is_ok());
     assert!(rt; il.session.put(0x0100, &[0x0a], &mut il.waiting) == Err(PutFault::NotEstablished));
     carry(
-        &rt,
-        &mut fe,
-        &mut il,
+        rt,
+        fe,
+        il,
         b"\x01\x01\x02FE1_________________IL1_________________\x01\x02",
     )?;
     assert_eq!(rt; il.session.phase(), Phase::Initialising);
-    carry(&rt, &mut fe, &mut il, done)?;
+    carry(rt, fe, il, done)?;
     assert_eq!(rt; il.session.phase(), Phase::Established);
     carry(
-        &rt,
-        &mut fe,
-        &mut il,
+        rt,
+        fe,
+        il,
         b"\x01\x02\x02FE1_________________IL1_________________",
     )?;
+    Ok(())
+}
+
+// A command and two statuses are taken, each once.
+fn takes_telegrams(rt: &impl Abort, il: &mut Seat, fe: &mut Seat) -> Result<(), Fail> {
     assert!(rt; il.session.put(0x0100, &[0x0a], &mut il.waiting).is_ok());
     carry(
-        &rt,
-        &mut il,
-        &mut fe,
+        rt,
+        il,
+        fe,
         b"\x01\x00\x01IL1_________________FE1_________________\x0a",
     )?;
     assert_eq!(rt; il.log.kinds.as_slice(), [0x0201, 0x0202].as_slice());

@@ -46,13 +46,12 @@ fn tick<'a>(now: u64) -> Event<'a> {
     }
 }
 
-fn opening<'a>(side: Side, first_sn: u32) -> Result<Event<'a>, Fail> {
-    let config = config(side)?;
-    Ok(Event {
+fn opening<'a>(side: Side, config: EndConfig, first_sn: u32) -> Event<'a> {
+    Event {
         side,
         time: 10,
         doing: Doing::Open { config, first_sn },
-    })
+    }
 }
 
 fn delivery(side: Side, octets: &[u8]) -> Event<'_> {
@@ -61,6 +60,12 @@ fn delivery(side: Side, octets: &[u8]) -> Event<'_> {
         time: 10,
         doing: Doing::Call(Call::Deliver { channel: 1, octets }),
     }
+}
+
+fn opens(pair: &mut Pair, side: Side, first_sn: u32) -> Result<(), Fail> {
+    let open = opening(side, config(side)?, first_sn);
+    pair.apply(&open).ok().ok_or("not opened")?;
+    Ok(())
 }
 
 /// The datagram of the first PDU that the last event made.
@@ -79,7 +84,7 @@ fn made(rt: &(impl Abort + AllocGlobal), pair: &Pair) -> Result<Vec<u8>, Fail> {
 fn names_refusals_and_goes_on(rt: HostRuntime) -> Result<(), Fail> {
     let mut pair = Pair::new(rt.alloc());
     assert_eq!(rt; pair.apply(&tick(5)), Err(ApplyFault::EndNotOpen));
-    let open = opening(Side::FieldElement, 500)?;
+    let open = opening(Side::FieldElement, config(Side::FieldElement)?, 500);
     assert_eq!(rt; pair.apply(&open), Ok(()));
     assert_eq!(rt; pair.apply(&tick(5)), Err(ApplyFault::Clock));
     assert_eq!(rt; pair.history().len(), 1);
@@ -92,7 +97,7 @@ fn names_refusals_and_goes_on(rt: HostRuntime) -> Result<(), Fail> {
 #[test]
 fn runs_events_in_turn(rt: HostRuntime) -> Result<(), Fail> {
     let mut pair = Pair::new(rt.alloc());
-    let open = opening(Side::FieldElement, 500)?;
+    let open = opening(Side::FieldElement, config(Side::FieldElement)?, 500);
     let events = [tick(5), open, tick(9), tick(10), tick(11)];
     assert_eq!(rt; pair.run(&events).ok(), Some(3));
     assert_eq!(rt; pair.history().len(), 3);
@@ -105,14 +110,9 @@ fn runs_events_in_turn(rt: HostRuntime) -> Result<(), Fail> {
 #[test]
 fn joins_the_latest_maker(rt: HostRuntime) -> Result<(), Fail> {
     let mut pair = Pair::new(rt.alloc());
-    for (side, first_sn) in [
-        (Side::FieldElement, 500),
-        (Side::Interlocking, 100),
-        (Side::Interlocking, 100),
-    ] {
-        let open = opening(side, first_sn)?;
-        pair.apply(&open).ok().ok_or("not opened")?;
-    }
+    opens(&mut pair, Side::FieldElement, 500)?;
+    opens(&mut pair, Side::Interlocking, 100)?;
+    opens(&mut pair, Side::Interlocking, 100)?;
     let request = made(&rt, &pair)?;
     let delivered = pair.apply(&delivery(Side::FieldElement, request.as_slice()));
     assert_eq!(rt; delivered, Ok(()));
@@ -170,11 +170,13 @@ fn played(
 // In heaps of rising size each growth of an event is refused in turn: nothing has changed then.
 #[test]
 fn refuses_for_want_of_memory(rt: HostRuntime) -> Result<(), Fail> {
+    let (il, fe) = (Side::Interlocking, Side::FieldElement);
+    let (il_config, fe_config) = (config(il)?, config(fe)?);
     let events = [
-        opening(Side::FieldElement, 500)?,
+        opening(fe, fe_config, 500),
         tick(20),
-        opening(Side::Interlocking, 100)?,
-        opening(Side::Interlocking, 200)?,
+        opening(il, il_config, 100),
+        opening(il, il_config, 200),
     ];
     let mut found = [false; 5];
     for step in 0..500 {
