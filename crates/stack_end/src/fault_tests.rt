@@ -76,12 +76,20 @@ struct Station {
     ghost small: { clock ≤ 2 ^ 62 },
 }
 
-/// Which sending of the interlocking fails, which is lost on its way, and which reception fails.
+/// Which sending of the interlocking fails, which is lost on its way, and which reception fails. The copies of one unit are lost beside them.
 #[derive(Clone, Copy)]
 struct Mishap {
     send: usize,
     lost: usize,
     receive: usize,
+    /// The place of the first copy of a unit that is lost on both channels.
+    unit: usize,
+}
+
+impl Mishap {
+    fn loses(&self, place: usize) -> bool {
+        place == self.lost || place == self.unit || place == self.unit.wrapping_add(1)
+    }
 }
 
 const NONE: usize = 1_000_000;
@@ -111,13 +119,13 @@ impl Station {
         })
     }
 
-    /// What the peer has sent comes to the channels, but for one datagram that is lost; then the end polls until nothing is left to take.
-    fn turn(&mut self, peer: &Station, lost: usize) -> Result<(), Fail> {
+    /// What the peer has sent comes to the channels, but for what is lost; then the end polls until nothing is left to take.
+    fn turn(&mut self, peer: &Station, mishap: &Mishap) -> Result<(), Fail> {
         for _ in 0..400 {
             let Some((channel, octets)) = peer.end.channels_seen().inner.sent(self.heard) else {
                 break;
             };
-            if self.heard != lost {
+            if !mishap.loses(self.heard) {
                 self.end.channels().inner.add(channel, octets)?;
             }
             self.heard = self.heard.wrapping_add(1);
@@ -142,72 +150,115 @@ impl Station {
     }
 }
 
-/// A session in which two commands are put, with a mishap: how both ends stand, and what was taken.
-fn run(rt: &HostRuntime, mishap: Mishap) -> Result<(Station, Station), Fail> {
-    let good = Mishap {
-        send: NONE,
-        lost: NONE,
-        receive: NONE,
-    };
-    let mut fe = Station::open(
-        rt,
-        Side::FieldElement,
-        500,
-        Mishap {
-            receive: mishap.receive,
-            ..good
-        },
-    )?;
-    let mut il = Station::open(
-        rt,
-        Side::Interlocking,
-        100,
-        Mishap {
-            send: mishap.send,
-            ..good
-        },
-    )?;
-    for turn in 0..160u8 {
-        fe.turn(&il, mishap.lost)?;
-        il.turn(&fe, NONE)?;
-        if turn == 20 {
-            fe.done();
-        }
-        if turn == 40 || turn == 60 {
-            il.put(turn);
-        }
-    }
-    Ok((il, fe))
+/// Both ends and the line between them.
+#[derive(Drop)]
+struct Line {
+    il: Station,
+    fe: Station,
 }
 
-// Each sending of the interlocking fails in turn: all ends as in the run in which that copy is lost on its way.
+/// How a session went: how either end stands, what was taken, and the faults that were met.
+#[derive(Drop)]
+struct Course {
+    il: (ConnectionState, Phase),
+    fe: (ConnectionState, Phase),
+    taken: ArrayVec<(u16, u8), 16>,
+    failed_sends: u64,
+    il_faults: u32,
+    fe_faults: u32,
+}
+
+impl Line {
+    /// Two commands are put into a session, and datagrams of the interlocking are lost.
+    fn play(&mut self, mishap: &Mishap) -> Result<(), Fail> {
+        for turn in 0..160u8 {
+            self.fe.turn(&self.il, mishap)?;
+            self.il.turn(&self.fe, &GOOD)?;
+            if turn == 20 {
+                self.fe.done();
+            }
+            if turn == 40 || turn == 60 {
+                self.il.put(turn);
+            }
+        }
+        Ok(())
+    }
+
+    fn course(&self) -> Result<Course, Fail> {
+        let mut taken = ArrayVec::new();
+        taken
+            .try_extend_from_slice(self.fe.taken.list.as_slice())
+            .map_err(|_| Fail::from("too many"))?;
+        Ok(Course {
+            il: self.il.seen(),
+            fe: self.fe.seen(),
+            taken,
+            failed_sends: self.il.end.channels_seen().failed_sends,
+            il_faults: self.il.faults,
+            fe_faults: self.fe.faults,
+        })
+    }
+}
+
+/// A session in which two commands are put, with a mishap.
+fn run(rt: &HostRuntime, mishap: Mishap) -> Result<Course, Fail> {
+    let heard = Mishap {
+        send: NONE,
+        ..mishap
+    };
+    let sent = Mishap {
+        receive: NONE,
+        ..mishap
+    };
+    let fe = Station::open(rt, Side::FieldElement, 500, heard)?;
+    let il = Station::open(rt, Side::Interlocking, 100, sent)?;
+    let mut line = Line { il, fe };
+    line.play(&mishap)?;
+    line.course()
+}
+
+const GOOD: Mishap = Mishap {
+    send: NONE,
+    lost: NONE,
+    receive: NONE,
+    unit: NONE,
+};
+
+/// The place of the first copy of the first command.
+const COMMAND: usize = 8;
+
+const TAKEN: [(u16, u8); 2] = [(0x100, 40), (0x100, 60)];
+
+// Each sending of the interlocking fails in turn, without a loss and where a command is lost: all ends as in the run in which that copy
+// is lost on its way.
 #[test]
 fn a_failed_send_is_a_lost_copy(rt: HostRuntime) -> Result<(), Fail> {
-    for place in 0..12 {
-        let failed = run(
-            &rt,
-            Mishap {
-                send: place,
-                lost: NONE,
-                receive: NONE,
-            },
-        )?;
-        let lost = run(
-            &rt,
-            Mishap {
-                send: NONE,
-                lost: place,
-                receive: NONE,
-            },
-        )?;
-        assert_eq!(rt; failed.0.seen(), lost.0.seen(), "il at {place}");
-        assert_eq!(rt; failed.1.seen(), lost.1.seen(), "fe at {place}");
-        assert_eq!(rt;
-            failed.1.taken.list.as_slice(),
-            [(0x100, 40), (0x100, 60)].as_slice(),
-            "at {place}"
-        );
-        assert_eq!(rt; failed.0.end.channels_seen().failed_sends, 1, "at {place}");
+    for (unit, copies) in [(NONE, 12), (COMMAND, 20)] {
+        for place in 0..copies {
+            let calm = Mishap { unit, ..GOOD };
+            let failed = run(
+                &rt,
+                Mishap {
+                    send: place,
+                    ..calm
+                },
+            )?;
+            let lost = run(
+                &rt,
+                Mishap {
+                    lost: place,
+                    ..calm
+                },
+            )?;
+            assert_eq!(rt; failed.il, lost.il, "il at {place}");
+            assert_eq!(rt; failed.fe, lost.fe, "fe at {place}");
+            assert_eq!(rt;
+                failed.taken.as_slice(),
+                lost.taken.as_slice(),
+                "at {place}"
+            );
+            assert_eq!(rt; failed.failed_sends, 1, "at {place}");
+        }
     }
     Ok(())
 }
@@ -215,27 +266,20 @@ fn a_failed_send_is_a_lost_copy(rt: HostRuntime) -> Result<(), Fail> {
 // Each reception of the field element fails in turn: one poll answers that, and what is taken is what is taken without it.
 #[test]
 fn a_failed_receive_loses_nothing(rt: HostRuntime) -> Result<(), Fail> {
-    for place in 0..40 {
-        let (il, fe) = run(
-            &rt,
-            Mishap {
-                send: NONE,
-                lost: NONE,
+    for unit in [NONE, COMMAND] {
+        for place in 0..60 {
+            let mishap = Mishap {
                 receive: place,
-            },
-        )?;
-        assert_eq!(rt; fe.faults, 1, "at {place}");
-        assert_eq!(rt; il.faults, 0, "at {place}");
-        assert_eq!(rt;
-            fe.seen(),
-            (ConnectionState::Up, Phase::Established),
-            "at {place}"
-        );
-        assert_eq!(rt;
-            fe.taken.list.as_slice(),
-            [(0x100, 40), (0x100, 60)].as_slice(),
-            "at {place}"
-        );
+                unit,
+                ..GOOD
+            };
+            let course = run(&rt, mishap)?;
+            assert_eq!(rt; course.fe_faults, 1, "at {place}");
+            assert_eq!(rt; course.il_faults, 0, "at {place}");
+            let up = (ConnectionState::Up, Phase::Established);
+            assert_eq!(rt; course.fe, up, "at {place}");
+            assert_eq!(rt; course.taken.as_slice(), TAKEN.as_slice(), "at {place}");
+        }
     }
     Ok(())
 }

@@ -8,6 +8,7 @@ use linked_list_allocator::LocalHeap;
 use pdi_session::{InitFault, Phase, PutFault, Taker};
 use safe_machine::ConnectionState;
 use sci_telegram::{Name, OwnedName};
+use std::process::Abort;
 use std::test::Fail;
 
 /// The kinds and the first octets of what an application took.
@@ -136,9 +137,9 @@ impl Station {
     }
 
     /// The next datagram that the peer sent on this channel comes here; answers whether there was one.
-    fn next(&mut self, peer: &Station, on: usize) -> bool {
+    fn next(&mut self, peer: &MemChannels, on: usize) -> bool {
         for _ in 0..400 {
-            let Some((channel, octets)) = peer.end.channels_seen().sent(self.heard) else {
+            let Some((channel, octets)) = peer.sent(self.heard) else {
                 return false;
             };
             self.heard = self.heard.wrapping_add(1);
@@ -151,138 +152,234 @@ impl Station {
     }
 }
 
-/// All that the two have sent on a channel comes to the other, the one opened first being the field element.
-fn flow(il: &mut Station, fe: &mut Station, on: usize) {
-    for _ in 0..100 {
-        let to_fe = fe.next(il, on);
-        let to_il = il.next(fe, on);
-        if !to_fe && !to_il {
-            return;
+/// Both ends and the line between them.
+#[derive(Drop)]
+struct Line {
+    il: Station,
+    fe: Station,
+}
+
+impl Line {
+    /// Two ends, of which the field element was opened first.
+    fn open(rt: &HostRuntime, il: EndConfig) -> Result<Line, Fail> {
+        let fe = Station::open(rt, config(Side::FieldElement)?, Side::FieldElement, 500)?;
+        let il = Station::open(rt, il, Side::Interlocking, 100)?;
+        Ok(Line { il, fe })
+    }
+
+    /// All that the two have sent on a channel comes to the other.
+    fn flow(&mut self, on: usize) {
+        for _ in 0..100 {
+            let to_fe = self.fe.next(self.il.end.channels_seen(), on);
+            let to_il = self.il.next(self.fe.end.channels_seen(), on);
+            if !to_fe && !to_il {
+                return;
+            }
         }
+    }
+
+    /// The ends set up a connection and a session.
+    fn establish(&mut self) -> Result<(), Fail> {
+        self.flow(1);
+        self.fe.done()?;
+        self.flow(1);
+        Ok(())
+    }
+
+    fn carries_telegrams(&mut self, rt: &impl Abort) -> Result<(), Fail> {
+        assert_eq!(rt; self.il.seen(), (ConnectionState::Up, Phase::Established));
+        assert_eq!(rt; self.fe.seen(), (ConnectionState::Up, Phase::Established));
+        assert!(rt; self.fe.end.request().is_some());
+        assert!(rt; self.il.end.request().is_none());
+        self.il.put(0x100, 7)?;
+        self.fe.put(0x200, 9)?;
+        self.flow(2);
+        assert_eq!(rt; self.fe.taken.list.as_slice(), [(0x100, 7)].as_slice());
+        assert_eq!(rt; self.il.taken.list.as_slice(), [(0x200, 9)].as_slice());
+        Ok(())
+    }
+
+    fn settles(&mut self, rt: &impl Abort) {
+        assert!(rt; !self.fe.end.settled());
+        self.il.later(300);
+        self.fe.later(300);
+        assert_eq!(rt; self.il.end.next_deadline(), Some(300));
+        self.il.tick();
+        self.fe.tick();
+        self.flow(1);
+        assert!(rt; self.il.end.settled());
+        assert!(rt; self.fe.end.settled());
+        assert_eq!(rt; self.il.put(0x24, 0), Err(PutFault::ReservedType));
+    }
+
+    fn repeats_on(&mut self, channels: [usize; 3]) -> Result<(), Fail> {
+        let heard = self.fe.heard;
+        self.il.put(0x100, 1)?;
+        self.il.put(0x100, 2)?;
+        for channel in channels {
+            self.fe.hear_again_from(heard);
+            for _ in 0..4 {
+                let _ = self.fe.next(self.il.end.channels_seen(), channel);
+            }
+        }
+        Ok(())
+    }
+
+    fn loses_the_first(&mut self, rt: &impl Abort) -> Result<(), Fail> {
+        self.il.put(0x100, 1)?;
+        self.fe.heard = self.fe.heard.wrapping_add(2);
+        self.il.put(0x100, 2)?;
+        self.flow(1);
+        assert_eq!(rt; self.fe.taken.list.as_slice(), [].as_slice());
+        assert_eq!(rt; self.fe.end.next_deadline(), Some(50));
+        Ok(())
+    }
+
+    fn asks_again(&mut self, rt: &impl Abort) {
+        self.il.later(50);
+        self.fe.later(50);
+        self.fe.tick();
+        assert_eq!(rt; self.fe.end.state(), ConnectionState::RetrReq);
+        self.flow(1);
+        assert_eq!(rt; self.fe.end.state(), ConnectionState::Up);
+    }
+
+    fn has_taken_both(&self, rt: &impl Abort) {
+        assert_eq!(rt;
+            self.fe.taken.list.as_slice(),
+            [(0x100, 1), (0x100, 2)].as_slice()
+        );
+    }
+
+    fn has_ended(&self, rt: &impl Abort) {
+        assert_eq!(rt; self.il.seen(), (ConnectionState::Closed, Phase::Ended));
+        assert_eq!(rt; self.fe.seen(), (ConnectionState::Closed, Phase::Ended));
+    }
+
+    /// Six units are sent, and the field element hears all but the first: four are deferred, the last finds no room.
+    fn fills_the_queue(&mut self, rt: &impl Abort) -> Result<(), Fail> {
+        for octet in 0..6 {
+            self.il.put(0x100, octet)?;
+        }
+        self.fe.heard = self.fe.heard.wrapping_add(2);
+        self.flow(1);
+        assert_eq!(rt; self.fe.taken.list.as_slice(), [].as_slice());
+        self.fe.later(49);
+        self.fe.tick();
+        assert_eq!(rt; self.fe.end.state(), ConnectionState::Up);
+        self.fe.later(1);
+        self.fe.tick();
+        assert_eq!(rt;
+            self.fe.seen(),
+            (ConnectionState::RetrReq, Phase::Established)
+        );
+        assert_eq!(rt; self.fe.taken.list.as_slice(), [].as_slice());
+        Ok(())
     }
 }
 
-fn established(rt: &HostRuntime) -> Result<(Station, Station), Fail> {
-    let mut fe = Station::open(rt, config(Side::FieldElement)?, Side::FieldElement, 500)?;
-    let mut il = Station::open(rt, config(Side::Interlocking)?, Side::Interlocking, 100)?;
-    flow(&mut il, &mut fe, 1);
-    fe.done()?;
-    flow(&mut il, &mut fe, 1);
-    Ok((il, fe))
+fn established(rt: &HostRuntime) -> Result<Line, Fail> {
+    let mut line = Line::open(rt, config(Side::Interlocking)?)?;
+    line.establish()?;
+    Ok(line)
 }
 
 // A connection and a session are set up, and a command and a status are taken. An end that has put something in is settled once a
 // heartbeat of its peer has confirmed it.
 #[test]
 fn sets_up_a_session(rt: HostRuntime) -> Result<(), Fail> {
-    let (mut il, mut fe) = established(&rt)?;
-    assert_eq!(rt; il.seen(), (ConnectionState::Up, Phase::Established));
-    assert_eq!(rt; fe.seen(), (ConnectionState::Up, Phase::Established));
-    assert!(rt; fe.end.request().is_some());
-    assert!(rt; il.end.request().is_none());
-    il.put(0x100, 7)?;
-    fe.put(0x200, 9)?;
-    flow(&mut il, &mut fe, 2);
-    assert_eq!(rt; fe.taken.list.as_slice(), [(0x100, 7)].as_slice());
-    assert_eq!(rt; il.taken.list.as_slice(), [(0x200, 9)].as_slice());
-    assert!(rt; !fe.end.settled());
-    il.later(300);
-    fe.later(300);
-    assert_eq!(rt; il.end.next_deadline(), Some(300));
-    il.tick();
-    fe.tick();
-    flow(&mut il, &mut fe, 1);
-    assert!(rt; il.end.settled());
-    assert!(rt; fe.end.settled());
-    assert_eq!(rt; il.put(0x24, 0), Err(PutFault::ReservedType));
+    let mut line = established(&rt)?;
+    line.carries_telegrams(&rt)?;
+    line.settles(&rt);
     Ok(())
 }
 
 // The same datagrams on the second channel change nothing; what is lost on the first is taken from the second.
 #[test]
 fn hears_both_channels(rt: HostRuntime) -> Result<(), Fail> {
-    let (mut il, mut fe) = established(&rt)?;
-    let heard = fe.heard;
-    il.put(0x100, 1)?;
-    il.put(0x100, 2)?;
-    for channel in [2, 1, 2] {
-        fe.hear_again_from(heard);
-        for _ in 0..4 {
-            let _ = fe.next(&il, channel);
-        }
-    }
-    assert_eq!(rt;
-        fe.taken.list.as_slice(),
-        [(0x100, 1), (0x100, 2)].as_slice()
-    );
+    let mut line = established(&rt)?;
+    line.repeats_on([2, 1, 2])?;
+    line.has_taken_both(&rt);
     Ok(())
 }
 
 // A unit that is lost on both channels is sent again once the wait for it is over, and taken in its place.
 #[test]
 fn sends_a_lost_unit_again(rt: HostRuntime) -> Result<(), Fail> {
-    let (mut il, mut fe) = established(&rt)?;
-    il.put(0x100, 1)?;
-    fe.heard = fe.heard.wrapping_add(2);
-    il.put(0x100, 2)?;
-    flow(&mut il, &mut fe, 1);
-    assert_eq!(rt; fe.taken.list.as_slice(), [].as_slice());
-    assert_eq!(rt; fe.end.next_deadline(), Some(50));
-    il.later(50);
-    fe.later(50);
-    fe.tick();
-    assert_eq!(rt; fe.end.state(), ConnectionState::RetrReq);
-    flow(&mut il, &mut fe, 1);
-    assert_eq!(rt; fe.end.state(), ConnectionState::Up);
-    assert_eq!(rt;
-        fe.taken.list.as_slice(),
-        [(0x100, 1), (0x100, 2)].as_slice()
-    );
+    let mut line = established(&rt)?;
+    line.loses_the_first(&rt)?;
+    line.asks_again(&rt);
+    line.has_taken_both(&rt);
     Ok(())
 }
 
-// A user closes; the peer follows, and both refuse what is put in. Another version ends the session at both ends.
+// Parts behind a lost one are deferred until the table is full; at the deadline of the gap they go up, and the end asks for what it lacks.
+#[test]
+fn defers_until_the_deadline(rt: HostRuntime) -> Result<(), Fail> {
+    let mut line = established(&rt)?;
+    line.fills_the_queue(&rt)
+}
+
+// A user closes; the peer follows, and both refuse what is put in.
 #[test]
 fn closes_at_both_ends(rt: HostRuntime) -> Result<(), Fail> {
-    let (mut il, mut fe) = established(&rt)?;
-    il.close();
-    flow(&mut il, &mut fe, 1);
-    assert_eq!(rt; il.seen(), (ConnectionState::Closed, Phase::Ended));
-    assert_eq!(rt; fe.seen(), (ConnectionState::Closed, Phase::Ended));
-    assert_eq!(rt; fe.put(0x200, 1), Err(PutFault::NotEstablished));
-    assert_eq!(rt; fe.end.next_deadline(), None);
-    let mut other = config(Side::Interlocking)?;
-    other.versions = Versions::new(&[4]).ok_or("versions")?;
-    let mut fe = Station::open(&rt, config(Side::FieldElement)?, Side::FieldElement, 500)?;
-    let mut il = Station::open(&rt, other, Side::Interlocking, 100)?;
-    flow(&mut il, &mut fe, 1);
-    assert_eq!(rt; il.seen(), (ConnectionState::Closed, Phase::Ended));
-    assert_eq!(rt; fe.seen(), (ConnectionState::Closed, Phase::Ended));
+    let mut line = established(&rt)?;
+    line.il.close();
+    line.flow(1);
+    line.has_ended(&rt);
+    assert_eq!(rt; line.fe.put(0x200, 1), Err(PutFault::NotEstablished));
+    assert_eq!(rt; line.fe.end.next_deadline(), None);
     Ok(())
 }
 
-// A poll hands in what the channels answer and then lets time pass; a failed reception stops it before that.
+// Another version ends the session at both ends.
+#[test]
+fn ends_with_another_version(rt: HostRuntime) -> Result<(), Fail> {
+    let mut other = config(Side::Interlocking)?;
+    other.versions = Versions::new(&[4]).ok_or("versions")?;
+    let mut line = Line::open(&rt, other)?;
+    line.flow(1);
+    line.has_ended(&rt);
+    Ok(())
+}
+
+impl Station {
+    /// A datagram comes to the channels, and an end that polls hears it and lets time pass.
+    fn polls_one(&mut self, rt: &impl Abort, datagram: &[u8]) -> Result<(), Fail> {
+        self.end.channels().add(1, datagram)?;
+        self.later(300);
+        assert_eq!(rt; self.poll(), Ok(()));
+        assert!(rt; self.end.channels_seen().sent(1).is_some());
+        Ok(())
+    }
+
+    /// A reception that fails stops a poll before time passes.
+    fn polls_in_vain(&mut self, rt: &impl Abort) {
+        for _ in 0..400 {
+            let _ = self.poll();
+        }
+        self.later(5_000);
+        assert_eq!(rt; self.poll(), Err(PollFault::Channel));
+        assert_eq!(rt; self.end.state(), ConnectionState::Start);
+        self.tick();
+        assert_eq!(rt; self.end.state(), ConnectionState::Closed);
+    }
+}
+
+// A poll hands in what the channels answer and then lets time pass.
 #[test]
 fn polls_its_channels(rt: HostRuntime) -> Result<(), Fail> {
-    let (il, mut fe) = established(&rt)?;
-    let Some((_, first)) = il.end.channels_seen().sent(0) else {
-        return Err(Fail::from("nothing sent"));
-    };
-    fe.end.channels().add(1, first)?;
-    fe.later(300);
-    assert_eq!(rt; fe.poll(), Ok(()));
-    let before = fe.end.channels_seen().sent(8).is_some();
-    let mut deaf = Station::open(&rt, config(Side::Interlocking)?, Side::Interlocking, 1)?;
-    for _ in 0..400 {
-        let _ = deaf.poll();
-    }
-    deaf.later(5_000);
-    assert_eq!(rt; deaf.poll(), Err(PollFault::Channel));
-    assert_eq!(rt; deaf.end.state(), ConnectionState::Start);
-    deaf.tick();
-    assert_eq!(rt; deaf.end.state(), ConnectionState::Closed);
-    assert!(rt; before);
+    let mut il = Station::open(&rt, config(Side::Interlocking)?, Side::Interlocking, 100)?;
+    let request = sent_first(&rt, &il)?;
+    let mut fe = Station::open(&rt, config(Side::FieldElement)?, Side::FieldElement, 500)?;
+    fe.polls_one(&rt, request.as_slice())?;
+    il.polls_in_vain(&rt);
     Ok(())
+}
+
+fn sent_first(rt: &HostRuntime, station: &Station) -> Result<Vec<u8>, Fail> {
+    let (_, datagram) = station.end.channels_seen().sent(0).ok_or("nothing sent")?;
+    Ok(Vec::from_slice(rt.alloc(), datagram)?)
 }
 
 fn opens_in(

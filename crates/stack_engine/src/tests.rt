@@ -63,7 +63,12 @@ fn delivery(side: Side, octets: &[u8]) -> Event<'_> {
 }
 
 fn opens(pair: &mut Pair, side: Side, first_sn: u32) -> Result<(), Fail> {
-    let open = opening(side, config(side)?, first_sn);
+    let config = config(side)?;
+    let open = Event {
+        side,
+        time: 10,
+        doing: Doing::Open { config, first_sn },
+    };
     pair.apply(&open).ok().ok_or("not opened")?;
     Ok(())
 }
