@@ -38,43 +38,97 @@ fn config(side: Side) -> Result<EndConfig, Fail> {
     })
 }
 
-fn tick<'a>(now: u64) -> Event<'a> {
-    Event {
+/// Time passes at the field element.
+fn tick<A: Allocator + Copy>(pair: &mut Pair<A>, time: u64) -> Result<(), ApplyFault> {
+    pair.apply(&Event {
         side: Side::FieldElement,
-        time: now,
+        time,
         doing: Doing::Call(Call::Tick),
-    }
+    })
 }
 
-fn opening<'a>(side: Side, config: EndConfig, first_sn: u32) -> Event<'a> {
-    Event {
+/// An end is opened at 10 milliseconds.
+fn open<A: Allocator + Copy>(
+    pair: &mut Pair<A>,
+    side: Side,
+    config: EndConfig,
+    first_sn: u32,
+) -> Result<(), ApplyFault> {
+    pair.apply(&Event {
         side,
         time: 10,
         doing: Doing::Open { config, first_sn },
-    }
+    })
 }
 
-fn delivery(side: Side, octets: &[u8]) -> Event<'_> {
-    Event {
-        side,
+/// A datagram comes to the field element on channel 1.
+fn deliver(pair: &mut Pair, octets: &[u8]) -> Result<(), ApplyFault> {
+    pair.apply(&Event {
+        side: Side::FieldElement,
         time: 10,
         doing: Doing::Call(Call::Deliver { channel: 1, octets }),
-    }
+    })
 }
 
-fn opens(pair: &mut Pair, side: Side, first_sn: u32) -> Result<(), Fail> {
-    let config = config(side)?;
-    let open = Event {
-        side,
-        time: 10,
-        doing: Doing::Open { config, first_sn },
+fn refuses_and_goes_on(
+    rt: &impl Abort,
+    pair: &mut Pair,
+    config: EndConfig,
+) -> Result<(), ApplyFault> {
+    assert_eq!(rt; tick(pair, 5), Err(ApplyFault::EndNotOpen));
+    open(pair, Side::FieldElement, config, 500)?;
+    assert_eq!(rt; tick(pair, 5), Err(ApplyFault::Clock));
+    tick(pair, 10)
+}
+
+fn has_two_events(rt: &impl Abort, pair: &Pair) {
+    assert_eq!(rt; pair.history().len(), 2);
+    assert!(rt; pair.end_of(Side::FieldElement).is_some());
+    assert!(rt; pair.end_of(Side::Interlocking).is_none());
+}
+
+// An end is ticked before it is opened, opened, ticked too early and in time: what is refused and by which name, and what happened.
+#[test]
+fn names_refusals_and_goes_on(rt: HostRuntime) -> Result<(), Fail> {
+    let config = config(Side::FieldElement)?;
+    let mut pair = Pair::new(rt.alloc());
+    assert_eq!(rt; refuses_and_goes_on(&rt, &mut pair, config), Ok(()));
+    has_two_events(&rt, &pair);
+    Ok(())
+}
+
+/// How many of five events happen: an end is ticked before it is opened, opened, ticked too early, and twice in time.
+fn run(pair: &mut Pair, config: EndConfig) -> Option<usize> {
+    let side = Side::FieldElement;
+    let opening = Doing::Open {
+        config,
+        first_sn: 500,
     };
-    pair.apply(&open).ok().ok_or("not opened")?;
+    let ticking = Doing::Call(Call::Tick);
+    let events = [
+        (5, ticking),
+        (10, opening),
+        (9, ticking),
+        (10, ticking),
+        (11, ticking),
+    ]
+    .map(|(time, doing)| Event { side, time, doing });
+    pair.run(&events).ok()
+}
+
+// A run goes on behind a refused event, and answers how many were accepted.
+#[test]
+fn runs_events_in_turn(rt: HostRuntime) -> Result<(), Fail> {
+    let config = config(Side::FieldElement)?;
+    let mut pair = Pair::new(rt.alloc());
+    assert_eq!(rt; run(&mut pair, config), Some(3));
+    assert_eq!(rt; pair.history().len(), 3);
+    assert!(rt; !pair.breaks_premise(Side::FieldElement, &[0; 8]));
     Ok(())
 }
 
 /// The datagram of the first PDU that the last event made.
-fn made(rt: &(impl Abort + AllocGlobal), pair: &Pair) -> Result<Vec<u8>, Fail> {
+fn made(rt: &impl AllocGlobal, pair: &Pair) -> Result<Vec<u8>, Fail> {
     let notes = pair.notes().ok_or("no event")?;
     for place in 0..notes.len() {
         if let Some(Told::Made(datagram)) = notes.get(place) {
@@ -84,47 +138,22 @@ fn made(rt: &(impl Abort + AllocGlobal), pair: &Pair) -> Result<Vec<u8>, Fail> {
     Err("no PDU".into())
 }
 
-// An end is ticked before it is opened, opened, ticked too early and in time: what is refused and by which name, and what happened.
-#[test]
-fn names_refusals_and_goes_on(rt: HostRuntime) -> Result<(), Fail> {
-    let mut pair = Pair::new(rt.alloc());
-    assert_eq!(rt; pair.apply(&tick(5)), Err(ApplyFault::EndNotOpen));
-    let open = opening(Side::FieldElement, config(Side::FieldElement)?, 500);
-    assert_eq!(rt; pair.apply(&open), Ok(()));
-    assert_eq!(rt; pair.apply(&tick(5)), Err(ApplyFault::Clock));
-    assert_eq!(rt; pair.history().len(), 1);
-    assert!(rt; pair.end_of(Side::FieldElement).is_some());
-    assert!(rt; pair.end_of(Side::Interlocking).is_none());
-    Ok(())
+/// A field element and two interlockings that make the same ConnReq, which is answered.
+fn open_all(pair: &mut Pair, il: EndConfig, fe: EndConfig) -> Result<(), ApplyFault> {
+    open(pair, Side::FieldElement, fe, 500)?;
+    open(pair, Side::Interlocking, il, 100)?;
+    open(pair, Side::Interlocking, il, 100)
 }
 
-// A run goes on behind a refused event, and answers how many were accepted.
-#[test]
-fn runs_events_in_turn(rt: HostRuntime) -> Result<(), Fail> {
-    let mut pair = Pair::new(rt.alloc());
-    let open = opening(Side::FieldElement, config(Side::FieldElement)?, 500);
-    let events = [tick(5), open, tick(9), tick(10), tick(11)];
-    assert_eq!(rt; pair.run(&events).ok(), Some(3));
-    assert_eq!(rt; pair.history().len(), 3);
-    assert!(rt; !pair.breaks_premise(Side::FieldElement, &[0; 8]));
-    Ok(())
-}
-
-// Two interlockings make the same ConnReq, one after the other: the field element that takes it is joined to the later one. What the
-// delivery did is told in its order, the redundancy layer's word last.
-#[test]
-fn joins_the_latest_maker(rt: HostRuntime) -> Result<(), Fail> {
-    let mut pair = Pair::new(rt.alloc());
-    opens(&mut pair, Side::FieldElement, 500)?;
-    opens(&mut pair, Side::Interlocking, 100)?;
-    opens(&mut pair, Side::Interlocking, 100)?;
-    let request = made(&rt, &pair)?;
-    let delivered = pair.apply(&delivery(Side::FieldElement, request.as_slice()));
-    assert_eq!(rt; delivered, Ok(()));
-    let joined = pair.report(Side::FieldElement, 0).ok_or("no entry")?.joined;
-    assert_eq!(rt; joined, Some(1));
+fn is_joined_to_the_later(rt: &impl Abort, pair: &Pair) -> Result<(), Fail> {
+    let entry = pair.report(Side::FieldElement, 0).ok_or("no entry")?;
+    assert_eq!(rt; entry.joined, Some(1));
     assert!(rt; pair.report(Side::FieldElement, 1).is_none());
     assert_eq!(rt; pair.incarnations(Side::Interlocking), 2);
+    Ok(())
+}
+
+fn tells_in_order(rt: &impl Abort, pair: &Pair) -> Result<(), Fail> {
     let notes = pair.notes().ok_or("no event")?;
     assert!(rt; matches!(notes.get(0), Some(Told::Made(_))));
     let told = [
@@ -139,54 +168,64 @@ fn joins_the_latest_maker(rt: HostRuntime) -> Result<(), Fail> {
     Ok(())
 }
 
-/// How a pair stands: its events, its incarnations, the phase of the field element, and how many telegrams it put in.
-fn standing<A: Allocator + Copy>(pair: &Pair<A>) -> (usize, usize, usize, Option<Phase>, usize) {
-    let put = match pair.report(Side::FieldElement, 0) {
-        Some(entry) => entry.put.len(),
-        None => 0,
-    };
+// Two interlockings make the same ConnReq, one after the other: the field element that takes it is joined to the later one. What the
+// delivery did is told in its order, the redundancy layer's word last.
+#[test]
+fn joins_the_latest_maker(rt: HostRuntime) -> Result<(), Fail> {
+    let (il, fe) = (config(Side::Interlocking)?, config(Side::FieldElement)?);
+    let mut pair = Pair::new(rt.alloc());
+    assert_eq!(rt; open_all(&mut pair, il, fe), Ok(()));
+    let request = made(&rt, &pair)?;
+    assert_eq!(rt; deliver(&mut pair, request.as_slice()), Ok(()));
+    is_joined_to_the_later(&rt, &pair)?;
+    tells_in_order(&rt, &pair)
+}
+
+/// How a pair stands: its events, its incarnations, and the phase of the field element.
+type Standing = (usize, usize, usize, Option<Phase>);
+
+fn standing<A: Allocator + Copy>(pair: &Pair<A>) -> Standing {
     (
         pair.history().len(),
         pair.incarnations(Side::Interlocking),
         pair.incarnations(Side::FieldElement),
         pair.end_of(Side::FieldElement).map(|end| end.phase()),
-        put,
     )
 }
 
-/// Plays events in a heap of so many octets until one finds no room, and answers how many happened.
-fn played(
-    rt: &(impl Abort + AllocGlobal),
-    octets: usize,
-    events: &[Event<'_>],
-) -> Result<usize, Fail> {
-    let heap = LocalHeap::new(rt.alloc(), octets)?;
-    let mut pair = Pair::new(&heap);
-    for event in events {
+/// One of four events happens: both ends are opened, the interlocking twice.
+fn step(pair: &mut Pair<&LocalHeap>, place: u8, il: EndConfig, fe: EndConfig) -> bool {
+    let done = match place {
+        0 => open(pair, Side::FieldElement, fe, 500),
+        1 => tick(pair, 20),
+        2 => open(pair, Side::Interlocking, il, 100),
+        _ => open(pair, Side::Interlocking, il, 200),
+    };
+    done.is_ok()
+}
+
+/// How many of four events happen in a heap; the first that finds no room changes nothing.
+fn count_in(rt: &impl Abort, heap: &LocalHeap, il: EndConfig, fe: EndConfig) -> u8 {
+    let mut pair = Pair::new(heap);
+    for place in 0..4 {
         let before = standing(&pair);
-        if pair.apply(event) == Err(ApplyFault::Memory) {
-            assert_eq!(rt; standing(&pair), before, "in {octets}");
-            break;
+        if !step(&mut pair, place, il, fe) {
+            assert_eq!(rt; standing(&pair), before);
+            return place;
         }
     }
-    Ok(pair.history().len())
+    4
 }
 
 // In heaps of rising size each growth of an event is refused in turn: nothing has changed then.
 #[test]
 fn refuses_for_want_of_memory(rt: HostRuntime) -> Result<(), Fail> {
-    let (il, fe) = (Side::Interlocking, Side::FieldElement);
-    let (il_config, fe_config) = (config(il)?, config(fe)?);
-    let events = [
-        opening(fe, fe_config, 500),
-        tick(20),
-        opening(il, il_config, 100),
-        opening(il, il_config, 200),
-    ];
+    let (il, fe) = (config(Side::Interlocking)?, config(Side::FieldElement)?);
     let mut found = [false; 5];
-    for step in 0..500 {
-        let count = played(&rt, step * 4_000, &events)?;
-        if let Some(place) = found.get_mut(count) {
+    for size in 0..500 {
+        let heap = LocalHeap::new(rt.alloc(), size * 4_000)?;
+        let count = count_in(&rt, &heap, il, fe);
+        if let Some(place) = found.get_mut(usize::from(count)) {
             *place = true;
         }
     }
