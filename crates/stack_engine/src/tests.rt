@@ -51,13 +51,16 @@ fn tick<A: Allocator + Copy>(pair: &mut Pair<A>, time: u64) -> Result<(), ApplyF
 fn open<A: Allocator + Copy>(
     pair: &mut Pair<A>,
     side: Side,
-    config: EndConfig,
+    config: &EndConfig,
     first_sn: u32,
 ) -> Result<(), ApplyFault> {
     pair.apply(&Event {
         side,
         time: 10,
-        doing: Doing::Open { config, first_sn },
+        doing: Doing::Open {
+            config: *config,
+            first_sn,
+        },
     })
 }
 
@@ -73,7 +76,7 @@ fn deliver(pair: &mut Pair, octets: &[u8]) -> Result<(), ApplyFault> {
 fn refuses_and_goes_on(
     rt: &impl Abort,
     pair: &mut Pair,
-    config: EndConfig,
+    config: &EndConfig,
 ) -> Result<(), ApplyFault> {
     assert_eq!(rt; tick(pair, 5), Err(ApplyFault::EndNotOpen));
     open(pair, Side::FieldElement, config, 500)?;
@@ -92,27 +95,30 @@ fn has_two_events(rt: &impl Abort, pair: &Pair) {
 fn names_refusals_and_goes_on(rt: HostRuntime) -> Result<(), Fail> {
     let config = config(Side::FieldElement)?;
     let mut pair = Pair::new(rt.alloc());
-    assert_eq!(rt; refuses_and_goes_on(&rt, &mut pair, config), Ok(()));
+    assert_eq!(rt; refuses_and_goes_on(&rt, &mut pair, &config), Ok(()));
     has_two_events(&rt, &pair);
     Ok(())
 }
 
+fn ticking<'a>(time: u64) -> Event<'a> {
+    Event {
+        side: Side::FieldElement,
+        time,
+        doing: Doing::Call(Call::Tick),
+    }
+}
+
 /// How many of five events happen: an end is ticked before it is opened, opened, ticked too early, and twice in time.
-fn run(pair: &mut Pair, config: EndConfig) -> Option<usize> {
-    let side = Side::FieldElement;
-    let opening = Doing::Open {
-        config,
-        first_sn: 500,
+fn run(pair: &mut Pair, config: &EndConfig) -> Option<usize> {
+    let opening = Event {
+        side: Side::FieldElement,
+        time: 10,
+        doing: Doing::Open {
+            config: *config,
+            first_sn: 500,
+        },
     };
-    let ticking = Doing::Call(Call::Tick);
-    let events = [
-        (5, ticking),
-        (10, opening),
-        (9, ticking),
-        (10, ticking),
-        (11, ticking),
-    ]
-    .map(|(time, doing)| Event { side, time, doing });
+    let events = [ticking(5), opening, ticking(9), ticking(10), ticking(11)];
     pair.run(&events).ok()
 }
 
@@ -121,7 +127,7 @@ fn run(pair: &mut Pair, config: EndConfig) -> Option<usize> {
 fn runs_events_in_turn(rt: HostRuntime) -> Result<(), Fail> {
     let config = config(Side::FieldElement)?;
     let mut pair = Pair::new(rt.alloc());
-    assert_eq!(rt; run(&mut pair, config), Some(3));
+    assert_eq!(rt; run(&mut pair, &config), Some(3));
     assert_eq!(rt; pair.history().len(), 3);
     assert!(rt; !pair.breaks_premise(Side::FieldElement, &[0; 8]));
     Ok(())
@@ -139,7 +145,7 @@ fn made(rt: &impl AllocGlobal, pair: &Pair) -> Result<Vec<u8>, Fail> {
 }
 
 /// A field element and two interlockings that make the same ConnReq, which is answered.
-fn open_all(pair: &mut Pair, il: EndConfig, fe: EndConfig) -> Result<(), ApplyFault> {
+fn open_all(pair: &mut Pair, il: &EndConfig, fe: &EndConfig) -> Result<(), ApplyFault> {
     open(pair, Side::FieldElement, fe, 500)?;
     open(pair, Side::Interlocking, il, 100)?;
     open(pair, Side::Interlocking, il, 100)
@@ -174,7 +180,7 @@ fn tells_in_order(rt: &impl Abort, pair: &Pair) -> Result<(), Fail> {
 fn joins_the_latest_maker(rt: HostRuntime) -> Result<(), Fail> {
     let (il, fe) = (config(Side::Interlocking)?, config(Side::FieldElement)?);
     let mut pair = Pair::new(rt.alloc());
-    assert_eq!(rt; open_all(&mut pair, il, fe), Ok(()));
+    assert_eq!(rt; open_all(&mut pair, &il, &fe), Ok(()));
     let request = made(&rt, &pair)?;
     assert_eq!(rt; deliver(&mut pair, request.as_slice()), Ok(()));
     is_joined_to_the_later(&rt, &pair)?;
@@ -194,7 +200,7 @@ fn standing<A: Allocator + Copy>(pair: &Pair<A>) -> Standing {
 }
 
 /// One of four events happens: both ends are opened, the interlocking twice.
-fn step(pair: &mut Pair<&LocalHeap>, place: u8, il: EndConfig, fe: EndConfig) -> bool {
+fn step(pair: &mut Pair<&LocalHeap>, place: u8, il: &EndConfig, fe: &EndConfig) -> bool {
     let done = match place {
         0 => open(pair, Side::FieldElement, fe, 500),
         1 => tick(pair, 20),
@@ -205,7 +211,7 @@ fn step(pair: &mut Pair<&LocalHeap>, place: u8, il: EndConfig, fe: EndConfig) ->
 }
 
 /// How many of four events happen in a heap; the first that finds no room changes nothing.
-fn count_in(rt: &impl Abort, heap: &LocalHeap, il: EndConfig, fe: EndConfig) -> u8 {
+fn count_in(rt: &impl Abort, heap: &LocalHeap, il: &EndConfig, fe: &EndConfig) -> u8 {
     let mut pair = Pair::new(heap);
     for place in 0..4 {
         let before = standing(&pair);
@@ -224,7 +230,7 @@ fn refuses_for_want_of_memory(rt: HostRuntime) -> Result<(), Fail> {
     let mut found = [false; 5];
     for size in 0..500 {
         let heap = LocalHeap::new(rt.alloc(), size * 4_000)?;
-        let count = count_in(&rt, &heap, il, fe);
+        let count = count_in(&rt, &heap, &il, &fe);
         if let Some(place) = found.get_mut(usize::from(count)) {
             *place = true;
         }
