@@ -1,5 +1,5 @@
 -- How little one event makes, over every list of events.
-use Rattle.std.proofs.Common.{true, ◌≡◌, ◌≤◌, List, [], ◌∷◌, length, Option, Some, None, refl, arith}
+use Rattle.std.proofs.Common.{true, ◌≡◌, ◌≤◌, ℕ, List, [], ◌∷◌, length, Option, Some, None, refl, subst, arith}
 use Rattle.std.specs.Prelude.{nat_le, ◌&&◌}
 use Rattle.std.specs.List.{AllByRecursion}
 use Rattle.std.proofs.lemmas.Bool.Decides.{nat_tests}
@@ -13,7 +13,7 @@ use Rattle.safe_machine.specs.World.{Side}
 use Rattle.safe_machine.specs.World.Side.{Il, Fe}
 use Rattle.end_settings.specs.EndSettings.{EndSettings, are_fit, rule_of}
 use Rattle.stack_end.specs.Ends.{EndState, new_end, Call, call}
-use Rattle.stack_engine.specs.Bounds.{IsSmallPdu, FewMore, FewMoreLaw, FewFirstLaw, most_pdus}
+use Rattle.stack_engine.specs.Bounds.{IsSmallPdu, FewMore, FewMoreLaw, FewFirstLaw, QueueLaw, most_pdus}
 use Rattle.stack_engine.specs.Pairs.{World, JoinedEnd, Event, start, ends_of, latest, present, refusal, changed, happens, run, call_il, call_fe}
 use Rattle.stack_engine.specs.Pairs.Event.{Open, Calls}
 use Rattle.stack_engine.specs.Premise.{AtOpened, AreTyped, IsTyped}
@@ -81,6 +81,14 @@ module _ (laws : Layers) where
   pub few-more-holds : TextsLaw → FewMoreLaw
   few-more-holds texts es typed Il c t = few-opened texts Il c (present Il (run es start)) t (sized-run es start typed (tt, tt)).0
   few-more-holds texts es typed Fe c t = few-opened texts Fe c (present Fe (run es start)) t (sized-run es start typed (tt, tt)).1
+
+  few-deferred : (side : Side) (x : Option EndState) → AtOpened (Sized side) x → AtOpened (λ y. length y.red.waiting ≤ y.settings.q) x
+  few-deferred side None h = tt
+  few-deferred side (Some x) h = subst (λ (q : ℕ). length x.red.waiting ≤ q) h.q h.few
+
+  pub queue-holds : QueueLaw
+  queue-holds es typed Il = few-deferred Il (present Il (run es start)) (sized-run es start typed (tt, tt)).0
+  queue-holds es typed Fe = few-deferred Fe (present Fe (run es start)) (sized-run es start typed (tt, tt)).1
 
   pub few-first-holds : TextsLaw → FewFirstLaw
   few-first-holds texts side s first now fit =

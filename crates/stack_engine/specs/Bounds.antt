@@ -47,3 +47,7 @@ pub record FewFirst (x : EndState) : Type 0 where
 
 abbrev pub FewFirstLaw : Type 0
 FewFirstLaw = (side : Side) (s : EndSettings) (first now : ℕ) → are_fit side s ≡ true → FewFirst (new_end side s first now)
+
+-- no end lets more parts wait than its setting has it
+abbrev pub QueueLaw : Type 0
+QueueLaw = (es : List Event) → AreTyped es → (side : Side) → AtOpened (λ x. length x.red.waiting ≤ x.settings.q) (present side (run es start))

@@ -1,6 +1,6 @@
 //! What a pair promises over every list of events.
 
-ghost use Rattle.stack_engine.specs.Bounds.{FewFirstLaw, FewMoreLaw};
+ghost use Rattle.stack_engine.specs.Bounds.{FewFirstLaw, FewMoreLaw, QueueLaw};
 ghost use Rattle.stack_engine.specs.Faithful.{NothingLostLaw, OrderlyLaw};
 ghost use Rattle.stack_engine.specs.Freshness.{Freshness};
 ghost use Rattle.stack_engine.specs.Headline.{HeadlineLaw};
@@ -35,6 +35,9 @@ pub fn pair_law()
     // One call of an end makes 401 PDUs and takes 27 telegrams at most, none longer than its grammar has it.
     ensures few { FewMoreLaw }
     ensures few_first { FewFirstLaw }
+
+    // No end lets more parts wait for a missing one than its setting has it.
+    ensures queue { QueueLaw }
 
     // The test of the premise tells exactly whether a delivery would break it at once.
     ensures breaks { BreaksLaw }
