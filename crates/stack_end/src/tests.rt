@@ -426,3 +426,99 @@ fn opens_where_memory_is_found(rt: HostRuntime) -> Result<(), Fail> {
     assert!(rt; opens_in(&heap, bad, channels).is_ok_and(|answer| !answer));
     Ok(())
 }
+
+/// A field element in a heap of its own.
+#[derive(Drop)]
+struct Housed<'a> {
+    end: End<MemChannels, &'a LocalHeap>,
+    clock: u64,
+    taken: Taken,
+    heard: usize,
+    ghost timely: { end.time ≤ clock },
+    ghost small: { clock ≤ 2 ^ 62 },
+}
+
+impl<'a> Housed<'a> {
+    fn open(heap: &'a LocalHeap, channels: MemChannels, config: EndConfig) -> Option<Self> {
+        let end = End::open(heap, channels, config, Side::FieldElement, 500, 0).ok()?;
+        Some(Housed {
+            end,
+            clock: 0,
+            taken: Taken {
+                list: ArrayVec::new(),
+            },
+            heard: 0,
+        })
+    }
+
+    /// The next datagram that the peer sent on this channel comes here; answers whether there was one.
+    fn next(&mut self, peer: &MemChannels, on: usize) -> bool {
+        for _ in 0..400 {
+            let Some((channel, octets)) = peer.sent(self.heard) else {
+                return false;
+            };
+            self.heard = self.heard.wrapping_add(1);
+            if channel == on {
+                self.end
+                    .arrive(channel, octets, self.clock, &mut self.taken);
+                return true;
+            }
+        }
+        false
+    }
+
+    /// All that the two have sent on the first channel comes to the other.
+    fn flow(&mut self, il: &mut Station) {
+        for _ in 0..100 {
+            let to_fe = self.next(il.end.channels_seen(), 1);
+            let to_il = il.next(self.end.channels_seen(), 1);
+            if !to_fe && !to_il {
+                return;
+            }
+        }
+    }
+
+    /// A session is set up, and a unit is lost.
+    fn loses_a_unit(&mut self, il: &mut Station) -> Result<(), Fail> {
+        self.flow(il);
+        self.end.init_done(self.clock)?;
+        self.flow(il);
+        il.put(0x100, 1)?;
+        self.heard = self.heard.wrapping_add(2);
+        il.put(0x100, 2)?;
+        self.flow(il);
+        Ok(())
+    }
+
+    /// The wait for it is over.
+    fn asks_again(&mut self, il: &mut Station) {
+        il.later(50);
+        if self.clock <= 1000 {
+            self.clock += 50;
+        }
+        self.end.tick(self.clock, &mut self.taken);
+        self.flow(il);
+    }
+}
+
+// In a heap that the opening has filled, a lost unit is asked for, sent again and taken as in any other.
+#[test]
+fn goes_on_in_a_full_heap(rt: HostRuntime) -> Result<(), Fail> {
+    let mut il = Station::open(&rt, config(Side::Interlocking)?, Side::Interlocking, 100)?;
+    for step in 0..5_000 {
+        let heap = LocalHeap::new(rt.alloc(), 20_000 + step * 16)?;
+        let channels = MemChannels::new(rt.alloc(), 400)?;
+        let Some(mut fe) = Housed::open(&heap, channels, config(Side::FieldElement)?) else {
+            continue;
+        };
+        assert!(rt; Vec::<u8, &LocalHeap>::with_capacity(&heap, 64).is_err());
+        fe.loses_a_unit(&mut il)?;
+        assert_eq!(rt; fe.taken.list.as_slice(), [].as_slice());
+        fe.asks_again(&mut il);
+        assert_eq!(rt; fe.end.state(), ConnectionState::Up);
+        let both = [(0x100, 1), (0x100, 2)];
+        assert_eq!(rt; fe.taken.list.as_slice(), both.as_slice());
+        return Ok(());
+    }
+    Err(Fail::from("no heap is large enough"))
+}
