@@ -2,7 +2,7 @@ use crate::status::Status;
 
 /// A script, and what the word `sim` does with it.
 pub struct Case {
-    /// What the case shows.
+    /// What the case shows, or the file of the example.
     pub name: &'static str,
     /// The script.
     pub script: &'static str,
@@ -14,8 +14,8 @@ pub struct Case {
     pub status: Status,
 }
 
-/// Worked scripts: what they print was worked out from the rules by other programs.
-pub const CASES: [Case; 34] = [
+/// Worked scripts, and the examples: what they print was worked out from the rules by other programs.
+pub const CASES: [Case; 40] = [
     Case {
         name: "bad-settings-and-unopened-end",
         script: "set t_h 1800\nopen il\ntick fe\n",
@@ -251,6 +251,48 @@ pub const CASES: [Case; 34] = [
         name: "window-opens-on-heartbeat",
         script: "set n_maxpacket 1\nest\nputs il 21 0100\ntrace\ngive i5 1\nclock fe 300\ntick fe\ngive f5 1\n",
         lines: "fe takes 0100 00\nf5 HB 504 104\ni25 Data 124 504\nil Up Established put 21 taken 0\nfe Up Established put 0 taken 1\n",
+        fault: "",
+        status: Status::Done,
+    },
+    Case {
+        name: "examples/channel_dies.sim",
+        script: "est\ntrace\nput il 0100 01\nflow 1 2\nclock il 300\nclock fe 300\nput il 0100 02\nflow 1\nclock il 600\nclock fe 600\ntick il\ntick fe\nflow 1\nclock il 1000\nclock fe 1000\nput fe 0200 0a\nflow 1\nclock il 1300\nclock fe 1300\nput il 0100 03\nflow 1 2\n",
+        lines: "i5 Data 104 503\nfe takes 0100 01\nfe drop i5 old\ni6 Data 105 503\nfe takes 0100 02\ni7 HB 106 503\nf5 HB 504 105\nf6 Data 505 106\nil takes 0200 0a\ni8 Data 107 505\nfe takes 0100 03\nfe drop i8 old\nil Up Established put 3 taken 1\nfe Up Established put 1 taken 3\n",
+        fault: "",
+        status: Status::Done,
+    },
+    Case {
+        name: "examples/flood_of_repeats.sim",
+        script: "est\nputs il 3 0100\ntrace\ngive i5 1\ngive i5 2\ngive i5 1\ngive i7 1\ngive i7 2\ngive i7 1\ngive i6 2\ngive i6 1\ngive i7 2\nhit i7 1 4 09\nhit i7 1 5 01\ngive i1 1\ngive f1 1\nflow 1 2\n",
+        lines: "fe takes 0100 00\nfe drop i5 old\nfe drop i5 old\nfe wait i7\nfe drop i7 again\nfe drop i7 again\nfe takes 0100 01\nfe takes 0100 02\nfe drop i6 old\nfe drop i7 old\nfe wait i7\nfe drop i7 far\nfe drop i1 old\nil drop f1 old\nil Up Established put 3 taken 0\nfe Up Established put 0 taken 3\n",
+        fault: "",
+        status: Status::Done,
+    },
+    Case {
+        name: "examples/lost_answer.sim",
+        script: "est\nputs il 10 0100\ntrace\nlose i5\ngive i6 1\ngive i7 1\ngive i8 1\ngive i9 1\ngive i10 1\nclock fe 50\nclock il 50\ntick fe\nflow 1\nclock fe 100\nclock il 100\ntick fe\nflow 1\nclock fe 300\nclock il 350\ntick il\ntick fe\nflow 1\nclock il 1799\ntick il\nclock fe 1799\ntick fe\nflow 1\nclock il 1850\ntick il\nflow 1\n",
+        lines: "fe wait i6\nfe wait i7\nfe wait i8\nfe wait i9\nfe drop i10 full\nfe drop i6 gap\nf5 RetrReq 504 103\nfe state RetrReq\nfe drop i7 request\nfe drop i8 request\nfe drop i9 request\nfe wait i11\nfe wait i12\nfe wait i13\nfe wait i14\ni15 RetrResp 114 504\ni16 RetrData 115 504\ni17 RetrData 116 504\ni18 RetrData 117 504\ni19 RetrData 118 504\ni20 RetrData 119 504\ni21 RetrData 120 504\ni22 RetrData 121 504\ni23 RetrData 122 504\ni24 RetrData 123 504\ni25 RetrData 124 504\ni26 HB 125 504\nfe drop i15 full\nfe drop i16 full\nfe drop i17 full\nfe drop i18 full\nfe drop i19 full\nfe drop i20 full\nfe drop i21 full\nfe drop i22 full\nfe drop i23 full\nfe drop i24 full\nfe drop i25 full\nfe drop i26 full\nfe drop i11 request\nfe drop i12 request\nfe drop i13 request\nfe drop i14 request\ni27 HB 126 504\nfe wait i27\ni28 HB 127 504\nf6 HB 505 103\nfe drop i27 request\nfe drop i28 request\ni29 DiscReq 128 505 reason 3 detail 0\nil state Closed\nil phase Ended\nfe state Closed\nfe phase Ended\nil Closed Ended put 10 taken 0\nfe Closed Ended put 0 taken 0\n",
+        fault: "",
+        status: Status::Done,
+    },
+    Case {
+        name: "examples/other_version.sim",
+        script: "set version_il 3\nset version_fe 4\ntrace\nest\nput il 0100 01\nversions fe 4 3\nest\nput il 0100 01\nflow 1\n",
+        lines: "fe state Down\ni1 ConnReq 100 0\nil state Start\nf1 ConnResp 500 100\nfe state Start\ni2 HB 101 500\nil state Up\nil phase Checking\ni3 Data 102 500\nfe state Up\nfe phase AwaitCheck\nfe phase Refused\nf2 Data 501 102\nil phase Ended\ni4 DiscReq 103 501 reason 4 detail 1\nil state Closed\nfe state Closed\nfe phase Ended\nrefused NotInitialising\nrefused NotEstablished\nfe state Down\ni5 ConnReq 100 0\nil state Start\nf3 ConnResp 500 100\nfe state Start\ni6 HB 101 500\nil state Up\nil phase Checking\ni7 Data 102 500\nfe state Up\nfe phase AwaitCheck\nfe phase AwaitRequest\nf4 Data 501 102\nil phase Requesting\ni8 Data 103 501\nfe phase Initialising\nf5 Data 502 103\nil phase Initialising\nfe phase Established\nf6 Data 503 103\nil phase Established\ni9 Data 104 503\nfe takes 0100 01\nil Up Established put 1 taken 0\nfe Up Established put 0 taken 1\n",
+        fault: "",
+        status: Status::Done,
+    },
+    Case {
+        name: "examples/reboots.sim",
+        script: "est\nput il 0100 01\nflow 1\ntrace\nopen fe\nclock il 300\ntick il\nflow 1\nclock il 1800\ntick il\nflow 1\nclock fe 2000\nclock il 2000\nopen il\nflow 1\ndone\nflow 1\nput il 0100 02\nflow 1\nopen il\nflow 1\nclock fe 3800\ntick fe\nflow 1\nopen fe\nclock il 3800\nopen il\nflow 1\ndone\nflow 1\nput il 0100 03\nflow 1\n",
+        lines: "fe state Down\ni6 HB 105 503\nfe wait i6\ni7 DiscReq 106 503 reason 3 detail 0\nil state Closed\nil phase Ended\nfe wait i7\ni8 ConnReq 100 0\nil state Start\nfe drop i6 down\nfe drop i7 down\nfe drop i8 old\nrefused NotInitialising\nrefused NotEstablished\ni9 ConnReq 100 0\nil state Start\nfe drop i9 old\nfe state Down\ni10 ConnReq 100 0\nil state Start\nf5 ConnResp 500 100\nfe state Start\ni11 HB 101 500\nil state Up\nil phase Checking\ni12 Data 102 500\nfe state Up\nfe phase AwaitCheck\nfe phase AwaitRequest\nf6 Data 501 102\nil phase Requesting\ni13 Data 103 501\nfe phase Initialising\nf7 Data 502 103\nil phase Initialising\nfe phase Established\nf8 Data 503 103\nil phase Established\ni14 Data 104 503\nfe takes 0100 03\nil Up Established put 1 taken 0\nfe Up Established put 0 taken 1\n",
+        fault: "",
+        status: Status::Done,
+    },
+    Case {
+        name: "examples/too_late.sim",
+        script: "est\nputs il 2 0100\ntrace\ngive i6 1\nclock fe 50\nclock il 50\ntick fe\nflow 2\ngive i5 1\nput il 0100 02\nclock il 1900\nclock fe 1900\nflow 1\n",
+        lines: "fe wait i6\nfe drop i6 gap\nf5 RetrReq 504 103\nfe state RetrReq\nfe drop i5 old\ni7 RetrResp 106 504\ni8 RetrData 107 504\ni9 RetrData 108 504\ni10 HB 109 504\nfe state RetrRun\nfe takes 0100 00\nfe takes 0100 01\nfe state Up\nfe drop i5 old\ni11 Data 110 504\nf6 DiscReq 505 109 reason 3 detail 0\nfe state Closed\nfe phase Ended\ni12 DiscReq 111 504 reason 3 detail 0\nil state Closed\nil phase Ended\nil Closed Ended put 3 taken 0\nfe Closed Ended put 0 taken 2\n",
         fault: "",
         status: Status::Done,
     },
