@@ -103,29 +103,72 @@ fn run_two<R: Net + Clock, O: Write>(
     let now = clock.read(rt)?;
     let mut field_element = opened(alloc, fe_channels, Side::FieldElement, fe, now)?;
     let mut interlocking = opened(alloc, il_channels, Side::Interlocking, il, now)?;
+    take_turns(
+        rt,
+        &mut clock,
+        &mut watch,
+        &mut interlocking,
+        &mut field_element,
+        turns,
+        out,
+    )
+}
+
+/// Both ends take so many turns; then how they stand is printed.
+fn take_turns<R: Clock, O: Write>(
+    rt: &R,
+    clock: &mut RunClock,
+    watch: &mut Watch,
+    interlocking: &mut Actor<'_, UdpChannels>,
+    field_element: &mut Actor<'_, UdpChannels>,
+    turns: u32,
+    out: &mut O,
+) -> Result<(), Fault>
+    requires il { interlocking.old.end.time ≤ clock.old.last }
+    requires fe { field_element.old.end.time ≤ clock.old.last }
+{
     'turns: for _ in 0..turns {
         let now = clock.read(rt)?;
-        let before = (
-            interlocking.end.channels_seen().received(),
-            field_element.end.channels_seen().received(),
-        );
-        interlocking.turn(now, out)?;
-        field_element.turn(now, out)?;
-        let after = (
-            interlocking.end.channels_seen().received(),
-            field_element.end.channels_seen().received(),
-        );
-        if after == before {
-            let deadline = earlier(
-                interlocking.end.next_deadline(),
-                field_element.end.next_deadline(),
-            );
-            watch.wait(Duration::from_millis(pause(now, deadline)));
-        }
+        take_turn(watch, interlocking, field_element, now, out)?;
     }
     interlocking.report(out)?;
     field_element.report(out)?;
     sent_off(out)
+}
+
+/// One turn of both ends. Where neither found anything, it waits.
+fn take_turn<O: Write>(
+    watch: &mut Watch,
+    interlocking: &mut Actor<'_, UdpChannels>,
+    field_element: &mut Actor<'_, UdpChannels>,
+    now: u64,
+    out: &mut O,
+) -> Result<(), Fault>
+    requires now { now ≤ 2 ^ 62 }
+    requires il { interlocking.old.end.time ≤ now }
+    requires fe { field_element.old.end.time ≤ now }
+    ensures il { interlocking.new.end.time ≤ now }
+    ensures fe { field_element.new.end.time ≤ now }
+{
+    let before = received_by(interlocking, field_element);
+    interlocking.turn(now, out)?;
+    field_element.turn(now, out)?;
+    if received_by(interlocking, field_element) == before {
+        let deadline = earlier(
+            interlocking.end.next_deadline(),
+            field_element.end.next_deadline(),
+        );
+        watch.wait(Duration::from_millis(pause(now, deadline)));
+    }
+    Ok(())
+}
+
+/// How many datagrams either end received.
+fn received_by(first: &Actor<'_, UdpChannels>, second: &Actor<'_, UdpChannels>) -> (u64, u64) {
+    (
+        first.end.channels_seen().received(),
+        second.end.channels_seen().received(),
+    )
 }
 
 fn watch<R: Net>(rt: &R, alloc: Global) -> Result<Watch, Fault> {
