@@ -1,15 +1,13 @@
 -- Messages that go out in units, which are unconfirmed from then on.
-use Rattle.std.proofs.Common.{◌≡◌, ◌∙◌, ℕ, zero, suc, List, [], ◌∷◌, ◌++◌, map, take, drop, refl, sym, ap, append_assoc, append-nil, Bool, true, None, Some}
-use Rattle.std.specs.Prelude.{Option, Result, Ok, Err, OnOk, IsOk, is_none, if◌then◌else◌}
+use Rattle.std.proofs.Common.{◌≡◌, ◌∙◌, ℕ, zero, suc, List, [], ◌∷◌, ◌++◌, map, take, drop, refl, sym, ap, append_assoc, append-nil}
+use Rattle.std.specs.Prelude.{Result, Ok, Err, OnOk, IsOk}
 use Rattle.std.specs.List.{flat_map}
 use Rattle.std.proofs.lemmas.Bool.{true≢false}
 use Rattle.std.proofs.lemmas.List.Concat.{flat_map-append}
 use Rattle.packing.specs.UnitText.{unit_text}
 use Rattle.pdi_session.specs.SessionStep.{SessionState}
 use Rattle.safe_machine.specs.State.{unconfirmed}
-use Rattle.safe_machine.specs.View.{View}
 use Rattle.safe_machine.proofs.Ring.{ring_of-units}
-use Rattle.stack_end.specs.Dialogue.{session_in}
 use Rattle.stack_end.specs.Ends.{EndState}
 use Rattle.stack_end.specs.Fields.{Fields, Stands}
 use Rattle.stack_end.specs.Outstanding.{GoesOut, PutOut, each, put_message, units_in}

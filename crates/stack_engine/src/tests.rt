@@ -228,8 +228,8 @@ fn count_in(rt: &impl Abort, heap: &LocalHeap, il: &EndConfig, fe: &EndConfig) -
 fn refuses_for_want_of_memory(rt: HostRuntime) -> Result<(), Fail> {
     let (il, fe) = (config(Side::Interlocking)?, config(Side::FieldElement)?);
     let mut found = [false; 5];
-    for size in 0..500 {
-        let heap = LocalHeap::new(rt.alloc(), size * 4_000)?;
+    for size in 0..2_000 {
+        let heap = LocalHeap::new(rt.alloc(), size * 1_000)?;
         let count = count_in(&rt, &heap, &il, &fe);
         if let Some(place) = found.get_mut(usize::from(count)) {
             *place = true;

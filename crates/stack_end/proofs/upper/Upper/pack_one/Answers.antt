@@ -6,7 +6,7 @@ use Rattle.stack_end.specs.Ends.{EndState}
 use Rattle.stack_end.specs.Fields.{packed_once}
 use Rattle.stack_end.specs.Outstanding.{each}
 use Rattle.stack_end.proofs.Packs.{sent_out, can-pack, packs-as, went-is}
-use Rattle.stack_end.proofs.Outstanding.{each-append, goes-none, goes-one, on-ok}
+use Rattle.stack_end.proofs.Outstanding.{each-append, goes-one, on-ok}
 use Rattle.stack_end.proofs.Uppers.{sends-between, went-of}
 use Rattle.stack_end.proofs.upper.Upper.pack_one.Goals as goal
 
