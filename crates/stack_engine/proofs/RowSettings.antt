@@ -1,0 +1,36 @@
+-- The settings of the ends in the computed lists of events.
+use Rattle.std.proofs.Common.{ℕ, List, [], ◌∷◌, true, codes}
+use Rattle.md4.specs.declared.TheConstants.{INITIAL_VALUE}
+use Rattle.safe_pdu.specs.declared.CodeLength.TheVariants.{Eight}
+use Rattle.end_settings.specs.EndSettings.{EndSettings}
+
+-- the window, and the units taken before a heartbeat
+abbrev settings : (window mwa own peer : ℕ) → (name peer_name : List ℕ) → EndSettings
+settings window mwa own peer name peer_name =
+    record {
+      connection =
+          record {
+            client = true;
+            own = own;
+            peer = peer;
+            n_sendmax = window;
+            t_max = 1800;
+            t_h = 300;
+            mwa = mwa;
+            pdu_limit = 4294901760;
+            rule = record { length = Eight; initial_value = INITIAL_VALUE };
+          };
+      addressing = record { protocol = 1; own = name; peer = peer_name };
+      versions = 3 ∷ [];
+      checksum = [];
+      channels = 2;
+      n_maxpacket = 3;
+      q = 4;
+      t_seq = 50;
+    }
+
+abbrev pub il_of : (window mwa : ℕ) → EndSettings
+il_of window mwa = settings window mwa 1 2 (codes "IL1") (codes "FE1")
+
+abbrev pub fe_of : (window mwa : ℕ) → EndSettings
+fe_of window mwa = settings window mwa 2 1 (codes "FE1") (codes "IL1")
