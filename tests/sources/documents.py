@@ -47,7 +47,7 @@ class Documents:
             is_inside = len(row) == 3 and (is_inside or row[2] == COLUMN)
             if is_inside and '`' in row[2]:
                 count += 1
-                crate = self.crates.get(row[0].strip('`'), crate)
+                crate = self.crates[row[0].strip('`')] if row[0] else crate
                 items, problems = self.of_row(crate, row[2], items)
                 yield from (f'README.md:{number}: {problem}' for problem in problems)
         if not count:
@@ -67,7 +67,7 @@ class Documents:
                 here += found
             for clause in re.findall(r'(\w+)`', clauses):
                 if not self.has_clause(here, clause):
-                    problems.append(f'`{clause}` is no clause of {names.strip()}')
+                    problems.append(f'`{clause}` is no clause of {names.strip().replace("`", "")}')
             items += here
         return items, problems
 

@@ -35,6 +35,9 @@ class Item:
     def full(self):
         return f'{self.owner}::{self.name}' if self.owner else self.name
 
+    def key(self):
+        return f'{self.crate}: {self.full()}'
+
     def module(self):
         return os.path.basename(self.file)[:-3]
 
