@@ -47,8 +47,8 @@ class Documents:
             is_inside = len(row) == 3 and (is_inside or row[2] == COLUMN)
             if is_inside and '`' in row[2]:
                 count += 1
-                crate = self.crates[row[0].strip('`')] if row[0] else crate
-                items, problems = self.of_row(crate, row[2], items)
+                crate = self.crates.get(row[0].strip('`')) if row[0] else crate
+                items, problems = self.of_row(crate, row[2], items) if crate else ([], [f'{row[0]} is no crate'])
                 yield from (f'README.md:{number}: {problem}' for problem in problems)
         if not count:
             yield f'README.md: no table with a column "{COLUMN}"'
