@@ -1,0 +1,109 @@
+"""The names of functions, clauses, definitions and cases in README.md and docs/, and which of them are not there."""
+import re
+from functions import listed, read
+
+COLUMN = 'The contract that carries it'
+FORM = re.compile(r'((?:`[\w:]+`(?:,| and)?\s+)*`[\w:]+`):\s+((?:`\w+`(?:,\s+)?)+)')
+FUNCTION = re.compile(r'`(\w+::\w+)(?:\([^`]*\))?`|`(\w+)\([^`]*\)`')
+DEFINITION = re.compile(r'`([A-Z]\w*)\.(\w+)`')
+
+
+class Documents:
+    """What README.md and docs/ name, and what of it is not there."""
+
+    def __init__(self, crates, definitions):
+        self.crates = crates
+        self.definitions = definitions
+        self.items = [item for crate in crates.values() for item in crate.items]
+        self.cases = {test for crate in crates.values() for test in crate.tests}
+        for path in listed('crates', '*', 'proofs', '**', '*.antt'):
+            self.cases.update(re.findall(r'^([\w-]+) :', read(path), re.M))
+        for path in listed('tests', 'model', '*.py'):
+            self.cases.update(re.findall(r"'(\w+)'", read(path)))
+
+    def problems(self):
+        yield from self.of_readme()
+        for path in ['README.md'] + [path for path in listed('docs', '*.md') if path != 'docs/MAP.md']:
+            for at, problem in [*self.of_forms(read(path)), *self.of_names(read(path))]:
+                yield f'{path}:{at}: {problem}'
+            yield from self.of_columns(path)
+
+    def items_named(self, name, items, owner=''):
+        """The functions that a name may mean, all those of a type or trait; none where nothing has the name."""
+        head, _, last = name.rpartition('::')
+        found = [item for item in items if item.name == last and head in ('', item.owner, item.module())]
+        near = [item for item in found if owner and not head and item.owner == owner]
+        return near or found or [item for item in items if item.owner == name]
+
+    def has_clause(self, items, clause):
+        return any(clause in [name for _, name, _ in item.clauses] + [name for _, name in self.definitions.named_by(item)]
+                   for item in items)
+
+    def of_readme(self):
+        """The column of README.md that says which contract carries what is proved."""
+        items, crate, is_inside, count = [], None, False, 0
+        for number, line in enumerate(read('README.md').splitlines(), 1):
+            row = [cell.strip() for cell in line.split('|')[1:-1]]
+            is_inside = len(row) == 3 and (is_inside or row[2] == COLUMN)
+            if is_inside and '`' in row[2]:
+                count += 1
+                crate = self.crates.get(row[0].strip('`')) if row[0] else crate
+                items, problems = self.of_row(crate, row[2], items) if crate else ([], [f'{row[0]} is no crate'])
+                yield from (f'README.md:{number}: {problem}' for problem in problems)
+        if not count:
+            yield f'README.md: no table with a column "{COLUMN}"'
+
+    def of_row(self, crate, cell, before):
+        """The functions that a cell names ("the same" are those of the row before), and what is not there."""
+        items, owner, problems = [], '', []
+        for part in cell.split(';'):
+            names, _, clauses = part.partition(': `')
+            here = list(before) if 'the same' in names else []
+            for name in re.findall(r'`([\w:]+)`', names):
+                found = self.items_named(name, crate.items, owner)
+                if not found and name not in self.definitions.all:
+                    problems.append(f'`{name}` is no function of {crate.name}')
+                owner = name.rpartition('::')[0] or owner
+                here += found
+            for clause in re.findall(r'(\w+)`', clauses):
+                if not self.has_clause(here, clause):
+                    problems.append(f'`{clause}` is no clause of {names.strip().replace("`", "")}')
+            items += here
+        return items, problems
+
+    def of_forms(self, text):
+        """Functions with their clauses, in tables and, where the left is a function, in running text."""
+        for found in FORM.finditer(text):
+            number = text.count('\n', 0, found.start()) + 1
+            names = re.findall(r'[\w:]+', found.group(1).replace(' and', ''))
+            items = [item for name in names for item in self.items_named(name, self.items)]
+            if not items and text[text.rfind('\n', 0, found.start()) + 1] == '|':
+                yield number, f'`{names[-1]}` is no function'
+            for clause in re.findall(r'\w+', found.group(2)) if items else ():
+                if not self.has_clause(items, clause):
+                    yield number, f'`{clause}` is no clause of {", ".join(names)}'
+
+    def of_names(self, text):
+        """Functions with their types or brackets, and definitions with their files."""
+        for number, line in enumerate(text.splitlines(), 1):
+            for names in FUNCTION.findall(line):
+                if not self.items_named(''.join(names), self.items):
+                    yield number, f'`{"".join(names)}` is no function'
+            for file, name in DEFINITION.findall(line):
+                if name not in self.definitions.of_files.get(file, {name}):
+                    yield number, f'`{file}.{name}` is no definition'
+
+    def of_columns(self, path):
+        """The columns "Clause" and "Case" of a document."""
+        header, items = [], []
+        for number, line in enumerate(read(path).splitlines(), 1):
+            row = [cell.strip() for cell in line.split('|')[1:-1]]
+            header = (header or row) if row else []
+            for name in re.findall(r'`(\w+)\(\)`', line):
+                items = self.items_named(name, self.items)
+            for title, cell in zip(header, row):
+                for name in re.findall(r'`([\w-]+)`', cell):
+                    if title == 'Clause' and not self.has_clause(items, name):
+                        yield f'{path}:{number}: `{name}` is no clause of {items[0].full() if items else "a function"}'
+                    if title == 'Case' and name not in self.cases:
+                        yield f'{path}:{number}: `{name}` is no test, lemma or change'

@@ -1,0 +1,131 @@
+"""Reads the functions of a source file: what each is for, its clauses and its body."""
+import os
+import re
+from dataclasses import dataclass
+from glob import glob
+
+TOP = os.path.dirname(os.path.dirname(os.path.dirname(os.path.abspath(__file__))))
+HIDDEN = re.compile(r"//[^\n]*|\"(?:\\.|[^\"\\])*\"|'(?:\\[^']+|[^\\'])'", re.S)
+BLOCK = re.compile(r'^(?:pub )?(impl|trait)\b([^{;]*)\{', re.M)
+FUNCTION = re.compile(r'^ *(pub )?(?:pub\(\w+\) )?(extern +)?fn (\w+)', re.M)
+CONSTANT = re.compile(r'^(?:pub(?:\(\w+\))? )?(?:const|static) (\w+)[^=]*=([^;]*);', re.M)
+CLAUSE = re.compile(r'\b(ensures|requires)\*?\s+(\w*)\s*$')
+BRACKET = re.compile(r'[(){}\[\]]')
+OPENING = re.compile(r'[({\[;]')
+
+
+@dataclass(eq=False)
+class Item:
+    """A function, or a constant that functions name."""
+    crate: str
+    file: str
+    place: range  # in the file's text
+    line: int
+    name: str
+    body: str
+    words: frozenset  # of signature, clauses and body
+    owner: str = ''  # its type or trait
+    trait: str = ''  # the trait that it implements or belongs to
+    about: str = ''  # the first sentence of its comment
+    clauses: tuple = ()  # kind, name and text of each
+    is_pub: bool = False
+    is_public: bool = False  # reached from outside the crate
+    declared: 'Item' = None  # the function of a trait of the crates that it is or implements
+
+    def full(self):
+        return f'{self.owner}::{self.name}' if self.owner else self.name
+
+    def key(self):
+        return f'{self.crate}: {self.full()}'
+
+    def module(self):
+        return os.path.basename(self.file)[:-3]
+
+    def has_contract(self):
+        return any(kind == 'ensures' for item in (self, self.declared) if item for kind, _, _ in item.clauses)
+
+
+def read(*path):
+    with open(os.path.join(TOP, *path), encoding='utf-8') as file:
+        return file.read()
+
+
+def listed(*pattern):
+    return sorted(os.path.relpath(path, TOP) for path in glob(os.path.join(TOP, *pattern), recursive=True))
+
+
+def words_of(text):
+    return frozenset(re.findall(r'\w+', text))
+
+
+def code_of(text):
+    """The text with its comments and strings blanked."""
+    return HIDDEN.sub(lambda found: re.sub(r'[^\n]', ' ', found.group()), text)
+
+
+def closing(code, at):
+    """The place behind the bracket that closes the one at a place."""
+    depth = 0
+    for found in BRACKET.finditer(code, at):
+        depth += 1 if found.group() in '({[' else -1
+        if depth == 0:
+            return found.end()
+    raise SystemExit('a bracket is not closed: ' + code[at:at + 60])
+
+
+def behind_name(code, at):
+    """The clauses behind a function's name, where its body begins, and where it ends."""
+    clauses = []
+    while True:
+        found = OPENING.search(code, at)
+        if found.group() == ';':
+            return tuple(clauses), found.start(), found.end()
+        end = closing(code, found.start())
+        if found.group() == '{':
+            clause = CLAUSE.search(code, at, found.start())
+            if not clause:
+                return tuple(clauses), found.start(), end
+            clauses.append((*clause.groups(), code[found.start():end]))
+        at = end
+
+
+def first_sentence(text):
+    """Of the comment with which a text ends, attributes behind it left out."""
+    lines = []
+    for line in reversed(text.splitlines()):
+        if line.strip().startswith('///'):
+            lines.insert(0, line.strip()[3:].strip())
+        elif not line.strip().startswith('#['):
+            break
+    return re.split(r'(?<=[.;:])\s', ' '.join(lines))[0].rstrip('.;:')
+
+
+def blocks_of(code):
+    """Where each `impl` and `trait` begins and ends, its type, and its trait."""
+    for found in BLOCK.finditer(code):
+        before, head = None, found.group(2)
+        while before != head:
+            before, head = head, re.sub(r'<[^<>]*>', '', head)
+        names = [name.split('::')[-1] for name in re.findall(r'[\w:]*\w', head)]
+        is_implemented = 'for' in names
+        owner = names[names.index('for') + 1] if is_implemented else names[0]
+        trait = names[0] if is_implemented or found.group(1) == 'trait' else ''
+        yield range(found.start(), closing(code, found.end() - 1)), owner, trait
+
+
+def items_of(crate, file):
+    """The functions of a file, and its constants."""
+    text = read(file)
+    code = code_of(text)
+    blocks = list(blocks_of(code))
+    items = []
+    for found in FUNCTION.finditer(code):
+        start = found.start()
+        clauses, body, end = behind_name(code, found.end())
+        owner, trait = next(((owner, trait) for place, owner, trait in blocks if start in place), ('', ''))
+        is_pub, is_extern = map(bool, found.groups()[:2])
+        items.append(Item(crate, file, range(start, end), code.count('\n', 0, start) + 1, found.group(3), code[body:end],
+                          words_of(code[start:end]), owner, trait, first_sentence(text[:start]), clauses, is_pub, is_pub and is_extern))
+    for found in CONSTANT.finditer(code):
+        items.append(Item(crate, file, range(*found.span()), 0, found.group(1), found.group(2), words_of(found.group(2))))
+    return items
