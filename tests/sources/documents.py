@@ -20,9 +20,11 @@ class Documents:
             self.cases.update(re.findall(r'^([\w-]+) :', read(path), re.M))
         for path in listed('tests', 'model', '*.py'):
             self.cases.update(re.findall(r"'(\w+)'", read(path)))
+        self.types = {(crate, name) for crate in crates for path in listed('crates', crate, 'src', '*.rt')
+                      for name in re.findall(r'\b(?:struct|enum|trait|type) (\w+)', read(path))}
 
     def problems(self):
-        yield from self.of_readme()
+        yield from self.of_proved()
         for path in ['README.md'] + [path for path in listed('docs', '*.md') if path != 'docs/MAP.md']:
             for at, problem in [*self.of_forms(read(path)), *self.of_names(read(path))]:
                 yield f'{path}:{at}: {problem}'
@@ -31,7 +33,7 @@ class Documents:
     def items_named(self, name, items, owner=''):
         """The functions that a name may mean, all those of a type or trait; none where nothing has the name."""
         head, _, last = name.rpartition('::')
-        found = [item for item in items if item.name == last and head in ('', item.owner, item.module())]
+        found = [item for item in items if item.name == last and head in ('', item.owner, item.module(), item.crate)]
         near = [item for item in found if owner and not head and item.owner == owner]
         return near or found or [item for item in items if item.owner == name]
 
@@ -39,19 +41,20 @@ class Documents:
         return any(clause in [name for _, name, _ in item.clauses] + [name for _, name in self.definitions.named_by(item)]
                    for item in items)
 
-    def of_readme(self):
-        """The column of README.md that says which contract carries what is proved."""
+    def of_proved(self):
+        """The column of docs/PROVED.md that says which contract carries what is proved, below the heading of each crate."""
         items, crate, is_inside, count = [], None, False, 0
-        for number, line in enumerate(read('README.md').splitlines(), 1):
+        for number, line in enumerate(read('docs', 'PROVED.md').splitlines(), 1):
+            heading = re.fullmatch(r'## `(\w+)`', line)
+            crate = self.crates.get(heading.group(1)) if heading else crate
             row = [cell.strip() for cell in line.split('|')[1:-1]]
-            is_inside = len(row) == 3 and (is_inside or row[2] == COLUMN)
-            if is_inside and '`' in row[2]:
+            is_inside = len(row) == 2 and (is_inside or row[1] == COLUMN)
+            if is_inside and '`' in row[1]:
                 count += 1
-                crate = self.crates.get(row[0].strip('`')) if row[0] else crate
-                items, problems = self.of_row(crate, row[2], items) if crate else ([], [f'{row[0]} is no crate'])
-                yield from (f'README.md:{number}: {problem}' for problem in problems)
+                items, problems = self.of_row(crate, row[1], items) if crate else ([], ['a row below no crate'])
+                yield from (f'docs/PROVED.md:{number}: {problem}' for problem in problems)
         if not count:
-            yield f'README.md: no table with a column "{COLUMN}"'
+            yield f'docs/PROVED.md: no table with a column "{COLUMN}"'
 
     def of_row(self, crate, cell, before):
         """The functions that a cell names ("the same" are those of the row before), and what is not there."""
@@ -77,7 +80,7 @@ class Documents:
             number = text.count('\n', 0, found.start()) + 1
             names = re.findall(r'[\w:]+', found.group(1).replace(' and', ''))
             items = [item for name in names for item in self.items_named(name, self.items)]
-            if not items and text[text.rfind('\n', 0, found.start()) + 1] == '|':
+            if not items and names[-1] not in self.crates and text[text.rfind('\n', 0, found.start()) + 1] == '|':
                 yield number, f'`{names[-1]}` is no function'
             for clause in re.findall(r'\w+', found.group(2)) if items else ():
                 if not self.has_clause(items, clause):
@@ -87,11 +90,16 @@ class Documents:
         """Functions with their types or brackets, and definitions with their files."""
         for number, line in enumerate(text.splitlines(), 1):
             for names in FUNCTION.findall(line):
-                if not self.items_named(''.join(names), self.items):
+                if not self.is_type(*names) and not self.items_named(''.join(names), self.items):
                     yield number, f'`{"".join(names)}` is no function'
             for file, name in DEFINITION.findall(line):
                 if name not in self.definitions.of_files.get(file, {name}):
                     yield number, f'`{file}.{name}` is no definition'
+
+    def is_type(self, name, called):
+        """Whether a name is that of a type with its crate; a form with the word crate in a crate's place is none of either."""
+        crate, _, last = name.partition('::')
+        return crate == 'crate' or (crate, last) in self.types
 
     def of_columns(self, path):
         """The columns "Clause" and "Case" of a document."""
