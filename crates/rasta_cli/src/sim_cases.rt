@@ -14,8 +14,8 @@ pub struct Case {
     pub status: Status,
 }
 
-/// Worked scripts, and the examples: what they print was worked out from the rules by other programs.
-pub const CASES: [Case; 40] = [
+/// Openings, refusals, repeats and damage: what is printed was worked out from the rules by other programs.
+pub const OPENINGS: [Case; 12] = [
     Case {
         name: "bad-settings-and-unopened-end",
         script: "set t_h 1800\nopen il\ntick fe\n",
@@ -100,6 +100,10 @@ pub const CASES: [Case; 40] = [
         fault: "",
         status: Status::Done,
     },
+];
+
+/// Losses, requests, and numbers at their ends: what is printed was worked out from the rules by other programs.
+pub const LOSSES: [Case; 11] = [
     Case {
         name: "hit-at-last-octet",
         script: "set n_sendmax 2\nest\nputlen il 0100 357\nputlen il 0100 357\nputlen il 0100 357\nputlen il 0100 357\nputlen il 0100 357\nflow 1\nclock fe 300\ntick fe\nflow 1\nhit i7 2 1249 01\n",
@@ -177,6 +181,10 @@ pub const CASES: [Case; 40] = [
         fault: "",
         status: Status::Done,
     },
+];
+
+/// Wraps, windows and versions: what is printed was worked out from the rules by other programs.
+pub const VERSIONS: [Case; 11] = [
     Case {
         name: "repeated-request-is-not-answered",
         script: "est\ntrace\nputs il 2 0100\nlose i5\ngive i6 1\nclock fe 50\ntick fe\nflow 1\ngive f5 2\nhit f5 2 4 01\n",
@@ -254,6 +262,10 @@ pub const CASES: [Case; 40] = [
         fault: "",
         status: Status::Done,
     },
+];
+
+/// The scripts of `examples/`: what is printed was worked out from the rules by other programs.
+pub const EXAMPLES: [Case; 6] = [
     Case {
         name: "examples/channel_dies.sim",
         script: "est\ntrace\nput il 0100 01\nflow 1 2\nclock il 300\nclock fe 300\nput il 0100 02\nflow 1\nclock il 600\nclock fe 600\ntick il\ntick fe\nflow 1\nclock il 1000\nclock fe 1000\nput fe 0200 0a\nflow 1\nclock il 1300\nclock fe 1300\nput il 0100 03\nflow 1 2\n",

@@ -1,5 +1,5 @@
 use crate::sim::run_sim;
-use crate::sim_cases::CASES;
+use crate::sim_cases::{Case, EXAMPLES, LOSSES, OPENINGS, VERSIONS};
 use crate::status::Status;
 use linked_list_allocator::LocalHeap;
 use std::io;
@@ -23,13 +23,41 @@ fn plays(
     Ok(())
 }
 
-// The worked scripts: openings, losses, repeats, wraps, refusals.
+// Worked scripts, and the examples.
 #[test]
-fn plays_the_worked_scripts(rt: HostRuntime) -> Result<(), Fail> {
-    for case in &CASES {
-        plays(&rt, case.script, case.lines, case.fault, case.status)?;
+fn plays_openings(rt: HostRuntime) -> Result<(), Fail> {
+    for case in &OPENINGS {
+        plays_case(&rt, case)?;
     }
     Ok(())
+}
+
+#[test]
+fn plays_losses(rt: HostRuntime) -> Result<(), Fail> {
+    for case in &LOSSES {
+        plays_case(&rt, case)?;
+    }
+    Ok(())
+}
+
+#[test]
+fn plays_versions(rt: HostRuntime) -> Result<(), Fail> {
+    for case in &VERSIONS {
+        plays_case(&rt, case)?;
+    }
+    Ok(())
+}
+
+#[test]
+fn plays_the_examples(rt: HostRuntime) -> Result<(), Fail> {
+    for case in &EXAMPLES {
+        plays_case(&rt, case)?;
+    }
+    Ok(())
+}
+
+fn plays_case(rt: &(impl Abort + AllocGlobal), case: &Case) -> Result<(), Fail> {
+    plays(rt, case.script, case.lines, case.fault, case.status)
 }
 
 // A datagram of 90 octets is hit in each octet in turn, and comes unhurt behind it. Where the redundancy layer sees the damage the
