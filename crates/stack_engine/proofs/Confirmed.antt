@@ -243,7 +243,7 @@ pub nil-is : {X : Type 0} (xs : List X) → is_nil xs ≡ true → xs ≡ []
 nil-is [] h = refl
 nil-is (x ∷ xs) h = cc
 
-not-true : (b : Bool) → not b ≡ true → b ≡ false
+pub not-true : (b : Bool) → not b ≡ true → b ≡ false
 not-true false h = refl
 not-true true h = cc
 

@@ -26,6 +26,7 @@ use Rattle.stack_engine.specs.Faithful.{Carries, CarriesAll, FaithfulCall, Faith
 use Rattle.stack_engine.specs.Pairs.{World, Event, present}
 use Rattle.stack_engine.specs.Pairs.Event.{Open, Calls}
 use Rattle.stack_engine.specs.Premise.{AtOpened, AtParts}
+use Rattle.stack_engine.proofs.Confirmed.{nil-is, not-true}
 use Rattle.stack_engine.proofs.Sending.{and-parts}
 
 -- numbers are compared by computing
@@ -171,15 +172,11 @@ all-brought peer (InitDone now) h = tt
 all-brought peer (Tick now) h = tt
 all-brought peer (Deliver channel octets now) h = all-carried peer (arrivals_of (Datagram octets now)) h
 
-is-false : (b : Bool) → not b ≡ true → b ≡ false
-is-false true h = cc
-is-false false h = refl
-
 parts-stay : (now : ℕ) (ps : List Part) (x : EndState) → parts_stay now ps x ≡ true → AtParts (λ (y : EndState) (octets : List ℕ). GuardHolds y.machine now) now ps x
 parts-stay now [] x h = tt
 parts-stay now (p ∷ ps) x h =
     let parts = and-parts (not (leaves_by_guard now x.machine)) (parts_stay now ps (part now p.1 x)) h in
-    (guard-holds now x.machine (is-false (leaves_by_guard now x.machine) parts.0), parts-stay now ps (part now p.1 x) parts.1)
+    (guard-holds now x.machine (not-true (leaves_by_guard now x.machine) parts.0), parts-stay now ps (part now p.1 x) parts.1)
 
 all-stay : (c : Call) (x : EndState) → stays c x ≡ true → GuardsHold c x
 all-stay (Close now) x h = tt
@@ -187,12 +184,12 @@ all-stay (Put kind payload now) x h = tt
 all-stay (InitDone now) x h = tt
 all-stay (Tick now) x h =
     let parts = and-parts (not (leaves_by_guard now x.machine)) (input_stays now (RedTick now) (moved (Ticks now) x)) h in (
-      guard-holds now x.machine (is-false (leaves_by_guard now x.machine) parts.0),
+      guard-holds now x.machine (not-true (leaves_by_guard now x.machine) parts.0),
       λ up still. parts-stay now (passed_by (RedTick now) (moved (Ticks now) x).red) (with_input (RedTick now) (moved (Ticks now) x)) parts.1,
     )
 all-stay (Deliver channel octets now) x h =
     let parts = and-parts (not (leaves_by_guard now x.machine)) (input_stays now (Datagram octets now) (moved (Guards now) x)) h in (
-      guard-holds now x.machine (is-false (leaves_by_guard now x.machine) parts.0),
+      guard-holds now x.machine (not-true (leaves_by_guard now x.machine) parts.0),
       λ up still. parts-stay now (passed_by (Datagram octets now) (moved (Guards now) x).red) (with_input (Datagram octets now) (moved (Guards now) x)) parts.1,
     )
 
@@ -203,13 +200,9 @@ faithful-call peer c (Some x) h =
     let more = and-parts (brings peer c) (stays c x) parts.1 in
     (no-close c parts.0, all-brought peer c more.0, all-stay c x more.1)
 
-none-of : {X : Type 0} (xs : List X) → is_nil xs ≡ true → xs ≡ []
-none-of [] h = refl
-none-of (x ∷ xs) h = cc
-
 pub faithful-event : (e : Event) (w : World) → is_faithful e w ≡ true → FaithfulEvent e w
-faithful-event (Open Il s first now) w h = none-of w.ils h
-faithful-event (Open Fe s first now) w h = none-of w.fes h
+faithful-event (Open Il s first now) w h = nil-is w.ils h
+faithful-event (Open Fe s first now) w h = nil-is w.fes h
 faithful-event (Calls Il c) w h = faithful-call (present Fe w) c (present Il w) h
 faithful-event (Calls Fe c) w h = faithful-call (present Il w) c (present Fe w) h
 

@@ -144,7 +144,7 @@ fn made(rt: &impl AllocGlobal, pair: &Pair) -> Result<Vec<u8>, Fail> {
     Err("no PDU".into())
 }
 
-/// A field element and two interlockings that make the same ConnReq, which is answered.
+/// A field element, and two interlockings that make the same ConnReq.
 fn open_all(pair: &mut Pair, il: &EndConfig, fe: &EndConfig) -> Result<(), ApplyFault> {
     open(pair, Side::FieldElement, fe, 500)?;
     open(pair, Side::Interlocking, il, 100)?;
