@@ -13,7 +13,7 @@ use Rattle.sci_telegram.specs.declared.TeleFault.TheVariants as telegram
 use Rattle.sci_telegram.specs.Places.{tele_seen}
 use Rattle.sci_telegram.specs.Tele.{Tele}
 use Rattle.rasta_cli.specs.Lines.{fault_line}
-use Rattle.sim_script.specs.Lines.{joined, octets_text}
+use Rattle.sim_lines.specs.Lines.{joined, octets_text}
 
 abbrev pub unit_number : PackFault → ℕ
 unit_number unit.Empty = 1

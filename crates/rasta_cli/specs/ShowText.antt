@@ -13,7 +13,7 @@ use Rattle.safe_pdu.specs.Pdu.{Pdu}
 use Rattle.safe_pdu.specs.Bodies.{version_of, window_of, detail_of, reason_of}
 use Rattle.safe_pdu.specs.Places.{safe_seen}
 use Rattle.rasta_cli.specs.Lines.{fault_line}
-use Rattle.sim_script.specs.Lines.{joined}
+use Rattle.sim_lines.specs.Lines.{joined}
 use Rattle.rasta_cli.specs.MessageText.{unit_lines, is_clean_body}
 
 -- a fault's number is its place among the faults of its layer, from 1

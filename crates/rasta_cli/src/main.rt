@@ -27,6 +27,8 @@ mod net_tests;
 #[cfg(test)]
 mod program_tests;
 #[cfg(test)]
+mod script_tests;
+#[cfg(test)]
 mod sim_cases;
 #[cfg(test)]
 mod sim_tests;

@@ -5,7 +5,7 @@ ghost use Rattle.std.specs.Io.KnownBytes.{Appends};
 ghost use Rattle.sci_telegram.specs.Places.{tele_seen};
 ghost use Rattle.sci_telegram.specs.Tele.{tele_of};
 ghost use Rattle.rasta_cli.specs.Lines.{fault_line};
-ghost use Rattle.sim_script.specs.Lines.{joined};
+ghost use Rattle.sim_lines.specs.Lines.{joined};
 ghost use Rattle.rasta_cli.specs.MessageText.{are_telegrams, hex_field, telegram_head, is_clean_body, is_telegram, message_label, message_line, message_lines, names_text, telegram_line, unit_lines, unit_text, is_clean_unit};
 ghost use Rattle.packing.specs.Places.{unit_seen};
 
@@ -13,7 +13,7 @@ use crate::lines::write_fault;
 use crate::names::{name_of_telegram, name_of_unit, number_of_telegram, number_of_unit};
 use safe_pdu::Kind;
 use sci_telegram::Telegram;
-use sim_script::{write_hex, write_octets, write_text};
+use sim_lines::{write_hex, write_octets, write_text};
 use std::io;
 use std::io::Write;
 

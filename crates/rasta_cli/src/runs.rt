@@ -11,7 +11,7 @@ use crate::hex_text::{hex_octets, initial_value};
 use crate::show::show;
 use crate::status::{Fault, Status};
 use safe_pdu::{CodeLength, CodeRule};
-use sim_script::write_hex;
+use sim_lines::write_hex;
 use std::alloc::Global;
 use std::io;
 use std::io::Write;

@@ -6,14 +6,14 @@ ghost use Rattle.std.specs.Io.KnownBytes.{Appends};
 ghost use Rattle.safe_pdu.specs.Bodies.{IsBody};
 ghost use Rattle.safe_pdu.specs.Pdu.{pdu_of};
 ghost use Rattle.safe_pdu.specs.Places.{safe_seen};
-ghost use Rattle.sim_script.specs.Lines.{joined};
+ghost use Rattle.sim_lines.specs.Lines.{joined};
 ghost use Rattle.rasta_cli.specs.ShowText.{body_text, fields_text, is_clean, is_clean_upper, red_line, safe_line, show_text, upper_text};
 
 use crate::lines::write_fault;
 use crate::messages::show_body;
 use crate::names::{name_of_kind, name_of_red, name_of_safe, number_of_red, number_of_safe};
 use safe_pdu::{CodeRule, Kind, Leaving, Opening, SafePdu, read_leaving, read_opening};
-use sim_script::write_text;
+use sim_lines::write_text;
 use std::io;
 use std::io::Write;
 

@@ -3,7 +3,7 @@
 ghost use Rattle.std.specs.Prelude.{◌≢◌};
 
 use crate::status::Status;
-use sim_script::SimStatus;
+use sim_lines::SimStatus;
 use std::alloc::Allocator;
 use std::io::{Read, Write};
 

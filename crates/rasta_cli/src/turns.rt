@@ -7,7 +7,7 @@ use channels::Channels;
 use end_settings::Side;
 use pdi_session::{InitFault, Phase, PutFault, Taker};
 use settings_file::Put;
-use sim_script::{
+use sim_lines::{
     Standing, init_fault_name, put_fault_name, write_refusal, write_report, write_take,
 };
 use stack_end::End;

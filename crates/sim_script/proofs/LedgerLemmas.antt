@@ -6,7 +6,7 @@ use Rattle.end_settings.specs.declared.Side.{Side}
 use Rattle.end_settings.specs.declared.Side.TheVariants.{Interlocking, FieldElement}
 use Rattle.sim_script.specs.Made.{MadePdu, fresh, is_named_at, named_at, with_name}
 use Rattle.sim_script.specs.Ledger.{chosen, named_by}
-use Rattle.sim_script.specs.declared.labels.Label.{Label}
+use Rattle.sim_lines.specs.declared.Label.{Label}
 
 both_left : (a b : Bool) → (a && b) ≡ true → a ≡ true
 both_left true b h = refl

@@ -1,3 +1,2 @@
-pub mod HexLines
 pub mod LedgerLemmas
 pub mod MadeLemmas

@@ -3,7 +3,7 @@ use Rattle.std.specs.Prelude.{ℕ, Bool, not, List, [], ◌∷◌, ◌++◌, len
 use Rattle.end_settings.specs.declared.Side.{Side}
 use Rattle.end_settings.specs.declared.Side.TheVariants.{Interlocking, FieldElement}
 use Rattle.sim_script.specs.Made.{MadePdu, datagram_at, fresh, is_named_at, named_at}
-use Rattle.sim_script.specs.declared.labels.Label.{Label}
+use Rattle.sim_lines.specs.declared.Label.{Label}
 
 pub record Ledger : Type 0 where
   pub il : List MadePdu  -- those of the interlocking, in the order of making

@@ -1,14 +1,12 @@
 //! Running a script, line by line.
 
-use crate::fault::{LineFault, ScriptFault, SimStatus};
-use crate::labels::{Label, Labels};
-use crate::line::{Command, ZEROS_MAX, read_line};
-use crate::lines::Standing;
-use crate::names::refusal_name;
-use crate::settings::ScriptSettings;
-use crate::sides::{Sides, other};
+use crate::labels::Labels;
+use crate::refusal::refusal_name;
 use crate::trace::{Happening, Trace};
 use end_settings::Side;
+use sim_lines::{
+    Command, Label, LineFault, ScriptFault, ScriptSettings, Sides, SimStatus, Standing, ZEROS_MAX, other, read_line,
+};
 use stack_engine::{ApplyFault, Call, Doing, Event, Pair};
 use std::alloc::Allocator;
 use std::io;

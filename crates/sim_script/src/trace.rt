@@ -2,11 +2,7 @@
 
 ghost use Rattle.std.specs.Prelude.{◌≡◌, MatchResult, IsOk, IsErr};
 
-use crate::fault::LineFault;
-use crate::labels::{Label, Labels};
-use crate::lines::{Standing, write_refusal, write_report, write_take};
-use crate::names::{phase_name, red_cause, side_name, state_name, step_cause};
-use crate::sides::{Sides, other};
+use crate::labels::Labels;
 use arrayvec::ArrayVec;
 use channels::Note;
 use end_settings::Side;
@@ -14,6 +10,10 @@ use octets::limits::{Q_MAX, RED_HEADER, SAFE_HEADER};
 use octets::places::{u16_at, u32_at};
 use red_layer::RedEvent;
 use safe_machine::Step;
+use sim_lines::{
+    Label, LineFault, Sides, Standing, other, phase_name, red_cause, side_name, state_name, step_cause, write_refusal,
+    write_report, write_take,
+};
 use stack_engine::Told;
 use std::alloc::{Allocator, Global};
 use std::fmt::Display;

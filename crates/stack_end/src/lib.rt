@@ -4,6 +4,8 @@
 #![tactic(auto)]
 
 mod calls;
+#[cfg(test)]
+mod embedding;
 mod end;
 #[cfg(test)]
 mod fault_tests;

@@ -1,6 +1,6 @@
 use Rattle.std.proofs.Common.{rules, arith, refl, ◌≡◌, ◌++◌, ◌∷◌, [], List}
 use Rattle.sim_script.proofs.LedgerLemmas.{more_made, stays_named_before}
-use Rattle.sim_script.specs.declared.labels.Label.{Label}
+use Rattle.sim_lines.specs.declared.Label.{Label}
 use Rattle.sim_script.proofs.labels.Labels.make.Goals as goal
 use Rattle.sim_script.proofs.labels.Labels.make.Goals.{in-Interlocking+in_ok-add-in-Interlocking, in-FieldElement+in_ok-add-in-FieldElement}
 

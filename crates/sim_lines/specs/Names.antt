@@ -18,8 +18,6 @@ use Rattle.safe_machine.specs.declared.DropCause.TheVariants as cause
 use Rattle.safe_machine.specs.declared.Step.{Step}
 use Rattle.safe_machine.specs.declared.Step.TheVariants as step
 use Rattle.safe_pdu.specs.declared.SafeFault.TheVariants as safe_fault
-use Rattle.stack_engine.specs.declared.ApplyFault.{ApplyFault}
-use Rattle.stack_engine.specs.declared.ApplyFault.TheVariants as refusal
 
 abbrev pub side_name : Side → List ℕ
 side_name side.Interlocking = codes "il"
@@ -58,14 +56,6 @@ put_fault_name put_fault.TooLong = codes "TooLong"
 abbrev pub init_fault_name : InitFault → List ℕ
 init_fault_name init_fault.NotInitialising = codes "NotInitialising"
 init_fault_name init_fault.Full = codes "Full"
-
-abbrev pub refusal_name : ApplyFault → List ℕ
-refusal_name refusal.Memory = codes "Memory"
-refusal_name refusal.EndNotOpen = codes "EndNotOpen"
-refusal_name refusal.BadConfig = codes "BadConfig"
-refusal_name refusal.Clock = codes "Clock"
-refusal_name (refusal.Put fault) = put_fault_name fault
-refusal_name (refusal.Init fault) = init_fault_name fault
 
 -- why the redundancy layer dropped a datagram
 abbrev pub red_cause : RedEvent → Option (List ℕ)

@@ -4,7 +4,7 @@ use Rattle.std.proofs.lemmas.List.{drop_all}
 use Rattle.std.specs.Io.KnownBytes.{Appends}
 use Rattle.std.proofs.KnownBytes.{Appends-nil, Appends-trans}
 use Rattle.hex.specs.Hex.{encode_lower, encode_with}
-use Rattle.sim_script.specs.Lines.{octet_text}
+use Rattle.sim_lines.specs.Lines.{octet_text}
 
 -- the digits from the i-th octet on are its own and those behind it
 pub hex_first : (i : ℕ) (xs : List ℕ) → i < length xs → encode_lower (drop i xs) ≡ octet_text (get_or xs i 0) ++ encode_lower (drop (i + 1) xs)

@@ -1,7 +1,7 @@
 use Rattle.std.proofs.Common.{rules}
 use Rattle.std.proofs.KnownBytes.{Appends-nil}
-use Rattle.sim_script.proofs.HexLines.{hex_end, hex_left}
-use Rattle.sim_script.proofs.lines.write_hex.Goals as goal
+use Rattle.sim_lines.proofs.HexLines.{hex_end, hex_left}
+use Rattle.sim_lines.proofs.lines.write_hex.Goals as goal
 
 pub loop-octet-preserved : goal.loop-octet-preserved
 loop-octet-preserved g c = λ end behind.

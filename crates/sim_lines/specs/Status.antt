@@ -1,11 +1,11 @@
 -- How a run of a script ends.
 use Rattle.std.specs.Prelude.{ℕ}
-use Rattle.sim_script.specs.declared.fault.LineFault.{LineFault}
-use Rattle.sim_script.specs.declared.fault.LineFault.TheVariants as line
-use Rattle.sim_script.specs.declared.fault.ScriptFault.{ScriptFault}
-use Rattle.sim_script.specs.declared.fault.ScriptFault.TheVariants as script
-use Rattle.sim_script.specs.declared.fault.SimStatus.{SimStatus}
-use Rattle.sim_script.specs.declared.fault.SimStatus.TheVariants.{Done, Refused, Failed}
+use Rattle.sim_lines.specs.declared.fault.LineFault.{LineFault}
+use Rattle.sim_lines.specs.declared.fault.LineFault.TheVariants as line
+use Rattle.sim_lines.specs.declared.fault.ScriptFault.{ScriptFault}
+use Rattle.sim_lines.specs.declared.fault.ScriptFault.TheVariants as script
+use Rattle.sim_lines.specs.declared.fault.SimStatus.{SimStatus}
+use Rattle.sim_lines.specs.declared.fault.SimStatus.TheVariants.{Done, Refused, Failed}
 
 abbrev pub sim_code : SimStatus → ℕ
 sim_code Done = 0

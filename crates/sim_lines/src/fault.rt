@@ -1,7 +1,7 @@
 //! What stops a script, and how a run ends.
 
 ghost use Rattle.std.specs.Prelude.{◌≡◌};
-ghost use Rattle.sim_script.specs.Status.{sim_code, sim_status_of, fault_at};
+ghost use Rattle.sim_lines.specs.Status.{sim_code, sim_status_of, fault_at};
 
 use std::alloc::{AllocError, AllocFailed};
 use thiserror::Error;

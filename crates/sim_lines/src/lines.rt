@@ -3,7 +3,7 @@
 ghost use Rattle.std.specs.Prelude.{◌≡◌, OnOk};
 ghost use Rattle.std.specs.Io.KnownBytes.{Appends};
 ghost use Rattle.hex.specs.Hex.{encode_lower};
-ghost use Rattle.sim_script.specs.Lines as lines;
+ghost use Rattle.sim_lines.specs.Lines as lines;
 
 use crate::names::{phase_name, side_name, state_name};
 use end_settings::Side;

@@ -4,8 +4,8 @@ use Rattle.std.specs.Fmt.{decimal}
 use Rattle.std.specs.Int.{w16, to_be_bytes}
 use Rattle.hex.specs.Hex.{encode_lower}
 use Rattle.end_settings.specs.declared.Side.{Side}
-use Rattle.sim_script.specs.Names.{side_name, state_name, phase_name}
-use Rattle.sim_script.specs.declared.lines.Standing.{Standing}
+use Rattle.sim_lines.specs.Names.{side_name, state_name, phase_name}
+use Rattle.sim_lines.specs.declared.lines.Standing.{Standing}
 
 -- the pieces, one after the other
 abbrev pub joined : List (List ℕ) → List ℕ

@@ -1,7 +1,7 @@
 use Rattle.std.proofs.Common.{drop, ℕ, List, Option}
 use Rattle.std.specs.Io.KnownBytes.{Appends}
 use Rattle.hex.specs.Hex.{encode_lower}
-use Rattle.sim_script.proofs.lines.write_hex.Given as goal
+use Rattle.sim_lines.proofs.lines.write_hex.Given as goal
 
 -- Whatever the octets that are left lead to, all octets lead to.
 abbrev pub invariant-loop-octet : goal.invariant-loop-octet

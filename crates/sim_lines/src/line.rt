@@ -1,7 +1,7 @@
 //! A line of a script as what it asks for.
 
 use crate::fault::LineFault;
-use crate::labels::Label;
+use crate::label::Label;
 use crate::settings::{Key, Setting};
 use crate::words::Words;
 use arrayvec::ArrayVec;

@@ -6,7 +6,7 @@ ghost use Rattle.std.specs.Char.{is_ascii_digit};
 ghost use Rattle.std.specs.Str.Parse.{digits_value};
 
 use crate::fault::LineFault;
-use crate::labels::Label;
+use crate::label::Label;
 use end_settings::Side;
 use hex::FromHexError;
 use std::alloc::Allocator;

@@ -2,7 +2,7 @@
 
 ghost use Rattle.std.specs.Prelude.{◌≡◌};
 ghost use Rattle.std.specs.Option.{option_copied};
-ghost use Rattle.sim_script.specs.Names as names;
+ghost use Rattle.sim_lines.specs.Names as names;
 
 use end_settings::Side;
 use pdi_session::{InitFault, Phase, PutFault};
@@ -10,7 +10,6 @@ use red_layer::RedEvent;
 use red_pdu::RedFault;
 use safe_machine::{ConnectionState, DropCause, Step};
 use safe_pdu::SafeFault;
-use stack_engine::ApplyFault;
 
 /// The word for an end: `il` or `fe`.
 pub fn side_name(side: Side) -> &'static str
@@ -82,20 +81,6 @@ pub fn init_fault_name(fault: InitFault) -> &'static str
     match fault {
         InitFault::NotInitialising => "NotInitialising",
         InitFault::Full => "Full",
-    }
-}
-
-/// The name of a refusal.
-pub fn refusal_name(refusal: ApplyFault) -> &'static str
-    ensures { result.now ≡ names.refusal_name refusal }
-{
-    match refusal {
-        ApplyFault::Memory => "Memory",
-        ApplyFault::EndNotOpen => "EndNotOpen",
-        ApplyFault::BadConfig => "BadConfig",
-        ApplyFault::Clock => "Clock",
-        ApplyFault::Put(fault) => put_fault_name(fault),
-        ApplyFault::Init(fault) => init_fault_name(fault),
     }
 }
 

@@ -1,0 +1,4 @@
+pub mod Status
+pub mod Names
+pub mod Lines
+pub mod LabelText
