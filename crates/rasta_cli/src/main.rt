@@ -23,6 +23,8 @@ fn main(rt: HostRuntime) -> ExitCode {
 }
 
 #[cfg(test)]
+mod damage_tests;
+#[cfg(test)]
 mod net_tests;
 #[cfg(test)]
 mod program_tests;

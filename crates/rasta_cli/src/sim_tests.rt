@@ -8,7 +8,7 @@ use std::process::Abort;
 use std::test::Fail;
 
 /// Plays a script: how it ends, and what it prints on either output.
-fn plays(
+pub(crate) fn plays(
     rt: &(impl Abort + AllocGlobal),
     script: &str,
     lines: &str,
