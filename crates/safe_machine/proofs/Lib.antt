@@ -35,6 +35,8 @@ pub mod Carriers
 pub mod Rows
 mod LossRow
 mod ClosingRow
+mod WrapRow
+mod RequestRow
 pub mod Opened
 pub mod OrderKinds
 pub mod OrderEnds
