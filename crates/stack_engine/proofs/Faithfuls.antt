@@ -15,9 +15,9 @@ use Rattle.safe_machine.specs.declared.Reason.TheVariants.{ClosedByUser}
 use Rattle.safe_machine.specs.declared.Detail.TheVariants.{Unspecified}
 use Rattle.safe_machine.specs.Settings.{Settings, is_legal}
 use Rattle.safe_machine.specs.Made.{Made}
-use Rattle.safe_machine.specs.State.{State, opened, leave}
+use Rattle.safe_machine.specs.State.{State, leave}
 use Rattle.safe_machine.specs.Step.{guard, tick, may_send}
-use Rattle.safe_machine.specs.Moves.{Move, move, MovesLaw, TextsLaw, HaveTexts}
+use Rattle.safe_machine.specs.Moves.{Move, move, MovesLaw, TextsLaw, HaveTexts, AreFrom, IdentifiedLaw}
 use Rattle.safe_machine.specs.Moves.Move.{Guards, Ticks, Sends, Leaves}
 use Rattle.safe_machine.specs.Octets.{heard as heard_as, seen_by, arrive_octets}
 use Rattle.safe_machine.specs.World.{Side}
@@ -42,7 +42,7 @@ use Rattle.stack_engine.proofs.Hearing.{TextsOf, own-same, peer-same}
 use Rattle.stack_engine.proofs.Machined.{Machined, machined-texts}
 use Rattle.stack_engine.proofs.Mapping.{Laws, Comes, both-call}
 use Rattle.stack_engine.proofs.Worlds.{states, served, state_now, states_before, served_now, served_before, unserved, Mapped, MappedWorld, mapped-event, call-timely, typed-call, at-call, Opens, opens, unless}
-use Rattle.stack_engine.proofs.Ordering.{IsNth, Carry, Numbered, WasOpened, peer_made, peer_dead, Ordered, ordered, red-numbered, near-front, timely-front, arrivals-push, AllBear, bear-moved, bear-opened, bear-nth}
+use Rattle.stack_engine.proofs.Ordering.{IsNth, Carry, Numbered, WasOpened, peer_made, peer_dead, Ordered, ordered, red-numbered, near-front, timely-front, arrivals-push, bear-nth}
 use Rattle.stack_engine.proofs.Heeding.{Heeds, heeds-kept}
 use Rattle.stack_engine.proofs.Failing.{Fails, FailsAt}
 use Rattle.stack_engine.proofs.Pairing.{PairLaws, Paired, PairedWorld, paired-event}
@@ -220,8 +220,10 @@ texts-nth [] (suc n) m later h e r = cc
 texts-nth (x ∷ ms) zero m later h e r = let is : x ≡ m = cc in subst (λ (y : Made). SafeText y.pdu r (safe_text r y.pdu)) is (h.0 r)
 texts-nth (x ∷ ms) (suc n) m later h e r = texts-nth ms n m later h.1 e r
 
-pub bears : (side : Side) (y : EndState) → Machined side y → AllBear y.machine
-bears side y h = subst AllBear (sym h.machine) (bear-moved h.moves (opened (connection_of side y.settings) h.first h.began) (bear-opened (connection_of side y.settings) h.first h.began))
+pub bears : IdentifiedLaw → (side : Side) (y : EndState) → Machined side y → AreFrom y.machine.settings y.machine.made
+bears law side y h =
+    subst (λ (s : Settings). AreFrom s y.machine.made) (sym h.same)
+    (subst (λ (s : State). AreFrom (connection_of side y.settings) s.made) (sym h.machine) (law (connection_of side y.settings) h.first h.began h.moves))
 
 next-of : (p : OrderLaws) (side other : Side) (m : M.World) (x y : EndState) → WasOpened side m → peer_made side m ≡ y.machine.made → rule_of x.settings ≡ rule_of y.settings → x.settings.connection.own ≡ y.settings.connection.peer
     → y.settings.connection.own ≡ x.settings.connection.peer → HaveTexts y.machine.made → Machined other y
@@ -230,12 +232,12 @@ next-of p side other m x y was same rule own peer texts mach n octets nth =
     let r = rule_of y.settings in
     let made : Made = nth.0 in
     let spelled : octets ≡ safe_text r made.pdu = nth.3 in
-    let bear = bear-nth y.machine.settings y.machine.made n made nth.1 (bears other y mach) nth.2 in
+    let bear = bear-nth y.machine.settings y.machine.made n made nth.1 (bears p.laws.below.identified other y mach) nth.2 in
     record {
       made = made;
       later = nth.1;
       there = ap (drop n) same ∙ nth.2;
-      seen = ap (λ (c : CodeRule). safe_seen c octets) rule ∙ ap (safe_seen r) spelled ∙ p.laws.complete made.pdu r (safe_text r made.pdu) (texts-nth y.machine.made n made nth.1 texts nth.2 r);
+      seen = ap (λ (c : CodeRule). safe_seen c octets) rule ∙ ap (safe_seen r) spelled ∙ p.laws.texts_read.complete made.pdu r (safe_text r made.pdu) (texts-nth y.machine.made n made nth.1 texts nth.2 r);
       receiver = bear.0 ∙ ap (λ (c : Settings). c.peer) mach.same ∙ peer-same other y.settings ∙ sym own;
       sender = bear.1 ∙ ap (λ (c : Settings). c.own) mach.same ∙ own-same other y.settings ∙ peer;
       opened = was;

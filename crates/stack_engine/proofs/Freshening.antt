@@ -103,7 +103,7 @@ il-fresh : Laws → FreshAtLastLaw → (m : M.World) (peer : Option EndState) (d
 il-fresh laws law m peer dead now is x octets h q =
     by-read laws.below.moves Il now octets x (made_of peer) h.whole.machined.same
     (λ p e took.
-    let g = subst (λ live. M.GenuineAt x.machine p live) (live-same peer dead m.fe m.dead_fe is) (genuine-heard laws.complete Il x peer dead now octets h.whole.machined.same is.texts q.1 (Ok p) e) in
+    let g = subst (λ live. M.GenuineAt x.machine p live) (live-same peer dead m.fe m.dead_fe is) (genuine-heard laws.texts_read Il x peer dead now octets h.whole.machined.same is.texts q.1 (Ok p) e) in
     subst (λ ms. Fresh x.machine p now ms) is.made (at-last law (il_at x.machine h.clock m) (Arrive Il p now) g h.within h.reached took))
     (seen_by x.machine octets) refl
 
@@ -112,7 +112,7 @@ fe-fresh : Laws → FreshAtLastLaw → (ils : List EndState) (f : JoinedEnd) (m 
 fe-fresh laws law ils f m dead now is x octets h q =
     by-read laws.below.moves Fe now octets x (made_of (latest ils)) h.whole.machined.same
     (λ p e took.
-    let g = subst (λ live. M.GenuineAt x.machine p live) (live-same (latest ils) dead m.il m.dead_il is) (genuine-heard laws.complete Fe x (latest ils) dead now octets h.whole.machined.same is.texts q.1 (Ok p) e) in
+    let g = subst (λ live. M.GenuineAt x.machine p live) (live-same (latest ils) dead m.il m.dead_il is) (genuine-heard laws.texts_read Fe x (latest ils) dead now octets h.whole.machined.same is.texts q.1 (Ok p) e) in
     subst (λ ms. Fresh x.machine p now ms) is.made
     (at-last law (fe_at x.machine (joined_by ils f.joined f.end.request x.request) h.clock m) (Arrive Fe p now) g h.within h.reached took))
     (seen_by x.machine octets) refl

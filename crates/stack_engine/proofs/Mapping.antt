@@ -26,9 +26,10 @@ use Rattle.stack_end.specs.Ends.{EndState, is_shut, noted, handed_up, settle, an
 use Rattle.stack_end.specs.Ends.Call.{Close, Put, InitDone, Tick, Deliver}
 use Rattle.stack_engine.specs.Pairs.{JoinedEnd, made_of, has_made, latest, latest_maker, joined_by}
 use Rattle.stack_engine.specs.Premise.{is_live, IsGenuine, AtParts, AtInput, AtCall}
-use Rattle.stack_engine.proofs.Keeping.{Keeps, AreOctets, IsTypedCall, IsTypedInput}
+use Rattle.octets.specs.Octets.{AreOctets}
+use Rattle.stack_engine.proofs.Keeping.{Keeps, IsTypedCall, IsTypedInput}
 use Rattle.stack_engine.proofs.Reached.{Reached, il_at, fe_at, il-moves, fe-moves, GenuineMove, move_time}
-use Rattle.stack_engine.proofs.Hearing.{CompleteLaw, TextsOf, genuine-heard, asked-heard, not-shut}
+use Rattle.stack_engine.proofs.Hearing.{TextLaws, TextsOf, genuine-heard, asked-heard, not-shut}
 use Rattle.stack_engine.proofs.Sending.{and-parts}
 use Rattle.stack_engine.proofs.Spoken.{Below}
 use Rattle.stack_engine.proofs.Machined.{Whole, OctetsUp, OctetPart, whole-keeps, red-keeps}
@@ -37,7 +38,7 @@ use Rattle.stack_engine.proofs.Machined.{Whole, OctetsUp, OctetPart, whole-keeps
 pub record Laws : Type 0 where
   pub below : Below
   pub origin : OriginLaw
-  pub complete : CompleteLaw
+  pub texts_read : TextLaws
 
 -- what is asked of a part that goes up
 abbrev pub Comes : Option EndState → ℕ → EndState → List ℕ → Type 0
@@ -87,7 +88,7 @@ il-heard laws m peer dead now is octets x q h =
     let r = seen_by x.machine octets in
     let g : GenuineMove x.machine (drop m.dead_fe m.fe.made) (heard_as r now) =
     subst (λ live. GenuineMove x.machine live (heard_as r now)) (live-same peer dead m.fe m.dead_fe is)
-    (genuine-heard laws.complete Il x peer dead now octets h.whole.machined.same is.texts q.1 r refl)
+    (genuine-heard laws.texts_read Il x peer dead now octets h.whole.machined.same is.texts q.1 r refl)
     in
     subst (λ n. Reached (il_at (move (heard_as r now) x.machine) n m)) (heard-time r now)
     (il-moves m x.machine h.clock (heard_as r now) (subst (λ n. h.clock ≤ n) (sym (heard-time r now)) h.within) g h.reached)
@@ -197,15 +198,15 @@ live-made [] x dead octets h = cc
 live-made (g ∷ before) x dead octets h = made-dropped (rule_of g.settings) octets dead g.machine.made (and-parts _ (has_made (rule_of g.settings) octets (drop dead g.machine.made)) h).1
 
 -- who starts on these octets has heard a PDU that the present interlocking made
-joins-made : MovesLaw → (ils : List EndState) (x : EndState) (dead now : ℕ) (octets : List ℕ) → Whole Fe x → IsGenuine (latest ils) dead x octets → (r : Result Pdu SafeFault) → seen_by x.machine octets ≡ r
+joins-made : TextLaws → MovesLaw → (ils : List EndState) (x : EndState) (dead now : ℕ) (octets : List ℕ) → Whole Fe x → IsGenuine (latest ils) dead x octets → (r : Result Pdu SafeFault) → seen_by x.machine octets ≡ r
     → joins x.machine.connection (move (heard_as r now) x.machine).connection ≡ true → MadeBy ils octets
-joins-made law ils x dead now octets whole g (Err fault) read h =
+joins-made texts law ils x dead now octets whole g (Err fault) read h =
     let both = joins-both x.machine.connection (move (Guards now) x.machine).connection h in
     absurd ((law (Guards now) x.machine).starts both.0 both.1)
-joins-made law ils x dead now octets whole g (Ok p) read h =
+joins-made texts law ils x dead now octets whole g (Ok p) read h =
     let both = joins-both x.machine.connection (move (Hears p now) x.machine).connection h in
     let ours = (law (Hears p now) x.machine).starts both.0 both.1 in
-    let asked = asked-heard Fe x octets p whole.machined.same read ours in
+    let asked = asked-heard texts Fe x octets p whole.machined.same read ours in
     live-made ils x dead octets (g (not-shut x.machine.connection (λ closed. let no = sym closed ∙ both.0 in cc)) asked.1)
 
 joined-first : (ils : List EndState) (old : Option ℕ) (before : Option (List ℕ)) (octets : List ℕ) → before ≡ None → joined_by ils old before (Some octets) ≡ latest_maker octets ils
@@ -262,7 +263,7 @@ fe-heard laws ils f m dead now octets x count is q h =
     let joined = joined_by ils f.joined f.end.request x.request in
     let g : GenuineMove x.machine (drop m.dead_il m.il.made) (heard_as r now) =
     subst (λ live. GenuineMove x.machine live (heard_as r now)) (live-same (latest ils) dead m.il m.dead_il is)
-    (genuine-heard laws.complete Fe x (latest ils) dead now octets h.whole.machined.same is.texts q.1 r refl)
+    (genuine-heard laws.texts_read Fe x (latest ils) dead now octets h.whole.machined.same is.texts q.1 r refl)
     in
     let moved : Reached (fe_at s (cond joining (Some (length m.il_before)) joined) now m) =
     subst (λ n. Reached (fe_at s (cond joining (Some (length m.il_before)) joined) n m)) (heard-time r now)
@@ -272,7 +273,7 @@ fe-heard laws ils f m dead now octets x count is q h =
       there =
           subst (λ q. Reached (fe_at s q now m))
           (joined-noted ils (length m.il_before) f octets x.request joining count h.first
-          (λ is-so. (h.idle (joins-both x.machine.connection s.connection is-so).0, joins-made law ils x dead now octets h.whole q.1 r refl is-so)))
+          (λ is-so. (h.idle (joins-both x.machine.connection s.connection is-so).0, joins-made laws.texts_read law ils x dead now octets h.whole q.1 r refl is-so)))
           moved;
       idle = λ down. noted-none joining octets x.request (λ is-so. let no = sym (joins-both x.machine.connection s.connection is-so).1 ∙ down in cc) (h.idle (heard-down law r now x.machine down));
       first = λ none. h.first (noted-first joining octets x.request none);

@@ -162,7 +162,7 @@ module _ (laws : Laws) (more : OneMoreLaw) (side : Side) (m : M.World) (k : ℕ)
       in
       let g : GenuineMove x.machine (drop (peer_dead side m) (peer_made side m)) (Hears a.made.pdu now) =
       subst (λ l. GenuineMove x.machine l (Hears a.made.pdu now)) live
-      (genuine-heard laws.complete side x peer dead now octets h.whole.machined.same texts q.1.1 (Ok a.made.pdu) seen)
+      (genuine-heard laws.texts_read side x peer dead now octets h.whole.machined.same texts q.1.1 (Ok a.made.pdu) seen)
       in
       let mv = Hears a.made.pdu now in
       let j = next_joined side x.machine (move mv x.machine) h.joined m in

@@ -3,7 +3,7 @@ use Rattle.std.proofs.Common.{◌≡◌, ◌≢◌, ◌==◌, ◌||◌, ◌+◌,
 use Rattle.std.specs.List.{AllByRecursion}
 use Rattle.std.proofs.lemmas.Bool.{eqb-true}
 use Rattle.std.proofs.lemmas.List.{length-append}
-use Rattle.octets.proofs.Choices.{by_cond, by_test}
+use Rattle.octets.proofs.Choices.{by_test}
 use Rattle.deferral.specs.FiniteMap.{has_number, part_under}
 use Rattle.red_layer.specs.Parts.{Part}
 use Rattle.red_layer.specs.Redundancy.{Input, passed_by, opened as red_opened}
@@ -11,21 +11,17 @@ use Rattle.red_layer.specs.Service.{arrivals, arrivals_of, passed_along, after_a
 use Rattle.red_layer.specs.Masking.{first_missing, first_parts, QNear, NoDeadlineFalls, no_wait, wait_after, Wait}
 use Rattle.red_layer.specs.Laws.{Masking, FirstMissingLaw, OneMoreLaw}
 use Rattle.safe_pdu.specs.declared.CodeRule.{CodeRule}
-use Rattle.safe_pdu.specs.declared.Kind.{Kind}
-use Rattle.safe_pdu.specs.declared.Kind.TheVariants.{ConnResp, RetrResp, Heartbeat, RetrData}
 use Rattle.safe_machine.specs.Settings.{Settings}
 use Rattle.safe_machine.specs.Made.{Made}
-use Rattle.safe_machine.specs.State.{State, opened, make, next_made, resend, unconfirmed}
-use Rattle.safe_machine.specs.Moves.{Move, move, moved}
+use Rattle.safe_machine.specs.State.{State}
+use Rattle.safe_machine.specs.Moves.{Move, move, AreFrom}
 use Rattle.safe_machine.specs.Moves.Move.{Guards, Hears, Ticks, Sends, Leaves}
 use Rattle.safe_machine.specs.World.{Side}
 use Rattle.safe_machine.specs.World.Side.{Il, Fe}
 use Rattle.safe_machine.specs.World as M
 use Rattle.safe_machine.specs.World.Event.{Open, Send, Close, Guard, Tick, Arrive}
 use Rattle.safe_machine.specs.InOrder.{GuardHolds, NextArrival, InOrder, InOrderEvent, heard_by_il, heard_by_fe, all_heard_by_il, all_heard_by_fe, is_close, has_close}
-use Rattle.safe_machine.proofs.Kept.{Kept, Anything, anything, kept-move}
 use Rattle.stack_end.specs.Datagrams.{upper_of}
-use Rattle.stack_engine.proofs.Talking.{all-append}
 use Rattle.stack_engine.proofs.Reached.{run-push, genuine-push, timely-push, il_at, fe_at, GenuineMove, move_time, joined_after}
 
 -- the PDU with this index has these octets
@@ -89,43 +85,11 @@ pub timely-front : (t_seq : ℕ) (w : Wait) (is js : List Input) → NoDeadlineF
 timely-front t_seq w [] js h = tt
 timely-front t_seq w (i ∷ is) js h = (h.0, timely-front t_seq (wait_after i w) is js h.1)
 
--- Every PDU made bears the end's identifiers. (No clause of unit_law says so.)
-abbrev pub BearsIds : Settings → Made → Type 0
-BearsIds s m = (m.pdu.receiver ≡ s.peer) × (m.pdu.sender ≡ s.own)
-
-abbrev pub AllBear : State → Type 0
-AllBear s = AllByRecursion (BearsIds s.settings) s.made
-
-bear-make : (kind : Kind) (body : List ℕ) (now : ℕ) (s : State) → AllBear s → AllBear (make kind body now s)
-bear-make kind body now s h = all-append (BearsIds s.settings) s.made (next_made s kind body now ∷ []) h ((refl, refl), tt)
-
-bear-resend : (us : List (List ℕ)) (now : ℕ) (s : State) → AllBear s → AllBear (resend us now s)
-bear-resend [] now s h = h
-bear-resend (u ∷ us) now s h = bear-resend us now (make RetrData u now s) (bear-make RetrData u now s h)
-
-bear-kept : Kept Anything Anything AllBear
-bear-kept =
-    record {
-      silent = λ s t same h. subst (λ ms. AllByRecursion (BearsIds t.settings) ms) (sym same.1) (subst (λ (c : Settings). AllByRecursion (BearsIds c) s.made) (sym same.0) h);
-      plain = λ kind body now s is fits h. bear-make kind body now s h;
-      passes = λ p d s a h. h;
-      confirms = λ p s fits h. h;
-      accepts = λ now s h. bear-make ConnResp _ now s h;
-      sends = λ unit now s a h. bear-make _ unit now s h;
-      replies = λ now s h. bear-make Heartbeat [] now (resend (unconfirmed s) now (make RetrResp [] now s)) (bear-resend (unconfirmed s) now (make RetrResp [] now s) (bear-make RetrResp [] now s h));
-    }
-
-pub bear-moved : (ms : List Move) (s : State) → AllBear s → AllBear (moved ms s)
-bear-moved [] s h = h
-bear-moved (m ∷ ms) s h = bear-moved ms (move m s) (kept-move Anything Anything AllBear bear-kept m s (anything m) h)
-
-pub bear-opened : (settings : Settings) (first now : ℕ) → AllBear (opened settings first now)
-bear-opened settings first now = by_cond AllBear settings.client _ _ (λ _. ((refl, refl), tt)) (λ _. tt)
-
-pub bear-nth : (s : Settings) (ms : List Made) (n : ℕ) (m : Made) (later : List Made) → AllByRecursion (BearsIds s) ms → drop n ms ≡ m ∷ later → BearsIds s m
+-- a PDU made bears the end's identifiers
+pub bear-nth : (s : Settings) (ms : List Made) (n : ℕ) (m : Made) (later : List Made) → AreFrom s ms → drop n ms ≡ m ∷ later → (m.pdu.receiver ≡ s.peer) × (m.pdu.sender ≡ s.own)
 bear-nth s [] zero m later h e = cc
 bear-nth s [] (suc n) m later h e = cc
-bear-nth s (x ∷ ms) zero m later h e = let is : x ≡ m = cc in subst (BearsIds s) is h.0
+bear-nth s (x ∷ ms) zero m later h e = let is : x ≡ m = cc in subst (λ (y : Made). (y.pdu.receiver ≡ s.peer) × (y.pdu.sender ≡ s.own)) is h.0
 bear-nth s (x ∷ ms) (suc n) m later h e = bear-nth s ms n m later h.1 e
 
 -- Worlds of machines that a list of events in order leads to, with how many PDUs came to each.
