@@ -56,3 +56,4 @@ pub mod Nearing
 pub mod Properties
 pub mod Stopping
 pub mod Few
+pub mod OneMore

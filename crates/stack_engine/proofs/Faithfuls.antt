@@ -42,6 +42,7 @@ use Rattle.stack_engine.proofs.Hearing.{TextsOf, own-same, peer-same}
 use Rattle.stack_engine.proofs.Machined.{Machined, machined-texts}
 use Rattle.stack_engine.proofs.Mapping.{Laws, Comes, both-call}
 use Rattle.stack_engine.proofs.Worlds.{states, served, state_now, states_before, served_now, served_before, unserved, Mapped, MappedWorld, mapped-event, call-timely, typed-call, at-call, Opens, opens, unless}
+use Rattle.safe_machine.specs.InOrder.{OneMoreLaw as EventsLaw}
 use Rattle.stack_engine.proofs.Ordering.{IsNth, Carry, Numbered, WasOpened, peer_made, peer_dead, Ordered, ordered, red-numbered, near-front, timely-front, arrivals-push, bear-nth}
 use Rattle.stack_engine.proofs.Heeding.{Heeds, heeds-kept}
 use Rattle.stack_engine.proofs.Failing.{Fails, FailsAt}
@@ -435,10 +436,10 @@ knows-opened y (Some z) h = known-opened y z h
 new-known : (peer : Option EndState) (side : Side) (s : EndSettings) (first now : ℕ) → Known peer (new_end side s first now)
 new-known peer side s first now = record { red = refl; carry = tt }
 
-opened-il : (s : EndSettings) (first now : ℕ) (ils : List EndState) (fes : List JoinedEnd) (di df : ℕ) → ils ≡ [] → Opens Il s now (latest ils) → OrdWorld ils fes di df
+opened-il : EventsLaw → (s : EndSettings) (first now : ℕ) (ils : List EndState) (fes : List JoinedEnd) (di df : ℕ) → ils ≡ [] → Opens Il s now (latest ils) → OrdWorld ils fes di df
     → OrdWorld (new_end Il s first now ∷ ils) fes 0 (length (made_of (latest (ends_of fes))))
-opened-il s first now (x ∷ xs) fes di df e o w = cc
-opened-il s first now [] fes di df e o w =
+opened-il law s first now (x ∷ xs) fes di df e o w = cc
+opened-il law s first now [] fes di df e o w =
     record {
       closed = w.closed;
       fails = λ is. ⊎_elim (λ none. absurd none) (λ f. inr f) (w.fails is);
@@ -447,7 +448,7 @@ opened-il s first now [] fes di df e o w =
       clock_fe = w.clock_fe;
       ordered =
           subst (Ordered w.closed 0 (passed_count (latest (ends_of fes)))) (ord-open-il s first now fes w.joined di df w.clock_il w.clock_fe (legal-of Il s o.fit))
-          (ordered w.closed 0 (passed_count (latest (ends_of fes))) (machines [] fes w.joined di df w.clock_il w.clock_fe) (OpenMachine Il s.connection first now) tt (let a = w.il_within in let b = o.timely in omega (arith, a, b)) refl w.ordered);
+          (ordered law w.closed 0 (passed_count (latest (ends_of fes))) (machines [] fes w.joined di df w.clock_il w.clock_fe) (OpenMachine Il s.connection first now) tt (let a = w.il_within in let b = o.timely in omega (arith, a, b)) refl w.ordered);
       il_within = omega arith;
       fe_within = w.fe_within;
       il_knows = new-known (latest (ends_of fes)) Il s first now;
@@ -455,10 +456,10 @@ opened-il s first now [] fes di df e o w =
       no_fe = w.no_fe;
     }
 
-opened-fe : (s : EndSettings) (first now : ℕ) (ils : List EndState) (fes : List JoinedEnd) (di df : ℕ) → fes ≡ [] → Opens Fe s now (latest (ends_of fes)) → OrdWorld ils fes di df
+opened-fe : EventsLaw → (s : EndSettings) (first now : ℕ) (ils : List EndState) (fes : List JoinedEnd) (di df : ℕ) → fes ≡ [] → Opens Fe s now (latest (ends_of fes)) → OrdWorld ils fes di df
     → OrdWorld ils (record { end = new_end Fe s first now; joined = None } ∷ fes) (length (made_of (latest ils))) 0
-opened-fe s first now ils (x ∷ xs) di df e o w = cc
-opened-fe s first now ils [] di df e o w =
+opened-fe law s first now ils (x ∷ xs) di df e o w = cc
+opened-fe law s first now ils [] di df e o w =
     record {
       closed = w.closed;
       fails = λ is. ⊎_elim (λ f. inl f) (λ none. absurd none) (w.fails is);
@@ -467,7 +468,7 @@ opened-fe s first now ils [] di df e o w =
       clock_fe = now;
       ordered =
           subst (Ordered w.closed (passed_count (latest ils)) 0) (ord-open-fe s first now ils w.joined di df w.clock_il w.clock_fe w.no_fe (legal-of Fe s o.fit))
-          (ordered w.closed (passed_count (latest ils)) 0 (machines ils [] w.joined di df w.clock_il w.clock_fe) (OpenMachine Fe s.connection first now) tt (let a = w.fe_within in let b = o.timely in omega (arith, a, b)) refl w.ordered);
+          (ordered law w.closed (passed_count (latest ils)) 0 (machines ils [] w.joined di df w.clock_il w.clock_fe) (OpenMachine Fe s.connection first now) tt (let a = w.fe_within in let b = o.timely in omega (arith, a, b)) refl w.ordered);
       il_within = w.il_within;
       fe_within = omega arith;
       il_knows = knows-opened (new_end Fe s first now) (latest ils) w.il_knows;
@@ -564,8 +565,8 @@ abbrev pub OrdAt : World → Type 0
 OrdAt w = OrdWorld w.ils w.fes w.dead_il w.dead_fe
 
 ord-changed : (p : OrderLaws) (e : Event) (w : World) → IsTyped e → refusal e w ≡ None → GenuineEvent e w → FaithfulEvent e w → AheadOf (changed e w).ils (changed e w).fes → AheadOf w.ils w.fes → PairedWorld w → MappedWorld w → OrdAt w → OrdAt (changed e w)
-ord-changed p (Open Il s first now) w t ok g f a b k h o = opened-il s first now w.ils w.fes w.dead_il w.dead_fe f (opens Il s now (latest w.ils) ok) o
-ord-changed p (Open Fe s first now) w t ok g f a b k h o = opened-fe s first now w.ils w.fes w.dead_il w.dead_fe f (opens Fe s now (latest (ends_of w.fes)) ok) o
+ord-changed p (Open Il s first now) w t ok g f a b k h o = opened-il p.laws.below.events s first now w.ils w.fes w.dead_il w.dead_fe f (opens Il s now (latest w.ils) ok) o
+ord-changed p (Open Fe s first now) w t ok g f a b k h o = opened-fe p.laws.below.events s first now w.ils w.fes w.dead_il w.dead_fe f (opens Fe s now (latest (ends_of w.fes)) ok) o
 ord-changed p (Calls Il c) w t ok g f a b k h o = ord-calls-il p c w.ils w.fes w.dead_il w.dead_fe (typed-call Il c t) ok g f a b k h o
 ord-changed p (Calls Fe c) w t ok g f a b k h o = ord-calls-fe p c w.ils w.fes w.dead_il w.dead_fe (typed-call Fe c t) ok g f a b k h o
 

@@ -20,9 +20,9 @@ use Rattle.safe_machine.specs.World.{Side}
 use Rattle.safe_machine.specs.World.Side.{Il, Fe}
 use Rattle.safe_machine.specs.World as M
 use Rattle.safe_machine.specs.World.Event.{Open, Send, Close, Guard, Tick, Arrive}
-use Rattle.safe_machine.specs.InOrder.{GuardHolds, NextArrival, InOrder, InOrderEvent, heard_by_il, heard_by_fe, all_heard_by_il, all_heard_by_fe, is_close, has_close}
+use Rattle.safe_machine.specs.InOrder.{GuardHolds, NextArrival, InOrder, InOrderEvent, heard_by_il, heard_by_fe, all_heard_by_il, all_heard_by_fe, is_close, has_close, OneMoreLaw as EventsLaw}
 use Rattle.stack_end.specs.Datagrams.{upper_of}
-use Rattle.stack_engine.proofs.Reached.{run-push, genuine-push, timely-push, il_at, fe_at, GenuineMove, move_time, joined_after}
+use Rattle.stack_engine.proofs.Reached.{il_at, fe_at, GenuineMove, move_time, joined_after}
 
 -- the PDU with this index has these octets
 abbrev pub IsNth : CodeRule → List Made → ℕ → List ℕ → Type 0
@@ -108,53 +108,35 @@ abbrev pub closed_by : M.Event → Bool → Bool
 closed_by (Close side reason detail now) c = true
 closed_by _ c = c
 
-closed-one : (e : M.Event) → has_close (e ∷ []) ≡ closed_by e false
-closed-one (Open side settings first now) = refl
-closed-one (Send side unit now) = refl
-closed-one (Close side reason detail now) = refl
-closed-one (Guard side now) = refl
-closed-one (Tick side now) = refl
-closed-one (Arrive side p now) = refl
+closed-more : (e : M.Event) (c : Bool) → cond c true (is_close e) ≡ closed_by e c
+closed-more (Open side settings first now) true = refl
+closed-more (Open side settings first now) false = refl
+closed-more (Send side unit now) true = refl
+closed-more (Send side unit now) false = refl
+closed-more (Close side reason detail now) true = refl
+closed-more (Close side reason detail now) false = refl
+closed-more (Guard side now) true = refl
+closed-more (Guard side now) false = refl
+closed-more (Tick side now) true = refl
+closed-more (Tick side now) false = refl
+closed-more (Arrive side p now) true = refl
+closed-more (Arrive side p now) false = refl
 
-closed-still : (e : M.Event) → closed_by e true ≡ true
-closed-still (Open side settings first now) = refl
-closed-still (Send side unit now) = refl
-closed-still (Close side reason detail now) = refl
-closed-still (Guard side now) = refl
-closed-still (Tick side now) = refl
-closed-still (Arrive side p now) = refl
-
-close-push : (es : List M.Event) (e : M.Event) → has_close (es ++ e ∷ []) ≡ closed_by e (has_close es)
-close-push [] e = closed-one e
-close-push (d ∷ es) e =
-    by_test (λ b. cond b true (has_close (es ++ e ∷ [])) ≡ closed_by e (cond b true (has_close es))) (is_close d) (λ _. sym (closed-still e)) (λ _. close-push es e)
-
-all-il-push : (es : List M.Event) (e : M.Event) (n : ℕ) → all_heard_by_il (es ++ e ∷ []) n ≡ heard_by_il e (all_heard_by_il es n)
-all-il-push [] e n = refl
-all-il-push (d ∷ es) e n = all-il-push es e (heard_by_il d n)
-
-all-fe-push : (es : List M.Event) (e : M.Event) (n : ℕ) → all_heard_by_fe (es ++ e ∷ []) n ≡ heard_by_fe e (all_heard_by_fe es n)
-all-fe-push [] e n = refl
-all-fe-push (d ∷ es) e n = all-fe-push es e (heard_by_fe d n)
-
-in-order-push : (es : List M.Event) (e : M.Event) (il fe : ℕ) (m : M.World) → InOrder il fe es m → InOrderEvent (all_heard_by_il es il) (all_heard_by_fe es fe) (M.run es m) e → InOrder il fe (es ++ e ∷ []) m
-in-order-push [] e il fe m h k = (k, tt)
-in-order-push (d ∷ es) e il fe m h k = (h.0, in-order-push es e (heard_by_il d il) (heard_by_fe d fe) (M.happens m d) h.1 k)
-
-pub ordered : (c : Bool) (il fe : ℕ) (m : M.World) (e : M.Event) → M.GenuineEvent m e → M.TimelyEvent m e → InOrderEvent il fe m e → Ordered c il fe m → Ordered (closed_by e c) (heard_by_il e il) (heard_by_fe e fe) (M.happens m e)
-ordered c il fe m e g t o h =
+pub ordered : EventsLaw → (c : Bool) (il fe : ℕ) (m : M.World) (e : M.Event) → M.GenuineEvent m e → M.TimelyEvent m e → InOrderEvent il fe m e → Ordered c il fe m → Ordered (closed_by e c) (heard_by_il e il) (heard_by_fe e fe) (M.happens m e)
+ordered law c il fe m e g t o h =
+    let one = law h.events e in
     record {
       events = h.events ++ e ∷ [];
-      genuine = genuine-push h.events e M.start h.genuine (subst (λ w. M.GenuineEvent w e) (sym h.leads) g);
-      timely = timely-push h.events e M.start h.timely (subst (λ w. M.TimelyEvent w e) (sym h.leads) t);
+      genuine = one.genuine M.start h.genuine (subst (λ w. M.GenuineEvent w e) (sym h.leads) g);
+      timely = one.timely M.start h.timely (subst (λ w. M.TimelyEvent w e) (sym h.leads) t);
       in_order =
-          in-order-push h.events e 0 0 M.start h.in_order
+          one.in_order 0 0 M.start h.in_order
           (subst (λ n. InOrderEvent n (all_heard_by_fe h.events 0) (M.run h.events M.start) e) (sym h.heard_il)
           (subst (λ n. InOrderEvent il n (M.run h.events M.start) e) (sym h.heard_fe) (subst (λ w. InOrderEvent il fe w e) (sym h.leads) o)));
-      closes = close-push h.events e ∙ ap (closed_by e) h.closes;
-      heard_il = all-il-push h.events e 0 ∙ ap (heard_by_il e) h.heard_il;
-      heard_fe = all-fe-push h.events e 0 ∙ ap (heard_by_fe e) h.heard_fe;
-      leads = run-push h.events e M.start ∙ ap (λ w. M.happens w e) h.leads;
+      closes = one.closes ∙ closed-more e (has_close h.events) ∙ ap (closed_by e) h.closes;
+      heard_il = one.il_heard 0 ∙ ap (heard_by_il e) h.heard_il;
+      heard_fe = one.fe_heard 0 ∙ ap (heard_by_fe e) h.heard_fe;
+      leads = one.leads M.start ∙ ap (λ w. M.happens w e) h.leads;
     }
 
 -- by side
@@ -198,15 +180,15 @@ abbrev pub next_joined : Side → State → State → Option ℕ → M.World →
 next_joined Il s t q m = q
 next_joined Fe s t q m = joined_after s t q m
 
-pub side-moves : (side : Side) (m : M.World) (s : State) (q : Option ℕ) (c : Bool) (clock n k : ℕ) (mv : Move) → clock ≤ move_time mv → GenuineMove s (drop (peer_dead side m) (peer_made side m)) mv → OrderedMove side m n s mv
+pub side-moves : EventsLaw → (side : Side) (m : M.World) (s : State) (q : Option ℕ) (c : Bool) (clock n k : ℕ) (mv : Move) → clock ≤ move_time mv → GenuineMove s (drop (peer_dead side m) (peer_made side m)) mv → OrderedMove side m n s mv
     → OrderedBy side c n k (at_side side s q clock m) → OrderedBy side (closed_more mv c) (heard_more mv n) k (at_side side (move mv s) (next_joined side s (move mv s) q m) (move_time mv) m)
-side-moves Il m s q c clock n k (Guards now) t g o h = ordered c n k (il_at s clock m) (Guard Il now) tt t o h
-side-moves Il m s q c clock n k (Hears p now) t g o h = ordered c n k (il_at s clock m) (Arrive Il p now) g t o h
-side-moves Il m s q c clock n k (Ticks now) t g o h = ordered c n k (il_at s clock m) (Tick Il now) tt t o h
-side-moves Il m s q c clock n k (Sends unit now) t g o h = ordered c n k (il_at s clock m) (Send Il unit now) tt t tt h
-side-moves Il m s q c clock n k (Leaves reason detail now) t g o h = ordered c n k (il_at s clock m) (Close Il reason detail now) tt t tt h
-side-moves Fe m s q c clock n k (Guards now) t g o h = ordered c k n (fe_at s q clock m) (Guard Fe now) tt t o h
-side-moves Fe m s q c clock n k (Hears p now) t g o h = ordered c k n (fe_at s q clock m) (Arrive Fe p now) g t o h
-side-moves Fe m s q c clock n k (Ticks now) t g o h = ordered c k n (fe_at s q clock m) (Tick Fe now) tt t o h
-side-moves Fe m s q c clock n k (Sends unit now) t g o h = ordered c k n (fe_at s q clock m) (Send Fe unit now) tt t tt h
-side-moves Fe m s q c clock n k (Leaves reason detail now) t g o h = ordered c k n (fe_at s q clock m) (Close Fe reason detail now) tt t tt h
+side-moves law Il m s q c clock n k (Guards now) t g o h = ordered law c n k (il_at s clock m) (Guard Il now) tt t o h
+side-moves law Il m s q c clock n k (Hears p now) t g o h = ordered law c n k (il_at s clock m) (Arrive Il p now) g t o h
+side-moves law Il m s q c clock n k (Ticks now) t g o h = ordered law c n k (il_at s clock m) (Tick Il now) tt t o h
+side-moves law Il m s q c clock n k (Sends unit now) t g o h = ordered law c n k (il_at s clock m) (Send Il unit now) tt t tt h
+side-moves law Il m s q c clock n k (Leaves reason detail now) t g o h = ordered law c n k (il_at s clock m) (Close Il reason detail now) tt t tt h
+side-moves law Fe m s q c clock n k (Guards now) t g o h = ordered law c k n (fe_at s q clock m) (Guard Fe now) tt t o h
+side-moves law Fe m s q c clock n k (Hears p now) t g o h = ordered law c k n (fe_at s q clock m) (Arrive Fe p now) g t o h
+side-moves law Fe m s q c clock n k (Ticks now) t g o h = ordered law c k n (fe_at s q clock m) (Tick Fe now) tt t o h
+side-moves law Fe m s q c clock n k (Sends unit now) t g o h = ordered law c k n (fe_at s q clock m) (Send Fe unit now) tt t tt h
+side-moves law Fe m s q c clock n k (Leaves reason detail now) t g o h = ordered law c k n (fe_at s q clock m) (Close Fe reason detail now) tt t tt h

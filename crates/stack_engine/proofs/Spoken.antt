@@ -16,6 +16,7 @@ use Rattle.safe_machine.specs.Moves.{Move, move, sent_by, MovesLaw, SettingsLaw,
 use Rattle.safe_machine.specs.Moves.Move.{Guards, Hears, Leaves}
 use Rattle.safe_machine.specs.Octets.{heard as heard_as, seen_by, arrive_octets}
 use Rattle.safe_machine.specs.World.{Side}
+use Rattle.safe_machine.specs.InOrder.{OneMoreLaw as EventsLaw}
 use Rattle.sci_telegram.specs.Tele.{Tele}
 use Rattle.pdi_session.specs.Settings.{Addressing, Role}
 use Rattle.pdi_session.specs.SessionStep.{Event, Up as GoesUp}
@@ -37,6 +38,7 @@ pub record Below : Type 0 where
   pub moves : MovesLaw
   pub settings : SettingsLaw
   pub identified : IdentifiedLaw
+  pub events : EventsLaw
 
 abbrev pub Unpacks : List ℕ → Type 0
 Unpacks u = (ms : List (List ℕ)) × (unit_seen u ≡ Ok ms)
