@@ -16,3 +16,4 @@ pub mod OwnEarly
 pub mod Matching
 pub mod InStep
 pub mod Sides
+pub mod Over

@@ -7,13 +7,13 @@ use Rattle.sci_telegram.specs.Tele.{Tele}
 use Rattle.sci_telegram.specs.TeleText.{tele_text}
 use Rattle.pdi_session.specs.declared.TheConstants.{INITIALISATION_COMPLETED}
 use Rattle.pdi_session.specs.declared.Phase.{Phase}
-use Rattle.pdi_session.specs.declared.Phase.TheVariants.{Established}
+use Rattle.pdi_session.specs.declared.Phase.TheVariants.{Idle, Established}
 use Rattle.pdi_session.specs.declared.Notice.TheVariants as notice
 use Rattle.pdi_session.specs.Settings.{Addressing, AreSettings, Role, Interlocking, Field}
 use Rattle.pdi_session.specs.Telegrams.{is_reserved, telegram}
 use Rattle.pdi_session.specs.Tables.{is_early}
-use Rattle.pdi_session.specs.SessionStep.{Event, Up, Arrives, Puts, InitDone, FewWait, HasRoom, Item, SessionState, added_by, after, end_of, item_of, judged, notice_tele, opened, put_refusal, taken_by, texts}
-use Rattle.pdi_session.specs.Histories.{History, StandsFor, begun, grown, grown_along, is_ended}
+use Rattle.pdi_session.specs.SessionStep.{Event, Up, Arrives, Puts, InitDone, Closes, FewWait, HasRoom, Item, SessionState, added_by, after, end_of, item_of, judged, notice_tele, opened, phase_after, put_refusal, taken_by, texts}
+use Rattle.pdi_session.specs.Histories.{History, StandsFor, begun, ends_by, grown, grown_along, is_ended}
 
 -- each of them has a kind of the establishment
 abbrev pub AreReserved : List Tele → Type 0
@@ -137,3 +137,11 @@ FieldLaw = (addressing : Addressing) (versions checksum : List ℕ) (es : List E
 abbrev pub OwnEarlyLaw : Type 0
 OwnEarlyLaw = (addressing : Addressing) (role : Role) (es : List Event) → let h = grown_along es (begun addressing role) in
     (phase : Phase) → h.ended_in ≡ Some phase → is_early phase ≡ true → h.put ≡ []
+
+-- a session is over by a telegram that ends it or by a closing alone
+abbrev pub OverLaw : Type 0
+OverLaw = (e : Event) (s : SessionState) → is_ended s.phase ≡ false → ends_by e s ≡ false → e ≢ Closes → is_ended (phase_after e s) ≡ false
+
+-- a session has begun once its connection is up, and no event leads back to Idle
+abbrev pub BegunLaw : Type 0
+BegunLaw = ((s : SessionState) → phase_after Up s ≢ Idle) × ((e : Event) (s : SessionState) → s.phase ≢ Idle → phase_after e s ≢ Idle)

@@ -1,7 +1,7 @@
 //! What the tables promise of any session, and over every list of its events.
 
 ghost use Rattle.pdi_session.specs.JoinedSessions.{InStepLaw, MatchingLaw, OneMoreLaw, PhaseLaw, TakesFrontLaw};
-ghost use Rattle.pdi_session.specs.Laws.{FieldLaw, GoesLaw, InterlockingLaw, MessageLaw, OwnEarlyLaw, OwnLaw, PutLaw, QueueLaw, RoomLaw, StandsLaw, TakenLaw, TakesLaw};
+ghost use Rattle.pdi_session.specs.Laws.{BegunLaw, FieldLaw, GoesLaw, InterlockingLaw, MessageLaw, OverLaw, OwnEarlyLaw, OwnLaw, PutLaw, QueueLaw, RoomLaw, StandsLaw, TakenLaw, TakesLaw};
 
 /// The laws of the session's step, which do nothing when they are called.
 pub fn session_law()
@@ -19,6 +19,12 @@ pub fn session_law()
 
     // An accepted put adds one telegram, with what was put, and it is not of the establishment.
     ensures puts { PutLaw }
+
+    // A session is over by a telegram that ends it or by a closing alone.
+    ensures over { OverLaw }
+
+    // It has begun once its connection is up, and no event leads back.
+    ensures begun { BegunLaw }
 
     // Each message that is added has 43 to 400 octets, and is read as its telegram.
     ensures messages { MessageLaw }

@@ -8,7 +8,7 @@ use Rattle.safe_machine.specs.Made.{opening_body, leaving_body}
 use Rattle.safe_machine.specs.Settings.{Settings}
 use Rattle.safe_machine.specs.World.{Event, start, run, Genuine, Timely}
 use Rattle.safe_machine.specs.World.Side.{Il, Fe}
-use Rattle.safe_machine.specs.World.Event.{Open, Send, Close, Arrive}
+use Rattle.safe_machine.specs.World.Event.{Open, Close, Arrive}
 use Rattle.safe_machine.specs.InOrder.{InOrder, all_heard_by_il, all_heard_by_fe}
 use Rattle.std.specs.Prelude.{length}
 use Rattle.safe_machine.specs.declared.ConnectionState.TheVariants.{Closed}

@@ -35,6 +35,8 @@ pub mod Carriers
 pub mod Rows
 mod LossRow
 mod ClosingRow
+mod WrapRow
+mod RequestRow
 pub mod Opened
 pub mod OrderKinds
 pub mod OrderEnds
@@ -54,3 +56,4 @@ pub mod Nearing
 pub mod Properties
 pub mod Stopping
 pub mod Few
+pub mod OneMore

@@ -1,5 +1,5 @@
 -- A genuine list of events in which units are taken on both sides, through a loss, a retransmission and a reopening of both ends.
-use Rattle.std.proofs.Common.{inl, inr, Some, ◌≡◌, ◌≤◌, ℕ, List, [], ◌∷◌, drop, true, refl, arith}
+use Rattle.std.proofs.Common.{inl, inr, Some, ◌≡◌, ℕ, List, [], ◌∷◌, true, refl, arith}
 use Rattle.safe_pdu.specs.declared.CodeLength.TheVariants.{Eight}
 use Rattle.safe_pdu.specs.declared.Kind.{Kind}
 use Rattle.safe_pdu.specs.declared.Kind.TheVariants.{ConnReq, ConnResp, RetrReq, RetrResp, Heartbeat, Data, RetrData}
@@ -8,11 +8,11 @@ use Rattle.safe_machine.specs.declared.ConnectionState.TheVariants.{Up}
 use Rattle.safe_machine.specs.declared.Reason.TheVariants.{ClosedByUser}
 use Rattle.safe_machine.specs.declared.Detail.TheVariants.{Unspecified}
 use Rattle.safe_machine.specs.Numbers.{sn_of, ahead}
-use Rattle.safe_machine.specs.Made.{opening_body, units}
+use Rattle.safe_machine.specs.Made.{opening_body}
 use Rattle.safe_machine.specs.Settings.{Settings}
-use Rattle.safe_machine.specs.State.{State, unconfirmed}
+use Rattle.safe_machine.specs.State.{State}
 use Rattle.safe_machine.specs.World.Side.{Il, Fe}
-use Rattle.safe_machine.specs.World.{World, Served, Event, start, run, Genuine, Timely}
+use Rattle.safe_machine.specs.World.{Served, Event, start, run, Genuine, Timely}
 use Rattle.safe_machine.specs.World.Event.{Open, Send, Close, Arrive}
 
 set_of : (own peer : ℕ) → Settings

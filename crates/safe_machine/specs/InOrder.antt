@@ -1,5 +1,5 @@
 -- Two machines to which the peer's PDUs come one by one in the order of their making.
-use Rattle.std.specs.Prelude.{ℕ, zero, suc, ◌+◌, ◌≡◌, ◌≢◌, ◌≤◌, Bool, true, false, if◌then◌else◌, List, [], ◌∷◌, length, drop, take}
+use Rattle.std.specs.Prelude.{ℕ, zero, suc, ◌+◌, ◌≡◌, ◌≢◌, ◌≤◌, Bool, true, false, if◌then◌else◌, List, [], ◌∷◌, ◌++◌, length, drop, take}
 use Rattle.safe_pdu.specs.declared.Kind.TheVariants.{RetrReq}
 use Rattle.safe_pdu.specs.Pdu.{Pdu}
 use Rattle.safe_machine.specs.declared.ConnectionState.{ConnectionState}
@@ -8,7 +8,7 @@ use Rattle.safe_machine.specs.Made.{Made, units}
 use Rattle.safe_machine.specs.State.{State, unconfirmed}
 use Rattle.safe_machine.specs.Decision.{is_stranger}
 use Rattle.safe_machine.specs.Step.{guard, may_send}
-use Rattle.safe_machine.specs.World.{World, Event, start, happens, run, Genuine, Timely}
+use Rattle.safe_machine.specs.World.{World, Event, start, happens, run, Genuine, GenuineEvent, Timely, TimelyEvent}
 use Rattle.safe_machine.specs.World.Side.{Il, Fe}
 use Rattle.safe_machine.specs.World.Event.{Open, Close, Guard, Tick, Arrive}
 
@@ -125,3 +125,19 @@ abbrev pub StaysLaw : Type 0
 StaysLaw =
     (events : List Event) → Genuine events start → Timely events start → InOrder 0 0 events start → has_close events ≡ false →
     StaysOpen (run events start)
+
+-- A list with one event more at its end: where it leads, when it is genuine, timely and in order, how many PDUs came, and
+-- whether a caller closes.
+pub record OneMore (es : List Event) (e : Event) : Type 0 where
+  pub leads : (w : World) → run (es ++ e ∷ []) w ≡ happens (run es w) e
+  pub genuine : (w : World) → Genuine es w → GenuineEvent (run es w) e → Genuine (es ++ e ∷ []) w
+  pub timely : (w : World) → Timely es w → TimelyEvent (run es w) e → Timely (es ++ e ∷ []) w
+  pub in_order : (il fe : ℕ) (w : World) → InOrder il fe es w → InOrderEvent (all_heard_by_il es il) (all_heard_by_fe es fe) (run es w) e
+      → InOrder il fe (es ++ e ∷ []) w
+  pub il_heard : (n : ℕ) → all_heard_by_il (es ++ e ∷ []) n ≡ heard_by_il e (all_heard_by_il es n)
+  pub fe_heard : (n : ℕ) → all_heard_by_fe (es ++ e ∷ []) n ≡ heard_by_fe e (all_heard_by_fe es n)
+  pub closes : has_close (es ++ e ∷ []) ≡ (if has_close es then true else is_close e)
+
+-- of every list
+abbrev pub OneMoreLaw : Type 0
+OneMoreLaw = (es : List Event) (e : Event) → OneMore es e

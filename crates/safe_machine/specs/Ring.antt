@@ -1,10 +1,10 @@
 -- Units with the indices of their carriers: what a ring of unconfirmed units holds, and what an end has yet to be told of.
-use Rattle.std.specs.Prelude.{ℕ, suc, ◌+◌, ◌-◌, Bool, true, false, List, [], ◌∷◌, ◌++◌, length, take, drop, if◌then◌else◌}
+use Rattle.std.specs.Prelude.{◌≡◌, ℕ, suc, ◌+◌, ◌-◌, Bool, true, false, List, [], ◌∷◌, ◌++◌, length, take, drop, if◌then◌else◌}
 use Rattle.safe_pdu.specs.declared.Kind.{Kind}
 use Rattle.safe_pdu.specs.declared.Kind.TheVariants.{RetrResp, Data, RetrData}
 use Rattle.retrans.specs.Units.{Numbered, above, renumbered, octets_of}
 use Rattle.safe_machine.specs.Made.{Made}
-use Rattle.safe_machine.specs.State.{State}
+use Rattle.safe_machine.specs.State.{State, unconfirmed}
 
 -- the run after a PDU with this index, with the indices of the carriers
 abbrev pub after_at : Kind → List ℕ → ℕ → List Numbered → List Numbered
@@ -54,3 +54,7 @@ carriers ms = carriers_from 0 [] ms
 -- the units whose carrier has an index above that of the last own PDU confirmed
 abbrev pub by_carriers : State → List (List ℕ)
 by_carriers s = octets_of (above s.confirmed (carriers s.made))
+
+-- the units that the ring of a state holds are its unconfirmed ones
+abbrev pub RingLaw : Type 0
+RingLaw = (s : State) → octets_of (ring_of s) ≡ unconfirmed s

@@ -1,9 +1,10 @@
 //! What two machines promise over every list of events.
 
-ghost use Rattle.safe_machine.specs.InOrder.{OrderLaw, StaysLaw};
+ghost use Rattle.safe_machine.specs.InOrder.{OneMoreLaw, OrderLaw, StaysLaw};
 ghost use Rattle.safe_machine.specs.Law.{FreshAtLastLaw, FreshLaw, JoinedLaw, LossLaw, UnitLaw};
 ghost use Rattle.safe_machine.specs.Moves.{ConnectionsLaw, IdentifiedLaw, MovesLaw, ReachedLaw, SettingsLaw, StrangersLaw, TextsLaw, WaitsLaw};
 ghost use Rattle.safe_machine.specs.Reached.{FewLaw};
+ghost use Rattle.safe_machine.specs.Ring.{RingLaw};
 
 /// The laws of two machines, which do nothing when they are called: they hold of every genuine list of openings,
 /// sendings, closings, guards, ticks and arrivals of both ends, however often either is opened.
@@ -44,6 +45,9 @@ pub fn unit_law()
     // confirmed, and the units sent end in them.
     ensures reached { ReachedLaw }
 
+    // The units that the ring of a state holds are its unconfirmed ones.
+    ensures ring { RingLaw }
+
     // Each PDU made has a text.
     ensures texts { TextsLaw }
 
@@ -58,4 +62,7 @@ pub fn unit_law()
 
     // And where moreover no caller closes an end, no end that was opened is closed.
     ensures stays { StaysLaw }
+
+    // How a list grows with one event more.
+    ensures one_more { OneMoreLaw }
 {}

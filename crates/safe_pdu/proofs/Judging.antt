@@ -1,6 +1,6 @@
 -- What the reading by places answers: a text of the grammar where it answers a PDU, else the first fault; and it answers
 -- the PDU of every text.
-use Rattle.std.proofs.Common.{◌≡◌, ◌≢◌, ◌<◌, ◌≤◌, ◌==◌, ◌+◌, ℕ, List, length, take, drop, refl, sym, ap, ◌∙◌, arith, rules, Bool, true, false, IsTrue, if◌then◌else◌, Option, Some, None, Result, Ok, Err, inl, inr, nat_lt, IfOk, IfErr, IsOkAnd, subst}
+use Rattle.std.proofs.Common.{◌≡◌, ◌≢◌, ◌≤◌, ◌==◌, ◌+◌, ℕ, List, length, refl, sym, ap, ◌∙◌, arith, true, Option, Some, None, Result, Ok, Err, inl, inr, nat_lt, IfOk, IfErr, IsOkAnd, subst}
 use Rattle.std.proofs.lemmas.Bool.Decides.{Decides-eqb, Decides-ltb, nat_tests}
 use Rattle.std.proofs.lemmas.Slice.Eq.{bytes_eq-Decides}
 use Rattle.octets.proofs.Choices.{by_cond}
@@ -98,6 +98,11 @@ judged rule octets =
     (λ right. judged_kind rule octets (kind_of (type_field octets)) refl sized ((bytes_eq-Decides _ _).0 right))
     (λ wrong. (sized, λ coded. let right = (bytes_eq-Decides (code_of rule octets) (code_over rule (front_of rule octets))).1 coded in cc)))
     (λ other. (long, inl (λ said. let same = (Decides-eqb (length_field octets) (length octets)).1 said in cc)))))
+
+-- all that is known of what reads as a PDU
+pub is_read : (rule : CodeRule) (octets : List ℕ) (p : Pdu) → safe_seen rule octets ≡ Ok p → IsRead rule octets p
+unfolding Judged
+is_read rule octets p e = subst (Judged rule octets) e (judged rule octets)
 
 -- a text has no fault
 text_faultless : (p : Pdu) (rule : CodeRule) (octets : List ℕ) → SafeText p rule octets → (f : SafeFault) → FirstFault rule octets f → ⊥

@@ -1,11 +1,10 @@
 -- What was read by places is spelled so, and what is spelled so is read by places.
-use Rattle.std.proofs.Common.{◌≡◌, ◌==◌, ◌<◌, ◌≤◌, if◌then◌else◌, ℕ, ◌+◌, ◌-◌, ◌^◌, List, ◌++◌, length, take, drop, refl, sym, ap, ◌∙◌, arith, append_assoc, Some, Bool, true, false, IsTrue, ◌&&◌, nat_le}
+use Rattle.std.proofs.Common.{◌≡◌, ◌==◌, ◌<◌, ◌≤◌, ℕ, ◌+◌, ◌-◌, ◌^◌, List, ◌++◌, length, take, drop, refl, sym, ap, ◌∙◌, arith, Some, Bool, true, false, IsTrue, ◌&&◌, nat_le}
 use Rattle.std.proofs.lemmas.Bool.Decides.{Decides-eqb, Decides-ltb, Decides-and, Decides-like, nat_tests}
 use Rattle.std.specs.Bool.{Decides}
 use Rattle.std.proofs.lemmas.Slice.Eq.{bytes_eq-Decides}
 use Rattle.std.proofs.Math.Seq.{take-append_seam, drop-append_seam}
 use Rattle.std.proofs.lemmas.List.{length-append, length-drop, length-take-le, take-append-drop}
-use Rattle.byteorder.specs.Endian.{little_bytes, little_number}
 use Rattle.octets.proofs.Fields.{AreOctets, Splits, Splits-then, field_at, field_below, field_reads, front_is}
 use Rattle.octets.specs.declared.limits.TheConstants.{SAFE_HEADER, SAFE_FRONT_MAX, UNIT_MIN, UNIT_MAX, OPENING_BODY, LEAVING_BODY}
 use Rattle.safe_pdu.specs.declared.Kind.{Kind}
@@ -15,10 +14,10 @@ use Rattle.safe_pdu.specs.declared.CodeLength.TheVariants.{Zero, Eight, Sixteen}
 use Rattle.safe_pdu.specs.declared.CodeRule.{CodeRule}
 use Rattle.safe_pdu.specs.Pdu.{Pdu, kind_number}
 use Rattle.safe_pdu.specs.SafeText.{SafeText, HasNumbers, code_octets, code_over, header, front_text, safe_text, has_numbers, is_text}
-use Rattle.safe_pdu.specs.Bodies.{IsBody, is_body, is_opening, is_unit_sized}
+use Rattle.safe_pdu.specs.Bodies.{IsBody, is_opening, is_unit_sized}
 use Rattle.md4.specs.Digest.{digest}
 use Rattle.md4.proofs.DigestLemmas.{length-digest}
-use Rattle.safe_pdu.specs.Places.{IsSized, IsAsked, HasCode, length_field, type_field, field, front_size, front_of, code_of, body_of, kind_of}
+use Rattle.safe_pdu.specs.Places.{IsSized, IsAsked, HasCode, length_field, type_field, field, front_size, front_of, body_of, kind_of}
 
 -- type and numbers are those that stand at their places
 pub record Reads (p : Pdu) (octets : List ℕ) : Type 0 where
@@ -271,7 +270,7 @@ has_numbers-Decides p =
     (Decides-and _ _ (Decides-ltb p.receiver (256 ^ 4)) (Decides-and _ _ (Decides-ltb p.sender (256 ^ 4)) (Decides-and _ _ (Decides-ltb p.sn (256 ^ 4))
     (Decides-and _ _ (Decides-ltb p.cs (256 ^ 4)) (Decides-and _ _ (Decides-ltb p.ts (256 ^ 4)) (Decides-ltb p.cts (256 ^ 4)))))))
 
-Decides-nat_le : (a b : ℕ) → Decides (nat_le a b) (a ≤ b)
+pub Decides-nat_le : (a b : ℕ) → Decides (nat_le a b) (a ≤ b)
 Decides-nat_le a b = (le_by_test a b, λ le. grind (arith, nat_tests))
 
 -- the test of a text tells exactly the texts

@@ -2,3 +2,4 @@ pub mod Pdu
 pub mod Bodies
 pub mod SafeText
 pub mod Places
+pub mod Laws

@@ -1,5 +1,5 @@
 -- What the places of a safety PDU say, and the first fault of octets that are none.
-use Rattle.std.specs.Prelude.{◌≡◌, ◌≢◌, ◌==◌, ◌⊎◌, ◌<◌, ◌≤◌, ℕ, ◌+◌, ◌-◌, Bool, false, List, length, take, drop, nat_lt, if◌then◌else◌, Option, Some, None, Result, Ok, Err}
+use Rattle.std.specs.Prelude.{◌≡◌, ◌≢◌, ◌==◌, ◌&&◌, ◌⊎◌, ◌<◌, ◌≤◌, ℕ, ◌+◌, ◌-◌, Bool, List, length, take, drop, nat_le, nat_lt, if◌then◌else◌, Option, Some, None, Result, Ok, Err}
 use Rattle.std.specs.Str.{bytes_eq}
 use Rattle.byteorder.specs.Endian.{little_number}
 use Rattle.octets.specs.declared.limits.TheConstants.{SAFE_HEADER, SAFE_FRONT_MAX}
@@ -117,3 +117,9 @@ pub record IsAsked (rule : CodeRule) (own peer : ℕ) (octets : List ℕ) : Type
   pub receiver : field 4 octets ≡ own
   pub sender : field 8 octets ≡ peer
   pub coded : HasCode rule octets
+
+-- the test of it
+abbrev pub is_asked : CodeRule → (own peer : ℕ) → List ℕ → Bool
+is_asked rule own peer octets =
+    nat_le (SAFE_HEADER + code_octets rule.length) (length octets)
+    && ((field 4 octets == own && field 8 octets == peer) && has_code rule octets)

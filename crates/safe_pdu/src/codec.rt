@@ -5,6 +5,7 @@ ghost use Rattle.safe_pdu.specs.Pdu.{Pdu, pdu_of};
 ghost use Rattle.safe_pdu.specs.Bodies.{IsBody};
 ghost use Rattle.safe_pdu.specs.SafeText.{SafeText, HasNumbers, code_octets, header, is_text};
 ghost use Rattle.safe_pdu.specs.Places.{FirstFault, IsAsked, read_as, safe_seen, seen_of};
+ghost use Rattle.safe_pdu.specs.Laws.{AskedLaw, ReadAlikeLaw, ReadAskedLaw, ReadLaw};
 
 use super::bodies::{fits_body, kind_at};
 use super::{CodeRule, Kind, SafeFault, SafePdu};
@@ -142,6 +143,18 @@ pub fn text_law()
     // A text under a rule is read as its PDU under that rule.
     ensures complete { (p : Pdu) (rule : CodeRule) (octets : List ℕ) → SafeText p rule octets
         → safe_seen rule octets ≡ Ok p }
+
+    // Octets that read as a PDU are its text.
+    ensures read { ReadLaw }
+
+    // What reads under two rules of one length of code reads as one PDU.
+    ensures read_alike { ReadAlikeLaw }
+
+    // An end is asked about what reads as a PDU with its own and its peer's identifier.
+    ensures read_asked { ReadAskedLaw }
+
+    // The test of octets that an end is asked about tells exactly them.
+    ensures asked { AskedLaw }
 
     // The test of a text tells exactly the texts.
     ensures test { (p : Pdu) (rule : CodeRule) (octets : List ℕ) → IsTrue (is_text p rule octets) ↔ SafeText p rule octets }

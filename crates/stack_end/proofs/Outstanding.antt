@@ -7,7 +7,7 @@ use Rattle.std.proofs.lemmas.List.Concat.{flat_map-append}
 use Rattle.packing.specs.UnitText.{unit_text}
 use Rattle.pdi_session.specs.SessionStep.{SessionState}
 use Rattle.safe_machine.specs.State.{unconfirmed}
-use Rattle.safe_machine.proofs.Ring.{ring_of-units}
+use Rattle.safe_machine.specs.Ring.{RingLaw}
 use Rattle.stack_end.specs.Ends.{EndState}
 use Rattle.stack_end.specs.Fields.{Fields, Stands}
 use Rattle.stack_end.specs.Outstanding.{GoesOut, PutOut, each, put_message, units_in}
@@ -58,15 +58,15 @@ goes-then u v w waited h k =
     }
 
 -- the units that a state has unconfirmed are those of the machine that stands for it
-ring-is : (v : Fields) (x : EndState) → Stands v x → units_in v.machine ≡ unconfirmed x.machine
-ring-is v x h = ap units_in h.machine ∙ ring_of-units x.machine
+ring-is : RingLaw → (v : Fields) (x : EndState) → Stands v x → units_in v.machine ≡ unconfirmed x.machine
+ring-is law v x h = ap units_in h.machine ∙ law x.machine
 
 -- the same of the states that they stand for
-pub put-out : (kind : ℕ) (payload : List ℕ) (v w : Fields) (x y : EndState) → Stands v x → Stands w y → GoesOut v (v.waiting ++ put_message v.session.addressing kind payload ∷ []) w → PutOut kind payload x y
-put-out kind payload v w x y h k g =
+pub put-out : RingLaw → (kind : ℕ) (payload : List ℕ) (v w : Fields) (x y : EndState) → Stands v x → Stands w y → GoesOut v (v.waiting ++ put_message v.session.addressing kind payload ∷ []) w → PutOut kind payload x y
+put-out law kind payload v w x y h k g =
     record {
       units = g.units;
-      unconfirmed = sym (ring-is w y k) ∙ (g.unconfirmed ∙ ap (λ us. us ++ map unit_text g.units) (ring-is v x h));
+      unconfirmed = sym (ring-is law w y k) ∙ (g.unconfirmed ∙ ap (λ us. us ++ map unit_text g.units) (ring-is law v x h));
       messages =
           ap (λ ws. flat_map (λ m. m) g.units ++ ws) (sym k.speaks.waits)
           ∙ (g.messages

@@ -12,6 +12,7 @@ ghost use Rattle.stack_end.specs.Recent.{DatagramRecent, TickRecent};
 use crate::End;
 use channels::Channels;
 use pdi_session::{PutFault, Taker};
+use safe_machine::unit_law;
 use std::alloc::Allocator;
 
 impl<C: Channels, A: Allocator> End<C, A> {
@@ -72,6 +73,7 @@ impl<C: Channels, A: Allocator> End<C, A> {
             → MatchResult result (λ _. put_refusal (session_in x.session) kind payload.now (length x.session.waiting) ≡ None)
             (λ fault. put_refusal (session_in x.session) kind payload.now (length x.session.waiting) ≡ Some fault) }
     {
+        unit_law();
         self.layers.put(kind, payload, now)?;
         self.time = now;
         Ok(())

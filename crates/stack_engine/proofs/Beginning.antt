@@ -17,65 +17,16 @@ use Rattle.safe_machine.specs.Moves.{Move, move, WaitsLaw, ConnectionsLaw, GoesO
 use Rattle.safe_machine.specs.Moves.Move.{Guards, Ticks, Sends}
 use Rattle.safe_machine.specs.Octets.{heard as heard_as, seen_by, arrive_octets}
 use Rattle.pdi_session.specs.declared.Phase.{Phase}
-use Rattle.pdi_session.specs.declared.Phase.TheVariants.{Idle, Checking, Requesting, AwaitCheck, AwaitRequest, Refused, Initialising, Established, Ended}
-use Rattle.pdi_session.specs.declared.Verdict.{Verdict}
-use Rattle.pdi_session.specs.declared.Verdict.TheVariants.{Ends}
-use Rattle.pdi_session.specs.declared.Form.{Form}
+use Rattle.pdi_session.specs.declared.Phase.TheVariants.{Idle, Established}
 use Rattle.pdi_session.specs.Settings.{Role, Interlocking, Field}
-use Rattle.pdi_session.specs.Telegrams.{form_of, is_addressed}
-use Rattle.pdi_session.specs.Tables.{at_up, table, may_put, is_initialising}
-use Rattle.pdi_session.specs.SessionStep.{Arrives, Puts, InitDone as Completes, Closes, SessionState, added_by, init_refusal, phase_after, phase_by, texts}
+use Rattle.pdi_session.specs.Tables.{may_put, is_initialising}
+use Rattle.pdi_session.specs.SessionStep.{Arrives, Puts, InitDone as Completes, Closes, added_by, init_refusal, phase_after, texts}
 use Rattle.pdi_session.specs.Histories.{ends_by}
-use Rattle.pdi_session.proofs.Rows.{InterlockingRow, IlOver, IlEqual, IlBegins, IlInitial, IlDone, IlStatus, FieldRow, FeOver, FeEqual, FeDiffers, FeAsked, FeCommand, interlocking_row, field_row}
+use Rattle.pdi_session.specs.Laws.{BegunLaw}
 use Rattle.stack_end.specs.Dialogue.{Dialogue, session_in, phase_in, meets, Leaving, Judged, judge_read, unless_leaving, judge_messages, judge_unpacked, judge_units}
 use Rattle.stack_end.specs.Ends.{EndState, handed_up, comes_up, rises, answered, leaves, packed}
 use Rattle.stack_engine.proofs.Keeping.{Keeps}
 use Rattle.stack_engine.proofs.Spoken.{closed-is, drop-front}
-
--- no event leads back to Idle
-il-goes : (own : ℕ) (phase : Phase) (form : Form) (v : Verdict) → InterlockingRow own phase form v → phase ≢ Idle → phase_by phase v ≢ Idle
-il-goes own phase form v (IlOver why e) some = λ is. let x : Ended ≡ Idle = sym (ap (phase_by phase) e) ∙ is in cc
-il-goes own phase form v (IlEqual p f e) some = λ is. let x : Requesting ≡ Idle = sym (ap (phase_by phase) e) ∙ is in cc
-il-goes own phase form v (IlBegins p f e) some = λ is. let x : Initialising ≡ Idle = sym (ap (phase_by phase) e) ∙ is in cc
-il-goes own phase form v (IlInitial p f e) some = λ is. some (sym (ap (phase_by phase) e) ∙ is)
-il-goes own phase form v (IlDone p f e) some = λ is. let x : Established ≡ Idle = sym (ap (phase_by phase) e) ∙ is in cc
-il-goes own phase form v (IlStatus p f e) some = λ is. some (sym (ap (phase_by phase) e) ∙ is)
-
-fe-goes : (versions : List ℕ) (phase : Phase) (form : Form) (v : Verdict) → FieldRow versions phase form v → phase ≢ Idle → phase_by phase v ≢ Idle
-fe-goes versions phase form v (FeOver why e) some = λ is. let x : Ended ≡ Idle = sym (ap (phase_by phase) e) ∙ is in cc
-fe-goes versions phase form v (FeEqual version p f e) some = λ is. let x : AwaitRequest ≡ Idle = sym (ap (phase_by phase) e) ∙ is in cc
-fe-goes versions phase form v (FeDiffers version p f e) some = λ is. let x : Refused ≡ Idle = sym (ap (phase_by phase) e) ∙ is in cc
-fe-goes versions phase form v (FeAsked p f e) some = λ is. let x : Initialising ≡ Idle = sym (ap (phase_by phase) e) ∙ is in cc
-fe-goes versions phase form v (FeCommand p f e) some = λ is. some (sym (ap (phase_by phase) e) ∙ is)
-
-table-goes : (role : Role) (phase : Phase) (form : Form) → phase ≢ Idle → phase_by phase (table role phase form) ≢ Idle
-table-goes (Interlocking version) phase form some = il-goes version phase form _ (interlocking_row version phase form) some
-table-goes (Field versions checksum) phase form some = fe-goes versions phase form _ (field_row versions phase form) some
-
-arrives-goes : (s : SessionState) (t : Tele) → s.phase ≢ Idle → phase_after (Arrives t) s ≢ Idle
-arrives-goes s t some =
-    by_cond (λ v. phase_by s.phase v ≢ Idle) (is_addressed s.addressing t) (table s.role s.phase (form_of t.kind t.payload)) (Ends _)
-    (λ _. table-goes s.role s.phase (form_of t.kind t.payload) some) (λ _ is. let x : Ended ≡ Idle = is in cc)
-
-up-goes : (role : Role) (phase : Phase) → phase_by phase (at_up role phase) ≢ Idle
-up-goes (Interlocking version) Idle = λ is. cc
-up-goes (Interlocking version) Checking = λ is. cc
-up-goes (Interlocking version) Requesting = λ is. cc
-up-goes (Interlocking version) AwaitCheck = λ is. cc
-up-goes (Interlocking version) AwaitRequest = λ is. cc
-up-goes (Interlocking version) Refused = λ is. cc
-up-goes (Interlocking version) Initialising = λ is. cc
-up-goes (Interlocking version) Established = λ is. cc
-up-goes (Interlocking version) Ended = λ is. cc
-up-goes (Field versions checksum) Idle = λ is. cc
-up-goes (Field versions checksum) Checking = λ is. cc
-up-goes (Field versions checksum) Requesting = λ is. cc
-up-goes (Field versions checksum) AwaitCheck = λ is. cc
-up-goes (Field versions checksum) AwaitRequest = λ is. cc
-up-goes (Field versions checksum) Refused = λ is. cc
-up-goes (Field versions checksum) Initialising = λ is. cc
-up-goes (Field versions checksum) Established = λ is. cc
-up-goes (Field versions checksum) Ended = λ is. cc
 
 -- a session that has begun, and that no telegram ended before
 abbrev NotIdle : Dialogue → Type 0
@@ -85,31 +36,31 @@ not-idle : (b : Bool) (phase : Phase) (old : Option Phase) → phase ≢ Idle �
 not-idle true phase old some none = λ is. some (let same : phase ≡ Idle = cc in same)
 not-idle false phase old some none = none
 
-idle-read : (seen : Result Tele TeleFault) (d : Dialogue) → NotIdle d → NotIdle (judge_read seen d).left
-idle-read (Ok t) d h = (arrives-goes (session_in d) t h.0, not-idle (ends_by (Arrives t) (session_in d)) (phase_in d) d.history.ended_in h.0 h.1)
-idle-read (Err fault) d h = h
+idle-read : BegunLaw → (seen : Result Tele TeleFault) (d : Dialogue) → NotIdle d → NotIdle (judge_read seen d).left
+idle-read law (Ok t) d h = (law.1 (Arrives t) (session_in d) h.0, not-idle (ends_by (Arrives t) (session_in d)) (phase_in d) d.history.ended_in h.0 h.1)
+idle-read law (Err fault) d h = h
 
 idle-then : (why : Option Leaving) (first rest : Judged) → NotIdle first.left → NotIdle rest.left → NotIdle (unless_leaving why first rest).left
 idle-then None first rest h k = k
 idle-then (Some why) first rest h k = h
 
-idle-messages : (ms : List (List ℕ)) (d : Dialogue) → NotIdle d → NotIdle (judge_messages ms d).left
-idle-messages [] d h = h
-idle-messages (m ∷ ms) d h =
+idle-messages : BegunLaw → (ms : List (List ℕ)) (d : Dialogue) → NotIdle d → NotIdle (judge_messages ms d).left
+idle-messages law [] d h = h
+idle-messages law (m ∷ ms) d h =
     let first = judge_read (tele_seen m) d in
-    let one = idle-read (tele_seen m) d h in
-    idle-then first.leaving first (judge_messages ms first.left) one (idle-messages ms first.left one)
+    let one = idle-read law (tele_seen m) d h in
+    idle-then first.leaving first (judge_messages ms first.left) one (idle-messages law ms first.left one)
 
-idle-unpacked : (seen : Result (List (List ℕ)) PackFault) (d : Dialogue) → NotIdle d → NotIdle (judge_unpacked seen d).left
-idle-unpacked (Ok ms) d h = idle-messages ms d h
-idle-unpacked (Err fault) d h = h
+idle-unpacked : BegunLaw → (seen : Result (List (List ℕ)) PackFault) (d : Dialogue) → NotIdle d → NotIdle (judge_unpacked seen d).left
+idle-unpacked law (Ok ms) d h = idle-messages law ms d h
+idle-unpacked law (Err fault) d h = h
 
-idle-units : (us : List (List ℕ)) (d : Dialogue) → NotIdle d → NotIdle (judge_units us d).left
-idle-units [] d h = h
-idle-units (u ∷ us) d h =
+idle-units : BegunLaw → (us : List (List ℕ)) (d : Dialogue) → NotIdle d → NotIdle (judge_units us d).left
+idle-units law [] d h = h
+idle-units law (u ∷ us) d h =
     let first = judge_unpacked (unit_seen u) d in
-    let one = idle-unpacked (unit_seen u) d h in
-    idle-then first.leaving first (judge_units us first.left) one (idle-units us first.left one)
+    let one = idle-unpacked law (unit_seen u) d h in
+    idle-then first.leaving first (judge_units us first.left) one (idle-units law us first.left one)
 
 -- by the state of the connection
 abbrev pub IsEarly : ConnectionState → Type 0
@@ -144,9 +95,9 @@ begins-stays : (c e : ConnectionState) (d : Dialogue) → (e ≡ c) ⊎ (e ≡ C
 begins-stays c e d (inl same) h = subst (λ b. BeginsAs b d) (sym same) h
 begins-stays c e d (inr closed) h = begins-closed e d closed h.ended
 
-rises-not : (b : Bool) (d : Dialogue) → phase_in d ≢ Idle → phase_in (rises b d) ≢ Idle
-rises-not true d some = up-goes (session_in d).role (phase_in d)
-rises-not false d some = some
+rises-not : BegunLaw → (b : Bool) (d : Dialogue) → phase_in d ≢ Idle → phase_in (rises b d) ≢ Idle
+rises-not law true d some = law.0 (session_in d)
+rises-not law false d some = some
 
 rises-ended : (b : Bool) (d : Dialogue) → d.history.ended_in ≢ Some Idle → (rises b d).history.ended_in ≢ Some Idle
 rises-ended true d none = none
@@ -157,14 +108,14 @@ early-stays c (inl e) = ap (λ b. comes_up b b) e
 early-stays c (inr e) = ap (λ b. comes_up b b) e
 
 -- an end that judged these units while its machine went on
-begins-goes : (c e : ConnectionState) (us : List (List ℕ)) (d : Dialogue) → GoesOn c e → (IsEarly c → us ≡ []) → (c ≡ Closed → us ≡ []) → BeginsAs c d → BeginsAs e (rises (comes_up c e) (judge_units us d).left)
-begins-goes c e us d (inl same) quiet shut h =
+begins-goes : BegunLaw → (c e : ConnectionState) (us : List (List ℕ)) (d : Dialogue) → GoesOn c e → (IsEarly c → us ≡ []) → (c ≡ Closed → us ≡ []) → BeginsAs c d → BeginsAs e (rises (comes_up c e) (judge_units us d).left)
+begins-goes law c e us d (inl same) quiet shut h =
     by_test (λ b. is_connected c ≡ b → BeginsAs e (rises (comes_up c e) (judge_units us d).left)) (is_connected c)
     (λ on _.
-    let judged-on = idle-units us d (h.begun on, h.ended) in
+    let judged-on = idle-units law us d (h.begun on, h.ended) in
     record {
       early = λ was. absurd (early-connected e was (ap is_connected same ∙ on));
-      begun = λ _. rises-not (comes_up c e) (judge_units us d).left judged-on.0;
+      begun = λ _. rises-not law (comes_up c e) (judge_units us d).left judged-on.0;
       ended = rises-ended (comes_up c e) (judge_units us d).left judged-on.1;
     })
     (λ off _.
@@ -186,34 +137,34 @@ begins-goes c e us d (inl same) quiet shut h =
     early-or IsUp off = cc
     early-or RetrReq off = cc
     early-or RetrRun off = cc
-begins-goes c e us d (inr (inl closed)) quiet shut h =
+begins-goes law c e us d (inr (inl closed)) quiet shut h =
     begins-closed e (rises (comes_up c e) (judge_units us d).left) closed
-    (rises-ended (comes_up c e) (judge_units us d).left (ended-any us c d quiet shut h))
+    (rises-ended (comes_up c e) (judge_units us d).left (ended-any law us c d quiet shut h))
   where
-    ended-any : (us : List (List ℕ)) (c : ConnectionState) (d : Dialogue) → (IsEarly c → us ≡ []) → (c ≡ Closed → us ≡ []) → BeginsAs c d → (judge_units us d).left.history.ended_in ≢ Some Idle
-    ended-any us Closed d quiet shut h = subst (λ vs. (judge_units vs d).left.history.ended_in ≢ Some Idle) (sym (shut refl)) h.ended
-    ended-any us Down d quiet shut h = subst (λ vs. (judge_units vs d).left.history.ended_in ≢ Some Idle) (sym (quiet (inl refl))) h.ended
-    ended-any us Start d quiet shut h = subst (λ vs. (judge_units vs d).left.history.ended_in ≢ Some Idle) (sym (quiet (inr refl))) h.ended
-    ended-any us IsUp d quiet shut h = (idle-units us d (h.begun refl, h.ended)).1
-    ended-any us RetrReq d quiet shut h = (idle-units us d (h.begun refl, h.ended)).1
-    ended-any us RetrRun d quiet shut h = (idle-units us d (h.begun refl, h.ended)).1
-begins-goes c e us d (inr (inr (inl starts))) quiet shut h =
+    ended-any : BegunLaw → (us : List (List ℕ)) (c : ConnectionState) (d : Dialogue) → (IsEarly c → us ≡ []) → (c ≡ Closed → us ≡ []) → BeginsAs c d → (judge_units us d).left.history.ended_in ≢ Some Idle
+    ended-any law us Closed d quiet shut h = subst (λ vs. (judge_units vs d).left.history.ended_in ≢ Some Idle) (sym (shut refl)) h.ended
+    ended-any law us Down d quiet shut h = subst (λ vs. (judge_units vs d).left.history.ended_in ≢ Some Idle) (sym (quiet (inl refl))) h.ended
+    ended-any law us Start d quiet shut h = subst (λ vs. (judge_units vs d).left.history.ended_in ≢ Some Idle) (sym (quiet (inr refl))) h.ended
+    ended-any law us IsUp d quiet shut h = (idle-units law us d (h.begun refl, h.ended)).1
+    ended-any law us RetrReq d quiet shut h = (idle-units law us d (h.begun refl, h.ended)).1
+    ended-any law us RetrRun d quiet shut h = (idle-units law us d (h.begun refl, h.ended)).1
+begins-goes law c e us d (inr (inr (inl starts))) quiet shut h =
     let nothing : us ≡ [] = quiet (inl starts.0) in
     let still : comes_up c e ≡ false = ap (λ b. comes_up b e) starts.0 ∙ ap (comes_up Down) starts.1 in
     subst (λ vs. BeginsAs e (rises (comes_up c e) (judge_units vs d).left)) (sym nothing)
     (subst (λ b. BeginsAs e (rises b d)) (sym still)
     (record { early = λ _. h.early (inl starts.0); begun = λ on. absurd (false≢true (sym (ap is_connected starts.1) ∙ on)); ended = h.ended }))
-begins-goes c e us d (inr (inr (inr (inl comes)))) quiet shut h =
+begins-goes law c e us d (inr (inr (inr (inl comes)))) quiet shut h =
     let nothing : us ≡ [] = quiet (inr comes.0) in
     let up : comes_up c e ≡ true = ap (λ b. comes_up b e) comes.0 ∙ ap (comes_up Start) comes.1 in
     subst (λ vs. BeginsAs e (rises (comes_up c e) (judge_units vs d).left)) (sym nothing)
     (subst (λ b. BeginsAs e (rises b d)) (sym up)
-    (record { early = λ was. absurd (early-connected e was (ap is_connected comes.1)); begun = λ on. up-goes (session_in d).role (phase_in d); ended = h.ended }))
-begins-goes c e us d (inr (inr (inr (inr both)))) quiet shut h =
-    let judged-on = idle-units us d (h.begun both.0, h.ended) in
+    (record { early = λ was. absurd (early-connected e was (ap is_connected comes.1)); begun = λ on. law.0 (session_in d); ended = h.ended }))
+begins-goes law c e us d (inr (inr (inr (inr both)))) quiet shut h =
+    let judged-on = idle-units law us d (h.begun both.0, h.ended) in
     record {
       early = λ was. absurd (early-connected e was both.1);
-      begun = λ _. rises-not (comes_up c e) (judge_units us d).left judged-on.0;
+      begun = λ _. rises-not law (comes_up c e) (judge_units us d).left judged-on.0;
       ended = rises-ended (comes_up c e) (judge_units us d).left judged-on.1;
     }
 
@@ -259,6 +210,7 @@ begins-done waits c d h =
 pub record BeginLaws : Type 0 where
   pub waits : WaitsLaw
   pub connections : ConnectionsLaw
+  pub begun : BegunLaw
 
 pub begins-keeps : BeginLaws → ((m : Move) (s : State) → s.connection ≡ Closed → move m s ≡ s) → (now : ℕ) (Q : EndState → List ℕ → Type 0) → Keeps now Q Begins
 begins-keeps p closed now Q =
@@ -274,7 +226,7 @@ begins-keeps p closed now Q =
           let us = handed_up x s in
           let none : s.taken ≡ x.machine.taken → us ≡ [] = λ same. ap (λ ts. drop (length x.machine.taken) ts) (same ∙ sym (append-nil x.machine.taken)) ∙ drop-front x.machine.taken [] in
           begins-leaves now (judge_units us x.session).leaving (answered octets x s)
-          (begins-goes x.machine.connection s.connection us x.session (p.connections.0 m x.machine) (λ was. none (p.waits m x.machine was))
+          (begins-goes p.begun x.machine.connection s.connection us x.session (p.connections.0 m x.machine) (λ was. none (p.waits m x.machine was))
           (λ shut. none (ap (λ (t : State). t.taken) (closed m x.machine shut))) h);
       sends = λ x may some h.
           let stays = begins-stays x.machine.connection (packed now x).machine.connection x.session (p.connections.1 (Sends _ now) x.machine tt) h in

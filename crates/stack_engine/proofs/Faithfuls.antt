@@ -15,9 +15,9 @@ use Rattle.safe_machine.specs.declared.Reason.TheVariants.{ClosedByUser}
 use Rattle.safe_machine.specs.declared.Detail.TheVariants.{Unspecified}
 use Rattle.safe_machine.specs.Settings.{Settings, is_legal}
 use Rattle.safe_machine.specs.Made.{Made}
-use Rattle.safe_machine.specs.State.{State, opened, leave}
+use Rattle.safe_machine.specs.State.{State, leave}
 use Rattle.safe_machine.specs.Step.{guard, tick, may_send}
-use Rattle.safe_machine.specs.Moves.{Move, move, MovesLaw, TextsLaw, HaveTexts}
+use Rattle.safe_machine.specs.Moves.{Move, move, MovesLaw, TextsLaw, HaveTexts, AreFrom, IdentifiedLaw}
 use Rattle.safe_machine.specs.Moves.Move.{Guards, Ticks, Sends, Leaves}
 use Rattle.safe_machine.specs.Octets.{heard as heard_as, seen_by, arrive_octets}
 use Rattle.safe_machine.specs.World.{Side}
@@ -42,7 +42,8 @@ use Rattle.stack_engine.proofs.Hearing.{TextsOf, own-same, peer-same}
 use Rattle.stack_engine.proofs.Machined.{Machined, machined-texts}
 use Rattle.stack_engine.proofs.Mapping.{Laws, Comes, both-call}
 use Rattle.stack_engine.proofs.Worlds.{states, served, state_now, states_before, served_now, served_before, unserved, Mapped, MappedWorld, mapped-event, call-timely, typed-call, at-call, Opens, opens, unless}
-use Rattle.stack_engine.proofs.Ordering.{IsNth, Carry, Numbered, WasOpened, peer_made, peer_dead, Ordered, ordered, red-numbered, near-front, timely-front, arrivals-push, AllBear, bear-moved, bear-opened, bear-nth}
+use Rattle.safe_machine.specs.InOrder.{OneMoreLaw as EventsLaw}
+use Rattle.stack_engine.proofs.Ordering.{IsNth, Carry, Numbered, WasOpened, peer_made, peer_dead, Ordered, ordered, red-numbered, near-front, timely-front, arrivals-push, bear-nth}
 use Rattle.stack_engine.proofs.Heeding.{Heeds, heeds-kept}
 use Rattle.stack_engine.proofs.Failing.{Fails, FailsAt}
 use Rattle.stack_engine.proofs.Pairing.{PairLaws, Paired, PairedWorld, paired-event}
@@ -220,8 +221,10 @@ texts-nth [] (suc n) m later h e r = cc
 texts-nth (x ∷ ms) zero m later h e r = let is : x ≡ m = cc in subst (λ (y : Made). SafeText y.pdu r (safe_text r y.pdu)) is (h.0 r)
 texts-nth (x ∷ ms) (suc n) m later h e r = texts-nth ms n m later h.1 e r
 
-pub bears : (side : Side) (y : EndState) → Machined side y → AllBear y.machine
-bears side y h = subst AllBear (sym h.machine) (bear-moved h.moves (opened (connection_of side y.settings) h.first h.began) (bear-opened (connection_of side y.settings) h.first h.began))
+pub bears : IdentifiedLaw → (side : Side) (y : EndState) → Machined side y → AreFrom y.machine.settings y.machine.made
+bears law side y h =
+    subst (λ (s : Settings). AreFrom s y.machine.made) (sym h.same)
+    (subst (λ (s : State). AreFrom (connection_of side y.settings) s.made) (sym h.machine) (law (connection_of side y.settings) h.first h.began h.moves))
 
 next-of : (p : OrderLaws) (side other : Side) (m : M.World) (x y : EndState) → WasOpened side m → peer_made side m ≡ y.machine.made → rule_of x.settings ≡ rule_of y.settings → x.settings.connection.own ≡ y.settings.connection.peer
     → y.settings.connection.own ≡ x.settings.connection.peer → HaveTexts y.machine.made → Machined other y
@@ -230,12 +233,12 @@ next-of p side other m x y was same rule own peer texts mach n octets nth =
     let r = rule_of y.settings in
     let made : Made = nth.0 in
     let spelled : octets ≡ safe_text r made.pdu = nth.3 in
-    let bear = bear-nth y.machine.settings y.machine.made n made nth.1 (bears other y mach) nth.2 in
+    let bear = bear-nth y.machine.settings y.machine.made n made nth.1 (bears p.laws.below.identified other y mach) nth.2 in
     record {
       made = made;
       later = nth.1;
       there = ap (drop n) same ∙ nth.2;
-      seen = ap (λ (c : CodeRule). safe_seen c octets) rule ∙ ap (safe_seen r) spelled ∙ p.laws.complete made.pdu r (safe_text r made.pdu) (texts-nth y.machine.made n made nth.1 texts nth.2 r);
+      seen = ap (λ (c : CodeRule). safe_seen c octets) rule ∙ ap (safe_seen r) spelled ∙ p.laws.texts_read.complete made.pdu r (safe_text r made.pdu) (texts-nth y.machine.made n made nth.1 texts nth.2 r);
       receiver = bear.0 ∙ ap (λ (c : Settings). c.peer) mach.same ∙ peer-same other y.settings ∙ sym own;
       sender = bear.1 ∙ ap (λ (c : Settings). c.own) mach.same ∙ own-same other y.settings ∙ peer;
       opened = was;
@@ -433,10 +436,10 @@ knows-opened y (Some z) h = known-opened y z h
 new-known : (peer : Option EndState) (side : Side) (s : EndSettings) (first now : ℕ) → Known peer (new_end side s first now)
 new-known peer side s first now = record { red = refl; carry = tt }
 
-opened-il : (s : EndSettings) (first now : ℕ) (ils : List EndState) (fes : List JoinedEnd) (di df : ℕ) → ils ≡ [] → Opens Il s now (latest ils) → OrdWorld ils fes di df
+opened-il : EventsLaw → (s : EndSettings) (first now : ℕ) (ils : List EndState) (fes : List JoinedEnd) (di df : ℕ) → ils ≡ [] → Opens Il s now (latest ils) → OrdWorld ils fes di df
     → OrdWorld (new_end Il s first now ∷ ils) fes 0 (length (made_of (latest (ends_of fes))))
-opened-il s first now (x ∷ xs) fes di df e o w = cc
-opened-il s first now [] fes di df e o w =
+opened-il law s first now (x ∷ xs) fes di df e o w = cc
+opened-il law s first now [] fes di df e o w =
     record {
       closed = w.closed;
       fails = λ is. ⊎_elim (λ none. absurd none) (λ f. inr f) (w.fails is);
@@ -445,7 +448,7 @@ opened-il s first now [] fes di df e o w =
       clock_fe = w.clock_fe;
       ordered =
           subst (Ordered w.closed 0 (passed_count (latest (ends_of fes)))) (ord-open-il s first now fes w.joined di df w.clock_il w.clock_fe (legal-of Il s o.fit))
-          (ordered w.closed 0 (passed_count (latest (ends_of fes))) (machines [] fes w.joined di df w.clock_il w.clock_fe) (OpenMachine Il s.connection first now) tt (let a = w.il_within in let b = o.timely in omega (arith, a, b)) refl w.ordered);
+          (ordered law w.closed 0 (passed_count (latest (ends_of fes))) (machines [] fes w.joined di df w.clock_il w.clock_fe) (OpenMachine Il s.connection first now) tt (let a = w.il_within in let b = o.timely in omega (arith, a, b)) refl w.ordered);
       il_within = omega arith;
       fe_within = w.fe_within;
       il_knows = new-known (latest (ends_of fes)) Il s first now;
@@ -453,10 +456,10 @@ opened-il s first now [] fes di df e o w =
       no_fe = w.no_fe;
     }
 
-opened-fe : (s : EndSettings) (first now : ℕ) (ils : List EndState) (fes : List JoinedEnd) (di df : ℕ) → fes ≡ [] → Opens Fe s now (latest (ends_of fes)) → OrdWorld ils fes di df
+opened-fe : EventsLaw → (s : EndSettings) (first now : ℕ) (ils : List EndState) (fes : List JoinedEnd) (di df : ℕ) → fes ≡ [] → Opens Fe s now (latest (ends_of fes)) → OrdWorld ils fes di df
     → OrdWorld ils (record { end = new_end Fe s first now; joined = None } ∷ fes) (length (made_of (latest ils))) 0
-opened-fe s first now ils (x ∷ xs) di df e o w = cc
-opened-fe s first now ils [] di df e o w =
+opened-fe law s first now ils (x ∷ xs) di df e o w = cc
+opened-fe law s first now ils [] di df e o w =
     record {
       closed = w.closed;
       fails = λ is. ⊎_elim (λ f. inl f) (λ none. absurd none) (w.fails is);
@@ -465,7 +468,7 @@ opened-fe s first now ils [] di df e o w =
       clock_fe = now;
       ordered =
           subst (Ordered w.closed (passed_count (latest ils)) 0) (ord-open-fe s first now ils w.joined di df w.clock_il w.clock_fe w.no_fe (legal-of Fe s o.fit))
-          (ordered w.closed (passed_count (latest ils)) 0 (machines ils [] w.joined di df w.clock_il w.clock_fe) (OpenMachine Fe s.connection first now) tt (let a = w.fe_within in let b = o.timely in omega (arith, a, b)) refl w.ordered);
+          (ordered law w.closed (passed_count (latest ils)) 0 (machines ils [] w.joined di df w.clock_il w.clock_fe) (OpenMachine Fe s.connection first now) tt (let a = w.fe_within in let b = o.timely in omega (arith, a, b)) refl w.ordered);
       il_within = w.il_within;
       fe_within = omega arith;
       il_knows = knows-opened (new_end Fe s first now) (latest ils) w.il_knows;
@@ -562,8 +565,8 @@ abbrev pub OrdAt : World → Type 0
 OrdAt w = OrdWorld w.ils w.fes w.dead_il w.dead_fe
 
 ord-changed : (p : OrderLaws) (e : Event) (w : World) → IsTyped e → refusal e w ≡ None → GenuineEvent e w → FaithfulEvent e w → AheadOf (changed e w).ils (changed e w).fes → AheadOf w.ils w.fes → PairedWorld w → MappedWorld w → OrdAt w → OrdAt (changed e w)
-ord-changed p (Open Il s first now) w t ok g f a b k h o = opened-il s first now w.ils w.fes w.dead_il w.dead_fe f (opens Il s now (latest w.ils) ok) o
-ord-changed p (Open Fe s first now) w t ok g f a b k h o = opened-fe s first now w.ils w.fes w.dead_il w.dead_fe f (opens Fe s now (latest (ends_of w.fes)) ok) o
+ord-changed p (Open Il s first now) w t ok g f a b k h o = opened-il p.laws.below.events s first now w.ils w.fes w.dead_il w.dead_fe f (opens Il s now (latest w.ils) ok) o
+ord-changed p (Open Fe s first now) w t ok g f a b k h o = opened-fe p.laws.below.events s first now w.ils w.fes w.dead_il w.dead_fe f (opens Fe s now (latest (ends_of w.fes)) ok) o
 ord-changed p (Calls Il c) w t ok g f a b k h o = ord-calls-il p c w.ils w.fes w.dead_il w.dead_fe (typed-call Il c t) ok g f a b k h o
 ord-changed p (Calls Fe c) w t ok g f a b k h o = ord-calls-fe p c w.ils w.fes w.dead_il w.dead_fe (typed-call Fe c t) ok g f a b k h o
 

@@ -40,7 +40,8 @@ use Rattle.safe_machine.specs.Made.{leaving_body}
 use Rattle.red_layer.specs.Redundancy.{Receiver}
 use Rattle.end_settings.specs.EndSettings.{EndSettings, connection_of, are_fit}
 use Rattle.stack_engine.specs.Bounds.{IsSmallItem}
-use Rattle.stack_engine.proofs.Keeping.{Keeps, AreOctets, IsTypedInput, IsTypedCall, keep-part, keep-settle, call-keeps}
+use Rattle.octets.specs.Octets.{AreOctets}
+use Rattle.stack_engine.proofs.Keeping.{Keeps, IsTypedInput, IsTypedCall, keep-part, keep-settle, call-keeps}
 use Rattle.stack_engine.proofs.Spoken.{Below}
 use Rattle.stack_engine.proofs.Sending.{and-parts, legal-of, limits-of}
 use Rattle.stack_engine.proofs.Machined.{Whole, OctetsUp, OctetPart, whole-keeps, red-keeps, read-heard, legal-role}
@@ -230,7 +231,7 @@ grows-heard : Layers → (side : Side) (now : ℕ) (octets : List ℕ) (x : EndS
 grows-heard laws side now octets x octs h =
     let s = arrive_octets octets now x.machine in
     let m = heard_as (seen_by x.machine octets) now in
-    let few = few-made laws.few side m x (read-heard now octets x.machine octs (seen_by x.machine octets) refl) h in
+    let few = few-made laws.few side m x (read-heard laws.below.heard now octets x.machine octs (seen_by x.machine octets) refl) h in
     let up = takes-units (handed_up x s) x.session (handed-few laws.below.moves m x) in
     let y = answered octets x s in
     let d = (judge_units (handed_up x s) x.session).left in

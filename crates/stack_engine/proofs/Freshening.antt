@@ -31,7 +31,8 @@ use Rattle.stack_engine.specs.Premise.{IsGenuine, AtParts, AtInput, AtCall, AtOp
 use Rattle.stack_engine.specs.Headline.{taken_at}
 use Rattle.stack_engine.specs.Freshness.{TakesFresh, FreshCall, FreshEvent, AllFresh, Freshness}
 use Rattle.stack_engine.proofs.Keeping.{Keeps, IsTypedCall, IsTypedInput, keep-settle, keep-part}
-use Rattle.stack_engine.proofs.Reached.{Reached, il_at, fe_at, genuine-push, timely-push}
+use Rattle.safe_machine.specs.InOrder.{OneMoreLaw as EventsLaw}
+use Rattle.stack_engine.proofs.Reached.{Reached, il_at, fe_at}
 use Rattle.stack_engine.proofs.Hearing.{genuine-heard, rule-same}
 use Rattle.stack_engine.proofs.Spoken.{drop-front}
 use Rattle.stack_engine.proofs.Mapping.{Laws, Comes, PeerIs, IlAt, FeAt, il-keeps, fe-keeps, live-same}
@@ -92,19 +93,20 @@ by-read law side now octets x peer same fresh (Ok p) e takes = (
 )
 
 -- one event more in the world of machines
-at-last : FreshAtLastLaw → (m : M.World) (e : M.Event) → M.GenuineEvent m e → M.TimelyEvent m e → Reached m → L.FreshEvent m e
-at-last law m e g t r =
+at-last : EventsLaw → FreshAtLastLaw → (m : M.World) (e : M.Event) → M.GenuineEvent m e → M.TimelyEvent m e → Reached m → L.FreshEvent m e
+at-last events law m e g t r =
+    let one = events r.events e in
     subst (λ w. L.FreshEvent w e) r.leads
-    (law r.events e (genuine-push r.events e M.start r.genuine (subst (λ w. M.GenuineEvent w e) (sym r.leads) g))
-    (timely-push r.events e M.start r.timely (subst (λ w. M.TimelyEvent w e) (sym r.leads) t)))
+    (law r.events e (one.genuine M.start r.genuine (subst (λ w. M.GenuineEvent w e) (sym r.leads) g))
+    (one.timely M.start r.timely (subst (λ w. M.TimelyEvent w e) (sym r.leads) t)))
 
 il-fresh : Laws → FreshAtLastLaw → (m : M.World) (peer : Option EndState) (dead now : ℕ) → PeerIs peer dead m.fe m.dead_fe → (x : EndState) (octets : List ℕ) → IlAt m now x → Comes peer dead x octets
     → TakesFresh now (made_of peer) x octets
 il-fresh laws law m peer dead now is x octets h q =
     by-read laws.below.moves Il now octets x (made_of peer) h.whole.machined.same
     (λ p e took.
-    let g = subst (λ live. M.GenuineAt x.machine p live) (live-same peer dead m.fe m.dead_fe is) (genuine-heard laws.complete Il x peer dead now octets h.whole.machined.same is.texts q.1 (Ok p) e) in
-    subst (λ ms. Fresh x.machine p now ms) is.made (at-last law (il_at x.machine h.clock m) (Arrive Il p now) g h.within h.reached took))
+    let g = subst (λ live. M.GenuineAt x.machine p live) (live-same peer dead m.fe m.dead_fe is) (genuine-heard laws.texts_read Il x peer dead now octets h.whole.machined.same is.texts q.1 (Ok p) e) in
+    subst (λ ms. Fresh x.machine p now ms) is.made (at-last laws.below.events law (il_at x.machine h.clock m) (Arrive Il p now) g h.within h.reached took))
     (seen_by x.machine octets) refl
 
 fe-fresh : Laws → FreshAtLastLaw → (ils : List EndState) (f : JoinedEnd) (m : M.World) (dead now : ℕ) → PeerIs (latest ils) dead m.il m.dead_il → (x : EndState) (octets : List ℕ) → FeAt ils f m now x
@@ -112,9 +114,9 @@ fe-fresh : Laws → FreshAtLastLaw → (ils : List EndState) (f : JoinedEnd) (m 
 fe-fresh laws law ils f m dead now is x octets h q =
     by-read laws.below.moves Fe now octets x (made_of (latest ils)) h.whole.machined.same
     (λ p e took.
-    let g = subst (λ live. M.GenuineAt x.machine p live) (live-same (latest ils) dead m.il m.dead_il is) (genuine-heard laws.complete Fe x (latest ils) dead now octets h.whole.machined.same is.texts q.1 (Ok p) e) in
+    let g = subst (λ live. M.GenuineAt x.machine p live) (live-same (latest ils) dead m.il m.dead_il is) (genuine-heard laws.texts_read Fe x (latest ils) dead now octets h.whole.machined.same is.texts q.1 (Ok p) e) in
     subst (λ ms. Fresh x.machine p now ms) is.made
-    (at-last law (fe_at x.machine (joined_by ils f.joined f.end.request x.request) h.clock m) (Arrive Fe p now) g h.within h.reached took))
+    (at-last laws.below.events law (fe_at x.machine (joined_by ils f.joined f.end.request x.request) h.clock m) (Arrive Fe p now) g h.within h.reached took))
     (seen_by x.machine octets) refl
 
 fresh-il : (laws : Laws) → TextsLaw → FreshAtLastLaw → (c : Call) (x : EndState) (before : List EndState) (fes : List JoinedEnd) (di df : ℕ) → IsTypedCall c → x.time ≤ time_of c

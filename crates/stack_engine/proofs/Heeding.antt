@@ -3,24 +3,16 @@ use Rattle.std.proofs.Common.{◌≡◌, ℕ, List, [], ◌∷◌, ◌++◌, len
 use Rattle.std.specs.Prelude.{is_none}
 use Rattle.std.specs.List.{AllByRecursion}
 use Rattle.std.proofs.lemmas.Bool.{false≢true}
-use Rattle.octets.proofs.Choices.{by_cond, by_test}
+use Rattle.octets.proofs.Choices.{by_test}
 use Rattle.packing.specs.declared.PackFault.{PackFault}
 use Rattle.packing.specs.Places.{unit_seen}
 use Rattle.sci_telegram.specs.declared.TeleFault.{TeleFault}
 use Rattle.sci_telegram.specs.Tele.{Tele}
 use Rattle.sci_telegram.specs.Places.{tele_seen}
-use Rattle.pdi_session.specs.declared.Phase.{Phase}
-use Rattle.pdi_session.specs.declared.Phase.TheVariants.{Idle, Checking, Requesting, AwaitCheck, AwaitRequest, Refused, Initialising, Established, Ended}
 use Rattle.pdi_session.specs.declared.Detail.{Detail as SessionDetail}
-use Rattle.pdi_session.specs.declared.Verdict.{Verdict}
-use Rattle.pdi_session.specs.declared.Verdict.TheVariants.{Ends}
-use Rattle.pdi_session.specs.Settings.{Role, Interlocking, Field}
-use Rattle.pdi_session.specs.Telegrams.{form_of, is_addressed}
-use Rattle.pdi_session.specs.Tables.{at_up, table}
-use Rattle.pdi_session.specs.SessionStep.{Event, Arrives, Puts, InitDone as Completes, Closes, SessionState, end_of, init_refusal, judged, phase_after, phase_by, taken_by}
+use Rattle.pdi_session.specs.SessionStep.{Event, Up as GoesUp, Arrives, Puts, InitDone as Completes, Closes, SessionState, end_of, judged, phase_after, taken_by}
 use Rattle.pdi_session.specs.Histories.{History, ends_by, handed_by, is_ended}
-use Rattle.pdi_session.specs.Laws.{TakenLaw, items_of}
-use Rattle.pdi_session.proofs.Rows.{InterlockingRow, IlOver, IlEqual, IlBegins, IlInitial, IlDone, IlStatus, FieldRow, FeOver, FeEqual, FeDiffers, FeAsked, FeCommand, interlocking_row, field_row}
+use Rattle.pdi_session.specs.Laws.{OverLaw, TakenLaw, items_of}
 use Rattle.safe_machine.specs.declared.Reason.TheVariants.{ClosedByUser}
 use Rattle.safe_machine.specs.declared.Detail.TheVariants.{Unspecified}
 use Rattle.safe_machine.specs.State.{State, leave}
@@ -38,53 +30,10 @@ use Rattle.stack_engine.specs.Settled.{messages_in, telegrams_in}
 use Rattle.stack_engine.proofs.Talking.{Talk, talk-units, Hearing, hearing-units}
 use Rattle.stack_engine.proofs.Spoken.{Below, Spoken, Still, still-by, HandsUp, hands-up, came, came-more, was-open, drop-front}
 
--- A session is over by a telegram that ends it or by closing alone. (No clause of session_law says so.)
-row-on : (own : ℕ) (phase : Phase) (v : Verdict) (form : _) → InterlockingRow own phase form v → is_ended phase ≡ false → end_of v ≡ None → is_ended (phase_by phase v) ≡ false
-row-on own phase v form (IlOver why e) on none = let no : Some why ≡ None = sym (ap end_of e) ∙ none in cc
-row-on own phase v form (IlEqual p f e) on none = ap (λ w. is_ended (phase_by phase w)) e
-row-on own phase v form (IlBegins p f e) on none = ap (λ w. is_ended (phase_by phase w)) e
-row-on own phase v form (IlInitial p f e) on none = ap (λ w. is_ended (phase_by phase w)) e ∙ on
-row-on own phase v form (IlDone p f e) on none = ap (λ w. is_ended (phase_by phase w)) e
-row-on own phase v form (IlStatus p f e) on none = ap (λ w. is_ended (phase_by phase w)) e ∙ on
-
-field-on : (versions : List ℕ) (phase : Phase) (v : Verdict) (form : _) → FieldRow versions phase form v → is_ended phase ≡ false → end_of v ≡ None → is_ended (phase_by phase v) ≡ false
-field-on versions phase v form (FeOver why e) on none = let no : Some why ≡ None = sym (ap end_of e) ∙ none in cc
-field-on versions phase v form (FeEqual version p f e) on none = ap (λ w. is_ended (phase_by phase w)) e
-field-on versions phase v form (FeDiffers version p f e) on none = ap (λ w. is_ended (phase_by phase w)) e
-field-on versions phase v form (FeAsked p f e) on none = ap (λ w. is_ended (phase_by phase w)) e
-field-on versions phase v form (FeCommand p f e) on none = ap (λ w. is_ended (phase_by phase w)) e ∙ on
-
-table-on : (role : Role) (phase : Phase) (form : _) → is_ended phase ≡ false → end_of (table role phase form) ≡ None → is_ended (phase_by phase (table role phase form)) ≡ false
-table-on (Interlocking version) phase form on none = row-on version phase _ form (interlocking_row version phase form) on none
-table-on (Field versions checksum) phase form on none = field-on versions phase _ form (field_row versions phase form) on none
-
-pub arrives-on : (s : SessionState) (t : Tele) → is_ended s.phase ≡ false → end_of (judged s t) ≡ None → is_ended (phase_after (Arrives t) s) ≡ false
-arrives-on s t on none =
-    by_cond (λ v. end_of v ≡ None → is_ended (phase_by s.phase v) ≡ false) (is_addressed s.addressing t) (table s.role s.phase (form_of t.kind t.payload)) (Ends _)
-    (λ _ none. table-on s.role s.phase (form_of t.kind t.payload) on none) (λ _ no. cc) none
-
-up-on : (role : Role) (phase : Phase) → is_ended phase ≡ false → is_ended (phase_by phase (at_up role phase)) ≡ false
-up-on (Interlocking version) Idle on = refl
-up-on (Interlocking version) Checking on = refl
-up-on (Interlocking version) Requesting on = refl
-up-on (Interlocking version) AwaitCheck on = refl
-up-on (Interlocking version) AwaitRequest on = refl
-up-on (Interlocking version) Refused on = refl
-up-on (Interlocking version) Initialising on = refl
-up-on (Interlocking version) Established on = refl
-up-on (Interlocking version) Ended on = on
-up-on (Field versions checksum) Idle on = refl
-up-on (Field versions checksum) Checking on = refl
-up-on (Field versions checksum) Requesting on = refl
-up-on (Field versions checksum) AwaitCheck on = refl
-up-on (Field versions checksum) AwaitRequest on = refl
-up-on (Field versions checksum) Refused on = refl
-up-on (Field versions checksum) Initialising on = refl
-up-on (Field versions checksum) Established on = refl
-up-on (Field versions checksum) Ended on = on
-
-done-on : (s : SessionState) (waits : ℕ) → is_ended s.phase ≡ false → is_ended (phase_after (Completes waits) s) ≡ false
-done-on s waits on = by_cond (λ p. is_ended p ≡ false) (is_none (init_refusal s waits)) Established s.phase (λ _. refl) (λ _. on)
+-- a telegram that does not end a session leaves it on
+arrives-on : OverLaw → (s : SessionState) (t : Tele) → is_ended s.phase ≡ false → end_of (judged s t) ≡ None → is_ended (phase_after (Arrives t) s) ≡ false
+arrives-on law s t on none =
+    law (Arrives t) s on (ap (λ b. not b && not (is_none (end_of (judged s t)))) on ∙ ap (λ o. not (is_none o)) none) (λ same. cc)
 
 -- what was ended stays so
 kept-none : {X : Type 0} (b : Bool) (x : X) (old : Option X) → cond b (Some x) old ≡ None → old ≡ None
@@ -118,14 +67,14 @@ pub none-ended : (o : Option SessionDetail) → if_ended o ≡ None → o ≡ No
 none-ended None e = refl
 none-ended (Some why) e = cc
 
-pub heeding-read : (m : List ℕ) (seen : Result Tele TeleFault) (d : Dialogue) → tele_seen m ≡ seen → Heeding (Reads m) d (judge_read seen d)
-heeding-read m (Ok t) d e =
+pub heeding-read : OverLaw → (m : List ℕ) (seen : Result Tele TeleFault) (d : Dialogue) → tele_seen m ≡ seen → Heeding (Reads m) d (judge_read seen d)
+heeding-read law m (Ok t) d e =
     record {
-      on = λ none on. arrives-on (session_in d) t on (none-ended (end_of (judged (session_in d) t)) none);
+      on = λ none on. arrives-on law (session_in d) t on (none-ended (end_of (judged (session_in d) t)) none);
       goes = λ on good none. heeding-by d t (end_of (judged (session_in d) t)) refl on none;
       back = λ none. kept-none (ends_by (Arrives t) (session_in d)) (phase_in d) d.history.ended_in none;
     }
-heeding-read m (Err fault) d e =
+heeding-read law m (Err fault) d e =
     record {
       on = λ none on. cc;
       goes = λ on good none. let no : Ok good.0 ≡ Err fault = sym good.1 ∙ e in cc;
@@ -146,15 +95,15 @@ heeding-then A B d first rest (Some why) e h k =
       back = λ none. h.back none;
     }
 
-heeding-messages : (ms : List (List ℕ)) (d : Dialogue) → Heeding (AllByRecursion Reads ms) d (judge_messages ms d)
-heeding-messages [] d = record { on = λ _ on. on; goes = λ _ _ _. refl; back = λ none. none }
-heeding-messages (m ∷ ms) d =
+heeding-messages : OverLaw → (ms : List (List ℕ)) (d : Dialogue) → Heeding (AllByRecursion Reads ms) d (judge_messages ms d)
+heeding-messages law [] d = record { on = λ _ on. on; goes = λ _ _ _. refl; back = λ none. none }
+heeding-messages law (m ∷ ms) d =
     let first = judge_read (tele_seen m) d in
-    heeding-then (Reads m) (AllByRecursion Reads ms) d first (judge_messages ms first.left) first.leaving refl (heeding-read m (tele_seen m) d refl) (heeding-messages ms first.left)
+    heeding-then (Reads m) (AllByRecursion Reads ms) d first (judge_messages ms first.left) first.leaving refl (heeding-read law m (tele_seen m) d refl) (heeding-messages law ms first.left)
 
-pub heeding-unpacked : (u : List ℕ) (seen : Result (List (List ℕ)) PackFault) (d : Dialogue) → unit_seen u ≡ seen → Heeding (IsGood u) d (judge_unpacked seen d)
-heeding-unpacked u (Ok ms) d e =
-    let h = heeding-messages ms d in
+pub heeding-unpacked : OverLaw → (u : List ℕ) (seen : Result (List (List ℕ)) PackFault) (d : Dialogue) → unit_seen u ≡ seen → Heeding (IsGood u) d (judge_unpacked seen d)
+heeding-unpacked law u (Ok ms) d e =
+    let h = heeding-messages law ms d in
     record {
       on = h.on;
       goes = λ on good none.
@@ -162,18 +111,18 @@ heeding-unpacked u (Ok ms) d e =
           h.goes on (subst (λ ns. AllByRecursion Reads ns) same good.2) none;
       back = h.back;
     }
-heeding-unpacked u (Err fault) d e =
+heeding-unpacked law u (Err fault) d e =
     record {
       on = λ none on. cc;
       goes = λ on good none. let no : Ok good.0 ≡ Err fault = sym good.1 ∙ e in cc;
       back = λ none. none;
     }
 
-pub heeding-units : (us : List (List ℕ)) (d : Dialogue) → Heeding (AreGood us) d (judge_units us d)
-heeding-units [] d = record { on = λ _ on. on; goes = λ _ _ _. refl; back = λ none. none }
-heeding-units (u ∷ us) d =
+pub heeding-units : OverLaw → (us : List (List ℕ)) (d : Dialogue) → Heeding (AreGood us) d (judge_units us d)
+heeding-units law [] d = record { on = λ _ on. on; goes = λ _ _ _. refl; back = λ none. none }
+heeding-units law (u ∷ us) d =
     let first = judge_unpacked (unit_seen u) d in
-    heeding-then (IsGood u) (AreGood us) d first (judge_units us first.left) first.leaving refl (heeding-unpacked u (unit_seen u) d refl) (heeding-units us first.left)
+    heeding-then (IsGood u) (AreGood us) d first (judge_units us first.left) first.leaving refl (heeding-unpacked law u (unit_seen u) d refl) (heeding-units law us first.left)
 
 -- an end by itself
 pub record Heeds (x : EndState) : Type 0 where
@@ -206,9 +155,9 @@ pub good-front : (us vs : List (List ℕ)) → AreGood (us ++ vs) → AreGood us
 good-front [] vs h = (tt, h)
 good-front (u ∷ us) vs h = let r = good-front us vs h.1 in ((h.0, r.0), r.1)
 
-rises-on : (b : Bool) (d : Dialogue) → is_ended (phase_in d) ≡ false → is_ended (phase_in (rises b d)) ≡ false
-rises-on true d on = up-on (session_in d).role (phase_in d) on
-rises-on false d on = on
+rises-on : OverLaw → (b : Bool) (d : Dialogue) → is_ended (phase_in d) ≡ false → is_ended (phase_in (rises b d)) ≡ false
+rises-on law true d on = law GoesUp (session_in d) on refl (λ same. cc)
+rises-on law false d on = on
 
 pub rises-same : (b : Bool) (d : Dialogue) → ((rises b d).history.judged ≡ d.history.judged) × ((rises b d).history.taken ≡ d.history.taken) × ((rises b d).history.ended_in ≡ d.history.ended_in)
 rises-same true d = (append-nil d.history.judged, append-nil d.history.taken, refl)
@@ -239,7 +188,7 @@ heeds-hears laws law side now octets x sp h =
     let d = x.session in
     let j = judge_units us d in
     let hear : Hearing d (telegrams_in (messages_in us)) j = hearing-units us d in
-    let heed : Heeding (AreGood us) d j = heeding-units us d in
+    let heed : Heeding (AreGood us) d j = heeding-units laws.over us d in
     let up = comes_up x.machine.connection s.connection in
     let same = rises-same up j.left in
     let y = answered octets x s in
@@ -267,7 +216,7 @@ heeds-hears laws law side now octets x sp h =
     (λ open-still _.
     let on : is_ended (phase_in d) ≡ false = h.on open-still in
     record {
-      on = λ none _. rises-on up j.left (heed.on none on);
+      on = λ none _. rises-on laws.over up j.left (heed.on none on);
       judged = λ none good.
           let none-left : j.left.history.ended_in ≡ None = sym same.2 ∙ none in
           same.0 ∙ hear.judged
@@ -314,5 +263,5 @@ heeds-kept laws law side now =
             taken = λ none good. h.taken none (subst AreGood same good);
           };
       puts = λ kind payload x h. heeds-meets (Puts kind payload (length x.session.waiting)) x refl refl refl (λ _ on. on) h;
-      dones = λ x h. heeds-meets (Completes (length x.session.waiting)) x refl refl refl (λ _ on. done-on (session_in x.session) (length x.session.waiting) on) h;
+      dones = λ x h. heeds-meets (Completes (length x.session.waiting)) x refl refl refl (λ _ on. laws.over (Completes (length x.session.waiting)) (session_in x.session) on refl (λ same. cc)) h;
     }

@@ -9,7 +9,7 @@ use Rattle.sci_telegram.specs.Tele.{Tele}
 use Rattle.sci_telegram.specs.Places.{tele_seen}
 use Rattle.pdi_session.specs.SessionStep.{Event, Up as GoesUp, Arrives, Puts, InitDone as Completes, Closes}
 use Rattle.pdi_session.specs.Histories.{History, begun, grown, grown_along, handed_by, is_ended}
-use Rattle.pdi_session.specs.Laws.{IsBeginning}
+use Rattle.pdi_session.specs.Laws.{OverLaw, IsBeginning}
 use Rattle.pdi_session.specs.Settings.{first_version}
 use Rattle.pdi_session.specs.JoinedSessions.{Joined, JoinedEvent, AtIl, AtFe, InTurn, IsNext, OneMoreLaw, happen, happens, joined}
 use Rattle.safe_machine.specs.State.{State}
@@ -84,31 +84,31 @@ module _ (y : History) (J : History → Type 0) (more : (e : Event) (x : History
       by-leaving first.leaving first rest there
       (λ none. other (heed.on none on) (subst (λ ts. IsBeginning (ts ++ b) y.queue) (sym (hear.judged ∙ ap (λ ts. d.history.judged ++ ts) (hear.whole none))) line) there) refl
 
-  joint-messages : (ms : List (List ℕ)) (d : Dialogue) → is_ended (phase_in d) ≡ false → IsBeginning (d.history.judged ++ telegrams_in ms) y.queue → J d.history
+  joint-messages : OverLaw → (ms : List (List ℕ)) (d : Dialogue) → is_ended (phase_in d) ≡ false → IsBeginning (d.history.judged ++ telegrams_in ms) y.queue → J d.history
       → J (judge_messages ms d).left.history
-  joint-messages [] d on begins h = h
-  joint-messages (m ∷ ms) d on begins h =
+  joint-messages law [] d on begins h = h
+  joint-messages law (m ∷ ms) d on begins h =
       let seen = tele_seen m in
       let first = judge_read seen d in
-      joint-then (found_telegram seen) (telegrams_in ms) d first (judge_messages ms first.left) (Reads m) (hearing-read seen d) (heeding-read m seen d refl) on begins
+      joint-then (found_telegram seen) (telegrams_in ms) d first (judge_messages ms first.left) (Reads m) (hearing-read seen d) (heeding-read law m seen d refl) on begins
       (λ front. joint-read seen d on front h)
-      (λ on-then rest there. joint-messages ms first.left on-then rest there)
+      (λ on-then rest there. joint-messages law ms first.left on-then rest there)
 
-  joint-unpacked : (seen : Result (List (List ℕ)) PackFault) (d : Dialogue) → is_ended (phase_in d) ≡ false → IsBeginning (d.history.judged ++ telegrams_in (found_messages seen)) y.queue → J d.history
+  joint-unpacked : OverLaw → (seen : Result (List (List ℕ)) PackFault) (d : Dialogue) → is_ended (phase_in d) ≡ false → IsBeginning (d.history.judged ++ telegrams_in (found_messages seen)) y.queue → J d.history
       → J (judge_unpacked seen d).left.history
-  joint-unpacked (Ok ms) d on begins h = joint-messages ms d on begins h
-  joint-unpacked (Err fault) d on begins h = h
+  joint-unpacked law (Ok ms) d on begins h = joint-messages law ms d on begins h
+  joint-unpacked law (Err fault) d on begins h = h
 
-  joint-units : (us : List (List ℕ)) (d : Dialogue) → is_ended (phase_in d) ≡ false → IsBeginning (d.history.judged ++ telegrams_in (messages_in us)) y.queue → J d.history
+  joint-units : OverLaw → (us : List (List ℕ)) (d : Dialogue) → is_ended (phase_in d) ≡ false → IsBeginning (d.history.judged ++ telegrams_in (messages_in us)) y.queue → J d.history
       → J (judge_units us d).left.history
-  joint-units [] d on begins h = h
-  joint-units (u ∷ us) d on begins h =
+  joint-units law [] d on begins h = h
+  joint-units law (u ∷ us) d on begins h =
       let seen = unit_seen u in
       let first = judge_unpacked seen d in
-      joint-then (telegrams_in (found_messages seen)) (telegrams_in (messages_in us)) d first (judge_units us first.left) (IsGood u) (hearing-unpacked seen d) (heeding-unpacked u seen d refl) on
+      joint-then (telegrams_in (found_messages seen)) (telegrams_in (messages_in us)) d first (judge_units us first.left) (IsGood u) (hearing-unpacked seen d) (heeding-unpacked law u seen d refl) on
       (subst (λ ts. IsBeginning (d.history.judged ++ ts) y.queue) (telegrams-append (found_messages seen) (messages_in us)) begins)
-      (λ front. joint-unpacked seen d on front h)
-      (λ on-then rest there. joint-units us first.left on-then rest there)
+      (λ front. joint-unpacked law seen d on front h)
+      (λ on-then rest there. joint-units law us first.left on-then rest there)
 
   joint-rises : (b : Bool) (d : Dialogue) → J d.history → J (rises b d).history
   joint-rises true d h = more GoesUp d.history tt h
@@ -138,7 +138,7 @@ module _ (y : History) (J : History → Type 0) (more : (e : Event) (x : History
       let nothing : us ≡ [] = ap (λ (t : State). handed_up x t) still ∙ ap (λ ts. drop (length x.machine.taken) ts) (sym (append-nil x.machine.taken)) ∙ drop-front x.machine.taken [] in
       subst (λ vs. J (judge_units vs d).left.history) (sym nothing) h)
       (λ open-still _.
-      joint-units us d (he.on open-still)
+      joint-units laws.over us d (he.on open-still)
       (subst (λ ts. IsBeginning ts y.queue) (all ∙ ap (λ ts. ts ++ telegrams_in (messages_in us)) (sym (sp.whole open-still))) begins) h)
       refl
       in

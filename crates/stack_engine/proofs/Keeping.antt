@@ -1,6 +1,5 @@
 -- What each change of an end keeps, its calls keep.
 use Rattle.std.proofs.Common.{◌≡◌, ℕ, zero, suc, ◌<◌, ◌^◌, true, false, List, [], ◌∷◌, length, cond}
-use Rattle.std.specs.List.{AllByRecursion}
 use Rattle.octets.proofs.Choices.{by_cond}
 use Rattle.red_layer.specs.Parts.{Part, is_nil}
 use Rattle.red_layer.specs.Redundancy.{Input, Datagram, Tick as RedTick, passed_by}
@@ -14,9 +13,7 @@ use Rattle.stack_end.specs.Dialogue.{meets}
 use Rattle.stack_end.specs.Ends.{EndState, is_shut, with_machine, with_session, settle, moved, heard, part, parts, with_input, receives, packed, packed_up_to, sends, goes_on, Call, did, call, time_of}
 use Rattle.stack_end.specs.Ends.Call.{Close, Put, InitDone, Tick, Deliver}
 use Rattle.stack_engine.specs.Premise.{AtParts, AtCall, AtInput}
-
-abbrev pub AreOctets : List ℕ → Type 0
-AreOctets octets = AllByRecursion (λ o. o < 256) octets
+use Rattle.octets.specs.Octets.{AreOctets}
 
 -- what comes is of its type
 abbrev pub IsTypedInput : Input → Type 0

@@ -14,44 +14,27 @@ use Rattle.red_layer.specs.Service.{IsAmong, AreAmong, accepted, arrivals_of}
 use Rattle.red_layer.specs.Laws.{OriginLaw}
 use Rattle.safe_pdu.specs.declared.SafeFault.{SafeFault}
 use Rattle.safe_pdu.specs.Pdu.{Pdu}
+use Rattle.safe_pdu.specs.Laws.{ReadLaw}
 use Rattle.safe_machine.specs.declared.Reason.TheVariants.{ClosedByUser}
 use Rattle.safe_machine.specs.declared.Detail.TheVariants.{Unspecified}
 use Rattle.safe_machine.specs.Settings.{is_legal}
-use Rattle.safe_machine.specs.State.{State, leave, opened, make, unconfirmed}
+use Rattle.safe_machine.specs.State.{State, leave, opened}
 use Rattle.safe_machine.specs.Step.{guard, tick}
-use Rattle.safe_machine.specs.Moves.{Move, move, moved, AreSoundMoves, IsSoundMove, HaveTexts, TextsLaw}
+use Rattle.safe_machine.specs.Moves.{Move, move, moved, AreSoundMoves, IsSoundMove, HaveTexts, TextsLaw, SettingsLaw}
 use Rattle.safe_machine.specs.Moves.Move.{Guards, Hears, Ticks, Sends, Leaves}
 use Rattle.safe_machine.specs.Reached.{IsRead, AreRead}
 use Rattle.safe_machine.specs.Octets.{heard as heard_as, seen_by, arrive_octets}
 use Rattle.safe_machine.specs.World.{Side}
 use Rattle.safe_machine.specs.World.Side.{Il, Fe}
-use Rattle.safe_pdu.specs.declared.Kind.TheVariants.{RetrResp}
-use Rattle.safe_machine.proofs.Kept.{Anything, anything, kept-move}
-use Rattle.safe_machine.proofs.Resending.{resend-settings}
 use Rattle.end_settings.specs.EndSettings.{EndSettings, connection_of, are_fit}
 use Rattle.stack_end.specs.Dialogue.{Leaving, judge_units}
 use Rattle.stack_end.specs.Ends.{EndState, with_machine, handed_up, answered, leaves, heard, packed}
-use Rattle.stack_engine.proofs.Keeping.{Keeps, AreOctets, IsTypedInput}
-use Rattle.stack_engine.proofs.Reading.{numbers-read, body-read}
+use Rattle.octets.specs.Octets.{AreOctets}
+use Rattle.stack_engine.proofs.Keeping.{Keeps, IsTypedInput}
 use Rattle.stack_engine.proofs.Packing.{unit-sized}
 use Rattle.stack_engine.proofs.Talking.{all-append}
 use Rattle.stack_engine.proofs.Spoken.{Below, Spoken}
 use Rattle.stack_engine.proofs.Sending.{packs-some, waits-sized, spoken-keeps, legal-of}
-
--- A move keeps the settings. (No clause of unit_law says so.)
-pub settings-kept : (m : Move) (s : State) → (move m s).settings ≡ s.settings
-settings-kept m s =
-    kept-move Anything Anything (λ (t : State). t.settings ≡ s.settings)
-    record {
-      silent = λ t u same h. same.0 ∙ h;
-      plain = λ kind body now t is fits h. h;
-      passes = λ p d t a h. h;
-      confirms = λ p t fits h. h;
-      accepts = λ now t h. h;
-      sends = λ unit now t a h. h;
-      replies = λ now t h. resend-settings (unconfirmed t) now (make RetrResp [] now t) ∙ h;
-    }
-    m s (anything m) refl
 
 -- all octets of a part
 abbrev pub OctetPart : Part → Type 0
@@ -88,10 +71,10 @@ sound-read [] h = tt
 sound-read (m ∷ ms) h = (sound-one m h.0, sound-read ms h.1)
 
 -- the machine alone moves
-pub machined-move : (side : Side) (m : Move) (x y : EndState) → IsRead m → y.settings ≡ x.settings → y.red ≡ x.red → y.machine ≡ move m x.machine → Machined side x → Machined side y
-machined-move side m x y read a b c h =
+pub machined-move : SettingsLaw → (side : Side) (m : Move) (x y : EndState) → IsRead m → y.settings ≡ x.settings → y.red ≡ x.red → y.machine ≡ move m x.machine → Machined side x → Machined side y
+machined-move law side m x y read a b c h =
     record {
-      same = ap (λ (s : State). s.settings) c ∙ settings-kept m x.machine ∙ h.same ∙ ap (connection_of side) (sym a);
+      same = ap (λ (s : State). s.settings) c ∙ law m x.machine ∙ h.same ∙ ap (connection_of side) (sym a);
       first = h.first;
       began = h.began;
       moves = h.moves ++ m ∷ [];
@@ -124,19 +107,19 @@ machined-texts law side x fit h =
     subst (λ (s : State). HaveTexts s.made) (sym h.machine) (law (connection_of side x.settings) h.first h.began h.moves (legal-role side x.settings (legal-of side x.settings fit)) (sound-read h.moves h.read))
 
 -- the move that octets make was read
-pub read-heard : (now : ℕ) (octets : List ℕ) (s : State) → AreOctets octets → (r : Result Pdu SafeFault) → seen_by s octets ≡ r → IsRead (heard_as r now)
-read-heard now octets s octs (Ok p) e = (numbers-read s.settings.rule octets p octs e, body-read s.settings.rule octets p e)
-read-heard now octets s octs (Err fault) e = tt
+pub read-heard : ReadLaw → (now : ℕ) (octets : List ℕ) (s : State) → AreOctets octets → (r : Result Pdu SafeFault) → seen_by s octets ≡ r → IsRead (heard_as r now)
+read-heard law now octets s octs (Ok p) e = let text = law p s.settings.rule octets octs e in (text.numbers, text.body)
+read-heard law now octets s octs (Err fault) e = tt
 
-machined-leaves : (side : Side) (now : ℕ) (why : Option Leaving) (y : EndState) → Machined side y → Machined side (leaves now why y)
-machined-leaves side now None y h = h
-machined-leaves side now (Some why) y h = machined-move side (Leaves why.0 why.1 now) y (leaves now (Some why) y) tt refl refl refl h
+machined-leaves : SettingsLaw → (side : Side) (now : ℕ) (why : Option Leaving) (y : EndState) → Machined side y → Machined side (leaves now why y)
+machined-leaves law side now None y h = h
+machined-leaves law side now (Some why) y h = machined-move law side (Leaves why.0 why.1 now) y (leaves now (Some why) y) tt refl refl refl h
 
-machined-hears : (side : Side) (now : ℕ) (octets : List ℕ) (x : EndState) → AreOctets octets → Machined side x → Machined side (heard now octets x)
-machined-hears side now octets x octs h =
+machined-hears : Below → (side : Side) (now : ℕ) (octets : List ℕ) (x : EndState) → AreOctets octets → Machined side x → Machined side (heard now octets x)
+machined-hears laws side now octets x octs h =
     let s = arrive_octets octets now x.machine in
-    machined-leaves side now (judge_units (handed_up x s) x.session).leaving (answered octets x s)
-    (machined-move side (heard_as (seen_by x.machine octets) now) x (answered octets x s) (read-heard now octets x.machine octs (seen_by x.machine octets) refl) refl refl refl h)
+    machined-leaves laws.settings side now (judge_units (handed_up x s) x.session).leaving (answered octets x s)
+    (machined-move laws.settings side (heard_as (seen_by x.machine octets) now) x (answered octets x s) (read-heard laws.heard now octets x.machine octs (seen_by x.machine octets) refl) refl refl refl h)
 
 -- parts among octets are octets
 among-one : (p : Part) (qs : List Part) → AllByRecursion OctetPart qs → IsAmong p qs → OctetPart p
@@ -193,11 +176,11 @@ pub whole-keeps : Below → OriginLaw → (side : Side) (now : ℕ) → Keeps no
 whole-keeps laws origin side now =
     let k : Keeps now OctetsUp (Spoken side) = spoken-keeps laws side now OctetsUp in
     record {
-      guards = λ x h. record { spoken = k.guards x h.spoken; machined = machined-move side (Guards now) x (with_machine (guard now x.machine) x) tt refl refl refl h.machined };
-      ticks = λ x h. record { spoken = k.ticks x h.spoken; machined = machined-move side (Ticks now) x (with_machine (tick now x.machine) x) tt refl refl refl h.machined };
+      guards = λ x h. record { spoken = k.guards x h.spoken; machined = machined-move laws.settings side (Guards now) x (with_machine (guard now x.machine) x) tt refl refl refl h.machined };
+      ticks = λ x h. record { spoken = k.ticks x h.spoken; machined = machined-move laws.settings side (Ticks now) x (with_machine (tick now x.machine) x) tt refl refl refl h.machined };
       closes = λ x h. record {
         spoken = k.closes x h.spoken;
-        machined = machined-move side (Leaves ClosedByUser Unspecified now) x (with_machine (leave ClosedByUser Unspecified now x.machine) x) tt refl refl refl h.machined;
+        machined = machined-move laws.settings side (Leaves ClosedByUser Unspecified now) x (with_machine (leave ClosedByUser Unspecified now x.machine) x) tt refl refl refl h.machined;
       };
       ends = λ x shut h. record { spoken = k.ends x shut h.spoken; machined = machined-same side x _ refl refl refl h.machined };
       inputs = λ i x t h. record {
@@ -213,12 +196,12 @@ whole-keeps laws origin side now =
               waits = (red-keeps origin i x.red t h.machined.waits).1;
             };
       };
-      hears = λ octets x q h. record { spoken = k.hears octets x q h.spoken; machined = machined-hears side now octets x q h.machined };
+      hears = λ octets x q h. record { spoken = k.hears octets x q h.spoken; machined = machined-hears laws side now octets x q h.machined };
       sends = λ x may some h. record {
         spoken = k.sends x may some h.spoken;
         machined =
             let few = packs-some side x.settings h.spoken.fit in
-            machined-move side (Sends (unit_text (take x.settings.n_maxpacket x.session.waiting)) now) x (packed now x)
+            machined-move laws.settings side (Sends (unit_text (take x.settings.n_maxpacket x.session.waiting)) now) x (packed now x)
             (unit-sized x.settings.n_maxpacket x.session.waiting few.0 few.1 some (waits-sized side x h.spoken)) refl refl refl h.machined;
       };
       puts = λ kind payload x fits h. record { spoken = k.puts kind payload x fits h.spoken; machined = machined-same side x _ refl refl refl h.machined };

@@ -26,9 +26,11 @@ use Rattle.stack_end.specs.Ends.{EndState, is_shut, noted, handed_up, settle, an
 use Rattle.stack_end.specs.Ends.Call.{Close, Put, InitDone, Tick, Deliver}
 use Rattle.stack_engine.specs.Pairs.{JoinedEnd, made_of, has_made, latest, latest_maker, joined_by}
 use Rattle.stack_engine.specs.Premise.{is_live, IsGenuine, AtParts, AtInput, AtCall}
-use Rattle.stack_engine.proofs.Keeping.{Keeps, AreOctets, IsTypedCall, IsTypedInput}
+use Rattle.octets.specs.Octets.{AreOctets}
+use Rattle.stack_engine.proofs.Keeping.{Keeps, IsTypedCall, IsTypedInput}
+use Rattle.safe_machine.specs.InOrder.{OneMoreLaw as EventsLaw}
 use Rattle.stack_engine.proofs.Reached.{Reached, il_at, fe_at, il-moves, fe-moves, GenuineMove, move_time}
-use Rattle.stack_engine.proofs.Hearing.{CompleteLaw, TextsOf, genuine-heard, asked-heard, not-shut}
+use Rattle.stack_engine.proofs.Hearing.{TextLaws, TextsOf, genuine-heard, asked-heard, not-shut}
 use Rattle.stack_engine.proofs.Sending.{and-parts}
 use Rattle.stack_engine.proofs.Spoken.{Below}
 use Rattle.stack_engine.proofs.Machined.{Whole, OctetsUp, OctetPart, whole-keeps, red-keeps}
@@ -37,7 +39,7 @@ use Rattle.stack_engine.proofs.Machined.{Whole, OctetsUp, OctetPart, whole-keeps
 pub record Laws : Type 0 where
   pub below : Below
   pub origin : OriginLaw
-  pub complete : CompleteLaw
+  pub texts_read : TextLaws
 
 -- what is asked of a part that goes up
 abbrev pub Comes : Option EndState → ℕ → EndState → List ℕ → Type 0
@@ -62,14 +64,14 @@ pub record IlAt (m : M.World) (now : ℕ) (x : EndState) : Type 0 where
 at-now : (n : ℕ) → n ≤ n
 at-now n = omega arith
 
-il-move : (m : M.World) (now : ℕ) (mv : Move) (x y : EndState) → move_time mv ≡ now → GenuineMove x.machine (drop m.dead_fe m.fe.made) mv → Whole Il y → y.machine ≡ move mv x.machine
+il-move : EventsLaw → (m : M.World) (now : ℕ) (mv : Move) (x y : EndState) → move_time mv ≡ now → GenuineMove x.machine (drop m.dead_fe m.fe.made) mv → Whole Il y → y.machine ≡ move mv x.machine
     → IlAt m now x → IlAt m now y
-il-move m now mv x y t g whole e h =
+il-move law m now mv x y t g whole e h =
     record {
       whole = whole;
       clock = now;
       within = at-now now;
-      reached = subst (λ s. Reached (il_at s now m)) (sym e) (subst (λ n. Reached (il_at (move mv x.machine) n m)) t (il-moves m x.machine h.clock mv (subst (λ n. h.clock ≤ n) (sym t) h.within) g h.reached));
+      reached = subst (λ s. Reached (il_at s now m)) (sym e) (subst (λ n. Reached (il_at (move mv x.machine) n m)) t (il-moves law m x.machine h.clock mv (subst (λ n. h.clock ≤ n) (sym t) h.within) g h.reached));
     }
 
 il-same : (m : M.World) (now : ℕ) (x y : EndState) → Whole Il y → y.machine ≡ x.machine → IlAt m now x → IlAt m now y
@@ -87,29 +89,29 @@ il-heard laws m peer dead now is octets x q h =
     let r = seen_by x.machine octets in
     let g : GenuineMove x.machine (drop m.dead_fe m.fe.made) (heard_as r now) =
     subst (λ live. GenuineMove x.machine live (heard_as r now)) (live-same peer dead m.fe m.dead_fe is)
-    (genuine-heard laws.complete Il x peer dead now octets h.whole.machined.same is.texts q.1 r refl)
+    (genuine-heard laws.texts_read Il x peer dead now octets h.whole.machined.same is.texts q.1 r refl)
     in
     subst (λ n. Reached (il_at (move (heard_as r now) x.machine) n m)) (heard-time r now)
-    (il-moves m x.machine h.clock (heard_as r now) (subst (λ n. h.clock ≤ n) (sym (heard-time r now)) h.within) g h.reached)
+    (il-moves laws.below.events m x.machine h.clock (heard_as r now) (subst (λ n. h.clock ≤ n) (sym (heard-time r now)) h.within) g h.reached)
 
-il-leaves : (m : M.World) (now : ℕ) (why : Option Leaving) (y : EndState) → Reached (il_at y.machine now m) → Whole Il (leaves now why y) → IlAt m now (leaves now why y)
-il-leaves m now None y h whole = record { whole = whole; clock = now; within = at-now now; reached = h }
-il-leaves m now (Some why) y h whole =
-    record { whole = whole; clock = now; within = at-now now; reached = il-moves m y.machine now (Leaves why.0 why.1 now) (at-now now) tt h }
+il-leaves : EventsLaw → (m : M.World) (now : ℕ) (why : Option Leaving) (y : EndState) → Reached (il_at y.machine now m) → Whole Il (leaves now why y) → IlAt m now (leaves now why y)
+il-leaves law m now None y h whole = record { whole = whole; clock = now; within = at-now now; reached = h }
+il-leaves law m now (Some why) y h whole =
+    record { whole = whole; clock = now; within = at-now now; reached = il-moves law m y.machine now (Leaves why.0 why.1 now) (at-now now) tt h }
 
 pub il-keeps : Laws → (m : M.World) (peer : Option EndState) (dead now : ℕ) → PeerIs peer dead m.fe m.dead_fe → Keeps now (Comes peer dead) (IlAt m now)
 il-keeps laws m peer dead now is =
     let k : Keeps now OctetsUp (Whole Il) = whole-keeps laws.below laws.origin Il now in
     record {
-      guards = λ x h. il-move m now (Guards now) x _ refl tt (k.guards x h.whole) refl h;
-      ticks = λ x h. il-move m now (Ticks now) x _ refl tt (k.ticks x h.whole) refl h;
-      closes = λ x h. il-move m now (Leaves ClosedByUser Unspecified now) x _ refl tt (k.closes x h.whole) refl h;
+      guards = λ x h. il-move laws.below.events m now (Guards now) x _ refl tt (k.guards x h.whole) refl h;
+      ticks = λ x h. il-move laws.below.events m now (Ticks now) x _ refl tt (k.ticks x h.whole) refl h;
+      closes = λ x h. il-move laws.below.events m now (Leaves ClosedByUser Unspecified now) x _ refl tt (k.closes x h.whole) refl h;
       ends = λ x shut h. il-same m now x _ (k.ends x shut h.whole) refl h;
       inputs = λ i x t h. il-same m now x _ (k.inputs i x t h.whole) refl h;
       hears = λ octets x q h.
           let s = arrive_octets octets now x.machine in
-          il-leaves m now (judge_units (handed_up x s) x.session).leaving (answered octets x s) (il-heard laws m peer dead now is octets x q h) (k.hears octets x q.0 h.whole);
-      sends = λ x may some h. il-move m now (Sends (unit_text (take x.settings.n_maxpacket x.session.waiting)) now) x (packed now x) refl tt (k.sends x may some h.whole) refl h;
+          il-leaves laws.below.events m now (judge_units (handed_up x s) x.session).leaving (answered octets x s) (il-heard laws m peer dead now is octets x q h) (k.hears octets x q.0 h.whole);
+      sends = λ x may some h. il-move laws.below.events m now (Sends (unit_text (take x.settings.n_maxpacket x.session.waiting)) now) x (packed now x) refl tt (k.sends x may some h.whole) refl h;
       puts = λ kind payload x fits h. il-same m now x _ (k.puts kind payload x fits h.whole) refl h;
       dones = λ x h. il-same m now x _ (k.dones x h.whole) refl h;
       times = λ x h. il-same m now x _ (k.times x h.whole) refl h;
@@ -144,15 +146,16 @@ quiet law mv s deaf =
     (λ is _. let both = joins-both s.connection (move mv s).connection is in absurd (deaf ((law mv s).starts both.0 both.1)))
     (λ _ _. refl) refl
 
-fe-move : MovesLaw → (ils : List EndState) (f : JoinedEnd) (m : M.World) (now : ℕ) (mv : Move) (x y : EndState) → move_time mv ≡ now → (HearsOwn mv x.machine → ⊥)
+fe-move : Below → (ils : List EndState) (f : JoinedEnd) (m : M.World) (now : ℕ) (mv : Move) (x y : EndState) → move_time mv ≡ now → (HearsOwn mv x.machine → ⊥)
     → GenuineMove x.machine (drop m.dead_il m.il.made) mv → Whole Fe y → y.machine ≡ move mv x.machine → y.request ≡ x.request → FeAt ils f m now x → FeAt ils f m now y
-fe-move law ils f m now mv x y t deaf g whole e same h =
+fe-move laws ils f m now mv x y t deaf g whole e same h =
+    let law = laws.moves in
     let joined = joined_by ils f.joined f.end.request x.request in
     let still = quiet law mv x.machine deaf in
     let there : Reached (fe_at (move mv x.machine) joined now m) =
     subst (λ n. Reached (fe_at (move mv x.machine) joined n m)) t
     (subst (λ b. Reached (fe_at (move mv x.machine) (cond b (Some (length m.il_before)) joined) (move_time mv) m)) still
-    (fe-moves m x.machine joined h.clock mv (subst (λ n. h.clock ≤ n) (sym t) h.within) g h.reached))
+    (fe-moves laws.events m x.machine joined h.clock mv (subst (λ n. h.clock ≤ n) (sym t) h.within) g h.reached))
     in
     record {
       whole = whole;
@@ -197,15 +200,15 @@ live-made [] x dead octets h = cc
 live-made (g ∷ before) x dead octets h = made-dropped (rule_of g.settings) octets dead g.machine.made (and-parts _ (has_made (rule_of g.settings) octets (drop dead g.machine.made)) h).1
 
 -- who starts on these octets has heard a PDU that the present interlocking made
-joins-made : MovesLaw → (ils : List EndState) (x : EndState) (dead now : ℕ) (octets : List ℕ) → Whole Fe x → IsGenuine (latest ils) dead x octets → (r : Result Pdu SafeFault) → seen_by x.machine octets ≡ r
+joins-made : TextLaws → MovesLaw → (ils : List EndState) (x : EndState) (dead now : ℕ) (octets : List ℕ) → Whole Fe x → IsGenuine (latest ils) dead x octets → (r : Result Pdu SafeFault) → seen_by x.machine octets ≡ r
     → joins x.machine.connection (move (heard_as r now) x.machine).connection ≡ true → MadeBy ils octets
-joins-made law ils x dead now octets whole g (Err fault) read h =
+joins-made texts law ils x dead now octets whole g (Err fault) read h =
     let both = joins-both x.machine.connection (move (Guards now) x.machine).connection h in
     absurd ((law (Guards now) x.machine).starts both.0 both.1)
-joins-made law ils x dead now octets whole g (Ok p) read h =
+joins-made texts law ils x dead now octets whole g (Ok p) read h =
     let both = joins-both x.machine.connection (move (Hears p now) x.machine).connection h in
     let ours = (law (Hears p now) x.machine).starts both.0 both.1 in
-    let asked = asked-heard Fe x octets p whole.machined.same read ours in
+    let asked = asked-heard texts Fe x octets p whole.machined.same read ours in
     live-made ils x dead octets (g (not-shut x.machine.connection (λ closed. let no = sym closed ∙ both.0 in cc)) asked.1)
 
 joined-first : (ils : List EndState) (old : Option ℕ) (before : Option (List ℕ)) (octets : List ℕ) → before ≡ None → joined_by ils old before (Some octets) ≡ latest_maker octets ils
@@ -233,9 +236,10 @@ pub record FeHeard (ils : List EndState) (f : JoinedEnd) (m : M.World) (now : �
   pub idle : y.machine.connection ≡ Down → y.request ≡ None
   pub first : y.request ≡ None → f.end.request ≡ None
 
-fe-leaves : MovesLaw → (ils : List EndState) (f : JoinedEnd) (m : M.World) (now : ℕ) (why : Option Leaving) (y : EndState) → FeHeard ils f m now y → Whole Fe (leaves now why y) → FeAt ils f m now (leaves now why y)
-fe-leaves law ils f m now None y h whole = record { whole = whole; clock = now; within = at-now now; reached = h.there; idle = h.idle; first = h.first }
-fe-leaves law ils f m now (Some why) y h whole =
+fe-leaves : Below → (ils : List EndState) (f : JoinedEnd) (m : M.World) (now : ℕ) (why : Option Leaving) (y : EndState) → FeHeard ils f m now y → Whole Fe (leaves now why y) → FeAt ils f m now (leaves now why y)
+fe-leaves laws ils f m now None y h whole = record { whole = whole; clock = now; within = at-now now; reached = h.there; idle = h.idle; first = h.first }
+fe-leaves laws ils f m now (Some why) y h whole =
+    let law = laws.moves in
     let mv = Leaves why.0 why.1 now in
     let joined = joined_by ils f.joined f.end.request y.request in
     record {
@@ -244,7 +248,7 @@ fe-leaves law ils f m now (Some why) y h whole =
       within = at-now now;
       reached =
           subst (λ b. Reached (fe_at (move mv y.machine) (cond b (Some (length m.il_before)) joined) now m)) (quiet law mv y.machine (λ no. no))
-          (fe-moves m y.machine joined now mv (at-now now) tt h.there);
+          (fe-moves laws.events m y.machine joined now mv (at-now now) tt h.there);
       idle = λ down. h.idle ((law mv y.machine).never_down down);
       first = h.first;
     }
@@ -262,17 +266,17 @@ fe-heard laws ils f m dead now octets x count is q h =
     let joined = joined_by ils f.joined f.end.request x.request in
     let g : GenuineMove x.machine (drop m.dead_il m.il.made) (heard_as r now) =
     subst (λ live. GenuineMove x.machine live (heard_as r now)) (live-same (latest ils) dead m.il m.dead_il is)
-    (genuine-heard laws.complete Fe x (latest ils) dead now octets h.whole.machined.same is.texts q.1 r refl)
+    (genuine-heard laws.texts_read Fe x (latest ils) dead now octets h.whole.machined.same is.texts q.1 r refl)
     in
     let moved : Reached (fe_at s (cond joining (Some (length m.il_before)) joined) now m) =
     subst (λ n. Reached (fe_at s (cond joining (Some (length m.il_before)) joined) n m)) (heard-time r now)
-    (fe-moves m x.machine joined h.clock (heard_as r now) (subst (λ n. h.clock ≤ n) (sym (heard-time r now)) h.within) g h.reached)
+    (fe-moves laws.below.events m x.machine joined h.clock (heard_as r now) (subst (λ n. h.clock ≤ n) (sym (heard-time r now)) h.within) g h.reached)
     in
     record {
       there =
           subst (λ q. Reached (fe_at s q now m))
           (joined-noted ils (length m.il_before) f octets x.request joining count h.first
-          (λ is-so. (h.idle (joins-both x.machine.connection s.connection is-so).0, joins-made law ils x dead now octets h.whole q.1 r refl is-so)))
+          (λ is-so. (h.idle (joins-both x.machine.connection s.connection is-so).0, joins-made laws.texts_read law ils x dead now octets h.whole q.1 r refl is-so)))
           moved;
       idle = λ down. noted-none joining octets x.request (λ is-so. let no = sym (joins-both x.machine.connection s.connection is-so).1 ∙ down in cc) (h.idle (heard-down law r now x.machine down));
       first = λ none. h.first (noted-first joining octets x.request none);
@@ -282,23 +286,22 @@ fe-hears : Laws → (ils : List EndState) (f : JoinedEnd) (m : M.World) (dead no
     → Comes (latest ils) dead x octets → FeAt ils f m now x → FeAt ils f m now (heard now octets x)
 fe-hears laws ils f m dead now octets x count is q h =
     let s = arrive_octets octets now x.machine in
-    fe-leaves laws.below.moves ils f m now (judge_units (handed_up x s) x.session).leaving (answered octets x s) (fe-heard laws ils f m dead now octets x count is q h)
+    fe-leaves laws.below ils f m now (judge_units (handed_up x s) x.session).leaving (answered octets x s) (fe-heard laws ils f m dead now octets x count is q h)
     ((whole-keeps laws.below laws.origin Fe now).hears octets x q.0 h.whole)
 
 pub fe-keeps : Laws → (ils : List EndState) (f : JoinedEnd) (m : M.World) (dead now : ℕ) → length m.il_before ≡ length ils → PeerIs (latest ils) dead m.il m.dead_il
     → Keeps now (Comes (latest ils) dead) (FeAt ils f m now)
 fe-keeps laws ils f m dead now count is =
-    let law = laws.below.moves in
     let k : Keeps now OctetsUp (Whole Fe) = whole-keeps laws.below laws.origin Fe now in
     record {
-      guards = λ x h. fe-move law ils f m now (Guards now) x _ refl (λ no. no) tt (k.guards x h.whole) refl refl h;
-      ticks = λ x h. fe-move law ils f m now (Ticks now) x _ refl (λ no. no) tt (k.ticks x h.whole) refl refl h;
-      closes = λ x h. fe-move law ils f m now (Leaves ClosedByUser Unspecified now) x _ refl (λ no. no) tt (k.closes x h.whole) refl refl h;
+      guards = λ x h. fe-move laws.below ils f m now (Guards now) x _ refl (λ no. no) tt (k.guards x h.whole) refl refl h;
+      ticks = λ x h. fe-move laws.below ils f m now (Ticks now) x _ refl (λ no. no) tt (k.ticks x h.whole) refl refl h;
+      closes = λ x h. fe-move laws.below ils f m now (Leaves ClosedByUser Unspecified now) x _ refl (λ no. no) tt (k.closes x h.whole) refl refl h;
       ends = λ x shut h. fe-same ils f m now x _ (k.ends x shut h.whole) refl refl h;
       inputs = λ i x t h. fe-same ils f m now x _ (k.inputs i x t h.whole) refl refl h;
       hears = λ octets x q h. fe-hears laws ils f m dead now octets x count is q h;
       sends = λ x may some h.
-          fe-move law ils f m now (Sends (unit_text (take x.settings.n_maxpacket x.session.waiting)) now) x (packed now x) refl (λ no. no) tt (k.sends x may some h.whole) refl refl h;
+          fe-move laws.below ils f m now (Sends (unit_text (take x.settings.n_maxpacket x.session.waiting)) now) x (packed now x) refl (λ no. no) tt (k.sends x may some h.whole) refl refl h;
       puts = λ kind payload x fits h. fe-same ils f m now x _ (k.puts kind payload x fits h.whole) refl refl h;
       dones = λ x h. fe-same ils f m now x _ (k.dones x h.whole) refl refl h;
       times = λ x h. fe-same ils f m now x _ (k.times x h.whole) refl refl h;

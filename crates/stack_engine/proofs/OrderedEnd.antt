@@ -87,7 +87,7 @@ module _ (laws : Laws) (more : OneMoreLaw) (side : Side) (m : M.World) (k : ℕ)
       subst (λ b. OrderedBy side b n k (at_side side (move mv x.machine) j now m)) (closed-same h.closed)
       (subst (λ i. OrderedBy side (closed_more mv h.closed) i k (at_side side (move mv x.machine) j now m)) same
       (subst (λ c. OrderedBy side (closed_more mv h.closed) (heard_more mv n) k (at_side side (move mv x.machine) j c m)) t
-      (side-moves side m x.machine h.joined h.closed h.clock n k mv (subst (λ c. h.clock ≤ c) (sym t) h.within) g o h.ordered)))
+      (side-moves laws.below.events side m x.machine h.joined h.closed h.clock n k mv (subst (λ c. h.clock ≤ c) (sym t) h.within) g o h.ordered)))
       in
       record {
         whole = whole;
@@ -138,7 +138,7 @@ module _ (laws : Laws) (more : OneMoreLaw) (side : Side) (m : M.World) (k : ℕ)
         joined = next_joined side y.machine (move mv y.machine) j m;
         clock = now;
         within = at-now now;
-        ordered = side-moves side m y.machine j c now n k mv (at-now now) tt tt o;
+        ordered = side-moves laws.below.events side m y.machine j c now n k mv (at-now now) tt tt o;
         set = set;
         came = came;
         red = red;
@@ -162,12 +162,12 @@ module _ (laws : Laws) (more : OneMoreLaw) (side : Side) (m : M.World) (k : ℕ)
       in
       let g : GenuineMove x.machine (drop (peer_dead side m) (peer_made side m)) (Hears a.made.pdu now) =
       subst (λ l. GenuineMove x.machine l (Hears a.made.pdu now)) live
-      (genuine-heard laws.complete side x peer dead now octets h.whole.machined.same texts q.1.1 (Ok a.made.pdu) seen)
+      (genuine-heard laws.texts_read side x peer dead now octets h.whole.machined.same texts q.1.1 (Ok a.made.pdu) seen)
       in
       let mv = Hears a.made.pdu now in
       let j = next_joined side x.machine (move mv x.machine) h.joined m in
       let there : OrderedBy side h.closed (n + 1) k (at_side side (move mv x.machine) j now m) =
-      side-moves side m x.machine h.joined h.closed h.clock n k mv h.within g (a.opened, record { made = a.made; later = a.later; at = a.there; is = refl; ours = ours; holds = q.0 }) h.ordered
+      side-moves laws.below.events side m x.machine h.joined h.closed h.clock n k mv h.within g (a.opened, record { made = a.made; later = a.later; at = a.there; is = refl; ours = ours; holds = q.0 }) h.ordered
       in
       let fate = fates laws.below now octets x h.heeds in
       p-left ins (n + 1) (judge_units (handed_up x s1) x.session).leaving y h.closed j (λ is. ⊎_elim (λ f. inl (fate.still f)) (λ f. inr f) (h.fails is)) fate.leaves

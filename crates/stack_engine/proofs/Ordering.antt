@@ -3,7 +3,7 @@ use Rattle.std.proofs.Common.{◌≡◌, ◌≢◌, ◌==◌, ◌||◌, ◌+◌,
 use Rattle.std.specs.List.{AllByRecursion}
 use Rattle.std.proofs.lemmas.Bool.{eqb-true}
 use Rattle.std.proofs.lemmas.List.{length-append}
-use Rattle.octets.proofs.Choices.{by_cond, by_test}
+use Rattle.octets.proofs.Choices.{by_test}
 use Rattle.deferral.specs.FiniteMap.{has_number, part_under}
 use Rattle.red_layer.specs.Parts.{Part}
 use Rattle.red_layer.specs.Redundancy.{Input, passed_by, opened as red_opened}
@@ -11,22 +11,18 @@ use Rattle.red_layer.specs.Service.{arrivals, arrivals_of, passed_along, after_a
 use Rattle.red_layer.specs.Masking.{first_missing, first_parts, QNear, NoDeadlineFalls, no_wait, wait_after, Wait}
 use Rattle.red_layer.specs.Laws.{Masking, FirstMissingLaw, OneMoreLaw}
 use Rattle.safe_pdu.specs.declared.CodeRule.{CodeRule}
-use Rattle.safe_pdu.specs.declared.Kind.{Kind}
-use Rattle.safe_pdu.specs.declared.Kind.TheVariants.{ConnResp, RetrResp, Heartbeat, RetrData}
 use Rattle.safe_machine.specs.Settings.{Settings}
 use Rattle.safe_machine.specs.Made.{Made}
-use Rattle.safe_machine.specs.State.{State, opened, make, next_made, resend, unconfirmed}
-use Rattle.safe_machine.specs.Moves.{Move, move, moved}
+use Rattle.safe_machine.specs.State.{State}
+use Rattle.safe_machine.specs.Moves.{Move, move, AreFrom}
 use Rattle.safe_machine.specs.Moves.Move.{Guards, Hears, Ticks, Sends, Leaves}
 use Rattle.safe_machine.specs.World.{Side}
 use Rattle.safe_machine.specs.World.Side.{Il, Fe}
 use Rattle.safe_machine.specs.World as M
 use Rattle.safe_machine.specs.World.Event.{Open, Send, Close, Guard, Tick, Arrive}
-use Rattle.safe_machine.specs.InOrder.{GuardHolds, NextArrival, InOrder, InOrderEvent, heard_by_il, heard_by_fe, all_heard_by_il, all_heard_by_fe, is_close, has_close}
-use Rattle.safe_machine.proofs.Kept.{Kept, Anything, anything, kept-move}
+use Rattle.safe_machine.specs.InOrder.{GuardHolds, NextArrival, InOrder, InOrderEvent, heard_by_il, heard_by_fe, all_heard_by_il, all_heard_by_fe, is_close, has_close, OneMoreLaw as EventsLaw}
 use Rattle.stack_end.specs.Datagrams.{upper_of}
-use Rattle.stack_engine.proofs.Talking.{all-append}
-use Rattle.stack_engine.proofs.Reached.{run-push, genuine-push, timely-push, il_at, fe_at, GenuineMove, move_time, joined_after}
+use Rattle.stack_engine.proofs.Reached.{il_at, fe_at, GenuineMove, move_time, joined_after}
 
 -- the PDU with this index has these octets
 abbrev pub IsNth : CodeRule → List Made → ℕ → List ℕ → Type 0
@@ -89,43 +85,11 @@ pub timely-front : (t_seq : ℕ) (w : Wait) (is js : List Input) → NoDeadlineF
 timely-front t_seq w [] js h = tt
 timely-front t_seq w (i ∷ is) js h = (h.0, timely-front t_seq (wait_after i w) is js h.1)
 
--- Every PDU made bears the end's identifiers. (No clause of unit_law says so.)
-abbrev pub BearsIds : Settings → Made → Type 0
-BearsIds s m = (m.pdu.receiver ≡ s.peer) × (m.pdu.sender ≡ s.own)
-
-abbrev pub AllBear : State → Type 0
-AllBear s = AllByRecursion (BearsIds s.settings) s.made
-
-bear-make : (kind : Kind) (body : List ℕ) (now : ℕ) (s : State) → AllBear s → AllBear (make kind body now s)
-bear-make kind body now s h = all-append (BearsIds s.settings) s.made (next_made s kind body now ∷ []) h ((refl, refl), tt)
-
-bear-resend : (us : List (List ℕ)) (now : ℕ) (s : State) → AllBear s → AllBear (resend us now s)
-bear-resend [] now s h = h
-bear-resend (u ∷ us) now s h = bear-resend us now (make RetrData u now s) (bear-make RetrData u now s h)
-
-bear-kept : Kept Anything Anything AllBear
-bear-kept =
-    record {
-      silent = λ s t same h. subst (λ ms. AllByRecursion (BearsIds t.settings) ms) (sym same.1) (subst (λ (c : Settings). AllByRecursion (BearsIds c) s.made) (sym same.0) h);
-      plain = λ kind body now s is fits h. bear-make kind body now s h;
-      passes = λ p d s a h. h;
-      confirms = λ p s fits h. h;
-      accepts = λ now s h. bear-make ConnResp _ now s h;
-      sends = λ unit now s a h. bear-make _ unit now s h;
-      replies = λ now s h. bear-make Heartbeat [] now (resend (unconfirmed s) now (make RetrResp [] now s)) (bear-resend (unconfirmed s) now (make RetrResp [] now s) (bear-make RetrResp [] now s h));
-    }
-
-pub bear-moved : (ms : List Move) (s : State) → AllBear s → AllBear (moved ms s)
-bear-moved [] s h = h
-bear-moved (m ∷ ms) s h = bear-moved ms (move m s) (kept-move Anything Anything AllBear bear-kept m s (anything m) h)
-
-pub bear-opened : (settings : Settings) (first now : ℕ) → AllBear (opened settings first now)
-bear-opened settings first now = by_cond AllBear settings.client _ _ (λ _. ((refl, refl), tt)) (λ _. tt)
-
-pub bear-nth : (s : Settings) (ms : List Made) (n : ℕ) (m : Made) (later : List Made) → AllByRecursion (BearsIds s) ms → drop n ms ≡ m ∷ later → BearsIds s m
+-- a PDU made bears the end's identifiers
+pub bear-nth : (s : Settings) (ms : List Made) (n : ℕ) (m : Made) (later : List Made) → AreFrom s ms → drop n ms ≡ m ∷ later → (m.pdu.receiver ≡ s.peer) × (m.pdu.sender ≡ s.own)
 bear-nth s [] zero m later h e = cc
 bear-nth s [] (suc n) m later h e = cc
-bear-nth s (x ∷ ms) zero m later h e = let is : x ≡ m = cc in subst (BearsIds s) is h.0
+bear-nth s (x ∷ ms) zero m later h e = let is : x ≡ m = cc in subst (λ (y : Made). (y.pdu.receiver ≡ s.peer) × (y.pdu.sender ≡ s.own)) is h.0
 bear-nth s (x ∷ ms) (suc n) m later h e = bear-nth s ms n m later h.1 e
 
 -- Worlds of machines that a list of events in order leads to, with how many PDUs came to each.
@@ -144,53 +108,35 @@ abbrev pub closed_by : M.Event → Bool → Bool
 closed_by (Close side reason detail now) c = true
 closed_by _ c = c
 
-closed-one : (e : M.Event) → has_close (e ∷ []) ≡ closed_by e false
-closed-one (Open side settings first now) = refl
-closed-one (Send side unit now) = refl
-closed-one (Close side reason detail now) = refl
-closed-one (Guard side now) = refl
-closed-one (Tick side now) = refl
-closed-one (Arrive side p now) = refl
+closed-more : (e : M.Event) (c : Bool) → cond c true (is_close e) ≡ closed_by e c
+closed-more (Open side settings first now) true = refl
+closed-more (Open side settings first now) false = refl
+closed-more (Send side unit now) true = refl
+closed-more (Send side unit now) false = refl
+closed-more (Close side reason detail now) true = refl
+closed-more (Close side reason detail now) false = refl
+closed-more (Guard side now) true = refl
+closed-more (Guard side now) false = refl
+closed-more (Tick side now) true = refl
+closed-more (Tick side now) false = refl
+closed-more (Arrive side p now) true = refl
+closed-more (Arrive side p now) false = refl
 
-closed-still : (e : M.Event) → closed_by e true ≡ true
-closed-still (Open side settings first now) = refl
-closed-still (Send side unit now) = refl
-closed-still (Close side reason detail now) = refl
-closed-still (Guard side now) = refl
-closed-still (Tick side now) = refl
-closed-still (Arrive side p now) = refl
-
-close-push : (es : List M.Event) (e : M.Event) → has_close (es ++ e ∷ []) ≡ closed_by e (has_close es)
-close-push [] e = closed-one e
-close-push (d ∷ es) e =
-    by_test (λ b. cond b true (has_close (es ++ e ∷ [])) ≡ closed_by e (cond b true (has_close es))) (is_close d) (λ _. sym (closed-still e)) (λ _. close-push es e)
-
-all-il-push : (es : List M.Event) (e : M.Event) (n : ℕ) → all_heard_by_il (es ++ e ∷ []) n ≡ heard_by_il e (all_heard_by_il es n)
-all-il-push [] e n = refl
-all-il-push (d ∷ es) e n = all-il-push es e (heard_by_il d n)
-
-all-fe-push : (es : List M.Event) (e : M.Event) (n : ℕ) → all_heard_by_fe (es ++ e ∷ []) n ≡ heard_by_fe e (all_heard_by_fe es n)
-all-fe-push [] e n = refl
-all-fe-push (d ∷ es) e n = all-fe-push es e (heard_by_fe d n)
-
-in-order-push : (es : List M.Event) (e : M.Event) (il fe : ℕ) (m : M.World) → InOrder il fe es m → InOrderEvent (all_heard_by_il es il) (all_heard_by_fe es fe) (M.run es m) e → InOrder il fe (es ++ e ∷ []) m
-in-order-push [] e il fe m h k = (k, tt)
-in-order-push (d ∷ es) e il fe m h k = (h.0, in-order-push es e (heard_by_il d il) (heard_by_fe d fe) (M.happens m d) h.1 k)
-
-pub ordered : (c : Bool) (il fe : ℕ) (m : M.World) (e : M.Event) → M.GenuineEvent m e → M.TimelyEvent m e → InOrderEvent il fe m e → Ordered c il fe m → Ordered (closed_by e c) (heard_by_il e il) (heard_by_fe e fe) (M.happens m e)
-ordered c il fe m e g t o h =
+pub ordered : EventsLaw → (c : Bool) (il fe : ℕ) (m : M.World) (e : M.Event) → M.GenuineEvent m e → M.TimelyEvent m e → InOrderEvent il fe m e → Ordered c il fe m → Ordered (closed_by e c) (heard_by_il e il) (heard_by_fe e fe) (M.happens m e)
+ordered law c il fe m e g t o h =
+    let one = law h.events e in
     record {
       events = h.events ++ e ∷ [];
-      genuine = genuine-push h.events e M.start h.genuine (subst (λ w. M.GenuineEvent w e) (sym h.leads) g);
-      timely = timely-push h.events e M.start h.timely (subst (λ w. M.TimelyEvent w e) (sym h.leads) t);
+      genuine = one.genuine M.start h.genuine (subst (λ w. M.GenuineEvent w e) (sym h.leads) g);
+      timely = one.timely M.start h.timely (subst (λ w. M.TimelyEvent w e) (sym h.leads) t);
       in_order =
-          in-order-push h.events e 0 0 M.start h.in_order
+          one.in_order 0 0 M.start h.in_order
           (subst (λ n. InOrderEvent n (all_heard_by_fe h.events 0) (M.run h.events M.start) e) (sym h.heard_il)
           (subst (λ n. InOrderEvent il n (M.run h.events M.start) e) (sym h.heard_fe) (subst (λ w. InOrderEvent il fe w e) (sym h.leads) o)));
-      closes = close-push h.events e ∙ ap (closed_by e) h.closes;
-      heard_il = all-il-push h.events e 0 ∙ ap (heard_by_il e) h.heard_il;
-      heard_fe = all-fe-push h.events e 0 ∙ ap (heard_by_fe e) h.heard_fe;
-      leads = run-push h.events e M.start ∙ ap (λ w. M.happens w e) h.leads;
+      closes = one.closes ∙ closed-more e (has_close h.events) ∙ ap (closed_by e) h.closes;
+      heard_il = one.il_heard 0 ∙ ap (heard_by_il e) h.heard_il;
+      heard_fe = one.fe_heard 0 ∙ ap (heard_by_fe e) h.heard_fe;
+      leads = one.leads M.start ∙ ap (λ w. M.happens w e) h.leads;
     }
 
 -- by side
@@ -234,15 +180,15 @@ abbrev pub next_joined : Side → State → State → Option ℕ → M.World →
 next_joined Il s t q m = q
 next_joined Fe s t q m = joined_after s t q m
 
-pub side-moves : (side : Side) (m : M.World) (s : State) (q : Option ℕ) (c : Bool) (clock n k : ℕ) (mv : Move) → clock ≤ move_time mv → GenuineMove s (drop (peer_dead side m) (peer_made side m)) mv → OrderedMove side m n s mv
+pub side-moves : EventsLaw → (side : Side) (m : M.World) (s : State) (q : Option ℕ) (c : Bool) (clock n k : ℕ) (mv : Move) → clock ≤ move_time mv → GenuineMove s (drop (peer_dead side m) (peer_made side m)) mv → OrderedMove side m n s mv
     → OrderedBy side c n k (at_side side s q clock m) → OrderedBy side (closed_more mv c) (heard_more mv n) k (at_side side (move mv s) (next_joined side s (move mv s) q m) (move_time mv) m)
-side-moves Il m s q c clock n k (Guards now) t g o h = ordered c n k (il_at s clock m) (Guard Il now) tt t o h
-side-moves Il m s q c clock n k (Hears p now) t g o h = ordered c n k (il_at s clock m) (Arrive Il p now) g t o h
-side-moves Il m s q c clock n k (Ticks now) t g o h = ordered c n k (il_at s clock m) (Tick Il now) tt t o h
-side-moves Il m s q c clock n k (Sends unit now) t g o h = ordered c n k (il_at s clock m) (Send Il unit now) tt t tt h
-side-moves Il m s q c clock n k (Leaves reason detail now) t g o h = ordered c n k (il_at s clock m) (Close Il reason detail now) tt t tt h
-side-moves Fe m s q c clock n k (Guards now) t g o h = ordered c k n (fe_at s q clock m) (Guard Fe now) tt t o h
-side-moves Fe m s q c clock n k (Hears p now) t g o h = ordered c k n (fe_at s q clock m) (Arrive Fe p now) g t o h
-side-moves Fe m s q c clock n k (Ticks now) t g o h = ordered c k n (fe_at s q clock m) (Tick Fe now) tt t o h
-side-moves Fe m s q c clock n k (Sends unit now) t g o h = ordered c k n (fe_at s q clock m) (Send Fe unit now) tt t tt h
-side-moves Fe m s q c clock n k (Leaves reason detail now) t g o h = ordered c k n (fe_at s q clock m) (Close Fe reason detail now) tt t tt h
+side-moves law Il m s q c clock n k (Guards now) t g o h = ordered law c n k (il_at s clock m) (Guard Il now) tt t o h
+side-moves law Il m s q c clock n k (Hears p now) t g o h = ordered law c n k (il_at s clock m) (Arrive Il p now) g t o h
+side-moves law Il m s q c clock n k (Ticks now) t g o h = ordered law c n k (il_at s clock m) (Tick Il now) tt t o h
+side-moves law Il m s q c clock n k (Sends unit now) t g o h = ordered law c n k (il_at s clock m) (Send Il unit now) tt t tt h
+side-moves law Il m s q c clock n k (Leaves reason detail now) t g o h = ordered law c n k (il_at s clock m) (Close Il reason detail now) tt t tt h
+side-moves law Fe m s q c clock n k (Guards now) t g o h = ordered law c k n (fe_at s q clock m) (Guard Fe now) tt t o h
+side-moves law Fe m s q c clock n k (Hears p now) t g o h = ordered law c k n (fe_at s q clock m) (Arrive Fe p now) g t o h
+side-moves law Fe m s q c clock n k (Ticks now) t g o h = ordered law c k n (fe_at s q clock m) (Tick Fe now) tt t o h
+side-moves law Fe m s q c clock n k (Sends unit now) t g o h = ordered law c k n (fe_at s q clock m) (Send Fe unit now) tt t tt h
+side-moves law Fe m s q c clock n k (Leaves reason detail now) t g o h = ordered law c k n (fe_at s q clock m) (Close Fe reason detail now) tt t tt h

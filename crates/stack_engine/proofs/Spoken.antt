@@ -6,20 +6,22 @@ use Rattle.octets.proofs.Choices.{by_test}
 use Rattle.packing.specs.Places.{unit_seen}
 use Rattle.safe_pdu.specs.declared.SafeFault.{SafeFault}
 use Rattle.safe_pdu.specs.Pdu.{Pdu}
+use Rattle.safe_pdu.specs.Laws.{ReadLaw as PduReadLaw}
 use Rattle.safe_machine.specs.declared.ConnectionState.{ConnectionState}
 use Rattle.safe_machine.specs.declared.ConnectionState.TheVariants.{Closed, Down, Start, Up, RetrReq as Requesting, RetrRun}
 use Rattle.safe_machine.specs.Made.{units}
 use Rattle.safe_machine.specs.State.{State, leave}
 use Rattle.safe_machine.specs.Decision.{is_closed}
-use Rattle.safe_machine.specs.Moves.{Move, move, sent_by, MovesLaw, IsTakenBy}
+use Rattle.safe_machine.specs.Moves.{Move, move, sent_by, MovesLaw, SettingsLaw, IdentifiedLaw, IsTakenBy}
 use Rattle.safe_machine.specs.Moves.Move.{Guards, Hears, Leaves}
 use Rattle.safe_machine.specs.Octets.{heard as heard_as, seen_by, arrive_octets}
 use Rattle.safe_machine.specs.World.{Side}
+use Rattle.safe_machine.specs.InOrder.{OneMoreLaw as EventsLaw}
 use Rattle.sci_telegram.specs.Tele.{Tele}
 use Rattle.pdi_session.specs.Settings.{Addressing, Role}
 use Rattle.pdi_session.specs.SessionStep.{Event, Up as GoesUp}
 use Rattle.pdi_session.specs.Histories.{handed_by}
-use Rattle.pdi_session.specs.Laws.{IsBeginning, HasKind}
+use Rattle.pdi_session.specs.Laws.{IsBeginning, HasKind, OverLaw}
 use Rattle.end_settings.specs.EndSettings.{session_of, are_fit}
 use Rattle.stack_end.specs.Dialogue.{Dialogue, meets, Leaving, judge_units}
 use Rattle.stack_end.specs.Ends.{EndState, is_shut, with_machine, with_session, handed_up, comes_up, rises, answered, leaves, heard}
@@ -30,8 +32,13 @@ use Rattle.stack_engine.proofs.Packing.{ReadLaw}
 -- the laws of the layers below that are used here
 pub record Below : Type 0 where
   pub session : Uses
+  pub over : OverLaw
   pub read : ReadLaw
+  pub heard : PduReadLaw
   pub moves : MovesLaw
+  pub settings : SettingsLaw
+  pub identified : IdentifiedLaw
+  pub events : EventsLaw
 
 abbrev pub Unpacks : List ℕ → Type 0
 Unpacks u = (ms : List (List ℕ)) × (unit_seen u ≡ Ok ms)

@@ -23,7 +23,7 @@ use Rattle.pdi_session.specs.SessionStep.{Closes}
 use Rattle.stack_engine.specs.Pairs.{made_of}
 use Rattle.stack_engine.specs.Premise.{AtParts, AtInput}
 use Rattle.stack_engine.proofs.Spoken.{closed-is, drop-front}
-use Rattle.stack_engine.proofs.Hearing.{CompleteLaw, TextsOf, genuine-heard}
+use Rattle.stack_engine.proofs.Hearing.{TextLaws, TextsOf, genuine-heard}
 use Rattle.stack_engine.proofs.Mapping.{Comes}
 use Rattle.stack_engine.proofs.Beginning.{IsEarly, early-stays, closed-early}
 
@@ -34,7 +34,7 @@ pub record Idles (x y : EndState) : Type 0 where
   pub session : y.session ≡ x.session
 
 -- a part of a PDU that no peer made for this end
-pub deaf-to : CompleteLaw → StrangersLaw → (side : Side) (x : EndState) (peer : Option EndState) (dead now : ℕ) (octets : List ℕ) → x.machine.settings ≡ connection_of side x.settings → TextsOf peer
+pub deaf-to : TextLaws → StrangersLaw → (side : Side) (x : EndState) (peer : Option EndState) (dead now : ℕ) (octets : List ℕ) → x.machine.settings ≡ connection_of side x.settings → TextsOf peer
     → ((p : Pdu) → Among p (drop dead (made_of peer)) → is_stranger x.machine p ≡ false → ⊥) → x.machine.connection ≢ Closed → GuardHolds x.machine now → Comes peer dead x octets
     → arrive_octets octets now x.machine ≡ x.machine
 deaf-to complete strange side x peer dead now octets same texts nobody on holds comes = go (seen_by x.machine octets) refl

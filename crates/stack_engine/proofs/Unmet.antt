@@ -1,7 +1,6 @@
 -- Nothing is lost over any faithful list: ends whose identifiers are not crossed send and take nothing.
 use Rattle.std.proofs.Common.{◌≡◌, ◌≢◌, ◌⊎◌, inl, inr, ⊎_elim, ◌==◌, ◌&&◌, ◌+◌, ℕ, zero, suc, List, [], ◌∷◌, ◌++◌, drop, Option, Some, None, true, false, cond, refl, sym, ap, subst, ◌∙◌}
 use Rattle.std.specs.Prelude.{nat_le}
-use Rattle.std.specs.List.{AllByRecursion}
 use Rattle.std.proofs.lemmas.Bool.{false≢true, eqb-true, eq-eqb}
 use Rattle.octets.proofs.Choices.{by_cond, by_test}
 use Rattle.red_layer.specs.Redundancy.{Datagram, Tick as RedTick}
@@ -14,7 +13,7 @@ use Rattle.safe_machine.specs.Settings.{Settings}
 use Rattle.safe_machine.specs.State.{State, make}
 use Rattle.safe_machine.specs.Decision.{is_stranger}
 use Rattle.safe_machine.specs.Step.{heartbeat, is_connected, last_time}
-use Rattle.safe_machine.specs.Moves.{move, StrangersLaw}
+use Rattle.safe_machine.specs.Moves.{move, StrangersLaw, AreFrom, IdentifiedLaw}
 use Rattle.safe_machine.specs.Moves.Move.{Guards, Ticks}
 use Rattle.safe_machine.specs.Octets.{arrive_octets}
 use Rattle.safe_machine.specs.World.{Side, Among}
@@ -42,7 +41,6 @@ use Rattle.stack_engine.proofs.Hearing.{TextsOf, not-stranger, own-same, peer-sa
 use Rattle.stack_engine.proofs.Machined.{Whole, Machined}
 use Rattle.stack_engine.proofs.Mapping.{Laws, Comes, both-call}
 use Rattle.stack_engine.proofs.Worlds.{AllWhole, Mapped, MappedWorld, mapped-event, mapped-start, typed-call, at-call, texts-latest, unless}
-use Rattle.stack_engine.proofs.Ordering.{BearsIds}
 use Rattle.stack_engine.proofs.Faithfuls.{OrderLaws, bears, crossed-il, crossed-fe, grown-call}
 use Rattle.stack_engine.proofs.Beginning.{IsEarly, closed-early, early-connected, idle-put, idle-done}
 use Rattle.stack_engine.proofs.Strange.{Idles, deaf-to, i-goes_on, i-moved}
@@ -83,7 +81,7 @@ not-refused c x h = by_cond (λ o. o ≡ None → session_refusal c x ≡ None) 
 deaf-of : (l : Laws) → StrangersLaw → (side : Side) (x : EndState) (peer : Option EndState) (dead t : ℕ) → Whole side x → TextsOf peer → Deaf peer dead x → IsEarly x.machine.connection
     → (octets : List ℕ) (y : EndState) → Idles x y → GuardHolds y.machine t × Comes peer dead y octets → arrive_octets octets t y.machine ≡ y.machine
 deaf-of l strange side x peer dead t w texts deaf early octets y i q =
-    deaf-to l.complete strange side y peer dead t octets (ap (λ (s : State). s.settings) i.machine ∙ w.machined.same ∙ ap (connection_of side) (sym i.set)) texts
+    deaf-to l.texts_read strange side y peer dead t octets (ap (λ (s : State). s.settings) i.machine ∙ w.machined.same ∙ ap (connection_of side) (sym i.set)) texts
     (λ p among meant. deaf p among (ap (λ (s : State). is_stranger s p) (sym i.machine) ∙ meant))
     (early-open y.machine.connection (subst (λ (s : State). IsEarly s.connection) (sym i.machine) early)) q.0 q.1
 
@@ -119,7 +117,7 @@ calm-call l strange side x peer dead (Deliver channel octets t) w texts deaf ok 
 abbrev Unmet : EndState → EndState → Type 0
 Unmet il fe = Crossed il fe → ⊥
 
-among-bears : (s : Settings) (n : ℕ) (ms : List Made) (p : Pdu) → AllByRecursion (BearsIds s) ms → Among p (drop n ms) → (p.receiver ≡ s.peer) × (p.sender ≡ s.own)
+among-bears : (s : Settings) (n : ℕ) (ms : List Made) (p : Pdu) → AreFrom s ms → Among p (drop n ms) → (p.receiver ≡ s.peer) × (p.sender ≡ s.own)
 among-bears s zero [] p h a = absurd a
 among-bears s (suc n) [] p h a = absurd a
 among-bears s zero (m ∷ ms) p h (inl is) = (ap (λ (q : Pdu). q.receiver) (sym is) ∙ h.0.0, ap (λ (q : Pdu). q.sender) (sym is) ∙ h.0.1)
@@ -131,9 +129,9 @@ record Told (x y : EndState) : Type 0 where
   own : y.settings.connection.peer ≡ x.settings.connection.own
   peer : y.settings.connection.own ≡ x.settings.connection.peer
 
-told : (a b : Side) (x y : EndState) (dead : ℕ) (p : Pdu) → Machined a x → Machined b y → Among p (drop dead y.machine.made) → is_stranger x.machine p ≡ false → Told x y
-told a b x y dead p mx my among meant =
-    let ids = among-bears y.machine.settings dead y.machine.made p (bears b y my) among in
+told : IdentifiedLaw → (a b : Side) (x y : EndState) (dead : ℕ) (p : Pdu) → Machined a x → Machined b y → Among p (drop dead y.machine.made) → is_stranger x.machine p ≡ false → Told x y
+told law a b x y dead p mx my among meant =
+    let ids = among-bears y.machine.settings dead y.machine.made p (bears law b y my) among in
     let both = and-parts (p.receiver == x.machine.settings.own) (p.sender == x.machine.settings.peer) (not-stranger _ meant) in
     let own-x : x.machine.settings.own ≡ x.settings.connection.own = ap (λ (c : Settings). c.own) mx.same ∙ own-same a x.settings in
     let peer-x : x.machine.settings.peer ≡ x.settings.connection.peer = ap (λ (c : Settings). c.peer) mx.same ∙ peer-same a x.settings in
@@ -148,16 +146,16 @@ drop-nil : (n : ℕ) (p : Pdu) → Among p (drop n []) → ⊥
 drop-nil zero p a = a
 drop-nil (suc n) p a = a
 
-deaf-il : (x : EndState) (o : List EndState) (dead : ℕ) → Whole Il x → AllWhole Fe o → OfBoth Unmet (Some x) (latest o) → Deaf (latest o) dead x
-deaf-il x [] dead w ws u = λ p among meant. drop-nil dead p among
-deaf-il x (y ∷ ys) dead w ws u = λ p among meant.
-    let t = told Il Fe x y dead p w.machined ws.0.machined among meant in
+deaf-il : IdentifiedLaw → (x : EndState) (o : List EndState) (dead : ℕ) → Whole Il x → AllWhole Fe o → OfBoth Unmet (Some x) (latest o) → Deaf (latest o) dead x
+deaf-il law x [] dead w ws u = λ p among meant. drop-nil dead p among
+deaf-il law x (y ∷ ys) dead w ws u = λ p among meant.
+    let t = told law Il Fe x y dead p w.machined ws.0.machined among meant in
     u (record { il_identifier = sym t.own; fe_identifier = t.peer })
 
-deaf-fe : (x : EndState) (o : List EndState) (dead : ℕ) → Whole Fe x → AllWhole Il o → OfBoth Unmet (latest o) (Some x) → Deaf (latest o) dead x
-deaf-fe x [] dead w ws u = λ p among meant. drop-nil dead p among
-deaf-fe x (y ∷ ys) dead w ws u = λ p among meant.
-    let t = told Fe Il x y dead p w.machined ws.0.machined among meant in
+deaf-fe : IdentifiedLaw → (x : EndState) (o : List EndState) (dead : ℕ) → Whole Fe x → AllWhole Il o → OfBoth Unmet (latest o) (Some x) → Deaf (latest o) dead x
+deaf-fe law x [] dead w ws u = λ p among meant. drop-nil dead p among
+deaf-fe law x (y ∷ ys) dead w ws u = λ p among meant.
+    let t = told law Fe Il x y dead p w.machined ws.0.machined among meant in
     u (record { il_identifier = t.peer; fe_identifier = sym t.own })
 
 -- over events
@@ -175,14 +173,14 @@ calm-il : (p : OrderLaws) → StrangersLaw → (c : Call) (ils : List EndState) 
     → AtOpened (FaithfulCall (latest (ends_of fes)) c) (latest ils) → OfBoth Unmet (latest ils) (latest (ends_of fes)) → Mapped ils fes di df → AtOpened Calm (latest ils) → AtOpened Calm (latest (call_il c ils))
 calm-il p strange c [] fes di df t ok g f u h k = tt
 calm-il p strange c (x ∷ before) fes di df t ok g f u h k =
-    calm-call p.laws strange Il x (latest (ends_of fes)) df c h.il_whole.0 (texts-latest p.texts Fe (ends_of fes) h.fe_whole) (deaf-il x (ends_of fes) df h.il_whole.0 h.fe_whole u) ok f
+    calm-call p.laws strange Il x (latest (ends_of fes)) df c h.il_whole.0 (texts-latest p.texts Fe (ends_of fes) h.fe_whole) (deaf-il p.laws.below.identified x (ends_of fes) df h.il_whole.0 h.fe_whole u) ok f
     (at-call p.laws df (latest (ends_of fes)) Il c x t h.il_whole.0 g.1) k
 
 calm-fe : (p : OrderLaws) → StrangersLaw → (c : Call) (ils : List EndState) (fes : List JoinedEnd) (di df : ℕ) → IsTypedCall c → call_refusal c (latest (ends_of fes)) ≡ None → AtOpened (GenuineCall (latest ils) di c) (latest (ends_of fes))
     → AtOpened (FaithfulCall (latest ils) c) (latest (ends_of fes)) → OfBoth Unmet (latest ils) (latest (ends_of fes)) → Mapped ils fes di df → AtOpened Calm (latest (ends_of fes)) → AtOpened Calm (latest (ends_of (call_fe c ils fes)))
 calm-fe p strange c ils [] di df t ok g f u h k = tt
 calm-fe p strange c ils (x ∷ fs) di df t ok g f u h k =
-    calm-call p.laws strange Fe x.end (latest ils) di c h.fe_whole.0 (texts-latest p.texts Il ils h.il_whole) (deaf-fe x.end ils di h.fe_whole.0 h.il_whole u) ok f
+    calm-call p.laws strange Fe x.end (latest ils) di c h.fe_whole.0 (texts-latest p.texts Il ils h.il_whole) (deaf-fe p.laws.below.identified x.end ils di h.fe_whole.0 h.il_whole u) ok f
     (at-call p.laws di (latest ils) Fe c x.end t h.fe_whole.0 g.1) k
 
 calm-changed : (p : OrderLaws) → StrangersLaw → (e : Event) (w : World) → IsTyped e → refusal e w ≡ None → GenuineEvent e w → FaithfulEvent e w → UnmetWorld w → MappedWorld w → CalmWorld w → CalmWorld (changed e w)

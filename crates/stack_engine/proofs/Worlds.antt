@@ -25,6 +25,7 @@ use Rattle.stack_engine.specs.Pairs.Event.{Open, Calls}
 use Rattle.stack_engine.specs.Pairs.Refusal.{BadConfig, Clock}
 use Rattle.stack_engine.specs.Premise.{IsGenuine, AtCall, AtOpened, GenuineCall, GenuineEvent, Genuine, IsTyped, AreTyped}
 use Rattle.stack_engine.proofs.Keeping.{IsTypedCall, call-keeps}
+use Rattle.safe_machine.specs.InOrder.{OneMoreLaw as EventsLaw}
 use Rattle.stack_engine.proofs.Reached.{Reached, reached, fe_at}
 use Rattle.stack_engine.proofs.Hearing.{TextsOf}
 use Rattle.stack_engine.proofs.Sending.{and-parts, legal-of}
@@ -194,15 +195,15 @@ open-fe s first now [] (f ∷ fs) di df ci cf legal = rw legal refl
 open-fe s first now (x ∷ xs) [] di df ci cf legal = rw legal refl
 open-fe s first now (x ∷ xs) (f ∷ fs) di df ci cf legal = rw legal refl
 
-mapped-open-il : (s : EndSettings) (first now : ℕ) (ils : List EndState) (fes : List JoinedEnd) (di df : ℕ) → Opens Il s now (latest ils) → Mapped ils fes di df
+mapped-open-il : EventsLaw → (s : EndSettings) (first now : ℕ) (ils : List EndState) (fes : List JoinedEnd) (di df : ℕ) → Opens Il s now (latest ils) → Mapped ils fes di df
     → Mapped (new_end Il s first now ∷ ils) fes 0 (length (made_of (latest (ends_of fes))))
-mapped-open-il s first now ils fes di df o h =
+mapped-open-il law s first now ils fes di df o h =
     let w = machines ils fes di df h.clock_il h.clock_fe in
     let t : h.clock_il ≤ now = let a = h.il_within in let b = o.timely in omega (arith, a, b) in
     record {
       clock_il = now;
       clock_fe = h.clock_fe;
-      reached = subst Reached (open-il s first now ils fes di df h.clock_il h.clock_fe (legal-of Il s o.fit)) (reached w (OpenMachine Il s.connection first now) tt t h.reached);
+      reached = subst Reached (open-il s first now ils fes di df h.clock_il h.clock_fe (legal-of Il s o.fit)) (reached law w (OpenMachine Il s.connection first now) tt t h.reached);
       il_within = omega arith;
       fe_within = h.fe_within;
       idle = h.idle;
@@ -210,15 +211,15 @@ mapped-open-il s first now ils fes di df o h =
       fe_whole = h.fe_whole;
     }
 
-mapped-open-fe : (s : EndSettings) (first now : ℕ) (ils : List EndState) (fes : List JoinedEnd) (di df : ℕ) → Opens Fe s now (latest (ends_of fes)) → Mapped ils fes di df
+mapped-open-fe : EventsLaw → (s : EndSettings) (first now : ℕ) (ils : List EndState) (fes : List JoinedEnd) (di df : ℕ) → Opens Fe s now (latest (ends_of fes)) → Mapped ils fes di df
     → Mapped ils (record { end = new_end Fe s first now; joined = None } ∷ fes) (length (made_of (latest ils))) 0
-mapped-open-fe s first now ils fes di df o h =
+mapped-open-fe law s first now ils fes di df o h =
     let w = machines ils fes di df h.clock_il h.clock_fe in
     let t : h.clock_fe ≤ now = let a = h.fe_within in let b = o.timely in omega (arith, a, b) in
     record {
       clock_il = h.clock_il;
       clock_fe = now;
-      reached = subst Reached (open-fe s first now ils fes di df h.clock_il h.clock_fe (legal-of Fe s o.fit)) (reached w (OpenMachine Fe s.connection first now) tt t h.reached);
+      reached = subst Reached (open-fe s first now ils fes di df h.clock_il h.clock_fe (legal-of Fe s o.fit)) (reached law w (OpenMachine Fe s.connection first now) tt t h.reached);
       il_within = h.il_within;
       fe_within = omega arith;
       idle = λ _. refl;
@@ -323,8 +324,8 @@ calls-fe laws texts c ils [] di df typed ok g h = cc
 calls-fe laws texts c ils (f ∷ before) di df typed ok g h = mapped-fe laws texts c ils f before di df typed (call-timely c f.end ok) g.1 h
 
 mapped-changed : (laws : Laws) → TextsLaw → (e : Event) (w : World) → IsTyped e → refusal e w ≡ None → GenuineEvent e w → MappedWorld w → MappedWorld (changed e w)
-mapped-changed laws texts (Open Il s first now) w t ok g h = mapped-open-il s first now w.ils w.fes w.dead_il w.dead_fe (opens Il s now (latest w.ils) ok) h
-mapped-changed laws texts (Open Fe s first now) w t ok g h = mapped-open-fe s first now w.ils w.fes w.dead_il w.dead_fe (opens Fe s now (latest (ends_of w.fes)) ok) h
+mapped-changed laws texts (Open Il s first now) w t ok g h = mapped-open-il laws.below.events s first now w.ils w.fes w.dead_il w.dead_fe (opens Il s now (latest w.ils) ok) h
+mapped-changed laws texts (Open Fe s first now) w t ok g h = mapped-open-fe laws.below.events s first now w.ils w.fes w.dead_il w.dead_fe (opens Fe s now (latest (ends_of w.fes)) ok) h
 mapped-changed laws texts (Calls Il c) w t ok g h = calls-il laws texts c w.ils w.fes w.dead_il w.dead_fe (typed-call Il c t) ok g h
 mapped-changed laws texts (Calls Fe c) w t ok g h = calls-fe laws texts c w.ils w.fes w.dead_il w.dead_fe (typed-call Fe c t) ok g h
 

@@ -1,14 +1,13 @@
 -- Genuine: what the promises suppose of the datagrams that come.
-use Rattle.std.specs.Prelude.{ℕ, ◌↔◌, ◌+◌, ◌^◌, ◌≡◌, ◌<◌, ◌==◌, ◌&&◌, not, nat_le, Bool, true, false, Option, Some, None, List, [], ◌∷◌, length, drop, Result, Ok, Err}
+use Rattle.std.specs.Prelude.{ℕ, ◌↔◌, ◌^◌, ◌≡◌, ◌<◌, ◌==◌, ◌&&◌, not, Bool, true, false, Option, Some, None, List, [], ◌∷◌, drop, Result, Ok, Err}
 use Rattle.std.specs.List.{AllByRecursion}
-use Rattle.octets.specs.declared.limits.TheConstants.{SAFE_HEADER}
+use Rattle.octets.specs.Octets.{AreOctets}
 use Rattle.red_pdu.specs.declared.RedFault.{RedFault}
 use Rattle.red_layer.specs.Parts.{Part}
 use Rattle.red_layer.specs.Redundancy.{Input, Datagram, Tick as RedTick, decoded, passed_by}
 use Rattle.red_layer.specs.Service.{arrivals_of}
-use Rattle.safe_pdu.specs.declared.CodeRule.{CodeRule}
 use Rattle.safe_pdu.specs.SafeText.{code_octets}
-use Rattle.safe_pdu.specs.Places.{field, has_code}
+use Rattle.safe_pdu.specs.Places.{is_asked}
 use Rattle.safe_machine.specs.Moves.Move.{Guards, Ticks}
 use Rattle.safe_machine.specs.World.{Side}
 use Rattle.safe_machine.specs.World.Side.{Il, Fe}
@@ -18,12 +17,7 @@ use Rattle.stack_end.specs.Ends.Call.{Put, Tick, Deliver}
 use Rattle.stack_engine.specs.Pairs.{World, Event, present, has_made, refusal, happens}
 use Rattle.stack_engine.specs.Pairs.Event.{Calls}
 
--- long enough, with both identifiers for this end at their places, and with a valid code at the end
-abbrev pub is_asked : CodeRule → (own peer : ℕ) → List ℕ → Bool
-is_asked rule own peer octets =
-    nat_le (SAFE_HEADER + code_octets rule.length) (length octets)
-    && ((field 4 octets == own && field 8 octets == peer) && has_code rule octets)
-
+-- an end is asked about these octets: long enough, with both identifiers for it at their places, and with a valid code at the end
 abbrev pub is_asked_of : EndState → List ℕ → Bool
 is_asked_of x octets = is_asked (rule_of x.settings) x.settings.connection.own x.settings.connection.peer octets
 
@@ -89,7 +83,7 @@ breaks_premise Fe octets w = breaks_at (present Fe w) (present Il w) w.dead_il o
 
 -- Events are of their types: octets are below 256, a kind has two octets.
 abbrev pub IsTyped : Event → Type 0
-IsTyped (Calls side (Deliver channel octets now)) = AllByRecursion (λ o. o < 256) octets
+IsTyped (Calls side (Deliver channel octets now)) = AreOctets octets
 IsTyped (Calls side (Put kind payload now)) = kind < 256 ^ 2
 IsTyped _ = Unit {0}
 

@@ -1,7 +1,7 @@
 //! Whether the delivery of a datagram would break the premise of the promises.
 
 ghost use Rattle.std.specs.Prelude.{◌≡◌};
-ghost use Rattle.stack_engine.specs.Premise.{is_asked};
+ghost use Rattle.safe_pdu.specs.Places.{is_asked};
 
 use octets::limits::SAFE_HEADER;
 use octets::places::u32_at;

@@ -7,6 +7,7 @@ use Rattle.pdi_session.proofs.RowLaws.{takes_law, goes_law, own_law, put_law, ro
 use Rattle.pdi_session.proofs.OwnEarly.{own_early_law}
 use Rattle.pdi_session.proofs.Matching.{matching_law}
 use Rattle.pdi_session.proofs.InStep.{in_step_law}
+use Rattle.pdi_session.proofs.Over.{over_law, begun_law}
 use Rattle.pdi_session.proofs.law.session_law.Goals as goal
 
 pub returns-clause-stands : goal.returns-clause-stands
@@ -59,3 +60,9 @@ returns-clause-matching c = matching_law
 
 pub returns-clause-in_step : goal.returns-clause-in_step
 returns-clause-in_step c = in_step_law
+
+pub returns-clause-over : goal.returns-clause-over
+returns-clause-over c = over_law
+
+pub returns-clause-begun : goal.returns-clause-begun
+returns-clause-begun c = begun_law

@@ -9,6 +9,8 @@ use Rattle.safe_machine.proofs.Connections.{connections_law_holds}
 use Rattle.safe_machine.proofs.Carriers.{reached_law_holds}
 use Rattle.safe_machine.proofs.Texts.{texts_law_holds}
 use Rattle.safe_machine.proofs.Few.{few_law_holds}
+use Rattle.safe_machine.proofs.Ring.{ring_of-units}
+use Rattle.safe_machine.proofs.OneMore.{one_more_law_holds}
 use Rattle.safe_machine.proofs.law.unit_law.Goals as goal
 
 pub returns : goal.returns
@@ -25,8 +27,10 @@ returns c = record {
   connections = connections_law_holds;
   identified = identified_law_holds;
   reached = reached_law_holds;
+  ring = ring_of-units;
   texts = texts_law_holds;
   few = few_law_holds;
   in_order = order_law_holds;
   stays = stays_law_holds;
+  one_more = one_more_law_holds;
 }

@@ -1,4 +1,4 @@
-use Rattle.std.proofs.Common.{◌≡◌, ◌+◌, ◌++◌, ◌∙◌, ap, ℕ, List, arith, rules, refl, take, length}
+use Rattle.std.proofs.Common.{◌+◌, ◌∙◌, ap, ℕ, arith, length}
 use Rattle.safe_pdu.specs.Pdu.{pdu_of}
 use Rattle.safe_pdu.specs.SafeText.{code_octets, header}
 use Rattle.safe_pdu.proofs.SafeLemmas.{safe_written}

@@ -19,4 +19,4 @@ returns-clause-last g c x h =
 pub returns-clause-kept : goal.returns-clause-kept
 returns-clause-kept g c x y h k =
     let before = subst (λ v. EndStands g.C.Channels.told v x) (sym c.self.view_is) h in
-    put-out c.args.kind c.args.payload.now _ _ x y before.both.upper k.both.upper c.in_ok-put.ensures.goes_out
+    put-out c.unit_law.ensures.ring c.args.kind c.args.payload.now _ _ x y before.both.upper k.both.upper c.in_ok-put.ensures.goes_out

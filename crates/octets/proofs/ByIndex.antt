@@ -1,0 +1,9 @@
+-- Octets in the form in which the check states it of a slice, which the lemmas on fields ask for.
+use Rattle.std.proofs.Common.{◌<◌, ℕ, zero, suc, List, [], ◌∷◌, arith}
+use Rattle.octets.specs.Octets.{AreOctets}
+use Rattle.octets.proofs.Fields.{AreOctets as FitOctets}
+
+pub fit-octets : (xs : List ℕ) → AreOctets xs → FitOctets xs
+fit-octets [] h i = omega arith
+fit-octets (x ∷ xs) h zero = let lt : x < 256 = h.0 in omega (arith, lt)
+fit-octets (x ∷ xs) h (suc i) = fit-octets xs h.1 i
