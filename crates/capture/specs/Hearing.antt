@@ -1,0 +1,46 @@
+-- What a datagram says, by the definitions of its decoders.
+use Rattle.std.specs.Prelude.{ℕ, List, Option, Some, None, Result, Ok, Err}
+use Rattle.red_pdu.specs.declared.RedFault.{RedFault}
+use Rattle.red_pdu.specs.RedText.{red_seen}
+use Rattle.safe_pdu.specs.declared.CodeRule.{CodeRule}
+use Rattle.safe_pdu.specs.declared.Kind.{Kind}
+use Rattle.safe_pdu.specs.declared.Kind.TheVariants.{DiscReq}
+use Rattle.safe_pdu.specs.declared.Leaving.{Leaving}
+use Rattle.safe_pdu.specs.declared.SafeFault.{SafeFault}
+use Rattle.safe_pdu.specs.Pdu.{Pdu}
+use Rattle.safe_pdu.specs.Bodies.{detail_of, reason_of}
+use Rattle.safe_pdu.specs.Places.{safe_seen}
+use Rattle.capture.specs.declared.heard.Header.{Header}
+use Rattle.capture.specs.declared.heard.Heard.{Heard}
+use Rattle.capture.specs.declared.heard.Heard.TheVariants as heard
+
+-- reason and detail, of a DiscReq
+abbrev pub leaving_of : Kind → List ℕ → Option Leaving
+leaving_of DiscReq body = Some (record { detail = detail_of body; reason = reason_of body })
+leaving_of _ body = None
+
+abbrev pub header_of : Pdu → Header
+header_of p =
+    record {
+      kind = p.kind;
+      receiver = p.receiver;
+      sender = p.sender;
+      sn = p.sn;
+      cs = p.cs;
+      ts = p.ts;
+      cts = p.cts;
+      leaving = leaving_of p.kind p.body;
+    }
+
+-- a redundancy PDU with this number around this upper part
+abbrev pub heard_above : ℕ → Result Pdu SafeFault → Heard
+heard_above seq (Ok p) = heard.Pdu seq (header_of p)
+heard_above seq (Err fault) = heard.NoSafe seq fault
+
+abbrev pub heard_with : CodeRule → Result (ℕ × List ℕ) RedFault → Heard
+heard_with rule (Ok p) = heard_above p.0 (safe_seen rule p.1)
+heard_with rule (Err fault) = heard.NoRed fault
+
+-- what a datagram says under a rule of the code
+abbrev pub heard_of : CodeRule → List ℕ → Heard
+heard_of rule octets = heard_with rule (red_seen octets)

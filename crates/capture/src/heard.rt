@@ -1,0 +1,93 @@
+//! What a datagram says, or why it says nothing.
+
+ghost use Rattle.std.specs.Prelude.{◌≡◌};
+ghost use Rattle.safe_pdu.specs.Bodies.{IsBody};
+ghost use Rattle.safe_pdu.specs.Pdu.{pdu_of};
+ghost use Rattle.safe_pdu.specs.Places.{safe_seen};
+ghost use Rattle.capture.specs.Hearing.{header_of, heard_of, heard_above, leaving_of};
+
+use red_pdu::RedFault;
+use safe_pdu::{CodeRule, Kind, Leaving, SafeFault, SafePdu, read_leaving};
+
+/// What the decoders answer to a datagram.
+#[derive(Clone, Copy, Debug, PartialEq, Eq)]
+pub enum Heard {
+    /// It is no redundancy PDU.
+    NoRed(RedFault),
+    /// It is a redundancy PDU with this number, whose upper part is no safety PDU.
+    NoSafe(u32, SafeFault),
+    /// It is a redundancy PDU with this number, around a safety PDU.
+    Pdu(u32, Header),
+}
+
+/// The fields of a safety PDU, and why its sender left.
+#[derive(Clone, Copy, Debug, PartialEq, Eq)]
+pub struct Header {
+    /// The type.
+    pub kind: Kind,
+    /// The identifier of the end that it is for.
+    pub receiver: u32,
+    /// The identifier of the end that made it.
+    pub sender: u32,
+    /// The sequence number (SN).
+    pub sn: u32,
+    /// The confirmed sequence number (CS).
+    pub cs: u32,
+    /// The timestamp (TS) in milliseconds.
+    pub ts: u32,
+    /// The confirmed timestamp (CTS) in milliseconds.
+    pub cts: u32,
+    /// Reason and detail, of a DiscReq.
+    pub leaving: Option<Leaving>,
+}
+
+/// What a datagram of any octets says, read under a rule of the safety code.
+pub fn hear(octets: &[u8], rule: &CodeRule) -> Heard
+    ensures { result ≡ heard_of rule.now octets.now }
+{
+    match red_pdu::decode(octets) {
+        Ok(pdu) => hear_upper(pdu.seq, pdu.upper, rule),
+        Err(fault) => Heard::NoRed(fault),
+    }
+}
+
+fn hear_upper(seq: u32, upper: &[u8], rule: &CodeRule) -> Heard
+    ensures { result ≡ heard_above seq (safe_seen rule.now upper.now) }
+{
+    match safe_pdu::decode(upper, rule) {
+        Ok(pdu) => Heard::Pdu(seq, read_header(&pdu)),
+        Err(fault) => Heard::NoSafe(seq, fault),
+    }
+}
+
+fn read_header(pdu: &SafePdu<'_>) -> Header
+    requires { IsBody pdu.now.kind pdu.now.body.now }
+    ensures { result ≡ header_of (pdu_of pdu.now) }
+{
+    Header {
+        kind: pdu.kind,
+        receiver: pdu.receiver,
+        sender: pdu.sender,
+        sn: pdu.sn,
+        cs: pdu.cs,
+        ts: pdu.ts,
+        cts: pdu.cts,
+        leaving: leaving(pdu.kind, pdu.body),
+    }
+}
+
+fn leaving(kind: Kind, body: &[u8]) -> Option<Leaving>
+    requires { IsBody kind body.now }
+    ensures { result ≡ leaving_of kind body.now }
+{
+    match kind {
+        Kind::DiscReq => Some(read_leaving(body)),
+        Kind::ConnReq
+        | Kind::ConnResp
+        | Kind::RetrReq
+        | Kind::RetrResp
+        | Kind::Heartbeat
+        | Kind::Data
+        | Kind::RetrData => None,
+    }
+}
