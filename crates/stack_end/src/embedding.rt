@@ -32,6 +32,7 @@ fn turn<C: Channels>(
 ) -> Result<(), PollFault>
     requires later { end.old.time ≤ now }
     requires now { now ≤ 2 ^ 62 }
+    ensures time { end.new.time ≤ now }
 {
     end.poll(now, application)?;
     if !application.is_on && end.phase() == Phase::Established {
