@@ -1,5 +1,5 @@
 -- What arrives is what the grammar of the redundancy PDU spells.
-use Rattle.std.proofs.Common.{◌≡◌, ◌≤◌, ℕ, ◌+◌, eqb, ltb, List, [], ◌∷◌, ◌++◌, length, drop, Result, Ok, Err, refl, sym, ap, ◌∙◌, arith}
+use Rattle.std.proofs.Common.{subst, ◌≡◌, ◌≤◌, ℕ, zero, suc, ◌+◌, eqb, ltb, List, [], ◌∷◌, ◌++◌, length, drop, Result, Ok, Err, refl, sym, ap, ◌∙◌, arith}
 use Rattle.std.proofs.lemmas.Bool.Decides.{nat_tests}
 use Rattle.byteorder.specs.Endian.{little_bytes}
 use Rattle.octets.specs.Octets.{AreOctets}
@@ -12,7 +12,8 @@ use Rattle.red_pdu.proofs.RedLemmas.{red_spelled}
 use Rattle.red_layer.specs.Parts.{Part}
 use Rattle.red_layer.specs.Redundancy.{decoded}
 use Rattle.red_layer.specs.Service.{accepted}
-use Rattle.red_layer.specs.Laws.{ArrivalLaw}
+use Rattle.std.specs.List.{AllByRecursion}
+use Rattle.red_layer.specs.Laws.{ArrivalLaw, PartsLaw}
 use Rattle.octets.proofs.Choices.{by_cond}
 
 -- what is spelled so is read
@@ -56,3 +57,24 @@ arrival_law octets now seq upper bytes = (
   λ text. ap accepted (decoded_is octets ∙ read_of seq upper octets text),
   λ arrives. text_of seq upper octets bytes (sym (decoded_is octets) ∙ one_accepted (decoded octets) (seq, upper) arrives),
 )
+
+-- a part of octets is octets
+abbrev OctetPart : Part → Type 0
+OctetPart p = AreOctets p.1
+
+all-dropped : (n : ℕ) (xs : List ℕ) → AreOctets xs → AreOctets (drop n xs)
+all-dropped zero xs h = h
+all-dropped (suc n) [] h = h
+all-dropped (suc n) (x ∷ xs) h = all-dropped n xs h.1
+
+red-octets : (octets : List ℕ) → AreOctets octets → AllByRecursion OctetPart (accepted (red_seen octets))
+red-octets octets h =
+    let P : Result Part RedFault → Type 0 = λ r. AllByRecursion OctetPart (accepted r) in
+    by_cond P (ltb (length octets) RED_HEADER) _ _ (λ _. tt) (λ _.
+    by_cond P (ltb RED_PDU_MAX (length octets)) _ _ (λ _. tt) (λ _.
+    by_cond P (eqb (length_field octets) (length octets)) _ _ (λ _.
+    by_cond P (eqb (reserve_field octets) 0) _ _ (λ _. (all-dropped RED_HEADER octets h, tt)) (λ _. tt))
+    (λ _. tt)))
+
+pub parts_law : PartsLaw
+parts_law octets now h = subst (λ (r : Result Part RedFault). AllByRecursion OctetPart (accepted r)) (sym (decoded_is octets)) (red-octets octets h)

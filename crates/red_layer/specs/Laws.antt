@@ -1,5 +1,6 @@
 -- What every list of RedundancyStep steps from the opening promises.
 use Rattle.std.specs.Prelude.{◌≡◌, ℕ, ◌≤◌, ◌↔◌, List, [], ◌∷◌, ◌++◌, length}
+use Rattle.std.specs.List.{AllByRecursion}
 use Rattle.octets.specs.Octets.{AreOctets}
 use Rattle.red_pdu.specs.RedText.{RedText}
 use Rattle.red_layer.specs.Parts.{Part}
@@ -11,6 +12,10 @@ use Rattle.red_layer.specs.Masking.{IsFirstMissing, first_missing, QNear, no_wai
 abbrev pub ArrivalLaw : Type 0
 ArrivalLaw = (octets : List ℕ) (now seq : ℕ) (upper : List ℕ) → AreOctets octets
     → (RedText seq upper octets ↔ (arrivals_of (Datagram octets now) ≡ (seq, upper) ∷ []))
+
+-- the parts of octets are octets
+abbrev pub PartsLaw : Type 0
+PartsLaw = (octets : List ℕ) (now : ℕ) → AreOctets octets → AllByRecursion (λ (p : Part). AreOctets p.1) (arrivals_of (Datagram octets now))
 
 -- strictly rising numbers, each pair among the arrivals up to its own moment
 abbrev pub ServiceLaw : Type 0
