@@ -1,7 +1,7 @@
 -- Octets in the form in which the check states it of a slice, which the lemmas on fields ask for.
 use Rattle.std.proofs.Common.{◌<◌, ℕ, zero, suc, List, [], ◌∷◌, arith}
 use Rattle.octets.specs.Octets.{AreOctets}
-use Rattle.octets.proofs.Fields.{AreOctets as FitOctets}
+use Rattle.octets.proofs.Fields.{FitOctets}
 
 pub fit-octets : (xs : List ℕ) → AreOctets xs → FitOctets xs
 fit-octets [] h i = omega arith

@@ -1,5 +1,5 @@
 -- Fields of octets: what a number that was read at a place spells, and what a spelling reads as.
-use Rattle.std.proofs.Common.{◌≡◌, ◌<◌, ◌≤◌, ℕ, zero, suc, ◌+◌, ◌-◌, ◌*◌, ◌/◌, ◌%◌, ◌^◌, List, ◌∷◌, ◌++◌, length, take, drop, refl, sym, ap, ◌∙◌, arith, get_or, Fits, w8, drop-cons, append_assoc}
+use Rattle.std.proofs.Common.{◌≡◌, ◌<◌, ◌≤◌, ℕ, zero, suc, ◌+◌, ◌-◌, ◌*◌, ◌/◌, ◌%◌, ◌^◌, List, ◌++◌, length, take, drop, refl, sym, ap, ◌∙◌, arith, get_or, Fits, w8, drop-cons, append_assoc}
 use Rattle.std.proofs.Math.Nat.{pow-succ', div-div-eq-div-mul}
 use Rattle.std.proofs.Math.Seq.{take-append-add}
 use Rattle.std.proofs.lemmas.List.{take-append-drop, get_or-drop, length-drop, drop-drop, drop-take}
@@ -8,8 +8,8 @@ use Rattle.byteorder.specs.Endian.{little_bytes, little_number, little_from}
 use Rattle.byteorder.specs.Numbers.{little_number-reads_back, little_from-lt}
 
 -- each item of the list is an octet, in the form in which the check states it of a slice
-abbrev pub AreOctets : List ℕ → Type 0
-AreOctets xs = (i : ℕ) → Fits w8 (get_or xs i 0)
+abbrev pub FitOctets : List ℕ → Type 0
+FitOctets xs = (i : ℕ) → Fits w8 (get_or xs i 0)
 
 byte_at-suc : (i x : ℕ) → byte_at (suc i) x ≡ byte_at i (x / 256)
 byte_at-suc zero x = refl
@@ -20,7 +20,7 @@ bytes_low_first-suc : (k i x : ℕ) → bytes_low_first (suc i) k x ≡ bytes_lo
 bytes_low_first-suc zero i x = refl
 bytes_low_first-suc (suc k) i x = rw (byte_at-suc i x, bytes_low_first-suc k (suc i) x) refl
 
-little_spelled : (k i : ℕ) (xs : List ℕ) → AreOctets xs → i + k ≤ length xs → bytes_low_first 0 k (little_from i k xs) ≡ take k (drop i xs)
+little_spelled : (k i : ℕ) (xs : List ℕ) → FitOctets xs → i + k ≤ length xs → bytes_low_first 0 k (little_from i k xs) ≡ take k (drop i xs)
 little_spelled zero i xs fits long = refl
 little_spelled (suc k) i xs fits long =
     let tail : ℕ = little_from (suc i) k xs in
@@ -32,8 +32,8 @@ little_spelled (suc k) i xs fits long =
     rw (drop-cons xs i 0 inner, low, bytes_low_first-suc k 0 (get_or xs i 0 + 256 * tail), high, rest) refl
 
 -- and so is each behind a place
-pub AreOctets-drop : (n : ℕ) (xs : List ℕ) → AreOctets xs → AreOctets (drop n xs)
-AreOctets-drop n xs fits i = rw get_or-drop (fits (n + i))
+pub FitOctets-drop : (n : ℕ) (xs : List ℕ) → FitOctets xs → FitOctets (drop n xs)
+FitOctets-drop n xs fits i = rw get_or-drop (fits (n + i))
 
 -- the list is its front and the rest
 pub record Splits (whole front rest : List ℕ) : Type 0 where
@@ -43,15 +43,15 @@ pub Splits-then : {whole a mid b rest : List ℕ} → Splits whole a mid → Spl
 Splits-then {whole} {a} {mid} {b} {rest} p q = record { parts = rw (p.parts, q.parts) (sym (append_assoc a b rest)) }
 
 -- the field of n octets at a place that reads as x is the spelling of x, and what follows comes after it
-pub field_at : (n place x : ℕ) (xs : List ℕ) → AreOctets xs → place + n ≤ length xs → x ≡ little_number n (drop place xs)
+pub field_at : (n place x : ℕ) (xs : List ℕ) → FitOctets xs → place + n ≤ length xs → x ≡ little_number n (drop place xs)
     → Splits (drop place xs) (little_bytes n x) (drop (place + n) xs)
 field_at n place x xs fits long reads =
-    let spelled = little_spelled n 0 (drop place xs) (AreOctets-drop place xs fits) (omega (arith, length-drop place xs)) in
+    let spelled = little_spelled n 0 (drop place xs) (FitOctets-drop place xs fits) (omega (arith, length-drop place xs)) in
     record { parts = rw (reads, spelled, ← drop-drop n place xs) (sym (take-append-drop n (drop place xs))) }
 
 -- a field of n octets is below 256 ^ n
-pub field_below : (n place x : ℕ) (xs : List ℕ) → AreOctets xs → x ≡ little_number n (drop place xs) → x < 256 ^ n
-field_below n place x xs fits reads = rw reads (little_from-lt 0 n (drop place xs) (λ i. omega (arith, AreOctets-drop place xs fits i)))
+pub field_below : (n place x : ℕ) (xs : List ℕ) → FitOctets xs → x ≡ little_number n (drop place xs) → x < 256 ^ n
+field_below n place x xs fits reads = rw reads (little_from-lt 0 n (drop place xs) (λ i. omega (arith, FitOctets-drop place xs fits i)))
 
 -- a field in front reads as its number
 pub field_reads : (n x : ℕ) (xs rest : List ℕ) → x < 256 ^ n → xs ≡ little_bytes n x ++ rest → little_number n xs ≡ x

@@ -1,12 +1,12 @@
 -- Units: what is read from the left is spelled so, what is spelled so is read, and which fault it is.
 use Rattle.std.proofs.Common.{◌≡◌, ◌==◌, ◌≤◌, ◌<◌, ℕ, zero, suc, ◌+◌, ◌-◌, true, false, ◌&&◌, nat_le, List, [], ◌∷◌, ◌++◌, length, drop, Result, Ok, Err, IfOk, IfErr, IsOkAnd, Bor, refl, sym, ap, ◌∙◌, inl, inr, arith, append_assoc}
 use Rattle.std.proofs.lemmas.Bool.{and_parts, cases_Bool, eqb-true, eqb-false, leb-true, le-leb, ne_eqb}
-use Rattle.std.proofs.lemmas.List.{append-nil, get_or-drop, nil_from_length, length-append, length-take, length-drop, take-append-drop, drop-drop}
+use Rattle.std.proofs.lemmas.List.{append-nil, nil_from_length, length-append, length-take, length-drop, take-append-drop, drop-drop}
 use Rattle.std.proofs.lemmas.List.Elements.{All-nil, All-cons, All-head, All-tail}
 use Rattle.std.proofs.Math.Seq.{take-append_seam, drop-append_seam}
 use Rattle.arrayvec.specs.ArrayVec.{ArrayVec}
 use Rattle.byteorder.specs.Endian.{little_bytes}
-use Rattle.octets.proofs.Fields.{AreOctets, AreOctets-drop, Splits, Splits-then, field_at, field_reads}
+use Rattle.octets.proofs.Fields.{FitOctets, FitOctets-drop, Splits, Splits-then, field_at, field_reads}
 use Rattle.octets.specs.declared.limits.TheConstants.{MESSAGE_LENGTH, MESSAGE_MIN, MESSAGE_MAX, UNIT_MESSAGES}
 use Rattle.packing.specs.declared.PackFault.{PackFault}
 use Rattle.packing.specs.declared.PackFault.TheVariants.{Empty, Length, TooMany}
@@ -44,7 +44,7 @@ first_sized octets test =
     (omega (arith, s.least), omega (arith, s.most))
 
 -- octets that begin with a whole piece are that piece and what follows it
-first_cut : (octets : List ℕ) → AreOctets octets → is_piece octets ≡ true → octets ≡ piece (first_message octets) ++ behind_first octets
+first_cut : (octets : List ℕ) → FitOctets octets → is_piece octets ≡ true → octets ≡ piece (first_message octets) ++ behind_first octets
 first_cut octets fits test =
     let s = stands octets test in
     let size : ℕ = length_field octets in
@@ -148,7 +148,7 @@ found_more room message rest behind octets sized e f =
       spelled = e ∙ ap (λ (b : List ℕ). piece message ++ b) f.spelled;
     }
 
-pieces_found : (room : ℕ) (octets : List ℕ) (messages : List (List ℕ)) → AreOctets octets → pieces_seen room octets ≡ Ok messages
+pieces_found : (room : ℕ) (octets : List ℕ) (messages : List (List ℕ)) → FitOctets octets → pieces_seen room octets ≡ Ok messages
     → Found room messages octets
 pieces_found zero octets messages fits seen =
     elim (cases_Bool (length octets == 0)) [
@@ -164,7 +164,7 @@ pieces_found (suc room) octets messages fits seen =
             let ends = after_ok (first_message octets ∷ []) (pieces_seen room (behind_first octets)) messages (sym (one_more room octets some test) ∙ seen) in
             rw ends.whole
             (found_more room (first_message octets) ends.rest (behind_first octets) octets (first_sized octets test) (first_cut octets fits test)
-            (pieces_found room (behind_first octets) ends.rest (AreOctets-drop (MESSAGE_LENGTH + length_field octets) octets fits) ends.answer))
+            (pieces_found room (behind_first octets) ends.rest (FitOctets-drop (MESSAGE_LENGTH + length_field octets) octets fits) ends.answer))
       ]
     ]
 
@@ -209,7 +209,7 @@ fault_more Length room message behind octets sized e (messages, rest, most, goes
 fault_more TooMany room message behind octets sized e (messages, rest, most, goes) =
     (message ∷ messages, rest, omega arith, goes_more message messages rest behind octets sized e goes)
 
-pieces_fault : (room : ℕ) (octets : List ℕ) (f : PackFault) → AreOctets octets → pieces_seen room octets ≡ Err f → FaultAt room octets f
+pieces_fault : (room : ℕ) (octets : List ℕ) (f : PackFault) → FitOctets octets → pieces_seen room octets ≡ Err f → FaultAt room octets f
 pieces_fault zero octets f fits seen =
     elim (cases_Bool (length octets == 0)) [
       | inl none ↦ let end = at_end zero octets none in absurd cc
@@ -226,7 +226,7 @@ pieces_fault (suc room) octets f fits seen =
         | inl test ↦
             let inner = after_err (first_message octets ∷ []) (pieces_seen room (behind_first octets)) f (sym (one_more room octets some test) ∙ seen) in
             fault_more f room (first_message octets) (behind_first octets) octets (first_sized octets test) (first_cut octets fits test)
-            (pieces_fault room (behind_first octets) f (AreOctets-drop (MESSAGE_LENGTH + length_field octets) octets fits) inner)
+            (pieces_fault room (behind_first octets) f (FitOctets-drop (MESSAGE_LENGTH + length_field octets) octets fits) inner)
       ]
     ]
 
@@ -251,7 +251,7 @@ carries_some : (messages : List (List ℕ)) (octets : List ℕ) → octets ≡ u
 carries_some [] octets e some = absurd (eqb-false (length octets) 0 some (ap length e))
 carries_some (message ∷ messages) octets e some = omega arith
 
-pub unit_found : (messages : List (List ℕ)) (octets : List ℕ) → AreOctets octets → Ok messages ≡ unit_seen octets → UnitText messages octets
+pub unit_found : (messages : List (List ℕ)) (octets : List ℕ) → FitOctets octets → Ok messages ≡ unit_seen octets → UnitText messages octets
 unit_found messages octets fits seen =
     elim (cases_Bool (length octets == 0)) [
       | inl none ↦ let empty = unit_none octets none in absurd cc
@@ -266,7 +266,7 @@ first_fault Empty octets h = absurd h
 first_fault Length octets h = h
 first_fault TooMany octets h = h
 
-pub unit_fault : (f : PackFault) (octets : List ℕ) → AreOctets octets → Err f ≡ unit_seen octets → FirstFault octets f
+pub unit_fault : (f : PackFault) (octets : List ℕ) → FitOctets octets → Err f ≡ unit_seen octets → FirstFault octets f
 unit_fault f octets fits seen =
     elim (cases_Bool (length octets == 0)) [
       | inl none ↦
@@ -279,7 +279,7 @@ unit_fault f octets fits seen =
     ]
 
 -- an answer that is what is seen is right in all ways
-pub answer_found : (r : Result (ArrayVec (Bor (List ℕ))) PackFault) (octets : List ℕ) → AreOctets octets → seen_of r ≡ unit_seen octets
+pub answer_found : (r : Result (ArrayVec (Bor (List ℕ))) PackFault) (octets : List ℕ) → FitOctets octets → seen_of r ≡ unit_seen octets
     → IfOk r (λ messages. UnitText (messages_of messages) octets)
 answer_found (Ok messages) octets fits seen = unit_found (messages_of messages) octets fits seen
 answer_found (Err f) octets fits seen = tt
@@ -289,7 +289,7 @@ pub answer_only : (r : Result (ArrayVec (Bor (List ℕ))) PackFault) (octets : L
 answer_only (Ok messages) octets ms seen text = let reads = unit_only ms octets text in cc
 answer_only (Err f) octets ms seen text = let reads = unit_only ms octets text in absurd cc
 
-pub answer_fault : (r : Result (ArrayVec (Bor (List ℕ))) PackFault) (octets : List ℕ) → AreOctets octets → seen_of r ≡ unit_seen octets
+pub answer_fault : (r : Result (ArrayVec (Bor (List ℕ))) PackFault) (octets : List ℕ) → FitOctets octets → seen_of r ≡ unit_seen octets
     → IfErr r (FirstFault octets)
 answer_fault (Ok messages) octets fits seen = tt
 answer_fault (Err f) octets fits seen = unit_fault f octets fits seen

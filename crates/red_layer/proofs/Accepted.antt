@@ -1,10 +1,10 @@
 -- What arrives is what the grammar of the redundancy PDU spells.
-use Rattle.std.proofs.Common.{◌≡◌, ◌<◌, ◌≤◌, ℕ, zero, suc, ◌+◌, eqb, ltb, List, [], ◌∷◌, ◌++◌, length, drop, Result, Ok, Err, refl, sym, ap, ◌∙◌, arith}
-use Rattle.std.specs.List.{All}
-use Rattle.std.proofs.lemmas.List.Elements.{All-tail}
+use Rattle.std.proofs.Common.{subst, ◌≡◌, ◌≤◌, ℕ, zero, suc, ◌+◌, eqb, ltb, List, [], ◌∷◌, ◌++◌, length, drop, Result, Ok, Err, refl, sym, ap, ◌∙◌, arith}
 use Rattle.std.proofs.lemmas.Bool.Decides.{nat_tests}
 use Rattle.byteorder.specs.Endian.{little_bytes}
-use Rattle.octets.proofs.Fields.{AreOctets, field_reads}
+use Rattle.octets.specs.Octets.{AreOctets}
+use Rattle.octets.proofs.ByIndex.{fit-octets}
+use Rattle.octets.proofs.Fields.{field_reads}
 use Rattle.octets.specs.declared.limits.TheConstants.{RED_HEADER, RED_PDU_MAX}
 use Rattle.red_pdu.specs.declared.RedFault.{RedFault}
 use Rattle.red_pdu.specs.RedText.{RedText, red_seen, length_field, reserve_field, seq_field}
@@ -12,13 +12,9 @@ use Rattle.red_pdu.proofs.RedLemmas.{red_spelled}
 use Rattle.red_layer.specs.Parts.{Part}
 use Rattle.red_layer.specs.Redundancy.{decoded}
 use Rattle.red_layer.specs.Service.{accepted}
-use Rattle.red_layer.specs.Laws.{ArrivalLaw}
+use Rattle.std.specs.List.{AllByRecursion}
+use Rattle.red_layer.specs.Laws.{ArrivalLaw, PartsLaw}
 use Rattle.octets.proofs.Choices.{by_cond}
-
-octets_are : (xs : List ℕ) → All (λ b. b < 256) xs → AreOctets xs
-octets_are [] h i = omega arith
-octets_are (x ∷ xs) h zero = let below : x < 256 = h 0 0 (omega arith) in omega arith
-octets_are (x ∷ xs) h (suc i) = octets_are xs (All-tail (λ b. b < 256) x xs h) i
 
 -- what is spelled so is read
 read_of : (seq : ℕ) (upper octets : List ℕ) → RedText seq upper octets → red_seen octets ≡ Ok (seq, upper)
@@ -35,7 +31,7 @@ read_of seq upper octets text =
     grind (arith, nat_tests)
 
 -- what is read is spelled so
-text_of : (seq : ℕ) (upper octets : List ℕ) → All (λ b. b < 256) octets → red_seen octets ≡ Ok (seq, upper) → RedText seq upper octets
+text_of : (seq : ℕ) (upper octets : List ℕ) → AreOctets octets → red_seen octets ≡ Ok (seq, upper) → RedText seq upper octets
 text_of seq upper octets bytes =
     let P : Result Part RedFault → Type 0 = λ said. said ≡ Ok (seq, upper) → RedText seq upper octets in
     by_cond P (ltb (length octets) RED_HEADER) _ _ (λ short e. absurd (cc)) (λ long.
@@ -43,7 +39,7 @@ text_of seq upper octets bytes =
     by_cond P (eqb (length_field octets) (length octets)) _ _ (λ sized.
     by_cond P (eqb (reserve_field octets) 0) _ _ (λ none e.
     let same : (seq_field octets, drop RED_HEADER octets) ≡ (seq, upper) = cc in
-    red_spelled seq upper octets (octets_are octets bytes) (grind (arith, nat_tests)) (grind (arith, nat_tests)) (grind (arith, nat_tests)) (grind (arith, nat_tests))
+    red_spelled seq upper octets (fit-octets octets bytes) (grind (arith, nat_tests)) (grind (arith, nat_tests)) (grind (arith, nat_tests)) (grind (arith, nat_tests))
     (sym (ap (λ (p : Part). p.0) same)) (sym (ap (λ (p : Part). p.1) same)))
     (λ some e. absurd (cc)))
     (λ other e. absurd (cc))))
@@ -61,3 +57,24 @@ arrival_law octets now seq upper bytes = (
   λ text. ap accepted (decoded_is octets ∙ read_of seq upper octets text),
   λ arrives. text_of seq upper octets bytes (sym (decoded_is octets) ∙ one_accepted (decoded octets) (seq, upper) arrives),
 )
+
+-- a part of octets is octets
+abbrev OctetPart : Part → Type 0
+OctetPart p = AreOctets p.1
+
+all-dropped : (n : ℕ) (xs : List ℕ) → AreOctets xs → AreOctets (drop n xs)
+all-dropped zero xs h = h
+all-dropped (suc n) [] h = h
+all-dropped (suc n) (x ∷ xs) h = all-dropped n xs h.1
+
+red-octets : (octets : List ℕ) → AreOctets octets → AllByRecursion OctetPart (accepted (red_seen octets))
+red-octets octets h =
+    let P : Result Part RedFault → Type 0 = λ r. AllByRecursion OctetPart (accepted r) in
+    by_cond P (ltb (length octets) RED_HEADER) _ _ (λ _. tt) (λ _.
+    by_cond P (ltb RED_PDU_MAX (length octets)) _ _ (λ _. tt) (λ _.
+    by_cond P (eqb (length_field octets) (length octets)) _ _ (λ _.
+    by_cond P (eqb (reserve_field octets) 0) _ _ (λ _. (all-dropped RED_HEADER octets h, tt)) (λ _. tt))
+    (λ _. tt)))
+
+pub parts_law : PartsLaw
+parts_law octets now h = subst (λ (r : Result Part RedFault). AllByRecursion OctetPart (accepted r)) (sym (decoded_is octets)) (red-octets octets h)

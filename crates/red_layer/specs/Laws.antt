@@ -1,5 +1,7 @@
 -- What every list of RedundancyStep steps from the opening promises.
-use Rattle.std.specs.Prelude.{◌≡◌, ℕ, ◌<◌, ◌≤◌, ◌↔◌, List, [], ◌∷◌, ◌++◌, length, All}
+use Rattle.std.specs.Prelude.{◌≡◌, ℕ, ◌≤◌, ◌↔◌, List, [], ◌∷◌, ◌++◌, length}
+use Rattle.std.specs.List.{AllByRecursion}
+use Rattle.octets.specs.Octets.{AreOctets}
 use Rattle.red_pdu.specs.RedText.{RedText}
 use Rattle.red_layer.specs.Parts.{Part}
 use Rattle.red_layer.specs.Redundancy.{Receiver, Input, Datagram, opened, passed_by, after}
@@ -8,8 +10,12 @@ use Rattle.red_layer.specs.Masking.{IsFirstMissing, first_missing, QNear, no_wai
 
 -- what arrives with a datagram is what the grammar of the redundancy PDU spells
 abbrev pub ArrivalLaw : Type 0
-ArrivalLaw = (octets : List ℕ) (now seq : ℕ) (upper : List ℕ) → All (λ b. b < 256) octets
+ArrivalLaw = (octets : List ℕ) (now seq : ℕ) (upper : List ℕ) → AreOctets octets
     → (RedText seq upper octets ↔ (arrivals_of (Datagram octets now) ≡ (seq, upper) ∷ []))
+
+-- the parts of octets are octets
+abbrev pub PartsLaw : Type 0
+PartsLaw = (octets : List ℕ) (now : ℕ) → AreOctets octets → AllByRecursion (λ (p : Part). AreOctets p.1) (arrivals_of (Datagram octets now))
 
 -- strictly rising numbers, each pair among the arrivals up to its own moment
 abbrev pub ServiceLaw : Type 0

@@ -1,12 +1,15 @@
 //! What the layer promises over every list of datagrams and ticks.
 
-ghost use Rattle.red_layer.specs.Laws.{ArrivalLaw, ServiceLaw, Masking, FirstMissingLaw, BoundedLaw, OriginLaw, OneMoreLaw};
+ghost use Rattle.red_layer.specs.Laws.{ArrivalLaw, ServiceLaw, Masking, FirstMissingLaw, BoundedLaw, OriginLaw, OneMoreLaw, PartsLaw};
 
 /// The laws of the layer's step, which do nothing when they are called: they hold of every list of
 /// datagrams and ticks from the opening.
 pub fn order_law()
     // A part arrives exactly with a datagram that is a redundancy PDU.
     ensures arrivals { ArrivalLaw }
+
+    // The parts of octets are octets.
+    ensures octets { PartsLaw }
 
     // What goes up has strictly rising numbers, and each part has arrived by its moment.
     ensures service { ServiceLaw }

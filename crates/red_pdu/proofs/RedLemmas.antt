@@ -2,11 +2,11 @@
 use Rattle.std.proofs.Common.{◌≡◌, ◌≤◌, ℕ, ◌+◌, List, length, drop, arith}
 use Rattle.std.proofs.lemmas.List.{length-drop}
 use Rattle.byteorder.specs.Endian.{little_number}
-use Rattle.octets.proofs.Fields.{AreOctets, Splits, Splits-then, field_at, field_below}
+use Rattle.octets.proofs.Fields.{FitOctets, Splits-then, field_at, field_below}
 use Rattle.octets.specs.declared.limits.TheConstants.{RED_HEADER, RED_PDU_MAX}
 use Rattle.red_pdu.specs.RedText.{RedText, length_field, reserve_field}
 
-pub red_spelled : (seq : ℕ) (upper octets : List ℕ) → AreOctets octets → RED_HEADER ≤ length octets → length_field octets ≡ length octets
+pub red_spelled : (seq : ℕ) (upper octets : List ℕ) → FitOctets octets → RED_HEADER ≤ length octets → length_field octets ≡ length octets
     → length octets ≤ RED_PDU_MAX → reserve_field octets ≡ 0 → seq ≡ little_number 4 (drop 4 octets) → upper ≡ drop RED_HEADER octets
     → RedText seq upper octets
 red_spelled seq upper octets fits long said most reserve seq-is upper-is =

@@ -57,3 +57,4 @@ pub mod Properties
 pub mod Stopping
 pub mod Few
 pub mod OneMore
+pub mod Requests

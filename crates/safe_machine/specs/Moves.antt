@@ -1,6 +1,7 @@
 -- The moves of one machine, whatever comes to it.
 use Rattle.std.specs.Prelude.{ℕ, ◌≡◌, ◌≤◌, ◌⊎◌, true, false, List, [], ◌∷◌, ◌++◌, length, if◌then◌else◌}
 use Rattle.safe_pdu.specs.declared.CodeRule.{CodeRule}
+use Rattle.safe_pdu.specs.declared.Kind.TheVariants.{ConnReq}
 use Rattle.safe_pdu.specs.Pdu.{Pdu}
 use Rattle.safe_pdu.specs.SafeText.{SafeText, HasNumbers, safe_text}
 use Rattle.octets.specs.declared.limits.TheConstants.{UNIT_MIN, UNIT_MAX}
@@ -11,7 +12,7 @@ use Rattle.safe_machine.specs.declared.ConnectionState.TheVariants.{Closed, Down
 use Rattle.safe_machine.specs.Made.{Made, units}
 use Rattle.safe_machine.specs.Settings.{Settings, is_legal}
 use Rattle.safe_machine.specs.State.{State, leave, opened, unconfirmed}
-use Rattle.safe_machine.specs.Decision.{is_stranger}
+use Rattle.safe_machine.specs.Decision.{is_stranger, is_ours}
 use Rattle.safe_machine.specs.Step.{guard, arrive, tick, send, may_send, is_connected}
 use Rattle.safe_machine.specs.Ring.{by_carriers}
 
@@ -124,6 +125,15 @@ WaitsLaw = (m : Move) (s : State) → (s.connection ≡ Down) ⊎ (s.connection 
 abbrev pub AreFrom : Settings → List Made → Type 0
 AreFrom settings [] = Unit {0}
 AreFrom settings (m ∷ ms) = ((m.pdu.receiver ≡ settings.peer) × (m.pdu.sender ≡ settings.own)) × AreFrom settings ms
+
+-- the move is an arrival of a ConnReq with the version of this profile
+abbrev pub HearsRequest : Move → Type 0
+HearsRequest (Hears p now) = (p.kind ≡ ConnReq) × (is_ours p.body ≡ true)
+HearsRequest _ = ⊥
+
+-- who starts a connection has heard such a ConnReq
+abbrev pub RequestsLaw : Type 0
+RequestsLaw = (m : Move) (s : State) → s.connection ≡ Down → (move m s).connection ≡ Start → HearsRequest m
 
 -- every PDU made bears the identifiers of its end
 abbrev pub IdentifiedLaw : Type 0

@@ -2,7 +2,7 @@
 
 ghost use Rattle.safe_machine.specs.InOrder.{OneMoreLaw, OrderLaw, StaysLaw};
 ghost use Rattle.safe_machine.specs.Law.{FreshAtLastLaw, FreshLaw, JoinedLaw, LossLaw, UnitLaw};
-ghost use Rattle.safe_machine.specs.Moves.{ConnectionsLaw, IdentifiedLaw, MovesLaw, ReachedLaw, SettingsLaw, StrangersLaw, TextsLaw, WaitsLaw};
+ghost use Rattle.safe_machine.specs.Moves.{ConnectionsLaw, IdentifiedLaw, MovesLaw, ReachedLaw, RequestsLaw, SettingsLaw, StrangersLaw, TextsLaw, WaitsLaw};
 ghost use Rattle.safe_machine.specs.Reached.{FewLaw};
 ghost use Rattle.safe_machine.specs.Ring.{RingLaw};
 
@@ -37,6 +37,9 @@ pub fn unit_law()
 
     // A connection stays as it is, closes, starts, comes up, or is up.
     ensures connections { ConnectionsLaw }
+
+    // Who starts a connection has heard a ConnReq with the version of this profile.
+    ensures requests { RequestsLaw }
 
     // Every PDU made bears the identifiers of its end.
     ensures identified { IdentifiedLaw }

@@ -4,7 +4,7 @@ use Rattle.std.proofs.Common.{◌≡◌, ◌≢◌, ◌≤◌, ◌==◌, ◌+◌
 use Rattle.std.proofs.lemmas.Bool.Decides.{Decides-eqb, Decides-ltb, nat_tests}
 use Rattle.std.proofs.lemmas.Slice.Eq.{bytes_eq-Decides}
 use Rattle.octets.proofs.Choices.{by_cond}
-use Rattle.octets.proofs.Fields.{AreOctets}
+use Rattle.octets.proofs.Fields.{FitOctets}
 use Rattle.octets.specs.declared.limits.TheConstants.{SAFE_HEADER, SAFE_FRONT_MAX}
 use Rattle.safe_pdu.specs.declared.Kind.{Kind}
 use Rattle.safe_pdu.specs.declared.Kind.TheVariants.{ConnReq, ConnResp, RetrReq, RetrResp, DiscReq, Heartbeat, Data, RetrData}
@@ -127,7 +127,7 @@ pub safe_seen-text : (p : Pdu) (rule : CodeRule) (octets : List ℕ) → SafeTex
 safe_seen-text p rule octets text = answer_of p rule octets text (safe_seen rule octets) (judged rule octets)
 
 -- the decoder's clauses, from what it answers by places
-pub found_by_places : (rule : CodeRule) (octets : List ℕ) (r : Result SafePdu SafeFault) → AreOctets octets → seen_of r ≡ safe_seen rule octets
+pub found_by_places : (rule : CodeRule) (octets : List ℕ) (r : Result SafePdu SafeFault) → FitOctets octets → seen_of r ≡ safe_seen rule octets
     → IfOk r (λ pdu. SafeText (pdu_of pdu) rule octets)
 unfolding Judged
 found_by_places rule octets (Ok pdu) fits e =

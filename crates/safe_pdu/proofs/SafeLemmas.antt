@@ -5,7 +5,7 @@ use Rattle.std.specs.Bool.{Decides}
 use Rattle.std.proofs.lemmas.Slice.Eq.{bytes_eq-Decides}
 use Rattle.std.proofs.Math.Seq.{take-append_seam, drop-append_seam}
 use Rattle.std.proofs.lemmas.List.{length-append, length-drop, length-take-le, take-append-drop}
-use Rattle.octets.proofs.Fields.{AreOctets, Splits, Splits-then, field_at, field_below, field_reads, front_is}
+use Rattle.octets.proofs.Fields.{FitOctets, Splits, Splits-then, field_at, field_below, field_reads, front_is}
 use Rattle.octets.specs.declared.limits.TheConstants.{SAFE_HEADER, SAFE_FRONT_MAX, UNIT_MIN, UNIT_MAX, OPENING_BODY, LEAVING_BODY}
 use Rattle.safe_pdu.specs.declared.Kind.{Kind}
 use Rattle.safe_pdu.specs.declared.Kind.TheVariants.{ConnReq, ConnResp, RetrReq, RetrResp, DiscReq, Heartbeat, Data, RetrData}
@@ -42,7 +42,7 @@ length-code_over rule front =
     length-take-le (code_octets rule.length) (digest rule.initial_value front) (omega arith)
 
 -- the header as it was read, and what follows it
-header_at : (p : Pdu) (size : ℕ) (octets : List ℕ) → AreOctets octets → SAFE_HEADER ≤ length octets → size ≡ length_field octets → Reads p octets
+header_at : (p : Pdu) (size : ℕ) (octets : List ℕ) → FitOctets octets → SAFE_HEADER ≤ length octets → size ≡ length_field octets → Reads p octets
     → Splits octets (header size p) (drop SAFE_HEADER octets)
 header_at p size octets fits long said reads =
     let a = field_at 2 0 size octets fits (omega arith) said in
@@ -55,7 +55,7 @@ header_at p size octets fits long said reads =
     Splits-then g (field_at 4 24 p.cts octets fits (omega arith) reads.cts)
 
 -- each number is in the range of its field
-numbers_read : (p : Pdu) (octets : List ℕ) → AreOctets octets → Reads p octets → HasNumbers p
+numbers_read : (p : Pdu) (octets : List ℕ) → FitOctets octets → Reads p octets → HasNumbers p
 numbers_read p octets fits reads =
     record {
       receiver = field_below 4 4 p.receiver octets fits reads.receiver;
@@ -66,7 +66,7 @@ numbers_read p octets fits reads =
       cts = field_below 4 24 p.cts octets fits reads.cts;
     }
 
-pub safe_spelled : (p : Pdu) (rule : CodeRule) (octets : List ℕ) → AreOctets octets → IsSized rule octets → HasCode rule octets
+pub safe_spelled : (p : Pdu) (rule : CodeRule) (octets : List ℕ) → FitOctets octets → IsSized rule octets → HasCode rule octets
     → Reads p octets → p.body ≡ body_of rule octets → IsBody p.kind p.body → SafeText p rule octets
 safe_spelled p rule octets fits sized coded reads body-is admitted =
     let n : ℕ = front_size rule octets in

@@ -5,7 +5,7 @@ use Rattle.std.proofs.Math.Seq.{take-append_seam, drop-append_seam}
 use Rattle.std.proofs.lemmas.Bool.{le-ltb}
 use Rattle.std.proofs.lemmas.List.{length-take, length-append, length-drop, length-replicate, drop-drop, take-append-drop}
 use Rattle.byteorder.specs.Endian.{little_number}
-use Rattle.octets.proofs.Fields.{AreOctets, Splits, Splits-then, field_at, field_below, field_reads}
+use Rattle.octets.proofs.Fields.{FitOctets, Splits, Splits-then, field_at, field_below, field_reads}
 use Rattle.octets.specs.declared.limits.TheConstants.{MESSAGE_MIN, MESSAGE_MAX, NAME_LENGTH, FILLING}
 use Rattle.sci_telegram.specs.declared.TheConstants.{KIND, RECEIVER, SENDER}
 use Rattle.sci_telegram.specs.Names.{IsName, filled}
@@ -33,7 +33,7 @@ cut_at : (place n : ℕ) (xs : List ℕ) → Splits (drop place xs) (take n (dro
 cut_at place n xs = record { parts = rw (← drop-drop n place xs) (sym (take-append-drop n (drop place xs))) }
 
 -- what was read by places is spelled so
-pub tele_spelled : (t : Tele) (octets : List ℕ) → AreOctets octets → IsSized octets → Reads t octets → IsName t.sender → IsName t.receiver
+pub tele_spelled : (t : Tele) (octets : List ℕ) → FitOctets octets → IsSized octets → Reads t octets → IsName t.sender → IsName t.receiver
     → TeleText t octets
 tele_spelled t octets fits sized reads sender receiver =
     let a = first_octet octets (omega (arith, sized.0)) in

@@ -15,7 +15,6 @@ use Rattle.sci_telegram.specs.Tele.{Tele}
 use Rattle.sci_telegram.specs.Places.{tele_seen, read_named, name_seen, sender_field, receiver_field}
 use Rattle.red_layer.specs.Parts.{Part, is_nil}
 use Rattle.red_layer.specs.Redundancy.{Input, Datagram, Tick as RedTick, passed_by}
-use Rattle.red_layer.specs.Laws.{OriginLaw}
 use Rattle.safe_machine.specs.declared.Reason.{Reason}
 use Rattle.safe_machine.specs.declared.Reason.TheVariants.{ClosedByUser}
 use Rattle.safe_machine.specs.declared.Detail.{Detail}
@@ -44,7 +43,7 @@ use Rattle.octets.specs.Octets.{AreOctets}
 use Rattle.stack_engine.proofs.Keeping.{Keeps, IsTypedInput, IsTypedCall, keep-part, keep-settle, call-keeps}
 use Rattle.stack_engine.proofs.Spoken.{Below}
 use Rattle.stack_engine.proofs.Sending.{and-parts, legal-of, limits-of}
-use Rattle.stack_engine.proofs.Machined.{Whole, OctetsUp, OctetPart, whole-keeps, red-keeps, read-heard, legal-role}
+use Rattle.stack_engine.proofs.Machined.{RedLaws, Whole, OctetsUp, OctetPart, whole-keeps, red-keeps, read-heard, legal-role}
 use Rattle.stack_engine.proofs.Passing.{passing}
 use Rattle.stack_engine.proofs.Mapping.{octets-call}
 use Rattle.stack_engine.proofs.Worlds.{new-whole}
@@ -208,7 +207,7 @@ pub record Sized (side : Side) (x : EndState) : Type 0 where
 -- the laws of the layers below that this rests on
 pub record Layers : Type 0 where
   pub below : Below
-  pub origin : OriginLaw
+  pub redundancy : RedLaws
   pub few : FewLaw
 
 -- a move in a state that is read
@@ -244,7 +243,7 @@ grows-heard laws side now octets x octs h =
 
 sized-keeps : Layers → (side : Side) (now : ℕ) → Keeps now OctetsUp (Sized side)
 sized-keeps laws side now =
-    let k : Keeps now OctetsUp (Whole side) = whole-keeps laws.below laws.origin side now in
+    let k : Keeps now OctetsUp (Whole side) = whole-keeps laws.below laws.redundancy side now in
     record {
       guards = λ x h. record { whole = k.guards x h.whole; q = h.q; few = h.few; small = h.small };
       ticks = λ x h. record { whole = k.ticks x h.whole; q = h.q; few = h.few; small = h.small };
@@ -329,7 +328,7 @@ module _ (laws : Layers) (side : Side) (now : ℕ) where
       let q = few-places side x.settings h.whole.spoken.fit in
       let nine : length ps ≤ 9 = omega (arith, p.count, h.few, h.q) in
       let begun : Sized side y = k.inputs i x t h in
-      let through = grows-parts ps y (red-keeps laws.origin i x.red t h.whole.machined.waits).0 begun in
+      let through = grows-parts ps y (red-keeps laws.redundancy i x.red t h.whole.machined.waits).0 begun in
       let z = receives now i x in
       let zero : Grows 0 0 x y = record { made = omega arith; takes = takes-same x.session y.session refl } in
       grows-more (0 + (37 * length ps + 32)) 365 (0 + (3 * length ps + 0)) 27 x (sends now z) (omega arith) (omega arith)
@@ -385,7 +384,7 @@ grows-call laws side (Deliver channel octets now) x t h =
 
 pub sized-call : Layers → (side : Side) (c : Call) (x : EndState) → IsTypedCall c → Sized side x → Sized side (call c x)
 sized-call laws side c x t h =
-    call-keeps c OctetsUp (Sized side) x (sized-keeps laws side (time_of c)) t (octets-call laws.origin c x t h.whole.machined.waits) h
+    call-keeps c OctetsUp (Sized side) x (sized-keeps laws side (time_of c)) t (octets-call laws.redundancy c x t h.whole.machined.waits) h
 
 pub sized-new : (side : Side) (s : EndSettings) (first now : ℕ) → are_fit side s ≡ true → Sized side (new_end side s first now)
 sized-new Il s first now fit = record { whole = new-whole Il s first now fit; q = refl; few = omega arith; small = tt }

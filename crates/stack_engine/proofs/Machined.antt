@@ -1,17 +1,11 @@
 -- The machine of an end: it keeps its settings, sound moves lead to it, and all that waits below it are octets.
-use Rattle.std.proofs.Common.{◌≡◌, inl, inr, ℕ, zero, suc, ◌<◌, List, [], ◌∷◌, ◌++◌, length, take, drop, Option, Some, None, Result, Ok, Err, true, cond, refl, sym, ap, subst, ◌∙◌}
-use Rattle.std.specs.Prelude.{◌==◌, nat_lt}
+use Rattle.std.proofs.Common.{◌≡◌, inl, inr, ℕ, List, [], ◌∷◌, ◌++◌, take, Option, Some, None, Result, Ok, Err, true, refl, sym, ap, subst, ◌∙◌}
 use Rattle.std.specs.List.{AllByRecursion}
-use Rattle.octets.proofs.Choices.{by_cond}
-use Rattle.octets.specs.declared.limits.TheConstants.{RED_HEADER, RED_PDU_MAX}
 use Rattle.packing.specs.UnitText.{unit_text}
-use Rattle.red_pdu.specs.declared.RedFault.{RedFault}
-use Rattle.red_pdu.specs.declared.RedFault.TheVariants.{Short, Length, Reserve}
-use Rattle.red_pdu.specs.RedText.{length_field, reserve_field, seq_field, red_seen}
 use Rattle.red_layer.specs.Parts.{Part}
-use Rattle.red_layer.specs.Redundancy.{Receiver, Input, Datagram, Tick as RedTick, decoded, passed_by, after}
-use Rattle.red_layer.specs.Service.{IsAmong, AreAmong, accepted, arrivals_of}
-use Rattle.red_layer.specs.Laws.{OriginLaw}
+use Rattle.red_layer.specs.Redundancy.{Receiver, Input, Datagram, Tick as RedTick, passed_by, after}
+use Rattle.red_layer.specs.Service.{IsAmong, AreAmong, arrivals_of}
+use Rattle.red_layer.specs.Laws.{OriginLaw, PartsLaw}
 use Rattle.safe_pdu.specs.declared.SafeFault.{SafeFault}
 use Rattle.safe_pdu.specs.Pdu.{Pdu}
 use Rattle.safe_pdu.specs.Laws.{ReadLaw}
@@ -131,37 +125,20 @@ among-all : (ps qs : List Part) → AllByRecursion OctetPart qs → AreAmong ps 
 among-all [] qs h k = tt
 among-all (p ∷ ps) qs h k = (among-one p qs h k.0, among-all ps qs h k.1)
 
-all-dropped : {X : Type 0} (P : X → Type 0) (n : ℕ) (xs : List X) → AllByRecursion P xs → AllByRecursion P (drop n xs)
-all-dropped P zero xs h = h
-all-dropped P (suc n) [] h = h
-all-dropped P (suc n) (x ∷ xs) h = all-dropped P n xs h.1
+-- the laws of the redundancy layer that are used here
+pub record RedLaws : Type 0 where
+  pub origin : OriginLaw
+  pub parts : PartsLaw
 
--- what a datagram of octets brings
-red-octets : (octets : List ℕ) → AreOctets octets → AllByRecursion OctetPart (accepted (red_seen octets))
-red-octets octets h =
-    let P : Result Part RedFault → Type 0 = λ r. AllByRecursion OctetPart (accepted r) in
-    let reserve : Result Part RedFault = cond (reserve_field octets == 0) (Ok (seq_field octets, drop RED_HEADER octets)) (Err Reserve) in
-    let sized : Result Part RedFault = cond (length_field octets == length octets) reserve (Err Length) in
-    let long : Result Part RedFault = cond (nat_lt RED_PDU_MAX (length octets)) (Err Length) sized in
-    by_cond P (nat_lt (length octets) RED_HEADER) (Err Short) long (λ _. tt) (λ _.
-    by_cond P (nat_lt RED_PDU_MAX (length octets)) (Err Length) sized (λ _. tt) (λ _.
-    by_cond P (length_field octets == length octets) reserve (Err Length) (λ _.
-    by_cond P (reserve_field octets == 0) (Ok (seq_field octets, drop RED_HEADER octets)) (Err Reserve) (λ _. (all-dropped (λ o. o < 256) RED_HEADER octets h, tt)) (λ _. tt))
-    (λ _. tt)))
+pub arrivals-octets : PartsLaw → (i : Input) → IsTypedInput i → AllByRecursion OctetPart (arrivals_of i)
+arrivals-octets law (Datagram octets now) h = law octets now h
+arrivals-octets law (RedTick now) h = tt
 
-decoded-octets : (octets : List ℕ) → AreOctets octets → AllByRecursion OctetPart (accepted (decoded octets))
-unfolding decoded
-decoded-octets octets h = red-octets octets h
-
-pub arrivals-octets : (i : Input) → IsTypedInput i → AllByRecursion OctetPart (arrivals_of i)
-arrivals-octets (Datagram octets now) h = decoded-octets octets h
-arrivals-octets (RedTick now) h = tt
-
-pub red-keeps : OriginLaw → (i : Input) (r : Receiver) → IsTypedInput i → AllByRecursion OctetPart r.waiting
+pub red-keeps : RedLaws → (i : Input) (r : Receiver) → IsTypedInput i → AllByRecursion OctetPart r.waiting
     → AllByRecursion OctetPart (passed_by i r) × AllByRecursion OctetPart (after i r).waiting
 red-keeps law i r t h =
-    let from = law i r in
-    let all = all-append OctetPart r.waiting (arrivals_of i) h (arrivals-octets i t) in
+    let from = law.origin i r in
+    let all = all-append OctetPart r.waiting (arrivals_of i) h (arrivals-octets law.parts i t) in
     (among-all (passed_by i r) (r.waiting ++ arrivals_of i) all from.0, among-all (after i r).waiting (r.waiting ++ arrivals_of i) all from.1)
 
 -- an end by itself
@@ -172,7 +149,7 @@ pub record Whole (side : Side) (x : EndState) : Type 0 where
 abbrev pub OctetsUp : EndState → List ℕ → Type 0
 OctetsUp x octets = AreOctets octets
 
-pub whole-keeps : Below → OriginLaw → (side : Side) (now : ℕ) → Keeps now OctetsUp (Whole side)
+pub whole-keeps : Below → RedLaws → (side : Side) (now : ℕ) → Keeps now OctetsUp (Whole side)
 whole-keeps laws origin side now =
     let k : Keeps now OctetsUp (Spoken side) = spoken-keeps laws side now OctetsUp in
     record {

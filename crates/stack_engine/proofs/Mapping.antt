@@ -5,7 +5,6 @@ use Rattle.octets.proofs.Choices.{by_cond, by_test}
 use Rattle.packing.specs.UnitText.{unit_text}
 use Rattle.red_layer.specs.Parts.{Part}
 use Rattle.red_layer.specs.Redundancy.{Receiver, Input, Datagram, Tick as RedTick, passed_by}
-use Rattle.red_layer.specs.Laws.{OriginLaw}
 use Rattle.safe_pdu.specs.declared.SafeFault.{SafeFault}
 use Rattle.safe_pdu.specs.Pdu.{Pdu}
 use Rattle.safe_machine.specs.declared.ConnectionState.{ConnectionState}
@@ -33,12 +32,12 @@ use Rattle.stack_engine.proofs.Reached.{Reached, il_at, fe_at, il-moves, fe-move
 use Rattle.stack_engine.proofs.Hearing.{TextLaws, TextsOf, genuine-heard, asked-heard, not-shut}
 use Rattle.stack_engine.proofs.Sending.{and-parts}
 use Rattle.stack_engine.proofs.Spoken.{Below}
-use Rattle.stack_engine.proofs.Machined.{Whole, OctetsUp, OctetPart, whole-keeps, red-keeps}
+use Rattle.stack_engine.proofs.Machined.{RedLaws, Whole, OctetsUp, OctetPart, whole-keeps, red-keeps}
 
 -- the laws of the layers below
 pub record Laws : Type 0 where
   pub below : Below
-  pub origin : OriginLaw
+  pub redundancy : RedLaws
   pub texts_read : TextLaws
 
 -- what is asked of a part that goes up
@@ -101,7 +100,7 @@ il-leaves law m now (Some why) y h whole =
 
 pub il-keeps : Laws → (m : M.World) (peer : Option EndState) (dead now : ℕ) → PeerIs peer dead m.fe m.dead_fe → Keeps now (Comes peer dead) (IlAt m now)
 il-keeps laws m peer dead now is =
-    let k : Keeps now OctetsUp (Whole Il) = whole-keeps laws.below laws.origin Il now in
+    let k : Keeps now OctetsUp (Whole Il) = whole-keeps laws.below laws.redundancy Il now in
     record {
       guards = λ x h. il-move laws.below.events m now (Guards now) x _ refl tt (k.guards x h.whole) refl h;
       ticks = λ x h. il-move laws.below.events m now (Ticks now) x _ refl tt (k.ticks x h.whole) refl h;
@@ -287,12 +286,12 @@ fe-hears : Laws → (ils : List EndState) (f : JoinedEnd) (m : M.World) (dead no
 fe-hears laws ils f m dead now octets x count is q h =
     let s = arrive_octets octets now x.machine in
     fe-leaves laws.below ils f m now (judge_units (handed_up x s) x.session).leaving (answered octets x s) (fe-heard laws ils f m dead now octets x count is q h)
-    ((whole-keeps laws.below laws.origin Fe now).hears octets x q.0 h.whole)
+    ((whole-keeps laws.below laws.redundancy Fe now).hears octets x q.0 h.whole)
 
 pub fe-keeps : Laws → (ils : List EndState) (f : JoinedEnd) (m : M.World) (dead now : ℕ) → length m.il_before ≡ length ils → PeerIs (latest ils) dead m.il m.dead_il
     → Keeps now (Comes (latest ils) dead) (FeAt ils f m now)
 fe-keeps laws ils f m dead now count is =
-    let k : Keeps now OctetsUp (Whole Fe) = whole-keeps laws.below laws.origin Fe now in
+    let k : Keeps now OctetsUp (Whole Fe) = whole-keeps laws.below laws.redundancy Fe now in
     record {
       guards = λ x h. fe-move laws.below ils f m now (Guards now) x _ refl (λ no. no) tt (k.guards x h.whole) refl refl h;
       ticks = λ x h. fe-move laws.below ils f m now (Ticks now) x _ refl (λ no. no) tt (k.ticks x h.whole) refl refl h;
@@ -315,13 +314,13 @@ octets-parts now (p ∷ ps) x h = (h.0, octets-parts now ps (part now p.1 x) h.1
 settled-red : (x : EndState) → (settle x).red ≡ x.red
 settled-red x = by_cond (λ (y : EndState). y.red ≡ x.red) (is_shut x) _ x (λ _. refl) (λ _. refl)
 
-octets-input : OriginLaw → (now : ℕ) (i : Input) (m : Move) (x : EndState) → IsTypedInput i → AllByRecursion OctetPart x.red.waiting → AtInput OctetsUp now i (end_moved m x)
+octets-input : RedLaws → (now : ℕ) (i : Input) (m : Move) (x : EndState) → IsTypedInput i → AllByRecursion OctetPart x.red.waiting → AtInput OctetsUp now i (end_moved m x)
 octets-input law now i m x t h = λ _.
     let y = end_moved m x in
     let same : y.red ≡ x.red = settled-red (with_machine (move m x.machine) x) in
     octets-parts now (passed_by i y.red) (with_input i y) (red-keeps law i y.red t (subst (λ (r : Receiver). AllByRecursion OctetPart r.waiting) (sym same) h)).0
 
-pub octets-call : OriginLaw → (c : Call) (x : EndState) → IsTypedCall c → AllByRecursion OctetPart x.red.waiting → AtCall OctetsUp c x
+pub octets-call : RedLaws → (c : Call) (x : EndState) → IsTypedCall c → AllByRecursion OctetPart x.red.waiting → AtCall OctetsUp c x
 octets-call law (Close now) x t h = tt
 octets-call law (Put kind payload now) x t h = tt
 octets-call law (InitDone now) x t h = tt

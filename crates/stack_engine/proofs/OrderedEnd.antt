@@ -76,7 +76,7 @@ module _ (laws : Laws) (more : OneMoreLaw) (side : Side) (m : M.World) (k : ℕ)
   P = OrdEnd side m k s now F
 
   kw : Keeps now OctetsUp (Whole side)
-  kw = whole-keeps laws.below laws.origin side now
+  kw = whole-keeps laws.below laws.redundancy side now
 
   -- the machine alone
   p-move : (ins : List Input) (n : ℕ) (mv : Move) (x y : EndState) → move_time mv ≡ now → heard_more mv n ≡ n → ((c : Bool) → closed_more mv c ≡ c) → GenuineMove x.machine (drop (peer_dead side m) (peer_made side m)) mv → OrderedMove side m n x.machine mv

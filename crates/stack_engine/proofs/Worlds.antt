@@ -250,7 +250,7 @@ before-length (x ∷ xs) = length-append (states xs) (M.unopened ∷ []) ∙ let
 
 -- the interlocking at the head, and the field element
 pub at-call : (laws : Laws) (dead : ℕ) (peer : Option EndState) (side : Side) (c : Call) (x : EndState) → IsTypedCall c → Whole side x → AtCall (IsGenuine peer dead) c x → AtCall (Comes peer dead) c x
-at-call laws dead peer side c x t whole g = both-call OctetsUp (IsGenuine peer dead) c x (octets-call laws.origin c x t whole.machined.waits) g
+at-call laws dead peer side c x t whole g = both-call OctetsUp (IsGenuine peer dead) c x (octets-call laws.redundancy c x t whole.machined.waits) g
 
 mapped-il : (laws : Laws) → TextsLaw → (c : Call) (x : EndState) (before : List EndState) (fes : List JoinedEnd) (di df : ℕ) → IsTypedCall c → x.time ≤ time_of c
     → AtCall (IsGenuine (latest (ends_of fes)) df) c x → Mapped (x ∷ before) fes di df → Mapped (call c x ∷ before) fes di df

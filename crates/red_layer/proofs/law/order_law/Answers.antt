@@ -1,4 +1,4 @@
-use Rattle.red_layer.proofs.Accepted.{arrival_law}
+use Rattle.red_layer.proofs.Accepted.{arrival_law, parts_law}
 use Rattle.red_layer.proofs.Ordered.{service_law}
 use Rattle.red_layer.proofs.Masked.{masking_law, missing_law}
 use Rattle.red_layer.proofs.Origins.{bounded_law, origin_law, one_more_law}
@@ -7,6 +7,7 @@ use Rattle.red_layer.proofs.law.order_law.Goals as goal
 pub returns : goal.returns
 returns c = record {
   arrivals = arrival_law;
+  octets = parts_law;
   service = service_law;
   masking = masking_law;
   missing = missing_law;

@@ -10,6 +10,7 @@ use Rattle.safe_machine.proofs.Carriers.{reached_law_holds}
 use Rattle.safe_machine.proofs.Texts.{texts_law_holds}
 use Rattle.safe_machine.proofs.Few.{few_law_holds}
 use Rattle.safe_machine.proofs.Ring.{ring_of-units}
+use Rattle.safe_machine.proofs.Requests.{requests_law_holds}
 use Rattle.safe_machine.proofs.OneMore.{one_more_law_holds}
 use Rattle.safe_machine.proofs.law.unit_law.Goals as goal
 
@@ -25,6 +26,7 @@ returns c = record {
   strangers = strangers_law_holds;
   waits = waits_law_holds;
   connections = connections_law_holds;
+  requests = requests_law_holds;
   identified = identified_law_holds;
   reached = reached_law_holds;
   ring = ring_of-units;
