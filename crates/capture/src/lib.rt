@@ -4,12 +4,20 @@
 //! prints for a datagram. Nothing here allocates, whatever the capture says.
 #![tactic(auto)]
 
+mod connections;
+mod direction;
+mod following;
 mod heard;
 mod line;
+mod window;
 mod words;
 
+pub use connections::{CONNECTIONS, Connection, Connections, Route, follow};
+pub use direction::{CHANNELS, Direction, Place, Remarks, Tally, follow_pdu};
+pub use following::{Following, Remark, Totals, sum_up};
 pub use heard::{Header, Heard, hear};
 pub use line::{Address, Buffer, LineFault, PAYLOAD_ROOM, Record, read_line};
+pub use window::{Judged, KEPT, PASSED_MAX, Window, judge, note};
 
 #[cfg(test)]
 mod tests;

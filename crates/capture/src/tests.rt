@@ -1,6 +1,9 @@
 //! Lines and datagrams with values from outside.
 
-use crate::{Address, Heard, LineFault, PAYLOAD_ROOM, Record, hear, read_line};
+use crate::{
+    Address, Following, Header, Heard, Judged, LineFault, PAYLOAD_ROOM, Record, Remark, Remarks,
+    Totals, Window, hear, note, read_line, sum_up,
+};
 use red_pdu::RedFault;
 use safe_pdu::{CodeLength, CodeRule, Kind};
 
@@ -69,4 +72,134 @@ fn names_what_is_wrong(rt: HostRuntime) {
     for (line, wanted) in cases {
         assert_eq!(rt; read_line(line, &mut buffer), Err(wanted));
     }
+}
+
+/// A datagram on a channel, from one end or from the other.
+fn record(time: u64, channel: u8, back: bool) -> Record {
+    let near = Address {
+        host: [10, 0, channel, 1],
+        port: 8001,
+    };
+    let far = Address {
+        host: [10, 0, channel, 2],
+        port: 8002,
+    };
+    let (source, destination) = if back { (far, near) } else { (near, far) };
+    Record {
+        time,
+        source,
+        destination,
+        size: 0,
+    }
+}
+
+fn pdu(seq: u32, ends: (u32, u32), sn: u32, stamps: (u32, u32)) -> Heard {
+    let (sender, receiver) = ends;
+    let (ts, cts) = stamps;
+    Heard::Pdu(
+        seq,
+        Header {
+            kind: Kind::Data,
+            receiver,
+            sender,
+            sn,
+            cs: 0,
+            ts,
+            cts,
+            leaving: None,
+        },
+    )
+}
+
+/// Remarks on a PDU that is neither sent again nor a DiscReq.
+fn remarks(
+    channel: Judged,
+    together: Judged,
+    sequence: Option<Judged>,
+    age: Option<u32>,
+) -> Remark {
+    Remark::Pdu(Remarks {
+        channel: Some(channel),
+        together,
+        sequence,
+        resent: false,
+        age,
+        leaving: None,
+    })
+}
+
+// Two channels: a copy, a gap that is closed late on the other channel, an answer with its age, and a repeat.
+#[test]
+fn follows_two_channels(rt: HostRuntime) {
+    let mut all = Following::new();
+    let first = all.hear(1, &record(1000, 0, false), &pdu(0, (1, 2), 10, (100, 0)));
+    assert_eq!(rt;
+        first,
+        remarks(Judged::First, Judged::First, Some(Judged::First), None)
+    );
+    let copy = all.hear(2, &record(1001, 1, false), &pdu(0, (1, 2), 10, (100, 0)));
+    assert_eq!(rt; copy, remarks(Judged::First, Judged::Repeat(1), None, None));
+    let gap = all.hear(3, &record(4000, 0, false), &pdu(3, (1, 2), 13, (130, 0)));
+    assert_eq!(rt;
+        gap,
+        remarks(
+            Judged::Ahead(2),
+            Judged::Ahead(2),
+            Some(Judged::Ahead(2)),
+            None
+        )
+    );
+    let late = all.hear(4, &record(4100, 1, false), &pdu(1, (1, 2), 11, (110, 0)));
+    assert_eq!(rt;
+        late,
+        remarks(Judged::Next, Judged::Late, Some(Judged::Late), None)
+    );
+    let answer = all.hear(5, &record(5000, 0, true), &pdu(7, (2, 1), 500, (9, 100)));
+    assert_eq!(rt;
+        answer,
+        remarks(Judged::First, Judged::First, Some(Judged::First), Some(30))
+    );
+    let again = all.hear(6, &record(6000, 0, false), &pdu(3, (1, 2), 13, (130, 0)));
+    assert_eq!(rt;
+        again,
+        remarks(Judged::Repeat(3), Judged::Repeat(3), None, Some(9))
+    );
+    let broken = all.hear(7, &record(7000, 0, false), &Heard::NoRed(RedFault::Length));
+    assert_eq!(rt; broken, Remark::NoRed(RedFault::Length));
+    assert_eq!(rt; all.damaged, 1);
+    let wanted = Totals {
+        heard: 4,
+        missing: 1,
+        repeats: 2,
+    };
+    assert_eq!(rt; sum_up(all.connections.as_slice()), wanted);
+}
+
+// The seventeenth connection takes the place of the one that was silent longest.
+#[test]
+fn forgets_the_one_silent_longest(rt: HostRuntime) {
+    let mut all = Following::new();
+    for end in 1..18u32 {
+        let _remark = all.hear(
+            end as u64,
+            &record(end as u64, 0, false),
+            &pdu(0, (end, 100), 1, (1, 0)),
+        );
+    }
+    let ends = all.connections.as_slice();
+    assert_eq!(rt; ends.len(), 16);
+    assert!(rt; ends.iter().all(|connection| connection.low != 1));
+}
+
+// Numbers go round, and a restart begins them anew without a gap.
+#[test]
+fn goes_round_and_begins_anew(rt: HostRuntime) {
+    let mut window = Window::new();
+    assert_eq!(rt; note(&mut window, u32::MAX, 1), Judged::First);
+    assert_eq!(rt; note(&mut window, 0, 2), Judged::Next);
+    assert_eq!(rt; note(&mut window, 65_536, 3), Judged::Ahead(65_535));
+    assert_eq!(rt; note(&mut window, 4_000_000, 4), Judged::Anew);
+    assert_eq!(rt; note(&mut window, 4_000_001, 5), Judged::Next);
+    assert_eq!(rt; note(&mut window, 0, 6), Judged::Anew);
+    assert_eq!(rt; window.missing, 65_535);
 }

@@ -1,0 +1,121 @@
+-- The connections of a capture as a list, the one that was heard last at its end.
+use Rattle.std.specs.Prelude.{ℕ, ◌==◌, ◌&&◌, ◌||◌, Bool, true, nat_le, List, [], ◌∷◌, ◌++◌, length, slice_index_or, slice_set, replicate, if◌then◌else◌, Option, Some, None}
+use Rattle.std.specs.List.{position, remove}
+use Rattle.std.specs.Str.{bytes_eq}
+use Rattle.capture.specs.declared.heard.Header.{Header}
+use Rattle.capture.specs.declared.line.Address.{Address}
+use Rattle.capture.specs.declared.line.Record.{Record}
+use Rattle.capture.specs.declared.direction.TheConstants.{CHANNELS}
+use Rattle.capture.specs.declared.direction.Place.{Place}
+use Rattle.capture.specs.declared.direction.Remarks.{Remarks}
+use Rattle.capture.specs.declared.connections.TheConstants.{CONNECTIONS}
+use Rattle.capture.specs.declared.connections.Route.{Route}
+use Rattle.capture.specs.declared.connections.Connection.{Connection}
+use Rattle.capture.specs.Following.{followed, open_direction, remarks_of}
+
+-- nothing of the connection was heard yet
+abbrev pub opened : ℕ → ℕ → Connection
+opened low high =
+    record {
+      low = low;
+      high = high;
+      last = 0;
+      routes = replicate CHANNELS None;
+      from_low = open_direction;
+      from_high = open_direction;
+    }
+
+-- the identifiers of two ends, the lower one in front
+abbrev pub ends_of : ℕ → ℕ → ℕ × ℕ
+ends_of sender receiver = if nat_le sender receiver then (sender, receiver) else (receiver, sender)
+
+-- where the connection with these identifiers stands
+abbrev pub place_of : ℕ → ℕ → List Connection → Option ℕ
+place_of low high cs = position (λ (c : Connection). (c.low == low) && (c.high == high)) cs
+
+-- without the one that was silent longest, where the list is full
+abbrev pub room_made : List Connection → List Connection
+room_made cs = if length cs == CONNECTIONS then remove cs 0 else cs
+
+abbrev pub taken_at : Option ℕ → Connection → List Connection → Connection
+taken_at (Some place) new cs = slice_index_or cs place new
+taken_at None new cs = new
+
+abbrev pub left_at : Option ℕ → List Connection → List Connection
+left_at (Some place) cs = remove cs place
+left_at None cs = room_made cs
+
+abbrev pub found : ℕ → ℕ → List Connection → Option ℕ
+found sender receiver cs = place_of (ends_of sender receiver).0 (ends_of sender receiver).1 cs
+
+-- the connection between two ends: a new one, where none is followed
+abbrev pub taken : ℕ → ℕ → List Connection → Connection
+taken sender receiver cs =
+    taken_at (found sender receiver cs) (opened (ends_of sender receiver).0 (ends_of sender receiver).1) cs
+
+-- the others that stay
+abbrev pub left : ℕ → ℕ → List Connection → List Connection
+left sender receiver cs = left_at (found sender receiver cs) cs
+
+abbrev pub is_same_address : Address → Address → Bool
+is_same_address a b = (a.port == b.port) && bytes_eq a.host b.host
+
+-- the place is free, or holds the channel between these addresses, whichever is the source
+abbrev pub is_held : Option Route → Record → Bool
+is_held None r = true
+is_held (Some route) r =
+    (is_same_address route.near r.source && is_same_address route.far r.destination)
+    || (is_same_address route.near r.destination && is_same_address route.far r.source)
+
+abbrev pub route_place_of : List (Option Route) → Record → Option ℕ
+route_place_of routes r = position (λ route. is_held route r) routes
+
+-- the number of a datagram's channel: the first place that holds it
+abbrev pub channel_at : Option ℕ → ℕ
+channel_at (Some place) = place
+channel_at None = CHANNELS
+
+abbrev pub channel_of : List (Option Route) → Record → ℕ
+channel_of routes r = channel_at (route_place_of routes r)
+
+abbrev pub route_of : Option Route → Record → Option Route
+route_of (Some route) r = Some route
+route_of None r = Some (record { near = r.source; far = r.destination })
+
+abbrev pub routes_at : Option ℕ → List (Option Route) → Record → List (Option Route)
+routes_at (Some place) routes r = slice_set routes place (route_of (slice_index_or routes place None) r)
+routes_at None routes r = routes
+
+-- the channels after a datagram: a new one is noted at the first free place
+abbrev pub routes_after : List (Option Route) → Record → List (Option Route)
+routes_after routes r = routes_at (route_place_of routes r) routes r
+
+abbrev pub place_in : Connection → ℕ → Record → Place
+place_in c line r = record { time = r.time; line = line; channel = channel_of c.routes r }
+
+-- the end with the lower identifier made it
+abbrev pub is_from_low : Connection → Header → Bool
+is_from_low c h = h.sender == c.low
+
+-- what is remarkable in a PDU, by what its own end and the other end sent before
+abbrev pub connection_remarks : Connection → ℕ → Record → ℕ → Header → Remarks
+connection_remarks c line r seq h =
+    if is_from_low c h then remarks_of c.from_low c.from_high.stamp (place_in c line r) seq h
+    else remarks_of c.from_high c.from_low.stamp (place_in c line r) seq h
+
+-- the connection after it
+abbrev pub heard_in : Connection → Record → Connection
+heard_in c r = record c { last = r.time; routes = routes_after c.routes r }
+
+abbrev pub connection_after : Connection → ℕ → Record → ℕ → Header → Connection
+connection_after c line r seq h =
+    if is_from_low c h then record (heard_in c r) { from_low = followed c.from_low c.from_high.stamp (place_in c line r) seq h }
+    else record (heard_in c r) { from_high = followed c.from_high c.from_low.stamp (place_in c line r) seq h }
+
+-- the step: what is remarkable in a PDU of a line, and the connections after it
+abbrev pub step_remarks : List Connection → ℕ → Record → ℕ → Header → Remarks
+step_remarks cs line r seq h = connection_remarks (taken h.sender h.receiver cs) line r seq h
+
+abbrev pub step : List Connection → ℕ → Record → ℕ → Header → List Connection
+step cs line r seq h =
+    left h.sender h.receiver cs ++ connection_after (taken h.sender h.receiver cs) line r seq h ∷ []

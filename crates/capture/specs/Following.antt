@@ -1,0 +1,122 @@
+-- What is remarkable in a PDU, and what is kept of it.
+use Rattle.std.specs.Prelude.{ℕ, ◌-◌, max, Bool, true, false, nat_lt, List, slice_index_or, slice_set, replicate, if◌then◌else◌, Option, Some, None}
+use Rattle.safe_pdu.specs.declared.Kind.{Kind}
+use Rattle.safe_pdu.specs.declared.Kind.TheVariants.{Heartbeat, RetrData, RetrReq}
+use Rattle.safe_pdu.specs.declared.Leaving.{Leaving}
+use Rattle.capture.specs.declared.heard.Header.{Header}
+use Rattle.capture.specs.declared.window.Window.{Window}
+use Rattle.capture.specs.declared.window.Judged.{Judged}
+use Rattle.capture.specs.declared.window.Judged.TheVariants.{Late, Repeat}
+use Rattle.capture.specs.declared.direction.TheConstants.{CHANNELS}
+use Rattle.capture.specs.declared.direction.Direction.{Direction}
+use Rattle.capture.specs.declared.direction.Place.{Place}
+use Rattle.capture.specs.declared.direction.Remarks.{Remarks}
+use Rattle.capture.specs.declared.direction.Tally.{Tally}
+use Rattle.capture.specs.Numbers.{ahead, counted, judged, noted, open_window}
+
+-- nothing was counted yet
+abbrev pub open_tally : Tally
+open_tally = record { heartbeats = 0; requests = 0; resent = 0; oldest = 0; last = 0; silence = 0; leaving = None }
+
+-- nothing was heard yet
+abbrev pub open_direction : Direction
+open_direction =
+    record {
+      channels = replicate CHANNELS open_window;
+      together = open_window;
+      sequence = open_window;
+      stamp = None;
+      tally = open_tally;
+    }
+
+-- the numbers of a channel that is told apart
+abbrev pub channel_judged : List Window → ℕ → ℕ → Option Judged
+channel_judged ws channel seq = if nat_lt channel CHANNELS then Some (judged (slice_index_or ws channel open_window) seq) else None
+
+abbrev pub channel_noted : List Window → ℕ → ℕ → ℕ → List Window
+channel_noted ws channel seq line =
+    if nat_lt channel CHANNELS then slice_set ws channel (noted (slice_index_or ws channel open_window) seq line) else ws
+
+-- a PDU is new where its redundancy number was heard on no channel
+abbrev pub is_new : Judged → Bool
+is_new (Repeat _) = false
+is_new _ = true
+
+-- and the newest, where it is no late one
+abbrev pub is_furthest : Judged → Bool
+is_furthest (Repeat _) = false
+is_furthest Late = false
+is_furthest _ = true
+
+-- only a new PDU counts among the sequence numbers
+abbrev pub sequence_judged : Bool → Window → ℕ → Option Judged
+sequence_judged true w sn = Some (judged w sn)
+sequence_judged false w sn = None
+
+abbrev pub sequence_noted : Bool → Window → ℕ → ℕ → Window
+sequence_noted true w sn line = noted w sn line
+sequence_noted false w sn line = w
+
+abbrev pub is_resent : Kind → Bool
+is_resent RetrData = true
+is_resent _ = false
+
+-- how old a confirmed timestamp is at the end that made it: that end's last timestamp minus the confirmed one
+abbrev pub age_of : Option ℕ → ℕ → Option ℕ
+age_of None confirmed = None
+age_of (Some stamp) confirmed = Some (ahead confirmed stamp)
+
+abbrev pub kind_counted : Kind → Tally → Tally
+kind_counted Heartbeat t = record t { heartbeats = counted t.heartbeats 1 }
+kind_counted RetrReq t = record t { requests = counted t.requests 1 }
+kind_counted RetrData t = record t { resent = counted t.resent 1 }
+kind_counted _ t = t
+
+-- the greatest age, the longest silence and the last reason so far
+abbrev pub oldest_of : Option ℕ → ℕ → ℕ
+oldest_of None oldest = oldest
+oldest_of (Some age) oldest = max oldest age
+
+abbrev pub silence_of : Tally → ℕ → ℕ
+silence_of t time = if nat_lt 0 t.last then max t.silence (time - t.last) else t.silence
+
+abbrev pub leaving_after : Option Leaving → Option Leaving → Option Leaving
+leaving_after (Some leaving) before = Some leaving
+leaving_after None before = before
+
+-- what is counted after a new PDU
+abbrev pub tallied : Tally → ℕ → Option ℕ → Header → Tally
+tallied t time age h =
+    record (kind_counted h.kind t) {
+      oldest = oldest_of age t.oldest;
+      silence = silence_of t time;
+      last = time;
+      leaving = leaving_after h.leaving t.leaving;
+    }
+
+abbrev pub tally_after : Bool → Tally → ℕ → Option ℕ → Header → Tally
+tally_after true t time age h = tallied t time age h
+tally_after false t time age h = t
+
+-- what is remarkable in a PDU with this redundancy number
+abbrev pub remarks_of : Direction → Option ℕ → Place → ℕ → Header → Remarks
+remarks_of d peer place seq h =
+    record {
+      channel = channel_judged d.channels place.channel seq;
+      together = judged d.together seq;
+      sequence = sequence_judged (is_new (judged d.together seq)) d.sequence h.sn;
+      resent = is_resent h.kind;
+      age = age_of peer h.cts;
+      leaving = h.leaving;
+    }
+
+-- what is kept after it
+abbrev pub followed : Direction → Option ℕ → Place → ℕ → Header → Direction
+followed d peer place seq h =
+    record {
+      channels = channel_noted d.channels place.channel seq place.line;
+      together = noted d.together seq place.line;
+      sequence = sequence_noted (is_new (judged d.together seq)) d.sequence h.sn place.line;
+      stamp = if is_furthest (judged d.together seq) then Some h.ts else d.stamp;
+      tally = tally_after (is_new (judged d.together seq)) d.tally place.time (age_of peer h.cts) h;
+    }

@@ -1,0 +1,79 @@
+-- How a number follows on those that were heard, and what is kept of it.
+use Rattle.std.specs.Prelude.{ℕ, ◌+◌, ◌-◌, ◌%◌, ◌^◌, ◌==◌, ◌&&◌, Bool, nat_lt, nat_le, min, List, slice_index, slice_set, replicate, if◌then◌else◌}
+use Rattle.capture.specs.declared.window.TheConstants.{KEPT, PASSED_MAX}
+use Rattle.capture.specs.declared.window.Window.{Window}
+use Rattle.capture.specs.declared.window.Judged.{Judged}
+use Rattle.capture.specs.declared.window.Judged.TheVariants.{First, Next, Ahead, Late, Repeat, Anew}
+
+-- a count goes as far as 64 bits do
+abbrev pub counted : ℕ → ℕ → ℕ
+counted count more = min (count + more) (2 ^ 64 - 1)
+
+abbrev pub none_kept : List ℕ
+none_kept = replicate KEPT 0
+
+-- no number was heard yet
+abbrev pub open_window : Window
+open_window =
+    record {
+      newest = 0;
+      numbers = none_kept;
+      lines = none_kept;
+      heard = 0;
+      missing = 0;
+      repeats = 0;
+    }
+
+-- the slot of a number is its remainder
+abbrev pub slot : ℕ → ℕ
+slot number = number % KEPT
+
+abbrev pub line_of : Window → ℕ → ℕ
+line_of w number = slice_index w.lines (slot number)
+
+-- the number is kept: its slot has a line, and is its own
+abbrev pub is_kept : Window → ℕ → Bool
+is_kept w number = nat_lt 0 (line_of w number) && (slice_index w.numbers (slot number) == number)
+
+-- how many steps a number lies ahead of another in the ring of 32 bits
+abbrev pub ahead : ℕ → ℕ → ℕ
+ahead from to = (to + (2 ^ 32 - from)) % 2 ^ 32
+
+-- so many numbers may be passed over, and the last numbers before the newest are late: any other begins anew
+abbrev pub judged_ahead : ℕ → Judged
+judged_ahead steps =
+    if nat_le steps 1 then Next
+    else if nat_le steps (PASSED_MAX + 1) then Ahead (steps - 1)
+    else if nat_lt (4294967295 - KEPT) steps then Late
+    else Anew
+
+-- how a number follows
+abbrev pub judged : Window → ℕ → Judged
+judged w number =
+    if is_kept w number then Repeat (line_of w number)
+    else if w.heard == 0 then First
+    else judged_ahead (ahead w.newest number)
+
+-- the number stands in its slot
+abbrev pub kept : Window → ℕ → ℕ → Window
+kept w number line =
+    record w {
+      numbers = slice_set w.numbers (slot number) number;
+      lines = slice_set w.lines (slot number) line;
+      heard = counted w.heard 1;
+    }
+
+abbrev pub moved : Window → ℕ → ℕ → ℕ → Window
+moved w missing number line = kept (record w { newest = number; missing = missing }) number line
+
+-- what is kept after a number that followed so
+abbrev pub noted_as : Judged → Window → ℕ → ℕ → Window
+noted_as First w number line = moved w w.missing number line
+noted_as Next w number line = moved w w.missing number line
+noted_as (Ahead passed) w number line = moved w (counted w.missing passed) number line
+noted_as Late w number line = kept (record w { missing = w.missing - 1 }) number line
+noted_as (Repeat _) w number line = record w { repeats = counted w.repeats 1 }
+noted_as Anew w number line = moved (record w { lines = none_kept }) w.missing number line
+
+abbrev pub noted : Window → ℕ → ℕ → Window
+noted w number line = noted_as (judged w number) w number line

@@ -1,0 +1,44 @@
+-- A whole capture, datagram by datagram.
+use Rattle.std.specs.Prelude.{ℕ, List, fold}
+use Rattle.capture.specs.declared.heard.Heard.{Heard}
+use Rattle.capture.specs.declared.heard.Heard.TheVariants as heard
+use Rattle.capture.specs.declared.line.Record.{Record}
+use Rattle.capture.specs.declared.connections.Connection.{Connection}
+use Rattle.capture.specs.declared.following.Remark.{Remark}
+use Rattle.capture.specs.declared.following.Remark.TheVariants as remark
+use Rattle.capture.specs.declared.following.Totals.{Totals}
+use Rattle.capture.specs.Numbers.{counted}
+use Rattle.capture.specs.Connecting.{step, step_remarks}
+
+-- what is remarkable in a datagram
+abbrev pub remark_of : List Connection → ℕ → Record → Heard → Remark
+remark_of cs line r (heard.Pdu seq h) = remark.Pdu (step_remarks cs line r seq h)
+remark_of cs line r (heard.NoSafe seq fault) = remark.NoSafe seq fault
+remark_of cs line r (heard.NoRed fault) = remark.NoRed fault
+
+-- the connections after it: one that is no PDU changes none
+abbrev pub connections_after : List Connection → ℕ → Record → Heard → List Connection
+connections_after cs line r (heard.Pdu seq h) = step cs line r seq h
+connections_after cs line r (heard.NoSafe seq fault) = cs
+connections_after cs line r (heard.NoRed fault) = cs
+
+abbrev pub damaged_after : ℕ → Heard → ℕ
+damaged_after damaged (heard.Pdu seq h) = damaged
+damaged_after damaged (heard.NoSafe seq fault) = counted damaged 1
+damaged_after damaged (heard.NoRed fault) = counted damaged 1
+
+abbrev pub no_totals : Totals
+no_totals = record { heard = 0; missing = 0; repeats = 0 }
+
+-- the sums with a connection more, both its directions
+abbrev pub counted_in : Totals → Connection → Totals
+counted_in t c =
+    record {
+      heard = counted (counted t.heard c.from_low.together.heard) c.from_high.together.heard;
+      missing = counted (counted t.missing c.from_low.together.missing) c.from_high.together.missing;
+      repeats = counted (counted t.repeats c.from_low.together.repeats) c.from_high.together.repeats;
+    }
+
+-- the sums over all connections
+abbrev pub totals_of : List Connection → Totals
+totals_of cs = fold counted_in no_totals cs

@@ -1,0 +1,211 @@
+//! The connections of a capture: the one that was heard last stands last.
+
+ghost use Rattle.std.specs.Prelude.{◌≡◌, ◌<◌, ◌≤◌, ◌++◌, ◌∷◌, [], length, IfSome};
+ghost use Rattle.arrayvec.specs.ArrayVec.{array_vec_len};
+ghost use Rattle.capture.specs.Connecting.{channel_of, connection_after, connection_remarks, ends_of, is_from_low, is_held, is_same_address, left, opened, place_of, room_made, route_place_of, routes_after, step, step_remarks, taken};
+
+use crate::direction::{CHANNELS, Direction, Place, Remarks, follow_pdu};
+use crate::heard::Header;
+use crate::line::{Address, Record};
+use arrayvec::ArrayVec;
+
+/// How many connections are followed at most.
+pub const CONNECTIONS: usize = 16;
+
+/// The two addresses of a channel, the source of its first datagram in front.
+#[derive(Clone, Copy, Debug, PartialEq, Eq)]
+pub struct Route {
+    /// Where the first datagram came from.
+    pub near: Address,
+    /// Where it went to.
+    pub far: Address,
+}
+
+/// A connection, as far as it was heard.
+#[derive(Clone, Copy, Debug, PartialEq, Eq)]
+pub struct Connection {
+    /// The lower identifier of its ends.
+    pub low: u32,
+    /// The higher one.
+    pub high: u32,
+    /// When it was heard last, in microseconds.
+    pub last: u64,
+    /// Its channels, as they were heard.
+    pub routes: [Option<Route>; CHANNELS],
+    /// What the end with the lower identifier sent.
+    pub from_low: Direction,
+    /// What the other end sent.
+    pub from_high: Direction,
+}
+
+impl Default for Connection {
+    /// A connection of which nothing was heard.
+    fn default() -> Self
+        ensures { result ≡ opened 0 0 }
+    {
+        open(0, 0)
+    }
+}
+
+/// The connections that are followed; the one that was heard last stands last.
+pub type Connections = ArrayVec<Connection, CONNECTIONS>;
+
+/// Takes a PDU of a line into account, and answers what is remarkable in it. Where a further connection finds no room,
+/// the one that was silent longest is forgotten.
+pub fn follow(
+    connections: &mut Connections,
+    line: u64,
+    record: &Record,
+    seq: u32,
+    header: &Header,
+) -> Remarks
+    ensures remarks { result ≡ step_remarks connections.old.items line record.now seq header.now }
+    ensures step { connections.new.items ≡ step connections.old.items line record.now seq header.now }
+{
+    let mut connection = take_out(connections, header.sender, header.receiver);
+    let remarks = follow_in(&mut connection, line, record, seq, header);
+    connections.push(connection);
+    remarks
+}
+
+/// Takes the connection between two ends out of the list: a new one, where none is followed.
+fn take_out(connections: &mut Connections, sender: u32, receiver: u32) -> Connection
+    ensures taken { result ≡ taken sender receiver connections.old.items }
+    ensures left { connections.new.items ≡ left sender receiver connections.old.items }
+    ensures room { array_vec_len connections.new < CONNECTIONS }
+{
+    let (low, high) = ends(sender, receiver);
+    match place(connections, low, high) {
+        Some(place) => connections.remove(place),
+        None => {
+            make_room(connections);
+            open(low, high)
+        }
+    }
+}
+
+/// The identifiers of two ends, the lower one in front.
+fn ends(sender: u32, receiver: u32) -> (u32, u32)
+    ensures { result ≡ ends_of sender receiver }
+{
+    if sender <= receiver {
+        (sender, receiver)
+    } else {
+        (receiver, sender)
+    }
+}
+
+/// Where the connection with these identifiers stands.
+fn place(connections: &Connections, low: u32, high: u32) -> Option<usize>
+    ensures value { result ≡ place_of low high connections.now.items }
+    ensures bound { IfSome result (λ place. place < array_vec_len connections.now) }
+    ensures fits { array_vec_len connections.now ≤ CONNECTIONS }
+{
+    connections.as_slice().iter().position(|connection| connection.low == low
+        && connection.high == high)
+}
+
+/// Forgets the connection that was silent longest, where there is no room for one more.
+fn make_room(connections: &mut Connections)
+    ensures left { connections.new.items ≡ room_made connections.old.items }
+    ensures room { array_vec_len connections.new < CONNECTIONS }
+{
+    if connections.is_full() {
+        let _forgotten = connections.remove(0);
+    }
+}
+
+/// A connection of which nothing was heard.
+fn open(low: u32, high: u32) -> Connection
+    ensures { result ≡ opened low high }
+{
+    Connection {
+        low,
+        high,
+        last: 0,
+        routes: [None; CHANNELS],
+        from_low: Direction::new(),
+        from_high: Direction::new(),
+    }
+}
+
+/// Takes a PDU of a connection into account.
+fn follow_in(
+    connection: &mut Connection,
+    line: u64,
+    record: &Record,
+    seq: u32,
+    header: &Header,
+) -> Remarks
+    ensures remarks { result ≡ connection_remarks connection.old line record.now seq header.now }
+    ensures after { connection.new ≡ connection_after connection.old line record.now seq header.now }
+{
+    connection.last = record.time;
+    let channel = note_route(&mut connection.routes, record);
+    let time = record.time;
+    let place = Place {
+        time,
+        line,
+        channel,
+    };
+    if comes_from_low(connection, header) {
+        let peer = connection.from_high.stamp;
+        follow_pdu(&mut connection.from_low, peer, place, seq, header)
+    } else {
+        let peer = connection.from_low.stamp;
+        follow_pdu(&mut connection.from_high, peer, place, seq, header)
+    }
+}
+
+/// Whether the end with the lower identifier made a PDU.
+fn comes_from_low(connection: &Connection, header: &Header) -> bool
+    ensures { result ≡ is_from_low connection.now header.now }
+{
+    header.sender == connection.low
+}
+
+/// The number of a datagram's channel, which is noted where it is new and there is room for it.
+fn note_route(routes: &mut [Option<Route>; CHANNELS], record: &Record) -> usize
+    ensures channel { result ≡ channel_of routes.old record.now }
+    ensures noted { routes.new ≡ routes_after routes.old record.now }
+{
+    match route_place(routes, record) {
+        Some(place) => {
+            if routes[place].is_none() {
+                routes[place] = Some(Route {
+                    near: record.source,
+                    far: record.destination,
+                });
+            }
+            place
+        }
+        None => CHANNELS,
+    }
+}
+
+/// The first place that holds a datagram's channel, or none.
+fn route_place(routes: &[Option<Route>; CHANNELS], record: &Record) -> Option<usize>
+    ensures value { result ≡ route_place_of routes.now record.now }
+    ensures bound { IfSome result (λ place. place < CHANNELS) }
+{
+    routes.iter().position(|route| holds(route, record))
+}
+
+/// Whether a place is free, or holds the channel between a datagram's addresses, whichever is the source.
+fn holds(route: &Option<Route>, record: &Record) -> bool
+    ensures { result ≡ is_held route.now record.now }
+{
+    match route {
+        None => true,
+        Some(route) => {
+            is_same(route.near, record.source) && is_same(route.far, record.destination)
+                || is_same(route.near, record.destination) && is_same(route.far, record.source)
+        }
+    }
+}
+
+fn is_same(one: Address, other: Address) -> bool
+    ensures { result ≡ is_same_address one other }
+{
+    one.port == other.port && one.host.as_slice() == other.host.as_slice()
+}

@@ -1,0 +1,223 @@
+//! What is remarkable in a PDU, by what was heard before it.
+
+ghost use Rattle.std.specs.Prelude.{◌≡◌, ◌<◌, length};
+ghost use Rattle.capture.specs.Following.{age_of, channel_judged, channel_noted, followed, is_furthest, is_new, is_resent, kind_counted, open_direction, remarks_of, sequence_judged, sequence_noted, tallied};
+
+use crate::heard::Header;
+use crate::window::{Judged, Window, note};
+use safe_pdu::{Kind, Leaving};
+
+/// How many channels of a connection are told apart.
+pub const CHANNELS: usize = 4;
+
+/// What one end of a connection sent, as far as it was heard.
+#[derive(Clone, Copy, Debug, PartialEq, Eq)]
+pub struct Direction {
+    /// The redundancy numbers of each channel.
+    pub channels: [Window; CHANNELS],
+    /// The redundancy numbers of all channels together.
+    pub together: Window,
+    /// The sequence numbers of the safety PDUs.
+    pub sequence: Window,
+    /// The timestamp of the newest PDU.
+    pub stamp: Option<u32>,
+    /// What its PDUs were.
+    pub tally: Tally,
+}
+
+/// What the PDUs of a direction were, each counted once.
+#[derive(Clone, Copy, Debug, PartialEq, Eq)]
+pub struct Tally {
+    /// Heartbeats.
+    pub heartbeats: u64,
+    /// Requests for retransmission (RetrReq).
+    pub requests: u64,
+    /// Units that were sent again (RetrData).
+    pub resent: u64,
+    /// The greatest age of a confirmed timestamp, in milliseconds.
+    pub oldest: u32,
+    /// When the last one was heard, in microseconds; 0 before the first.
+    pub last: u64,
+    /// The longest time between two of them, in microseconds.
+    pub silence: u64,
+    /// Reason and detail of the last DiscReq.
+    pub leaving: Option<Leaving>,
+}
+
+/// What is remarkable in a PDU.
+#[derive(Clone, Copy, Debug, PartialEq, Eq)]
+pub struct Remarks {
+    /// How its redundancy number follows on those of its channel; none where the channel is not told apart.
+    pub channel: Option<Judged>,
+    /// How it follows on those of all channels.
+    pub together: Judged,
+    /// How its sequence number follows; none where the PDU was heard before.
+    pub sequence: Option<Judged>,
+    /// It carries a unit that was sent before (RetrData).
+    pub resent: bool,
+    /// How old the timestamp that it confirms is at the end that made that timestamp, in milliseconds; none where that
+    /// end was not heard.
+    pub age: Option<u32>,
+    /// Reason and detail, of a DiscReq.
+    pub leaving: Option<Leaving>,
+}
+
+/// Where a PDU stands in the capture.
+#[derive(Clone, Copy, Debug, PartialEq, Eq)]
+pub struct Place {
+    /// When it was recorded, in microseconds.
+    pub time: u64,
+    /// The number of its line, from 1 on.
+    pub line: u64,
+    /// The number of its channel, from 0 on; from `CHANNELS` on channels are not told apart.
+    pub channel: usize,
+}
+
+impl Direction {
+    /// Nothing was heard yet.
+    pub fn new() -> Self
+        ensures { result ≡ open_direction }
+    {
+        Direction {
+            channels: [Window::new(); CHANNELS],
+            together: Window::new(),
+            sequence: Window::new(),
+            stamp: None,
+            tally: Tally {
+                heartbeats: 0,
+                requests: 0,
+                resent: 0,
+                oldest: 0,
+                last: 0,
+                silence: 0,
+                leaving: None,
+            },
+        }
+    }
+}
+
+/// Takes a PDU into account, and answers what is remarkable in it. `peer` is the timestamp of the newest PDU from the
+/// other end.
+pub fn follow_pdu(
+    direction: &mut Direction,
+    peer: Option<u32>,
+    place: Place,
+    seq: u32,
+    header: &Header,
+) -> Remarks
+    ensures remarks { result ≡ remarks_of direction.old peer place seq header.now }
+    ensures followed { direction.new ≡ followed direction.old peer place seq header.now }
+{
+    let channel = note_channel(&mut direction.channels, place, seq);
+    let together = note(&mut direction.together, seq, place.line);
+    let is_new = is_first_copy(together);
+    let sequence = note_sequence(&mut direction.sequence, is_new, header.sn, place.line);
+    let age = age(peer, header.cts);
+    if is_newest(together) {
+        direction.stamp = Some(header.ts);
+    }
+    if is_new {
+        count(&mut direction.tally, place.time, age, header);
+    }
+    Remarks {
+        channel,
+        together,
+        sequence,
+        resent: carries_again(header.kind),
+        age,
+        leaving: header.leaving,
+    }
+}
+
+fn note_channel(channels: &mut [Window; CHANNELS], place: Place, seq: u32) -> Option<Judged>
+    ensures judged { result ≡ channel_judged channels.old place.channel seq }
+    ensures noted { channels.new ≡ channel_noted channels.old place.channel seq place.line }
+{
+    if place.channel < CHANNELS {
+        return Some(note(&mut channels[place.channel], seq, place.line));
+    }
+    None
+}
+
+/// Whether a PDU that followed so was not heard before, on whatever channel.
+fn is_first_copy(together: Judged) -> bool
+    ensures { result ≡ is_new together }
+{
+    match together {
+        Judged::Repeat(_) => false,
+        Judged::First | Judged::Next | Judged::Ahead(_) | Judged::Late | Judged::Anew => true,
+    }
+}
+
+/// Whether a PDU that followed so is the newest: no late one.
+fn is_newest(together: Judged) -> bool
+    ensures { result ≡ is_furthest together }
+{
+    match together {
+        Judged::Repeat(_) | Judged::Late => false,
+        Judged::First | Judged::Next | Judged::Ahead(_) | Judged::Anew => true,
+    }
+}
+
+fn note_sequence(window: &mut Window, is_new: bool, sn: u32, line: u64) -> Option<Judged>
+    ensures judged { result ≡ sequence_judged is_new window.old sn }
+    ensures noted { window.new ≡ sequence_noted is_new window.old sn line }
+{
+    if is_new {
+        return Some(note(window, sn, line));
+    }
+    None
+}
+
+fn carries_again(kind: Kind) -> bool
+    ensures { result ≡ is_resent kind }
+{
+    match kind {
+        Kind::RetrData => true,
+        Kind::ConnReq
+        | Kind::ConnResp
+        | Kind::RetrReq
+        | Kind::RetrResp
+        | Kind::DiscReq
+        | Kind::Heartbeat
+        | Kind::Data => false,
+    }
+}
+
+/// How old a confirmed timestamp is at the end that made it, in milliseconds of the ring of 32 bits.
+fn age(stamp: Option<u32>, confirmed: u32) -> Option<u32>
+    ensures { result ≡ age_of stamp confirmed }
+{
+    match stamp {
+        Some(stamp) => Some(stamp.wrapping_sub(confirmed)),
+        None => None,
+    }
+}
+
+/// Counts a PDU that was not heard before.
+fn count(tally: &mut Tally, time: u64, age: Option<u32>, header: &Header)
+    ensures { tally.new ≡ tallied tally.old time age header.now }
+{
+    count_kind(tally, header.kind);
+    if let Some(age) = age {
+        tally.oldest = tally.oldest.max(age);
+    }
+    if tally.last > 0 {
+        tally.silence = tally.silence.max(time.saturating_sub(tally.last));
+    }
+    tally.last = time;
+    if header.leaving.is_some() {
+        tally.leaving = header.leaving;
+    }
+}
+
+fn count_kind(tally: &mut Tally, kind: Kind)
+    ensures { tally.new ≡ kind_counted kind tally.old }
+{
+    match kind {
+        Kind::Heartbeat => tally.heartbeats = tally.heartbeats.saturating_add(1),
+        Kind::RetrReq => tally.requests = tally.requests.saturating_add(1),
+        Kind::RetrData => tally.resent = tally.resent.saturating_add(1),
+        Kind::ConnReq | Kind::ConnResp | Kind::RetrResp | Kind::DiscReq | Kind::Data => {}
+    }
+}

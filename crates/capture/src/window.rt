@@ -1,0 +1,130 @@
+//! The numbers that were heard of late, and how the next one follows on them.
+
+ghost use Rattle.std.specs.Prelude.{◌≡◌, ◌<◌, ◌%◌};
+ghost use Rattle.capture.specs.Numbers.{judged, judged_ahead, kept, noted, open_window};
+
+/// How many numbers are kept: those with different remainders by 32.
+pub const KEPT: usize = 32;
+
+/// How many numbers may be passed over at most; a number further ahead begins the numbers anew, as after a restart.
+pub const PASSED_MAX: u32 = 65_535;
+
+/// The numbers that were heard of late.
+#[derive(Clone, Copy, Debug, PartialEq, Eq)]
+pub struct Window {
+    /// The furthest number so far.
+    pub newest: u32,
+    /// The last number that was heard of each remainder.
+    pub numbers: [u32; KEPT],
+    /// The line that it was heard in, from 1 on, or 0 where there was none.
+    pub lines: [u64; KEPT],
+    /// How many different numbers were heard.
+    pub heard: u64,
+    /// How many were passed over and not heard later.
+    pub missing: u64,
+    /// How many were heard again.
+    pub repeats: u64,
+}
+
+/// How a number follows on those before it.
+#[derive(Clone, Copy, Debug, PartialEq, Eq)]
+pub enum Judged {
+    /// It is the first of all.
+    First,
+    /// It is the next one.
+    Next,
+    /// It lies so many numbers beyond the next one.
+    Ahead(u32),
+    /// It comes late, behind a number that it should stand before.
+    Late,
+    /// It was heard in this line before.
+    Repeat(u64),
+    /// It lies further back than what is kept, or further ahead than a gap may be: numbers begin anew.
+    Anew,
+}
+
+impl Window {
+    /// No number was heard yet.
+    pub fn new() -> Self
+        ensures { result ≡ open_window }
+    {
+        Window {
+            newest: 0,
+            numbers: [0; KEPT],
+            lines: [0; KEPT],
+            heard: 0,
+            missing: 0,
+            repeats: 0,
+        }
+    }
+}
+
+/// How a number follows on those that were heard.
+pub fn judge(window: &Window, number: u32) -> Judged
+    ensures { result ≡ judged window.now number }
+{
+    let slot = number as usize % KEPT;
+    let line = window.lines[slot];
+    if line > 0 && window.numbers[slot] == number {
+        return Judged::Repeat(line);
+    }
+    if window.heard == 0 {
+        return Judged::First;
+    }
+    judge_ahead(number.wrapping_sub(window.newest))
+}
+
+/// How a number that is not kept follows on the newest, so many steps behind it in the ring of 32 bits.
+fn judge_ahead(steps: u32) -> Judged
+    ensures { result ≡ judged_ahead steps }
+{
+    if steps <= 1 {
+        Judged::Next
+    } else if steps <= PASSED_MAX + 1 {
+        Judged::Ahead(steps - 1)
+    } else if steps > 0xffff_ffff - KEPT as u32 {
+        Judged::Late
+    } else {
+        Judged::Anew
+    }
+}
+
+/// Takes a number of a line into account, and answers how it followed.
+pub fn note(window: &mut Window, number: u32, line: u64) -> Judged
+    ensures judged { result ≡ judged window.old number }
+    ensures noted { window.new ≡ noted window.old number line }
+{
+    let judged = judge(window, number);
+    match judged {
+        Judged::Repeat(_) => window.repeats = window.repeats.saturating_add(1),
+        Judged::Late => {
+            window.missing = window.missing.saturating_sub(1);
+            keep(window, number, line);
+        }
+        Judged::Ahead(passed) => {
+            window.missing = window.missing.saturating_add(passed as u64);
+            window.newest = number;
+            keep(window, number, line);
+        }
+        Judged::First | Judged::Next => {
+            window.newest = number;
+            keep(window, number, line);
+        }
+        Judged::Anew => {
+            window.lines = [0; KEPT];
+            window.newest = number;
+            keep(window, number, line);
+        }
+    }
+    judged
+}
+
+/// Keeps a number and its line in the slot of its remainder.
+fn keep(window: &mut Window, number: u32, line: u64)
+    ensures { window.new ≡ kept window.old number line }
+{
+    let slot = number as usize % KEPT;
+    window.numbers[slot] = number;
+    window.lines[slot] = line;
+    window.heard = window.heard.saturating_add(1);
+}
