@@ -2,10 +2,11 @@
 
 use crate::{
     Address, Following, Header, Heard, Judged, LineFault, PAYLOAD_ROOM, Record, Remark, Remarks,
-    Totals, Window, hear, note, read_line, sum_up,
+    Totals, Window, hear, note, read_line, sum_up, write_remarks,
 };
 use red_pdu::RedFault;
-use safe_pdu::{CodeLength, CodeRule, Kind};
+use safe_pdu::{CodeLength, CodeRule, Kind, Leaving};
+use std::test::Fail;
 
 const HEARTBEAT: &[u8] =
     b"1700000000.123456789\t10.0.0.1\t8001\t192.168.7.255\t65535\t24000000000000001c004c18020000000100000065000000f40100000a00000005000000";
@@ -202,4 +203,36 @@ fn goes_round_and_begins_anew(rt: HostRuntime) {
     assert_eq!(rt; note(&mut window, 4_000_001, 5), Judged::Next);
     assert_eq!(rt; note(&mut window, 0, 6), Judged::Anew);
     assert_eq!(rt; window.missing, 65_535);
+}
+
+// Nothing is said of a PDU that follows as it should, and each remark has its words.
+#[test]
+fn writes_remarks(rt: HostRuntime) -> Result<(), Fail> {
+    let mut text = Vec::new(rt.alloc());
+    let quiet = Remarks {
+        channel: Some(Judged::First),
+        together: Judged::Next,
+        sequence: Some(Judged::Next),
+        resent: false,
+        age: None,
+        leaving: None,
+    };
+    write_remarks(&mut text, &quiet)?;
+    assert!(rt; text.is_empty());
+    let loud = Remarks {
+        channel: Some(Judged::Repeat(12)),
+        together: Judged::Late,
+        sequence: Some(Judged::Ahead(2)),
+        resent: true,
+        age: Some(45),
+        leaving: Some(Leaving {
+            detail: 3,
+            reason: 5,
+        }),
+    };
+    write_remarks(&mut text, &loud)?;
+    let wanted =
+        b" channel repeat of line 12 all late sn ahead 2 resent age 45 ms detail 3 reason 5";
+    assert!(rt; text.as_slice() == wanted.as_slice());
+    Ok(())
 }
