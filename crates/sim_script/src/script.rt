@@ -5,7 +5,8 @@ use crate::refusal::refusal_name;
 use crate::trace::{Happening, Trace};
 use end_settings::Side;
 use sim_lines::{
-    Command, Label, LineFault, ScriptFault, ScriptSettings, Sides, SimStatus, Standing, ZEROS_MAX, other, read_line,
+    Command, Label, LineFault, ScriptFault, ScriptSettings, Sides, SimStatus, Standing, ZEROS_MAX,
+    other, read_line,
 };
 use stack_engine::{ApplyFault, Call, Doing, Event, Pair};
 use std::alloc::Allocator;

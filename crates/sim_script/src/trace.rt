@@ -11,8 +11,8 @@ use octets::places::{u16_at, u32_at};
 use red_layer::RedEvent;
 use safe_machine::Step;
 use sim_lines::{
-    Label, LineFault, Sides, Standing, other, phase_name, red_cause, side_name, state_name, step_cause, write_refusal,
-    write_report, write_take,
+    Label, LineFault, Sides, Standing, other, phase_name, red_cause, side_name, state_name,
+    step_cause, write_refusal, write_report, write_take,
 };
 use stack_engine::Told;
 use std::alloc::{Allocator, Global};
