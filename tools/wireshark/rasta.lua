@@ -8,11 +8,12 @@
 --
 -- Each datagram is read by itself. A fault is named as `rasta show` names it, by an expert info and in the field `rasta.fault`; what
 -- stands behind it is shown as octets and not read. The safety code is shown and not tested, so a damaged PDU may be shown as if it
--- were whole: `rasta show --code N HEX` tests it. Written for Lua 5.2 to 5.4.
+-- were whole: `rasta show --code N HEX` tests it. tests/wireshark compares both; it was run with Wireshark 4.0.
 
 local rasta = Proto("rasta", "Rail Safe Transport Application")
 
-rasta.prefs.code = Pref.enum("Octets of safety code", 8, "How many octets of safety code stand at the end of a safety PDU; both ends have the same.",
+rasta.prefs.code = Pref.enum("Octets of safety code", 8,
+    "How many octets of safety code stand at the end of a safety PDU; both ends have the same.",
     { { 1, "0", 0 }, { 2, "8", 8 }, { 3, "16", 16 } }, false)
 rasta.prefs.ports = Pref.range("UDP ports", "46101-46102,46201-46202",
     "UDP ports whose datagrams are RaSTA's. There is no registered one; these are the ports of examples/.", 65535)
@@ -74,7 +75,8 @@ local f = {
     detail = ProtoField.uint16("rasta.detail", "Detailed information", base.DEC, nil, nil, "Detailed information on the reason"),
     reason = ProtoField.uint16("rasta.reason", "Reason", base.DEC, REASONS, nil, "Reason of the disconnection"),
     code = ProtoField.bytes("rasta.code", "Safety code", base.NONE, "First octets of MD4 over the safety PDU; not tested here"),
-    code_status = ProtoField.uint8("rasta.code.status", "Safety code status", base.DEC, { [0] = "not tested" }, nil, "The dissector tests no safety code"),
+    code_status = ProtoField.uint8("rasta.code.status", "Safety code status", base.DEC, { [0] = "not tested" }, nil,
+        "The dissector tests no safety code"),
 
     unit = ProtoField.none("rasta.unit", "Unit", "User data of a Data or RetrData: one to three messages"),
     unit_messages = ProtoField.uint8("rasta.unit.messages", "Messages", base.DEC, nil, nil, "How many messages the unit has"),
@@ -84,9 +86,11 @@ local f = {
     protocol = ProtoField.uint8("rasta.telegram.protocol", "Protocol type", base.HEX, nil, nil, "Protocol type of the telegram"),
     telegram = ProtoField.uint16("rasta.telegram.type", "Message type", base.HEX, TELEGRAMS, nil, "Message type of the telegram"),
     from = ProtoField.string("rasta.telegram.sender", "Sender", base.ASCII, "Name of the sender, without its filling"),
-    from_octets = ProtoField.bytes("rasta.telegram.sender.octets", "Sender, no name", base.NONE, "Octets in the place of the sender that are no name"),
+    from_octets = ProtoField.bytes("rasta.telegram.sender.octets", "Sender, no name", base.NONE,
+        "Octets in the place of the sender that are no name"),
     to = ProtoField.string("rasta.telegram.receiver", "Receiver", base.ASCII, "Name of the receiver, without its filling"),
-    to_octets = ProtoField.bytes("rasta.telegram.receiver.octets", "Receiver, no name", base.NONE, "Octets in the place of the receiver that are no name"),
+    to_octets = ProtoField.bytes("rasta.telegram.receiver.octets", "Receiver, no name", base.NONE,
+        "Octets in the place of the receiver that are no name"),
     payload = ProtoField.bytes("rasta.telegram.payload", "Payload", base.NONE, "Payload of the telegram"),
 
     pdi_version = ProtoField.uint8("rasta.pdi.version", "PDI version", base.DEC, nil, nil, "PDI version of the sender"),
@@ -98,7 +102,6 @@ rasta.fields = f
 
 -- Expert infos: the faults that `rasta show` names for the parts of a datagram, and what opens, asks again and leaves.
 
-local malformed = { expert.group.MALFORMED, expert.severity.ERROR }
 local FAULTS = {
     red = { "Short", "Length", "Reserve" },
     safe = { "Short", "Length", "Code", "Type", "Body" }, -- Code is never named: it isn't tested
@@ -120,7 +123,8 @@ end
 for part, names in pairs(FAULTS) do
     fault_experts[part] = {}
     for number, name in ipairs(names) do
-        local info = ProtoExpert.new("rasta." .. part .. ".fault." .. name:lower(), part .. " fault " .. number .. " " .. name, malformed[1], malformed[2])
+        local label, text = "rasta." .. part .. ".fault." .. name:lower(), string.format("%s fault %d %s", part, number, name)
+        local info = ProtoExpert.new(label, text, expert.group.MALFORMED, expert.severity.ERROR)
         fault_experts[part][number] = info
         experts[#experts + 1] = info
     end
@@ -316,7 +320,8 @@ local function leaving(tree, pinfo, tvb, at)
     if said then
         detail_item:append_text(" (" .. said .. ")")
     end
-    local text = string.format("reason %d (%s), detail %d%s", reason, REASONS[reason] or "of another profile", detail, said and " (" .. said .. ")" or "")
+    local text = string.format("reason %d (%s), detail %d", reason, REASONS[reason] or "of another profile", detail)
+    text = said and text .. " (" .. said .. ")" or text
     reason_item:add_proto_expert_info(reason == 0 and e.closed or e.left, "Disconnection, " .. text)
     pinfo.cols.info:append(" " .. text)
 end
@@ -388,7 +393,8 @@ local function safe_pdu(tree, pinfo, tvb, at, size)
     local code = rasta.prefs.code
     if size < SAFE_HEADER + code then
         bytes(inner, f.octets, tvb, at, size)
-        return fault(inner, pinfo, "safe", 1, "safe", string.format("%d octets, and header and safety code have %d", size, SAFE_HEADER + code))
+        local why = string.format("%d octets, and header and safety code have %d", size, SAFE_HEADER + code)
+        return fault(inner, pinfo, "safe", 1, "safe", why)
     end
     local length, kind = safe_header(inner, pinfo, tvb, at)
     local wrong = size > SAFE_FRONT_MAX + code and string.format("%d octets, and at most %d are allowed", size, SAFE_FRONT_MAX + code)
