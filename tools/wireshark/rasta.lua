@@ -69,7 +69,7 @@ local f = {
     ts = ProtoField.uint32("rasta.ts", "Timestamp (TS)", base.DEC, nil, nil, "Milliseconds of the sender's clock, modulo 2^32"),
     cts = ProtoField.uint32("rasta.cts", "Confirmed timestamp (CTS)", base.DEC, nil, nil,
         "Timestamp of the last PDU that its sender took from the peer, in milliseconds of the receiver's clock"),
-    version = ProtoField.string("rasta.version", "Protocol version", base.ASCII, "Version of RaSTA, four digits"),
+    version = ProtoField.string("rasta.version", "Protocol version", base.NONE, "Version of RaSTA, four digits"),
     window = ProtoField.uint16("rasta.nsendmax", "N_sendmax", base.DEC, nil, nil, "How many units the peer may leave unconfirmed, 1 to 32"),
     reserve = ProtoField.bytes("rasta.reserve", "Reserve", base.NONE, "Reserve of a connection request or response, zero"),
     detail = ProtoField.uint16("rasta.detail", "Detailed information", base.DEC, nil, nil, "Detailed information on the reason"),
@@ -85,10 +85,10 @@ local f = {
 
     protocol = ProtoField.uint8("rasta.telegram.protocol", "Protocol type", base.HEX, nil, nil, "Protocol type of the telegram"),
     telegram = ProtoField.uint16("rasta.telegram.type", "Message type", base.HEX, TELEGRAMS, nil, "Message type of the telegram"),
-    from = ProtoField.string("rasta.telegram.sender", "Sender", base.ASCII, "Name of the sender, without its filling"),
+    from = ProtoField.string("rasta.telegram.sender", "Sender", base.NONE, "Name of the sender, without its filling"),
     from_octets = ProtoField.bytes("rasta.telegram.sender.octets", "Sender, no name", base.NONE,
         "Octets in the place of the sender that are no name"),
-    to = ProtoField.string("rasta.telegram.receiver", "Receiver", base.ASCII, "Name of the receiver, without its filling"),
+    to = ProtoField.string("rasta.telegram.receiver", "Receiver", base.NONE, "Name of the receiver, without its filling"),
     to_octets = ProtoField.bytes("rasta.telegram.receiver.octets", "Receiver, no name", base.NONE,
         "Octets in the place of the receiver that are no name"),
     payload = ProtoField.bytes("rasta.telegram.payload", "Payload", base.NONE, "Payload of the telegram"),
@@ -103,10 +103,10 @@ rasta.fields = f
 -- Expert infos: the faults that `rasta show` names for the parts of a datagram, and what opens, asks again and leaves.
 
 local FAULTS = {
-    red = { "Short", "Length", "Reserve" },
-    safe = { "Short", "Length", "Code", "Type", "Body" }, -- Code is never named: it isn't tested
-    unit = { "Empty", "Length", "TooMany" },              -- Empty is never named: such a body is too short
-    message = { "Short", "Long", "Name" },                -- nor are Short and Long: the unit's lengths are tested before
+    red = { [1] = "Short", [2] = "Length", [3] = "Reserve" },
+    safe = { [1] = "Short", [2] = "Length", [4] = "Type", [5] = "Body" }, -- 3 is Code, which is not tested
+    unit = { [2] = "Length", [3] = "TooMany" },                           -- 1 is Empty: a Data without a unit has the fault Body
+    message = { [3] = "Name" },                                           -- 1 and 2 are lengths that no unit lets through
 }
 local e = {
     cut = ProtoExpert.new("rasta.cut", "Cut by the capture", expert.group.UNDECODED, expert.severity.NOTE),
@@ -122,7 +122,7 @@ for _, info in pairs(e) do
 end
 for part, names in pairs(FAULTS) do
     fault_experts[part] = {}
-    for number, name in ipairs(names) do
+    for number, name in pairs(names) do
         local label, text = "rasta." .. part .. ".fault." .. name:lower(), string.format("%s fault %d %s", part, number, name)
         local info = ProtoExpert.new(label, text, expert.group.MALFORMED, expert.severity.ERROR)
         fault_experts[part][number] = info
