@@ -33,7 +33,7 @@ pub enum Judged {
     First,
     /// It is the next one.
     Next,
-    /// It lies so many numbers beyond the next one.
+    /// It lies beyond the next one: how many numbers are between them.
     Ahead(u32),
     /// It comes late, behind a number that it should stand before.
     Late,
@@ -74,7 +74,7 @@ pub fn judge(window: &Window, number: u32) -> Judged
     judge_ahead(number.wrapping_sub(window.newest))
 }
 
-/// How a number that is not kept follows on the newest, so many steps behind it in the ring of 32 bits.
+/// How a number that is not kept follows on the newest; `steps` is how far it lies ahead, in the ring of 32 bits.
 fn judge_ahead(steps: u32) -> Judged
     ensures { result ≡ judged_ahead steps }
 {

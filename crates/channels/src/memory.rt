@@ -68,7 +68,7 @@ impl<A: Allocator> Model for MemChannels<A> {
 }
 
 impl<A: Allocator + Copy> MemChannels<A> {
-    /// Channels with room for so many sendings and so many answers of `receive`. Refused as Memory where there is none.
+    /// Channels with room for `room` sendings and as many answers of `receive`. Refused as Memory where there is none.
     pub fn new(alloc: A, room: usize) -> Result<Self, MemoryFault>
         ensures { IfOk result (λ made. made ≡ new_kept room) }
     {
@@ -83,7 +83,7 @@ impl<A: Allocator + Copy> MemChannels<A> {
         })
     }
 
-    /// Makes room for so many more sendings and answers. Refused as Memory where there is none, and then nothing has changed.
+    /// Makes room for `more` sendings and answers beyond those that it has. Refused as Memory where there is none, and then nothing has changed.
     pub fn reserve(&mut self, more: usize) -> Result<(), MemoryFault>
         ensures { self.new ≡ (if is_ok result then with_more_room more self.old else self.old) }
     {

@@ -18,7 +18,7 @@ pub record EndSettings : Type 0 where
   pub channels : ℕ
   pub n_maxpacket : ℕ  -- messages that it packs into one unit
   pub q : ℕ  -- parts that it defers
-  pub t_seq : ℕ  -- for so many milliseconds
+  pub t_seq : ℕ  -- how long they wait, in milliseconds
 
 -- the rule of its safety code
 abbrev pub rule_of : EndSettings → CodeRule

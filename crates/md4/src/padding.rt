@@ -11,7 +11,7 @@ const FILLING: [u8; BLOCK_SIZE] = [
     0,
 ];
 
-/// What stands between a message that ends so many octets into a block and its number of bits.
+/// What stands between a message and its number of bits; `used` is how many octets of its last block the message has.
 pub fn filling(used: usize) -> &'static [u8]
     requires { used < 64 }
     ensures { result.now ≡ filling used }

@@ -48,7 +48,7 @@ pub const LEAVING_BODY: usize = 4;
 /// The greatest N_sendmax: how many units may be unconfirmed at most.
 pub const WINDOW_MAX: usize = 32;
 
-/// How far ahead of the expected number one may lie that is judged: so many times the window, or q.
+/// How far ahead of the expected number one may lie that is judged, as a multiple of the window, or of q.
 pub const REACH: u64 = 10;
 
 /// The shortest and the longest T_max, after which nothing recent was confirmed, in milliseconds.

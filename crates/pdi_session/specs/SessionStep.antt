@@ -37,7 +37,7 @@ Item = ℕ × List ℕ
 abbrev pub item_of : Tele → Item
 item_of t = (t.kind, t.payload)
 
--- what comes to a session; a put and the end of the initialisation come while so many messages wait
+-- what comes to a session; a put and the end of the initialisation say how many messages wait when they come
 pub data Event : Type 0 where
   Up : Event
   Arrives : (telegram : Tele) → Event

@@ -21,7 +21,7 @@ use std::time::{Clock, Duration};
 /// The longest wait of a turn that found nothing, in milliseconds; the system may wait one longer.
 const WAIT_MAX: u64 = 4;
 
-/// Runs `il`, `fe` or `pair` for so many turns over the sockets that the text of a settings file names, prints each telegram that
+/// Runs `il`, `fe` or `pair` for `turns` turns over the sockets that the text of a settings file names, prints each telegram that
 /// an end takes, and at last how each end stands.
 ///
 /// A text that is no settings is `fault: settings`, and behind it stands the key and what is wrong with it.
@@ -114,7 +114,7 @@ fn run_two<R: Net + Clock, O: Write>(
     )
 }
 
-/// Both ends take so many turns; then how they stand is printed.
+/// Both ends take their turns; then how they stand is printed.
 fn take_turns<R: Clock, O: Write>(
     rt: &R,
     clock: &mut RunClock,

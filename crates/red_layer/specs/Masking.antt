@@ -15,7 +15,7 @@ abbrev pub greatest : List Part → ℕ
 greatest [] = 0
 greatest (p ∷ ps) = max p.0 (greatest ps)
 
--- the first number from k on that has not arrived, looked for among so many
+-- the first number from k on that has not arrived, looked for in as many steps as are given
 abbrev pub missing_from : ℕ → ℕ → List Part → ℕ
 missing_from zero k arrived = k
 missing_from (suc more) k arrived = if has_number k arrived then missing_from more (k + 1) arrived else k

@@ -38,12 +38,12 @@ InOrderEvent il fe w (Arrive Il p now) = (w.il_before ≢ []) × NextArrival w.i
 InOrderEvent il fe w (Arrive Fe p now) = (w.fe_before ≢ []) × NextArrival w.fe p now fe w.il.made
 InOrderEvent il fe w _ = Unit {0}
 
--- one arrival more
+-- how many PDUs have come to the interlocking after an event, where n had before
 abbrev pub heard_by_il : Event → ℕ → ℕ
 heard_by_il (Arrive Il p now) n = n + 1
 heard_by_il _ n = n
 
--- likewise by fe
+-- how many have come to the field element
 abbrev pub heard_by_fe : Event → ℕ → ℕ
 heard_by_fe (Arrive Fe p now) n = n + 1
 heard_by_fe _ n = n
@@ -53,12 +53,12 @@ abbrev pub InOrder : (il fe : ℕ) → List Event → World → Type 0
 InOrder il fe [] w = Unit {0}
 InOrder il fe (e ∷ es) w = InOrderEvent il fe w e × InOrder (heard_by_il e il) (heard_by_fe e fe) es (happens w e)
 
--- how many PDUs came to each end in a list of events, after so many
+-- how many have come to the interlocking after a list of events, where n had before
 abbrev pub all_heard_by_il : List Event → ℕ → ℕ
 all_heard_by_il [] n = n
 all_heard_by_il (e ∷ es) n = all_heard_by_il es (heard_by_il e n)
 
--- likewise by fe
+-- how many have come to the field element
 abbrev pub all_heard_by_fe : List Event → ℕ → ℕ
 all_heard_by_fe [] n = n
 all_heard_by_fe (e ∷ es) n = all_heard_by_fe es (heard_by_fe e n)
@@ -68,12 +68,12 @@ abbrev pub AsksNothing : List Made → Type 0
 AsksNothing [] = Unit {0}
 AsksNothing (m ∷ ms) = (m.pdu.kind ≢ RetrReq) × AsksNothing ms
 
--- the states of a client and of a server after so many arrivals
+-- the state of a client after a number of arrivals
 abbrev pub client_state : ℕ → ConnectionState
 client_state zero = Start
 client_state (suc n) = Up
 
--- likewise of a server
+-- the state of a server after a number of arrivals
 abbrev pub server_state : ℕ → ConnectionState
 server_state zero = Down
 server_state (suc zero) = Start

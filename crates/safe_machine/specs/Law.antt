@@ -13,7 +13,7 @@ use Rattle.safe_machine.specs.World.{happens, Timely, World, Served, Event, star
 abbrev pub il_incarnations : World → List State
 il_incarnations w = take (length w.il_before) (w.il ∷ w.il_before)
 
--- likewise of the field element
+-- those of the field element, each with the incarnation that it is joined to
 abbrev pub fe_incarnations : World → List Served
 fe_incarnations w = take (length w.fe_before) (record { machine = w.fe; joined = w.joined } ∷ w.fe_before)
 

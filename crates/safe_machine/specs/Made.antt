@@ -60,12 +60,12 @@ run_after run (m ∷ ms) = run_after (after_pdu m.pdu.kind m.pdu.body run) ms
 abbrev pub run_of : List Made → List (List ℕ)
 run_of ms = run_after [] ms
 
--- one for a RetrReq, one for a RetrResp: to count them
+-- one for a RetrReq, so that a sum counts them
 abbrev pub is_request : Kind → ℕ
 is_request RetrReq = 1
 is_request _ = 0
 
--- likewise for a RetrResp
+-- one for a RetrResp
 abbrev pub is_answer : Kind → ℕ
 is_answer RetrResp = 1
 is_answer _ = 0

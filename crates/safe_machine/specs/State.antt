@@ -62,11 +62,11 @@ move_to connection s = record s { connection = connection }
 abbrev pub pass : Pdu → ℕ → State → State
 pass p d s = record s { expected = s.expected + d + 1; last_sn = p.sn; last_ts = p.ts }
 
--- how far a PDU confirms beyond what was confirmed, in PDUs and in time
+-- how many PDUs a PDU confirms beyond the last one confirmed
 abbrev pub cs_step : State → Pdu → ℕ
 cs_step s p = ahead (sn_of s.first s.confirmed) p.cs
 
--- likewise its confirmed timestamp
+-- how far its confirmed timestamp lies behind the time last confirmed, in milliseconds
 abbrev pub cts_step : State → Pdu → ℕ
 cts_step s p = ahead s.confirmed_at p.cts
 

@@ -59,7 +59,7 @@ pub record View : Type 0 where
   pub answered : ℕ
   pub window : ℕ
   pub ring : List Numbered  -- the units that it holds for another sending
-  pub room : ℕ  -- for so many
+  pub room : ℕ  -- how many units the ring holds
 
 -- what is kept of a state, beside these units
 abbrev pub beside : List Numbered → State → View

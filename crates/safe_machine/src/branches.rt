@@ -210,7 +210,7 @@ impl<A: Allocator> Endpoint<A> {
         self.since += 1;
     }
 
-    /// Makes a heartbeat where so many units were taken since the last sending.
+    /// Makes a heartbeat where `mwa` units were taken since the last sending.
     fn beat_by_units<O: PduOut>(&mut self, now: u64, out: &mut O)
         requires few { self.old.made < 2 ^ 40 }
         ensures does { Does O.makes (beat now) self.old out.old self.new out.new }

@@ -31,9 +31,9 @@ pub enum Command<A: Allocator = Global> {
     Tick(Side),
     /// `put END KIND HEX`: one telegram.
     Put(Side, u16, Vec<u8, A>),
-    /// `putlen END KIND N`: one telegram with so many octets of zero.
+    /// `putlen END KIND N`: one telegram with N octets of zero.
     PutZeros(Side, u16, usize),
-    /// `puts END N KIND`: so many telegrams, the k-th with the octet k, from 0.
+    /// `puts END N KIND`: N telegrams, the k-th with the octet k, from 0.
     PutCounted(Side, u64, u16),
     /// `done`: the field element's application has put in its initial status.
     InitDone,

@@ -36,7 +36,7 @@ abbrev pub Judges : {T : Type 0} → (T → Item → T → Type 0) → (Dialogue
 Judges takes judge s t asked =
     (d : Dialogue) → Speaks s.session s.waiting d → Spoke takes d (judge d).left s t × (asked ≡ (judge d).leaving)
 
--- likewise of an event of the session
+-- for each dialogue that they stood for, they now stand for its step
 abbrev pub Meets : {T : Type 0} → (T → Item → T → Type 0) → (Dialogue → Dialogue) → Talk T → Talk T → Type 0
 Meets takes step s t = (d : Dialogue) → Speaks s.session s.waiting d → Spoke takes d (step d) s t
 

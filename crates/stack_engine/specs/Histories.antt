@@ -9,9 +9,9 @@ use Rattle.stack_engine.specs.Pairs.{Event}
 
 pub record Events : Type 0 where
   pub events : List Event  -- the first one first
-  pub places : ℕ  -- for so many more
-  pub octets : ℕ  -- of so many octets together
-  pub openings : ℕ  -- and so many openings among them
+  pub places : ℕ  -- how many more events there is room for
+  pub octets : ℕ  -- how many octets they may have together
+  pub openings : ℕ  -- how many openings may be among them
 
 -- the octets that a call brings: of a telegram, or of a datagram
 abbrev pub call_octets : Call → List ℕ

@@ -7,8 +7,8 @@ use Rattle.channels.specs.Told.{Told, Sending}
 
 pub record Keeping : Type 0 where
   pub datagrams : List (List ℕ)
-  pub places : ℕ  -- for so many more
-  pub octets : ℕ  -- of so many octets together
+  pub places : ℕ  -- how many more datagrams there is room for
+  pub octets : ℕ  -- how many octets they may have together
   pub failed_sends : ℕ
 
 -- kept datagrams went out on channel 1

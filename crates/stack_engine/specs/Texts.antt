@@ -3,5 +3,5 @@ use Rattle.std.specs.Prelude.{ℕ, List}
 
 pub record Shelf (T : Type 0) : Type 0 where
   pub texts : List (T × List ℕ)
-  pub places : ℕ  -- for so many more texts
-  pub octets : ℕ  -- of so many octets together
+  pub places : ℕ  -- how many more texts there is room for
+  pub octets : ℕ  -- how many octets they may have together

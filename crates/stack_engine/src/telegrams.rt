@@ -24,7 +24,7 @@ impl<A: Allocator + Copy> Taker for Texts<u16, A> {
     }
 }
 
-/// Makes room for so many telegrams. The error is that memory was refused.
+/// Makes room for `count` telegrams of any size. The error is that memory was refused.
 pub fn reserve_telegrams<A: Allocator + Copy>(
     telegrams: &mut Telegrams<A>,
     count: usize,
