@@ -16,14 +16,14 @@ pub record State : Type 0 where
   pub settings : Settings
   pub first : ℕ  -- the sequence number of its first PDU
   pub connection : ConnectionState
-  pub made : List Made
-  pub taken : List (List ℕ)
-  pub since : ℕ  -- units taken since the last sending
-  pub expected : ℕ  -- the index of the peer's next PDU
-  pub last_sn : ℕ  -- SN and TS of the PDU that last moved `expected`, 0 before any
-  pub last_ts : ℕ
-  pub confirmed : ℕ  -- the index of the last own PDU confirmed, and the own time last confirmed
-  pub confirmed_at : ℕ
+  pub made : List Made  -- the PDUs that it made, the first one first: SN_T is `first` and their number, modulo 2^32
+  pub taken : List (List ℕ)  -- the units that it took, in order
+  pub since : ℕ  -- units taken since the last sending; at mwa a heartbeat is made
+  pub expected : ℕ  -- the index of the peer's next PDU: SN_R without its wrap
+  pub last_sn : ℕ  -- the sequence number of the PDU that last moved `expected` (CS_T), 0 before any
+  pub last_ts : ℕ  -- its timestamp (TS_R), 0 before any
+  pub confirmed : ℕ  -- the index of the last own PDU confirmed: CS_R without its wrap
+  pub confirmed_at : ℕ  -- the own time last confirmed, in milliseconds: CTS_R without its wrap
   pub answered : ℕ  -- the index of the last RetrReq handled, 0 before any
   pub window : ℕ  -- the peer's N_sendmax
 

@@ -46,18 +46,18 @@ settings_of role config =
 -- what a machine keeps
 pub record View : Type 0 where
   pub settings : Settings
-  pub first : ℕ
+  pub first : ℕ  -- the sequence number of its first PDU
   pub connection : ConnectionState
   pub made : ℕ  -- how many PDUs were made
-  pub last_made : ℕ  -- the time of the last of them
-  pub since : ℕ
-  pub expected : ℕ
-  pub last_sn : ℕ
-  pub last_ts : ℕ
-  pub confirmed : ℕ
-  pub confirmed_at : ℕ
-  pub answered : ℕ
-  pub window : ℕ
+  pub last_made : ℕ  -- the time of the last of them, in milliseconds
+  pub since : ℕ  -- units taken since the last sending
+  pub expected : ℕ  -- the index of the peer's next PDU: SN_R without its wrap
+  pub last_sn : ℕ  -- the sequence number of the PDU that last moved `expected` (CS_T), 0 before any
+  pub last_ts : ℕ  -- its timestamp (TS_R)
+  pub confirmed : ℕ  -- the index of the last own PDU confirmed: CS_R without its wrap
+  pub confirmed_at : ℕ  -- the own time last confirmed, in milliseconds: CTS_R without its wrap
+  pub answered : ℕ  -- the index of the last RetrReq handled, 0 before any
+  pub window : ℕ  -- the peer's N_sendmax
   pub ring : List Numbered  -- the units that it holds for another sending
   pub room : ℕ  -- how many units the ring holds
 

@@ -34,20 +34,35 @@ pub(crate) const VERSION: [u8; 4] = [0x30, 0x33, 0x30, 0x33];
 /// The counters of one end, and the units that it holds for another sending.
 #[derive(Drop)]
 pub(crate) struct Endpoint<A: Allocator = Global> {
+    /// With what it was opened.
     pub(crate) config: MachineConfig,
+    /// Client or server.
     pub(crate) role: Role,
+    /// The sequence number of its first PDU.
     pub(crate) first: u32,
+    /// The state of the connection.
     pub(crate) connection: ConnectionState,
+    /// How many PDUs it has made: SN_T is `first` and this count, modulo 2^32. No wrap.
     pub(crate) made: u64,
+    /// The own time of the last of them, in milliseconds.
     pub(crate) last_made: u64,
+    /// How many units it has taken since its last sending; at mwa a heartbeat is made.
     pub(crate) since: u64,
+    /// The index of the peer's next PDU: SN_R without its wrap.
     pub(crate) expected: u64,
+    /// The sequence number of the PDU that last moved `expected`: CS_T. 0 before any.
     pub(crate) last_sn: u32,
+    /// The timestamp of that PDU, which the next one confirms: TS_R, modulo 2^32. 0 before any.
     pub(crate) last_ts: u32,
+    /// The index of the last own PDU confirmed: CS_R without its wrap.
     pub(crate) confirmed: u64,
+    /// The own time last confirmed, in milliseconds: CTS_R without its wrap.
     pub(crate) confirmed_at: u64,
+    /// The index of the last RetrReq handled, 0 before any.
     pub(crate) answered: u64,
+    /// How many units may be unconfirmed: the peer's N_sendmax.
     pub(crate) window: u64,
+    /// The unconfirmed units, for another sending.
     pub(crate) ring: Unconfirmed<A>,
 }
 
