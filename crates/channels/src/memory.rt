@@ -39,12 +39,19 @@ impl From<AllocError> for MemoryFault {
 /// answer that nothing has come too. Without room they fail. `send` and `receive` take no memory.
 #[derive(Drop)]
 pub struct MemChannels<A: Allocator = Global> {
+    /// Each datagram that was sent, with its channel, the first one first.
     sent: Vec<(usize, Datagram), A>,
+    /// What `receive` hands out next, with its channel.
     waiting: VecDeque<(usize, Vec<u8, A>), A>,
+    /// What each `receive` has answered, in order.
     answers: Vec<Option<(usize, Vec<u8, A>)>, A>,
+    /// How many more sendings there is room for.
     sends_left: usize,
+    /// How many more answers there is room for.
     answers_left: usize,
+    /// How many sendings have failed, modulo 2^64.
     failed_sends: u64,
+    /// How many receptions have failed, modulo 2^64.
     failed_receives: u64,
 }
 
@@ -83,7 +90,8 @@ impl<A: Allocator + Copy> MemChannels<A> {
         })
     }
 
-    /// Makes room for `more` sendings and answers beyond those that it has. Refused as Memory where there is none, and then nothing has changed.
+    /// Makes room for `more` sendings and answers beyond those that it has. Refused as Memory where there is none, and then nothing
+    /// has changed.
     pub fn reserve(&mut self, more: usize) -> Result<(), MemoryFault>
         ensures { self.new ≡ (if is_ok result then with_more_room more self.old else self.old) }
     {

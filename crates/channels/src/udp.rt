@@ -37,16 +37,22 @@ pub enum UdpFault {
 
 #[derive(Drop)]
 struct Channel {
+    /// Bound to the local address, and not connected.
     socket: UdpSocket,
+    /// Where datagrams go.
     remote: SocketAddr,
 }
 
 /// Channels over UDP: a socket for each, numbered from 1. A datagram is taken from any sender.
 #[derive(Drop)]
 pub struct UdpChannels<A: Allocator = Global> {
+    /// The channels, the first one first.
     list: Vec<Channel, A>,
+    /// How many sendings have failed, modulo 2^64.
     failed_sends: u64,
+    /// How many receptions have failed, modulo 2^64.
     failed_receives: u64,
+    /// How many datagrams were received, modulo 2^64.
     received: u64,
 }
 
@@ -125,7 +131,9 @@ impl<A: Allocator> Channels for UdpChannels<A> {
 /// It hears of changes alone: before each wait, ask the channels until nothing comes, and wait with a limit.
 #[derive(Drop)]
 pub struct Watch<A: Allocator = Global> {
+    /// What tells that a socket can be read.
     poll: Poll,
+    /// Room for what it tells.
     events: Events<A>,
 }
 

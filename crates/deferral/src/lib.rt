@@ -20,6 +20,7 @@ mod tests;
 /// The places stand in no order. A freed one is used again, and a part that waits is never moved.
 #[derive(Drop)]
 pub struct Deferral<T, A: Allocator = Global> {
+    /// The places, each empty or with a part under its number.
     places: Vec<Option<(u32, T)>, A>,
 }
 

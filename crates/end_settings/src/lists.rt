@@ -8,7 +8,9 @@ use pdi_session::{CHECKSUM_MAX, VERSIONS_MAX};
 /// The PDI versions of an end, at most four.
 #[derive(Clone, Copy, Debug, PartialEq, Eq)]
 pub struct Versions {
+    /// The versions, and zeros behind them.
     octets: [u8; VERSIONS_MAX],
+    /// How many of them are versions: 1 to 4.
     count: usize,
     ghost in_range: { count ≤ VERSIONS_MAX },
 }
@@ -43,7 +45,9 @@ impl Versions {
 /// The checksum that a field element answers with, at most 16 octets.
 #[derive(Clone, Copy, Debug, PartialEq, Eq)]
 pub struct Checksum {
+    /// The checksum, and zeros behind it.
     octets: [u8; CHECKSUM_MAX],
+    /// How many of them are its octets: 0 to 16.
     count: usize,
     ghost in_range: { count ≤ CHECKSUM_MAX },
 }

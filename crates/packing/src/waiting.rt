@@ -19,6 +19,7 @@ type Message = ArrayVec<u8, MESSAGE_MAX>;
 /// by `new`; no other call takes memory.
 #[derive(Drop)]
 pub struct Waiting<A: Allocator = Global> {
+    /// The messages, the one that waits longest in front.
     ring: HeapCircularBuffer<Message, A>,
 }
 

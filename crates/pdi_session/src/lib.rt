@@ -169,7 +169,9 @@ pub trait Taker {
 /// the checksum of a field element.
 #[derive(Debug, Drop)]
 enum Side {
+    /// An interlocking, with its version.
     Interlocking(u8),
+    /// A field element, with its versions and its checksum.
     Field(ArrayVec<u8, VERSIONS_MAX>, ArrayVec<u8, CHECKSUM_MAX>),
 }
 

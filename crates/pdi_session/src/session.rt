@@ -32,8 +32,11 @@ use std::marker::Model;
 /// longer by the event.
 #[derive(Drop)]
 pub struct Session {
+    /// Protocol type and names of both ends.
     parties: Parties,
+    /// What it is, with its versions.
     side: Side,
+    /// How far it is.
     phase: Phase,
 }
 

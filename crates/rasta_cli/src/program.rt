@@ -139,6 +139,7 @@ fn unread(error: &io::Error) -> WordsFault {
 /// and need not be UTF-8 text.
 #[derive(Clone, Copy)]
 struct Named<'a, V: Env> {
+    /// Where the words come from.
     environment: &'a V,
 }
 

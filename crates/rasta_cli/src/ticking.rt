@@ -11,6 +11,7 @@ const TIME_MAX: u64 = 1 << 62;
 /// The milliseconds since a run began, which never fall.
 #[derive(Clone, Copy, Debug)]
 pub struct RunClock {
+    /// When the run began: its clock shows 0 then.
     began: Instant,
     /// The last reading.
     pub last: u64,

@@ -18,9 +18,13 @@ use std::io::Write;
 /// Prints each telegram that the application takes, until an output fails.
 #[derive(Drop)]
 struct Printer<'a, W> {
+    /// The end whose telegrams are printed.
     side: Side,
+    /// Where they are printed.
     writer: &'a mut W,
+    /// How many were taken.
     taken: u64,
+    /// Whether a line could not be written.
     failed: bool,
 }
 
@@ -48,9 +52,13 @@ impl<W: Write> Printer<'_, W> {
 pub struct Actor<'a, C, A: Allocator = Global> {
     /// The end.
     pub end: End<C, A>,
+    /// The end that it acts for.
     side: Side,
+    /// What it has still to put in, in order.
     left: &'a [Put],
+    /// How many telegrams were put in.
     put: u64,
+    /// How many were taken.
     taken: u64,
 }
 

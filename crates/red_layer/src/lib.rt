@@ -89,10 +89,15 @@ pub enum OpenFault {
 /// 2^62.
 #[derive(Drop)]
 pub struct RedLayer<A: Allocator = Global> {
+    /// How many parts may wait.
     q: u64,
+    /// How long they wait, in milliseconds.
     t_seq: u64,
+    /// The number that goes up next, without wrap: 2^32 behind the last one.
     expected: u64,
+    /// Where parts wait, the own time since which they do, in milliseconds.
     since: u64,
+    /// The parts that wait, under their numbers.
     waiting: Deferral<Kept, A>,
 }
 
@@ -309,6 +314,7 @@ fn take_number<A: Allocator>(waiting: &mut Deferral<Kept, A>, number: u64) -> Op
 /// The numbers of the PDUs that one incarnation sends, from 0 on. It takes no memory.
 #[derive(Drop)]
 pub struct Numbers {
+    /// The number that is taken next.
     taken: u32,
 }
 

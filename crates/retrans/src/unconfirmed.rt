@@ -13,6 +13,7 @@ use std::marker::Model;
 /// All its room is made by `new`; no other call takes memory, and only `sent` copies octets.
 #[derive(Drop)]
 pub struct Unconfirmed<A: Allocator = Global> {
+    /// The units, the one sent first in front.
     ring: HeapCircularBuffer<NumberedUnit, A>,
 }
 

@@ -59,6 +59,7 @@ pub trait UnitIn {
 /// All its memory is taken when it is opened. Times are whole milliseconds of one clock.
 #[derive(Drop)]
 pub struct Machine<A: Allocator = Global> {
+    /// What it keeps.
     end: Endpoint<A>,
 }
 

@@ -42,6 +42,7 @@ pub enum NameFault {
 /// of the telegram that it was read from, without the filling.
 #[derive(Clone, Copy, Debug, PartialEq, Eq)]
 pub struct Name<'a> {
+    /// The characters, without filling.
     characters: &'a str,
     ghost well_formed: { IsName characters.now },
 }
@@ -49,6 +50,7 @@ pub struct Name<'a> {
 /// A name that owns its characters, for settings that outlive the text they were read from.
 #[derive(Clone, Copy, Debug, PartialEq, Eq)]
 pub struct OwnedName {
+    /// The characters, without filling.
     text: ArrayString<NAME_LENGTH>,
     ghost well_formed: { IsName text.bytes },
 }

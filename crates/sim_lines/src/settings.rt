@@ -76,7 +76,9 @@ pub struct Setting {
 /// The settings of both ends.
 #[derive(Clone, Copy, Debug)]
 pub struct ScriptSettings {
+    /// What each end is opened with.
     ends: Sides<EndConfig>,
+    /// The first sequence number of each.
     first_sn: Sides<u32>,
 }
 

@@ -14,6 +14,7 @@ use std::alloc::Allocator;
 /// The words of a line, which are parted by one or more spaces.
 #[derive(Drop)]
 pub struct Words<'a> {
+    /// What spaces part, the empty parts too.
     parts: std::str::Split<'a, char>,
 }
 

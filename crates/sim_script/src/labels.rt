@@ -14,8 +14,11 @@ use std::marker::Model;
 /// All PDUs made, with their datagrams, and which of them no line has named yet.
 #[derive(Drop)]
 pub struct Labels<A: Allocator = Global> {
+    /// Where memory comes from.
     alloc: A,
+    /// The PDUs of the interlocking.
     il: Made<A>,
+    /// The PDUs of the field element.
     fe: Made<A>,
     /// The labels of both ends in the order of making.
     order: Vec<Label, A>,

@@ -10,13 +10,16 @@ use std::marker::Model;
 /// A PDU that an end made.
 #[derive(Drop)]
 struct Pdu<A: Allocator = Global> {
+    /// Its octets.
     datagram: Vec<u8, A>,
+    /// Whether a line has named it.
     is_named: bool,
 }
 
 /// The PDUs that one end made, in the order of making, each with its datagram and whether a line has named it.
 #[derive(Drop)]
 pub struct Made<A: Allocator = Global> {
+    /// The PDUs, in the order of making.
     pdus: Vec<Pdu<A>, A>,
 }
 

@@ -81,10 +81,15 @@ fn read<R: Read + Drop, A: Allocator + Copy>(
 /// A script that runs.
 #[derive(Drop)]
 struct Script<W: Write + Drop, A: Allocator + Copy> {
+    /// Where memory comes from.
     alloc: A,
+    /// Both ends, and all that happened to them.
     pair: Pair<A>,
+    /// What the next opening takes.
     settings: ScriptSettings,
+    /// What each clock shows, in milliseconds.
     clocks: Sides<u64>,
+    /// What is printed, and the PDUs under their labels.
     trace: Trace<W, A>,
 }
 
@@ -338,6 +343,7 @@ fn datagram<A: Allocator>(labels: &Labels<A>, label: Label) -> Result<&[u8], Lin
 struct Arrival {
     /// It broke the premise that valid datagrams carry live PDUs.
     is_dead: bool,
+    /// Whether the delivery was accepted.
     answer: Result<(), ApplyFault>,
 }
 

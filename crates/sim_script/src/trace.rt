@@ -48,10 +48,15 @@ struct Progress {
 /// The printer, with the labels that it prints.
 #[derive(Drop)]
 pub struct Trace<W: Write + Drop, A: Allocator = Global> {
+    /// The PDUs made, under their labels.
     pub labels: Labels<A>,
+    /// Whether what happens is printed.
     pub is_on: bool,
+    /// Where it is printed.
     out: BufWriter<W, A>,
+    /// Which parts wait at each end, by their numbers.
     waits: Sides<Waits>,
+    /// How far the notes of the last event are printed.
     progress: Progress,
 }
 
@@ -313,8 +318,11 @@ const LEAVING: u16 = 6216;
 /// What a line tells of a PDU.
 #[derive(Clone, Copy, Debug)]
 struct Header {
+    /// The type.
     kind: u16,
+    /// The sequence number.
     sn: u32,
+    /// The confirmed sequence number.
     cs: u32,
     /// Detail and reason, where the end leaves.
     leaving: Option<(u16, u16)>,

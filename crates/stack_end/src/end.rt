@@ -37,7 +37,9 @@ use std::marker::Model;
 /// are whole milliseconds of one clock, which never falls and is at most 2^62; beyond that a caller keeps nothing.
 #[derive(Drop)]
 pub struct End<C, A: Allocator = Global> {
+    /// Its layers, one above the other.
     pub(crate) layers: Layers<C, A>,
+    /// The time of the last call, in milliseconds.
     pub(crate) time: u64,
 }
 

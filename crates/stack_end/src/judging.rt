@@ -16,7 +16,9 @@ use std::alloc::Allocator;
 /// The phases of a session after each message of a unit, in order, for notes.
 #[derive(Clone, Copy)]
 pub(crate) struct Phases {
+    /// The phases, the first one first.
     list: [Phase; UNIT_MESSAGES],
+    /// How many there are.
     count: usize,
 }
 

@@ -420,8 +420,11 @@ fn kept(octets: &[u8]) -> Part
 /// Hands the parts that go up to what is above the redundancy layer.
 #[derive(Drop)]
 struct ToUpper<'a, 'b, C, A: Allocator, T> {
+    /// The layers above the redundancy layer.
     upper: &'a mut Upper<C, A>,
+    /// What takes telegrams.
     taker: &'b mut T,
+    /// The own time, in milliseconds.
     now: u64,
 }
 

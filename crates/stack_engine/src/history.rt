@@ -15,8 +15,11 @@ use std::marker::Model;
 /// What is kept of an event beside its octets: those of a telegram or of a datagram.
 #[derive(Clone, Copy)]
 struct Entry {
+    /// The end that it happened to.
     side: Side,
+    /// When, in milliseconds of that end's clock.
     time: u64,
+    /// What happened; its octets stand beside it.
     doing: Deed,
 }
 
@@ -25,17 +28,24 @@ struct Entry {
 enum Deed {
     /// An opening, with the place of its settings among those of all openings.
     Open { config: usize, first_sn: u32 },
+    /// The end was closed.
     Close,
+    /// A telegram of this kind was put in.
     Put { kind: u16 },
+    /// The initial status was complete.
     InitDone,
+    /// Time passed.
     Tick,
+    /// A datagram came on this channel.
     Deliver { channel: usize },
 }
 
 /// Events, the first one first.
 #[derive(Drop)]
 pub struct History<A: Allocator = Global> {
+    /// The events, in order, each with the octets that it brought.
     entries: Texts<Entry, A>,
+    /// The settings of the openings, in order.
     configs: Vec<EndConfig, A>,
 }
 

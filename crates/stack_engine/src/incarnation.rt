@@ -38,8 +38,11 @@ const EVENT_TAKEN: usize = 27;
 /// An end with each PDU that it made, and all telegrams that were put in and taken.
 #[derive(Drop)]
 pub struct Incarnation<A: Allocator = Global> {
+    /// The end, over channels that keep what it sends.
     pub(crate) end: End<Keeper<A>, A>,
+    /// What was put in, in order.
     pub(crate) put: Telegrams<A>,
+    /// What was taken, in order.
     pub(crate) taken: Telegrams<A>,
     /// What it was opened with.
     pub(crate) config: EndConfig,

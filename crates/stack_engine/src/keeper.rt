@@ -27,7 +27,9 @@ const EVENT_REMARKS: usize = 200;
 /// A sending takes no memory: without room for it, it fails.
 #[derive(Drop)]
 pub struct Keeper<A: Allocator = Global> {
+    /// Each datagram that was made, kept once for all channels, in order.
     datagrams: Texts<(), A>,
+    /// How many sendings have failed, those on the other channels among them, modulo 2^64.
     failed_sends: u64,
     /// What the end did, in order.
     remarks: VecDeque<Remark, A>,

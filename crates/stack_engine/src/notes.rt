@@ -23,21 +23,28 @@ pub enum Told<'a> {
 pub enum Remark {
     /// The PDU with this place among all that the end made.
     Made(usize),
+    /// What the redundancy layer did with a datagram, and its number where it has one.
     Redundancy(Option<u32>, RedEvent),
+    /// What the safety machine did with the part of this number.
     Step(u32, Step),
     /// The telegram with this place among all that the application took.
     Take(usize),
+    /// The connection is in this state now.
     State(ConnectionState),
+    /// The session is in this phase now.
     Phase(Phase),
 }
 
 /// What an event did, one thing after the other. No promise speaks of it.
 #[derive(Clone, Copy)]
 pub struct Notes<'a, A: Allocator = Global> {
+    /// What the layers did, in order.
     pub(crate) remarks: &'a VecDeque<Remark, A>,
     /// How many of the first remarks are those of an earlier event.
     pub(crate) earlier: usize,
+    /// The datagrams that were made.
     pub(crate) datagrams: &'a Texts<(), A>,
+    /// The telegrams that were taken.
     pub(crate) taken: &'a Telegrams<A>,
 }
 

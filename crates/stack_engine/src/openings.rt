@@ -27,7 +27,9 @@ const TIME_MAX: u64 = 1 << 62;
 /// The incarnations of one end: the present one, and those before it in the order of their opening.
 #[derive(Drop)]
 pub struct Openings<A: Allocator = Global> {
+    /// The incarnation that is open, if the end was ever opened.
     pub(crate) present: Option<Incarnation<A>>,
+    /// Those before it, the first one first.
     pub(crate) before: Vec<Incarnation<A>, A>,
 }
 

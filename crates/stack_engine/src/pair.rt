@@ -30,8 +30,11 @@ pub struct Memory;
 /// It sends no datagram anywhere: what is lost between the ends is what is never delivered.
 #[derive(Drop)]
 pub struct Pair<A: Allocator = Global> {
+    /// Where memory comes from.
     alloc: A,
+    /// All events that were accepted.
     history: History<A>,
+    /// Both ends as the history leaves them.
     sides: Sides<A>,
     /// The end that the last accepted event happened to.
     last: Option<Side>,

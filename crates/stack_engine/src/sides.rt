@@ -25,9 +25,13 @@ use std::alloc::{Allocator, Global};
 /// Both ends, and how many of the PDUs of either one's present incarnation are dead: made before the later opening.
 #[derive(Drop)]
 pub struct Sides<A: Allocator = Global> {
+    /// The incarnations of the interlocking.
     pub(crate) il: Openings<A>,
+    /// The incarnations of the field element.
     pub(crate) fe: Openings<A>,
+    /// How many PDUs of the present interlocking are dead: made before the later opening.
     pub(crate) dead_il: usize,
+    /// How many of the present field element are.
     pub(crate) dead_fe: usize,
 }
 

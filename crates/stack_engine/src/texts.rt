@@ -9,15 +9,20 @@ use std::marker::Model;
 /// Where a text stands in the buffer, behind its head.
 #[derive(Drop)]
 struct Kept<T> {
+    /// What it is kept under.
     head: T,
+    /// Where its octets begin among all.
     from: usize,
+    /// Where they end.
     to: usize,
 }
 
 /// Texts that are only ever added, each with a head, and room for more: an addition takes no memory.
 #[derive(Drop)]
 pub struct Texts<T, A: Allocator = Global> {
+    /// The texts, in order.
     kept: Vec<Kept<T>, A>,
+    /// The octets of all of them, one after the other.
     octets: Vec<u8, A>,
 }
 
