@@ -55,6 +55,8 @@ const TAB: u8 = 9;
 /// Reads a line, without the line feed at its end, and puts the payload in front of the buffer. What stands in the
 /// buffer behind the payload, or after a fault, is not said.
 ///
+/// # Errors
+///
 /// Refused, and the first that holds is named: `Fields`, `Time`, `Source`, `Destination`, `Long`, `Payload`.
 pub fn read_line(line: &[u8], buffer: &mut Buffer) -> Result<Record, LineFault>
     ensures { record_seen result buffer.new ≡ line_of line.now }

@@ -12,6 +12,9 @@ use std::io::Write;
 
 /// Writes what is remarkable in a PDU, each word behind a space, and nothing where nothing is. `channel` stands before
 /// what is said of the redundancy numbers of its channel, `all` of those of all channels, `sn` of the sequence numbers.
+///
+/// # Errors
+///
 /// An error is the writer's; what came before it stays written.
 pub fn write_remarks<W: Write>(writer: &mut W, remarks: &Remarks) -> io::Result<()>
     ensures { OnOk result (Appends (W.contents writer.old) (W.contents writer.new) (remarks_text remarks.now)) }

@@ -75,7 +75,11 @@ impl<A: Allocator> Model for MemChannels<A> {
 }
 
 impl<A: Allocator + Copy> MemChannels<A> {
-    /// Channels with room for `room` sendings and as many answers of `receive`. Refused as Memory where there is none.
+    /// Channels with room for `room` sendings and as many answers of `receive`.
+    ///
+    /// # Errors
+    ///
+    /// Refused as Memory where there is none.
     pub fn new(alloc: A, room: usize) -> Result<Self, MemoryFault>
         ensures { IfOk result (λ made. made ≡ new_kept room) }
     {
@@ -90,7 +94,11 @@ impl<A: Allocator + Copy> MemChannels<A> {
         })
     }
 
-    /// Makes room for `more` sendings and answers beyond those that it has. Refused as Memory where there is none, and then nothing
+    /// Makes room for `more` sendings and answers beyond those that it has.
+    ///
+    /// # Errors
+    ///
+    /// Refused as Memory where there is none, and then nothing
     /// has changed.
     pub fn reserve(&mut self, more: usize) -> Result<(), MemoryFault>
         ensures { self.new ≡ (if is_ok result then with_more_room more self.old else self.old) }
@@ -108,7 +116,11 @@ impl<A: Allocator + Copy> MemChannels<A> {
         Ok(())
     }
 
-    /// Puts in a datagram, of any octets, that comes on a channel. Refused as Memory where there is none, and then it does not come.
+    /// Puts in a datagram, of any octets, that comes on a channel.
+    ///
+    /// # Errors
+    ///
+    /// Refused as Memory where there is none, and then it does not come.
     pub fn add(&mut self, channel: usize, datagram: &[u8]) -> Result<(), MemoryFault>
         ensures { self.new ≡ (if is_ok result then with_waiting (channel, datagram.now) self.old else self.old) }
     {

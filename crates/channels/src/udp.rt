@@ -66,6 +66,9 @@ impl<A: Allocator> Model for UdpChannels<A> {
 
 impl<A: Allocator + Copy> UdpChannels<A> {
     /// Binds a socket for each pair of addresses, such as `127.0.0.1:46101`; names of hosts are none.
+    ///
+    /// # Errors
+    ///
     /// Refused as Memory, then as Address, before a socket is bound, then as Bind.
     pub fn open<N: Net, S: AsStr>(
         alloc: A,
@@ -138,7 +141,11 @@ pub struct Watch<A: Allocator = Global> {
 }
 
 impl<A: Allocator + Copy> Watch<A> {
-    /// Watches nothing yet. Refused as Memory, or as Bind where the system has no means to wait.
+    /// Watches nothing yet.
+    ///
+    /// # Errors
+    ///
+    /// Refused as Memory, or as Bind where the system has no means to wait.
     pub fn open<N: Net>(alloc: A, net: &N) -> Result<Self, UdpFault> {
         let Ok(events) = Events::with_capacity(alloc, EVENTS) else {
             return Err(UdpFault::Memory);
@@ -151,7 +158,11 @@ impl<A: Allocator + Copy> Watch<A> {
 }
 
 impl<A: Allocator> Watch<A> {
-    /// Watches the sockets of these channels too. Refused by the system, as when they are watched already.
+    /// Watches the sockets of these channels too.
+    ///
+    /// # Errors
+    ///
+    /// Refused by the system, as when they are watched already.
     pub fn add<B: Allocator>(&self, channels: &mut UdpChannels<B>) -> io::Result<()>
         ensures { channels.new ≡ channels.old }
     {

@@ -50,6 +50,8 @@ fn messages_in(octets: &[u8]) -> Result<Messages<'_>, PackFault>
 
 /// Reads a unit, of any octets, from the left. It copies none of them: the answer holds views.
 ///
+/// # Errors
+///
 /// Refused: `Empty`, where there are no octets; `TooMany`, where three whole messages were read and
 /// octets remain; else `Length`.
 pub fn unpack(octets: &[u8]) -> Result<Messages<'_>, PackFault>

@@ -36,7 +36,11 @@ impl<A: Allocator> Model for Waiting<A> {
 }
 
 impl<A: Allocator> Waiting<A> {
-    /// No message, and room for 64. The error is that memory was refused.
+    /// No message, and room for 64.
+    ///
+    /// # Errors
+    ///
+    /// The error is that memory was refused.
     pub fn new(alloc: A) -> Result<Self, AllocError>
         ensures { IfOk result (λ waiting. waiting ≡ []) }
     {
@@ -68,6 +72,8 @@ impl<A: Allocator> Waiting<A> {
     }
 
     /// Puts a message behind those that wait. The caller keeps it within 43 to 400 octets.
+    ///
+    /// # Errors
     ///
     /// Refused exactly where 64 wait, and then all stays as it was.
     pub fn add(&mut self, message: &[u8]) -> Result<(), Full>

@@ -112,6 +112,8 @@ impl Session {
     /// Judges a telegram, of any kind and payload. A command or status that is taken goes to the
     /// taker. The caller keeps room for one message in the phases before Initialising.
     ///
+    /// # Errors
+    ///
     /// Refused, and the session is then over: `VersionDiffers`, `OutOfOrder`, `NotOfThisPair`, of
     /// which the last is tested first.
     #[tactic(auto, using(crate::proofs::Growing::stands_on))]
@@ -143,6 +145,8 @@ impl Session {
     }
 
     /// Puts in a command or status of this kind and payload. It waits behind all messages before it.
+    ///
+    /// # Errors
     ///
     /// Refused, and the first that holds is named; nothing changes then: `NotEstablished`, `Full`,
     /// `ReservedType`, `TooLong`.
@@ -177,6 +181,8 @@ impl Session {
     }
 
     /// The application of a field element has put its initial status in: its end is sent behind it.
+    ///
+    /// # Errors
     ///
     /// Refused, and the first that holds is named; nothing changes then: `NotInitialising`, `Full`.
     #[tactic(auto, using(crate::proofs::Growing::stands_on))]

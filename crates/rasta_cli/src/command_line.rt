@@ -68,6 +68,8 @@ pub enum WordsFault {
 
 /// Finds the command that words ask for; the first word is the program's name.
 ///
+/// # Errors
+///
 /// Refused: `Words`, where clap's rules find a fault in the words, or have no memory; `BadCode` or `BadTurns`, where
 /// they find none and yet no command is asked for, as with a code of 9 octets or with 0 turns; `Memory`.
 pub fn command<'a, S: AsStr>(alloc: Global, words: &'a [S]) -> Result<Request<'a>, WordsFault>

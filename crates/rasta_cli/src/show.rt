@@ -18,7 +18,11 @@ use std::io;
 use std::io::Write;
 
 /// Writes the text of a datagram of any octets, read under a rule of the safety code, and answers
-/// whether no line of it names a fault. An error is the writer's; what came before it stays
+/// whether no line of it names a fault.
+///
+/// # Errors
+///
+/// An error is the writer's; what came before it stays
 /// written.
 pub fn show<W: Write>(octets: &[u8], rule: &CodeRule, writer: &mut W) -> io::Result<bool>
     ensures written { OnOk result (Appends (W.contents writer.old) (W.contents writer.new) (show_text rule.now octets.now)) }

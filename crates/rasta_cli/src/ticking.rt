@@ -18,7 +18,11 @@ pub struct RunClock {
 }
 
 impl RunClock {
-    /// A clock that begins now. Refused as Clock, where the system gives no time.
+    /// A clock that begins now.
+    ///
+    /// # Errors
+    ///
+    /// Refused as Clock, where the system gives no time.
     pub fn start<K: Clock>(system: &K) -> Result<Self, Fault>
         ensures { IfOk result (λ clock. clock.last ≡ 0) }
     {
@@ -28,7 +32,11 @@ impl RunClock {
         }
     }
 
-    /// The time; a reading below the last counts as the last. Refused as Clock, where the system gives none or it is above 2^62.
+    /// The time; a reading below the last counts as the last.
+    ///
+    /// # Errors
+    ///
+    /// Refused as Clock, where the system gives none or it is above 2^62.
     pub fn read<K: Clock>(&mut self, system: &K) -> Result<u64, Fault>
         ensures now { IfOk result (λ now. (self.old.last ≤ now) × (now ≤ 2 ^ 62) × (self.new.last ≡ now)) }
         ensures refused { OnErr result (self.new.last ≡ self.old.last) }

@@ -78,6 +78,9 @@ impl<'a, C: Channels, A: Allocator + Copy> Actor<'a, C, A> {
 
     /// Its part of a turn: it takes what has come; then an interlocking whose session is established, and a field element that
     /// initialises, put what is left until a put is refused as Full. The field element then calls `init_done`, once nothing is left.
+    ///
+    /// # Errors
+    ///
     /// Refused as Output. That a reception fails is no fault of a turn: it counts as nothing received.
     pub fn turn<W: Write>(&mut self, now: u64, writer: &mut W) -> Result<(), Fault>
         requires now { now ≤ 2 ^ 62 }
@@ -95,7 +98,11 @@ impl<'a, C: Channels, A: Allocator + Copy> Actor<'a, C, A> {
         }
     }
 
-    /// Writes how the end stands. Refused as Output.
+    /// Writes how the end stands.
+    ///
+    /// # Errors
+    ///
+    /// Refused as Output.
     pub fn report<W: Write>(&self, writer: &mut W) -> Result<(), Fault> {
         let standing = Standing {
             state: self.end.state(),

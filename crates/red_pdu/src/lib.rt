@@ -33,6 +33,8 @@ pub struct RedPdu<'a> {
 
 /// Reads a datagram, of any octets. It copies none of them: the answer is a view.
 ///
+/// # Errors
+///
 /// Refused, and the first that holds is named: `Short`, `Length`, `Reserve`.
 #[tactic(auto, using(crate::proofs::RedLemmas::red_spelled))]
 pub fn decode(octets: &[u8]) -> Result<RedPdu<'_>, RedFault>

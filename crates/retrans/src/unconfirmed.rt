@@ -28,7 +28,11 @@ impl<A: Allocator> Model for Unconfirmed<A> {
 }
 
 impl<A: Allocator> Unconfirmed<A> {
-    /// No unit, and room for `n`; a window has 32 at most. The error is that memory was refused.
+    /// No unit, and room for `n`; a window has 32 at most.
+    ///
+    /// # Errors
+    ///
+    /// The error is that memory was refused.
     pub fn new(alloc: A, n: usize) -> Result<Self, AllocError>
         ensures { IfOk result (λ kept. kept ≡ record { room = n; units = [] }) }
     {

@@ -77,6 +77,8 @@ impl<A: Allocator> Model for Machine<A> {
 impl<A: Allocator> Machine<A> {
     /// Opens an end. A client asks for the connection at once; a server waits. It is the only call that takes memory.
     ///
+    /// # Errors
+    ///
     /// Refused, and the first that holds is named: `BadConfig`, `Memory`.
     pub fn open<O: PduOut>(
         alloc: A,
@@ -198,6 +200,8 @@ impl<A: Allocator> Machine<A> {
     }
 
     /// Sends a unit of 45 to 1,206 octets.
+    ///
+    /// # Errors
     ///
     /// Refused, and the first that holds is named: `NotUp`, where the state is neither Up nor RetrRun; `Window`, where as many
     /// units are unconfirmed as the peer's window has.

@@ -15,6 +15,8 @@ use octets::places::{put_octets, put_u16, put_u32, u16_at, u32_at};
 /// Reads the upper part of a redundancy PDU, of any octets, under a rule of the code. It copies no
 /// octet: the answer is a view.
 ///
+/// # Errors
+///
 /// Refused, and the first that holds is named: `Short`, `Length`, `Code`, `BadType`, `Body`.
 pub fn decode<'a>(octets: &'a [u8], rule: &CodeRule) -> Result<SafePdu<'a>, SafeFault>
     // What is read is spelled so.

@@ -45,6 +45,8 @@ fn name_in(field: &[u8]) -> Option<Name<'_>>
 
 /// Reads a message, of any octets. It copies none of them: the answer is a view.
 ///
+/// # Errors
+///
 /// Refused, and the first that holds is named: `Short`, `Long`, `Name`.
 #[tactic(auto, unfolding(crate::specs::Places::tele_seen))]
 pub fn decode(octets: &[u8]) -> Result<Telegram<'_>, TeleFault>

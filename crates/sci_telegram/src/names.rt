@@ -25,6 +25,8 @@ fn fit_name(octets: &[u8]) -> bool
 impl<'a> Name<'a> {
     /// The name that a text spells. It is a view: no octet is copied.
     ///
+    /// # Errors
+    ///
     /// Refused, and the first that holds is named: `Empty`, `Long` (counted in octets), `Character`.
     pub fn new(text: &'a str) -> Result<Self, NameFault>
         // What is made is that text, and a name.

@@ -32,6 +32,8 @@ pub enum Word {
 
 /// Reads the text of a settings file for the ends that a word runs.
 ///
+/// # Errors
+///
 /// Refused: the first thing that is wrong, in this order: `Document`; a table of an end that is missing; a key that no
 /// end has; a key's value, in the order of the groups; of a file for both ends `il` before `fe`. `Memory`, where it was refused.
 pub fn settings(alloc: Global, word: Word, text: &str) -> Result<Ends, SettingsFault>

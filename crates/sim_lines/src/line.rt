@@ -53,6 +53,8 @@ pub enum Command<A: Allocator = Global> {
 
 /// Reads a line.
 ///
+/// # Errors
+///
 /// Refused: `Unreadable`, where the line has no form of the language, or a number too large for its place; `Memory`.
 pub fn read_line<A: Allocator + Copy>(alloc: A, line: &str) -> Result<Command<A>, LineFault> {
     let mut words = Words::new(line);

@@ -53,7 +53,11 @@ impl<A: Allocator + Copy> Labels<A> {
         }
     }
 
-    /// An end made a PDU: it has the end's next label. The error is that memory was refused; nothing has changed then.
+    /// An end made a PDU: it has the end's next label.
+    ///
+    /// # Errors
+    ///
+    /// The error is that memory was refused; nothing has changed then.
     pub fn make(&mut self, side: Side, datagram: &[u8]) -> Result<(), AllocError>
         ensures ok { OnOk result (self.new ≡ after_making side datagram.now self.old) }
         ensures err { OnErr result (self.new ≡ self.old) }

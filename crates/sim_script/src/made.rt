@@ -43,7 +43,11 @@ impl<A: Allocator + Copy> Made<A> {
         }
     }
 
-    /// The end made a PDU. The error is that memory was refused; nothing has changed then.
+    /// The end made a PDU.
+    ///
+    /// # Errors
+    ///
+    /// The error is that memory was refused; nothing has changed then.
     pub fn add(&mut self, alloc: A, datagram: &[u8]) -> Result<(), AllocError>
         ensures ok { OnOk result (self.new ≡ self.old ++ fresh datagram.now ∷ []) }
         ensures err { OnErr result (self.new ≡ self.old) }

@@ -55,11 +55,14 @@ impl<C, A: Allocator> Model for End<C, A> {
 }
 
 impl<C: Channels, A: Allocator + Copy> End<C, A> {
-    /// Opens an end on one side of a connection. An interlocking asks for the connection at once, under the first sequence number told; a
-    /// field element waits for that. It is the only call that takes memory. A send on a channel that `channels` does not have fails
-    /// like any other.
+    /// Opens an end on one side of a connection. An interlocking asks for the connection at once, under the first sequence number
+    /// told; a field element waits for that. It is the only call that takes memory. A send on a channel that `channels` does not
+    /// have fails like any other.
     ///
-    /// Refused, and the first that holds is named: `BadConfig`, where the settings are none of an end; `Memory`. The channels come back then.
+    /// # Errors
+    ///
+    /// Refused, and the first that holds is named: `BadConfig`, where the settings are none of an end; `Memory`. The channels
+    /// come back then.
     pub fn open(
         alloc: A,
         channels: C,
@@ -116,6 +119,8 @@ impl<C: Channels, A: Allocator> End<C, A> {
 
     /// Puts in a command or status of this kind and payload (0 to 357 octets), behind all that waits.
     ///
+    /// # Errors
+    ///
     /// Refused, and the first that holds is named; nothing changes then: `NotEstablished`, `Full`, `ReservedType`, `TooLong`.
     pub fn put(&mut self, kind: u16, payload: &[u8], now: u64) -> Result<(), PutFault>
         requires now { now ≤ 2 ^ 62 }
@@ -138,6 +143,8 @@ impl<C: Channels, A: Allocator> End<C, A> {
     }
 
     /// The application of a field element has put in its initial status: the end of the initialisation is sent behind it.
+    ///
+    /// # Errors
     ///
     /// Refused, and the first that holds is named; nothing changes then: `NotInitialising`, `Full`.
     pub fn init_done(&mut self, now: u64) -> Result<(), InitFault>
@@ -168,7 +175,10 @@ impl<C: Channels, A: Allocator> End<C, A> {
         self.time = now;
     }
 
-    /// Hands in the datagrams that the channels answer, at most 64 of up to 2,048 octets, each before the next is asked for; then time passes.
+    /// Hands in the datagrams that the channels answer, at most 64 of up to 2,048 octets, each before the next is asked for; then
+    /// time passes.
+    ///
+    /// # Errors
     ///
     /// Refused as `Channel` where a reception fails: what came before stays handed in, and time does not pass.
     pub fn poll<T: Taker>(&mut self, now: u64, taker: &mut T) -> Result<(), PollFault>

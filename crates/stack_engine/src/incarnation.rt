@@ -111,7 +111,11 @@ impl<A: Allocator + Copy> Incarnation<A> {
         reserve_telegrams(&mut self.taken, EVENT_TAKEN)
     }
 
-    /// Makes room for a call, and for the octets of the telegram that it puts in. The error is that memory was refused.
+    /// Makes room for a call, and for the octets of the telegram that it puts in.
+    ///
+    /// # Errors
+    ///
+    /// The error is that memory was refused.
     pub fn reserve_for(&mut self, call: &Call<'_>) -> Result<(), AllocError>
         ensures room { OnOk result (HasRoomFor call.now self.new) }
         ensures stands { (x : EndState) → IncStands self.old x → IncStands self.new x }
@@ -123,6 +127,8 @@ impl<A: Allocator + Copy> Incarnation<A> {
     }
 
     /// The end is called.
+    ///
+    /// # Errors
     ///
     /// Refused as the end refuses it, and then nothing changes: `Put` and `Init`, each with its fault.
     pub fn call(&mut self, call: &Call<'_>, now: u64) -> Result<(), ApplyFault>

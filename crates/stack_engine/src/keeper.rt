@@ -64,7 +64,11 @@ impl<A: Allocator + Copy> Keeper<A> {
         }
     }
 
-    /// Makes room for so many datagrams, and for what one event does beside. The error is that memory was refused.
+    /// Makes room for so many datagrams, and for what one event does beside.
+    ///
+    /// # Errors
+    ///
+    /// The error is that memory was refused.
     pub fn reserve(&mut self, datagrams: usize) -> Result<(), AllocError>
         requires { datagrams ≤ 1000 }
         ensures same { self.new.datagrams ≡ self.old.datagrams }

@@ -49,6 +49,8 @@ impl<A: Allocator + Copy> Openings<A> {
 
     /// Whether a call at this time is refused before the session is asked.
     ///
+    /// # Errors
+    ///
     /// Refused, and the first that holds is named: `EndNotOpen`, `Clock`.
     pub fn admits_call(&self, now: u64) -> Result<(), ApplyFault>
         ensures refusal { (xs : List EndState) (c : Call) → SideStands self.now xs → time_of c ≡ now
@@ -64,6 +66,8 @@ impl<A: Allocator + Copy> Openings<A> {
     }
 
     /// The end is called.
+    ///
+    /// # Errors
     ///
     /// Refused, and the first that holds is named: `EndNotOpen`, `Clock`, `Memory`, `Put` and `Init` with their faults.
     pub fn call(&mut self, call: &event::Call<'_>, now: u64) -> Result<(), ApplyFault>
@@ -85,6 +89,8 @@ impl<A: Allocator + Copy> Openings<A> {
     }
 
     /// Whether an opening with these settings at this time is refused.
+    ///
+    /// # Errors
     ///
     /// Refused, and the first that holds is named: `BadConfig`, `Clock`.
     pub fn admits_opening(&self, side: Side, config: &EndConfig, now: u64) -> Result<(), ApplyFault>
@@ -109,6 +115,8 @@ impl<A: Allocator + Copy> Openings<A> {
     }
 
     /// The end is opened, or opened anew.
+    ///
+    /// # Errors
     ///
     /// Refused, and the first that holds is named: `BadConfig`, `Clock`, `Memory`.
     pub fn open(

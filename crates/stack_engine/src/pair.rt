@@ -71,8 +71,10 @@ impl<A: Allocator + Copy> Pair<A> {
 
     /// An event happens, exactly as the definition of a pair says.
     ///
-    /// Refused, and then nothing changes; the first that holds is named: `EndNotOpen`, `BadConfig`, `Clock`, `Memory` where a growth was
-    /// refused, `Put` and `Init` with their faults.
+    /// # Errors
+    ///
+    /// Refused, and then nothing changes; the first that holds is named: `EndNotOpen`, `BadConfig`, `Clock`, `Memory` where a
+    /// growth was refused, `Put` and `Init` with their faults.
     pub fn apply(&mut self, event: &Event<'_>) -> Result<(), ApplyFault>
         ensures ok { OnOk result (self.new ≡ self.old ++ event_of event.now ∷ []) }
         ensures err { OnErr result (self.new ≡ self.old) }
@@ -109,6 +111,8 @@ impl<A: Allocator + Copy> Pair<A> {
     }
 
     /// Events happen in turn; one that is refused changes nothing, and the next one follows. The answer is how many were accepted.
+    ///
+    /// # Errors
     ///
     /// The error is that memory was refused for one of them: then those before it happened, and none behind it.
     pub fn run(&mut self, events: &[Event<'_>]) -> Result<usize, Memory>

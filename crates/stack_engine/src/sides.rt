@@ -53,6 +53,8 @@ impl<A: Allocator + Copy> Sides<A> {
 
     /// Whether an event is refused before memory is asked for.
     ///
+    /// # Errors
+    ///
     /// Refused, and the first that holds is named: `EndNotOpen`, `BadConfig`, `Clock`.
     pub fn admits(&self, event: &Event<'_>) -> Result<(), ApplyFault>
         ensures refusal { (w : World) → SidesStand self.now w
@@ -77,6 +79,8 @@ impl<A: Allocator + Copy> Sides<A> {
     }
 
     /// An event happens.
+    ///
+    /// # Errors
     ///
     /// Refused, and the first that holds is named; then all stays as it was.
     pub fn step(&mut self, alloc: A, event: &Event<'_>) -> Result<(), ApplyFault>

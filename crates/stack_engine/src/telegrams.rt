@@ -24,7 +24,11 @@ impl<A: Allocator + Copy> Taker for Texts<u16, A> {
     }
 }
 
-/// Makes room for `count` telegrams of any size. The error is that memory was refused.
+/// Makes room for `count` telegrams of any size.
+///
+/// # Errors
+///
+/// The error is that memory was refused.
 pub fn reserve_telegrams<A: Allocator + Copy>(
     telegrams: &mut Telegrams<A>,
     count: usize,

@@ -53,7 +53,11 @@ impl<T: Drop, A: Allocator + Copy> Texts<T, A> {
         }
     }
 
-    /// Makes room for so many texts of so many octets together. The error is that memory was refused.
+    /// Makes room for so many texts of so many octets together.
+    ///
+    /// # Errors
+    ///
+    /// The error is that memory was refused.
     pub fn reserve(&mut self, places: usize, octets: usize) -> Result<(), AllocError>
         ensures same { self.new.texts ≡ self.old.texts }
         ensures places { OnOk result (places ≤ self.new.places) }
