@@ -39,12 +39,12 @@ is_kept w number = nat_lt 0 (line_of w number) && (slice_index w.numbers (slot n
 abbrev pub ahead : ℕ → ℕ → ℕ
 ahead from to = (to + (2 ^ 32 - from)) % 2 ^ 32
 
--- so many numbers may be passed over, and the last numbers before the newest are late: any other begins anew
+-- at most PASSED_MAX numbers may be passed over, and the 31 before the newest are late (the one before them has its slot): any other begins anew
 abbrev pub judged_ahead : ℕ → Judged
 judged_ahead steps =
     if nat_le steps 1 then Next
     else if nat_le steps (PASSED_MAX + 1) then Ahead (steps - 1)
-    else if nat_lt (4294967295 - KEPT) steps then Late
+    else if nat_lt (2 ^ 32 - KEPT) steps then Late
     else Anew
 
 -- how a number follows

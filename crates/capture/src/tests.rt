@@ -2,7 +2,7 @@
 
 use crate::{
     Address, Following, Header, Heard, Judged, LineFault, PAYLOAD_ROOM, Record, Remark, Remarks,
-    Totals, Window, hear, note, read_line, sum_up, write_remarks,
+    Totals, Window, hear, judge, note, read_line, sum_up, write_remarks,
 };
 use red_pdu::RedFault;
 use safe_pdu::{CodeLength, CodeRule, Kind, Leaving};
@@ -234,5 +234,16 @@ fn writes_remarks(rt: HostRuntime) -> Result<(), Fail> {
     let wanted =
         b" channel repeat of line 12 all late sn ahead 2 resent age 45 ms detail 3 reason 5";
     assert!(rt; text.as_slice() == wanted.as_slice());
+    Ok(())
+}
+
+// The 31 numbers before the newest may come late, and none of them takes the newest's place: a copy of that is told.
+#[test]
+fn keeps_the_newest(rt: HostRuntime) -> Result<(), Fail> {
+    let mut window = Window::new();
+    assert_eq!(rt; note(&mut window, 100, 1), Judged::First);
+    assert_eq!(rt; judge(&window, 68), Judged::Anew);
+    assert_eq!(rt; note(&mut window, 69, 2), Judged::Late);
+    assert_eq!(rt; judge(&window, 100), Judged::Repeat(1));
     Ok(())
 }

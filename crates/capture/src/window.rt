@@ -82,7 +82,7 @@ fn judge_ahead(steps: u32) -> Judged
         Judged::Next
     } else if steps <= PASSED_MAX + 1 {
         Judged::Ahead(steps - 1)
-    } else if steps > 0xffff_ffff - KEPT as u32 {
+    } else if steps > 0xffff_ffff - KEPT as u32 + 1 {
         Judged::Late
     } else {
         Judged::Anew
