@@ -71,7 +71,8 @@ impl<A: Allocator> Model for MemChannels<A> {
       failed_receives = m.failed_receives;
     } };
 
-    ghost invariant = { λ m. (vec_len m.sent + m.sends_left ≤ vec_capacity m.sent) × (vec_len m.answers + m.answers_left ≤ vec_capacity m.answers) };
+    ghost invariant = { λ m. (vec_len m.sent + m.sends_left ≤ vec_capacity m.sent)
+        × (vec_len m.answers + m.answers_left ≤ vec_capacity m.answers) };
 }
 
 impl<A: Allocator + Copy> MemChannels<A> {

@@ -78,7 +78,8 @@ impl<A: Allocator + Copy> UdpChannels<A> {
     ) -> Result<Self, UdpFault>
         ensures counts { IfOk result (λ c. c ≡ (0, 0)) }
         ensures ok { IfOk result (λ _. are_paired local.now remote.now ≡ true) }
-        ensures unpaired { are_paired local.now remote.now ≡ false → (result ≡ Err fault.Memory) ⊎ (result ≡ Err fault.Address) }
+        ensures unpaired { are_paired local.now remote.now ≡ false
+            → (result ≡ Err fault.Memory) ⊎ (result ≡ Err fault.Address) }
     {
         let (Ok(mut pairs), Ok(mut list)) = (
             Vec::with_capacity(alloc, CHANNELS_MAX),

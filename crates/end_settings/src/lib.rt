@@ -110,7 +110,8 @@ impl EndConfig {
     /// The settings of the safety machine. The caller has seen that they are fit.
     pub fn machine(&self) -> MachineConfig
         requires { self.now.n_sendmax ≤ WINDOW_MAX }
-        ensures { (side : Side) → machine_settings (role_of side) result ≡ connection_of (side_of side) (settings_of self.now) }
+        ensures { (side : Side) → machine_settings (role_of side) result
+            ≡ connection_of (side_of side) (settings_of self.now) }
     {
         MachineConfig {
             own: self.id,

@@ -280,7 +280,8 @@ fn pass_run<A: Allocator, U: Upward>(waiting: &mut Deferral<Kept, A>, from: u64,
     requires below { IsBelow (2 ^ 32) waiting.old.waiting }
     requires in_range { from ≤ 2 ^ 32 }
     requires ready { U.ready up.old from }
-    ensures passed { FoldsTo U.passes up.old (run_from from (map_parts (λ part. part.items) waiting.old.waiting)) up.new }
+    ensures passed { FoldsTo U.passes up.old
+        (run_from from (map_parts (λ part. part.items) waiting.old.waiting)) up.new }
     ensures room { waiting.new.room ≡ waiting.old.room }
     ensures rest { map_parts (λ part. part.items) waiting.new.waiting
         ≡ after_run from (map_parts (λ part. part.items) waiting.old.waiting) }

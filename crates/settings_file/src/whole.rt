@@ -22,7 +22,8 @@ use toml::{Table, Value};
 // The remote addresses, if they are as many as the local ones.
 #[tactic(auto, using(crate::proofs::Lengths::length_texts))]
 fn matched(local: &[String], remote: Vec<String>) -> Result<Vec<String>, KeyFault>
-    ensures { read_as (λ v. map string_bytes v.items) result ≡ as_many (map string_bytes local.now) (map string_bytes remote.items) }
+    ensures { read_as (λ v. map string_bytes v.items) result
+        ≡ as_many (map string_bytes local.now) (map string_bytes remote.items) }
 {
     if local.len() == remote.as_slice().len() {
         Ok(remote)
@@ -61,7 +62,8 @@ fn configured(
     limits: &Limits,
     channels: usize,
 ) -> EndConfig
-    ensures { settings_of result ≡ configured_of (identity_seen identity.now) (beginning_seen beginning.now) limits.now channels }
+    ensures { settings_of result
+        ≡ configured_of (identity_seen identity.now) (beginning_seen beginning.now) limits.now channels }
 {
     EndConfig {
         id: identity.id,

@@ -16,6 +16,9 @@ use Rattle.safe_machine.specs.Octets.{arrive_octets}
 use Rattle.safe_machine.specs.World.{Side, joins}
 use Rattle.pdi_session.specs.SessionStep.{Up as GoesUp, Puts, InitDone as Completes, Closes}
 use Rattle.end_settings.specs.EndSettings.{EndSettings, connection_of, session_of}
+use Rattle.end_settings.specs.Configured.{settings_of, side_of}
+use Rattle.end_settings.specs.declared.EndConfig.{EndConfig}
+use Rattle.end_settings.specs.declared.Side.{Side as ConfiguredSide}
 use Rattle.stack_end.specs.Dialogue.{Dialogue, new_dialogue, meets, Leaving, judge_units}
 
 pub record EndState : Type 0 where
@@ -39,6 +42,10 @@ new_end side settings first now =
       request = None;
       time = now;
     }
+
+-- the same, of settings as they are told
+abbrev pub opened_end : ConfiguredSide → EndConfig → (first now : ℕ) → EndState
+opened_end side config first now = new_end (side_of side) (settings_of config) first now
 
 abbrev pub is_shut : EndState → Bool
 is_shut x = is_closed x.machine.connection

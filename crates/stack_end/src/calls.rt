@@ -26,13 +26,16 @@ impl<C: Channels, A: Allocator> End<C, A> {
     )
         requires now { now ≤ 2 ^ 62 }
         requires later { self.old.time ≤ now }
-        ensures does { EndDoes C.told T.takes (call (Deliver channel octets.now now)) self.old taker.old self.new taker.new }
+        ensures does { EndDoes C.told T.takes (call (Deliver channel octets.now now))
+            self.old taker.old self.new taker.new }
         // Nothing waits then, or the machine may not send.
         ensures packs { (x : EndState) → EndStands C.told self.new x → can_pack x ≡ false }
         // What is taken is recent.
-        ensures recent { (x : EndState) → EndStands C.told self.old x → DatagramRecent now octets.now x taker.old taker.new }
+        ensures recent { (x : EndState) → EndStands C.told self.old x
+            → DatagramRecent now octets.now x taker.old taker.new }
         // The end is left as any other channel would leave it.
-        ensures any_channel { (x : EndState) (other : ℕ) → EndStands C.told self.old x → EndStands C.told self.new (call (Deliver other octets.now now) x) }
+        ensures any_channel { (x : EndState) (other : ℕ) → EndStands C.told self.old x
+            → EndStands C.told self.new (call (Deliver other octets.now now) x) }
         ensures time { self.new.time ≡ now }
     {
         let _channel = channel;
@@ -64,13 +67,16 @@ impl<C: Channels, A: Allocator> End<C, A> {
         ensures packs { OnOk result ((x : EndState) → EndStands C.told self.new x → can_pack x ≡ false) }
         // What was put in stands last among all that was put in.
         ensures last { OnOk result ((x : EndState) → EndStands C.told self.old x
-            → (y : EndState) × EndStands C.told self.new y × (y.session.history.put ≡ x.session.history.put ++ (kind, payload.now) ∷ [])) }
+            → (y : EndState) × EndStands C.told self.new y
+            × (y.session.history.put ≡ x.session.history.put ++ (kind, payload.now) ∷ [])) }
         // It waits, or stands in an unconfirmed unit, and so does all that waited.
-        ensures kept { OnOk result ((x y : EndState) → EndStands C.told self.old x → EndStands C.told self.new y → PutOut kind payload.now x y) }
+        ensures kept { OnOk result ((x y : EndState) → EndStands C.told self.old x → EndStands C.told self.new y
+            → PutOut kind payload.now x y) }
         ensures time { OnOk result (self.new.time ≡ now) }
         ensures refused { OnErr result (self.new ≡ self.old) }
         ensures answer { (x : EndState) → EndStands C.told self.old x
-            → MatchResult result (λ _. put_refusal (session_in x.session) kind payload.now (length x.session.waiting) ≡ None)
+            → MatchResult result
+            (λ _. put_refusal (session_in x.session) kind payload.now (length x.session.waiting) ≡ None)
             (λ fault. put_refusal (session_in x.session) kind payload.now (length x.session.waiting) ≡ Some fault) }
     {
         unit_law();

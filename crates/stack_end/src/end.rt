@@ -8,7 +8,7 @@ ghost use Rattle.end_settings.specs.EndSettings.{are_fit};
 ghost use Rattle.end_settings.specs.Configured.{settings_of, side_of};
 ghost use Rattle.pdi_session.specs.SessionStep.{init_refusal, put_refusal};
 ghost use Rattle.stack_end.specs.Dialogue.{phase_in, session_in};
-ghost use Rattle.stack_end.specs.Ends.{Call, Close, Deliver, EndState, InitDone, Put, call, is_settled, is_shut, new_end};
+ghost use Rattle.stack_end.specs.Ends.{Call, Close, Deliver, EndState, InitDone, Put, call, is_settled, is_shut, opened_end};
 ghost use Rattle.stack_end.specs.Datagrams.{sent_at_opening};
 ghost use Rattle.stack_end.specs.EndValue.{EndAsks, EndDoes, EndDoesAlone, EndStands, channels_of};
 ghost use Rattle.stack_end.specs.Fields.{can_pack};
@@ -71,10 +71,12 @@ impl<C: Channels, A: Allocator + Copy> End<C, A> {
         first_sn: u32,
         now: u64,
     ) -> Result<Self, (OpenFault, C)>
-        ensures bad_config { IsErrAnd result (λ e. e.0 ≡ BadConfig) ↔ (are_fit (side_of side) (settings_of config) ≡ false) }
+        ensures bad_config { IsErrAnd result (λ e. e.0 ≡ BadConfig)
+            ↔ (are_fit (side_of side) (settings_of config) ≡ false) }
         ensures back { IfErr result (λ e. e.1 ≡ channels) }
-        ensures stands { IfOk result (λ end. EndStands C.told end (new_end (side_of side) (settings_of config) first_sn now)) }
-        ensures sent { IfOk result (λ end. FoldsTo SendsOne (C.told channels) (sent_at_opening (new_end (side_of side) (settings_of config) first_sn now)) (C.told (channels_of end))) }
+        ensures stands { IfOk result (λ end. EndStands C.told end (opened_end side config first_sn now)) }
+        ensures sent { IfOk result (λ end. FoldsTo SendsOne (C.told channels)
+            (sent_at_opening (opened_end side config first_sn now)) (C.told (channels_of end))) }
     {
         match opening::open(alloc, channels, config, side, first_sn, now) {
             Ok(layers) => Ok(End { layers, time: now }),
@@ -91,13 +93,16 @@ impl<C: Channels, A: Allocator> End<C, A> {
     pub fn arrive<T: Taker>(&mut self, channel: usize, octets: &[u8], now: u64, taker: &mut T)
         requires now { now ≤ 2 ^ 62 }
         requires later { self.old.time ≤ now }
-        ensures does { EndDoes C.told T.takes (call (Deliver channel octets.now now)) self.old taker.old self.new taker.new }
+        ensures does { EndDoes C.told T.takes (call (Deliver channel octets.now now))
+            self.old taker.old self.new taker.new }
         // Nothing waits then, or the machine may not send.
         ensures packs { (x : EndState) → EndStands C.told self.new x → can_pack x ≡ false }
         // What is taken is recent.
-        ensures recent { (x : EndState) → EndStands C.told self.old x → DatagramRecent now octets.now x taker.old taker.new }
+        ensures recent { (x : EndState) → EndStands C.told self.old x
+            → DatagramRecent now octets.now x taker.old taker.new }
         // The end is left as any other channel would leave it.
-        ensures any_channel { (x : EndState) (other : ℕ) → EndStands C.told self.old x → EndStands C.told self.new (call (Deliver other octets.now now) x) }
+        ensures any_channel { (x : EndState) (other : ℕ) → EndStands C.told self.old x
+            → EndStands C.told self.new (call (Deliver other octets.now now) x) }
         ensures time { self.new.time ≡ now }
     {
         self.take_datagram(channel, octets, now, taker);
@@ -130,13 +135,16 @@ impl<C: Channels, A: Allocator> End<C, A> {
         ensures packs { OnOk result ((x : EndState) → EndStands C.told self.new x → can_pack x ≡ false) }
         // What was put in stands last among all that was put in.
         ensures last { OnOk result ((x : EndState) → EndStands C.told self.old x
-            → (y : EndState) × EndStands C.told self.new y × (y.session.history.put ≡ x.session.history.put ++ (kind, payload.now) ∷ [])) }
+            → (y : EndState) × EndStands C.told self.new y
+            × (y.session.history.put ≡ x.session.history.put ++ (kind, payload.now) ∷ [])) }
         // It waits, or stands in an unconfirmed unit, and so does all that waited.
-        ensures kept { OnOk result ((x y : EndState) → EndStands C.told self.old x → EndStands C.told self.new y → PutOut kind payload.now x y) }
+        ensures kept { OnOk result ((x y : EndState) → EndStands C.told self.old x → EndStands C.told self.new y
+            → PutOut kind payload.now x y) }
         ensures time { OnOk result (self.new.time ≡ now) }
         ensures refused { OnErr result (self.new ≡ self.old) }
         ensures answer { (x : EndState) → EndStands C.told self.old x
-            → MatchResult result (λ _. put_refusal (session_in x.session) kind payload.now (length x.session.waiting) ≡ None)
+            → MatchResult result
+            (λ _. put_refusal (session_in x.session) kind payload.now (length x.session.waiting) ≡ None)
             (λ fault. put_refusal (session_in x.session) kind payload.now (length x.session.waiting) ≡ Some fault) }
     {
         self.put_behind(kind, payload, now)
@@ -184,8 +192,10 @@ impl<C: Channels, A: Allocator> End<C, A> {
     pub fn poll<T: Taker>(&mut self, now: u64, taker: &mut T) -> Result<(), PollFault>
         requires now { now ≤ 2 ^ 62 }
         requires later { self.old.time ≤ now }
-        ensures done { OnOk result (Polled C.told T.takes POLL_DATAGRAMS now (self.old, taker.old) (self.new, taker.new)) }
-        ensures failed { OnErr result (HeardUntilFault C.told T.takes POLL_DATAGRAMS now (self.old, taker.old) (self.new, taker.new)) }
+        ensures done { OnOk result
+            (Polled C.told T.takes POLL_DATAGRAMS now (self.old, taker.old) (self.new, taker.new)) }
+        ensures failed { OnErr result
+            (HeardUntilFault C.told T.takes POLL_DATAGRAMS now (self.old, taker.old) (self.new, taker.new)) }
         ensures time { self.new.time ≤ now }
     {
         let mut buffer = [0; POLL_BUFFER];
@@ -207,8 +217,10 @@ impl<C: Channels, A: Allocator> End<C, A> {
     ) -> Result<(), ChannelFault>
         requires now { now ≤ 2 ^ 62 }
         requires later { self.old.time ≤ now }
-        ensures done { OnOk result (HeardAll C.told T.takes POLL_DATAGRAMS now (self.old, taker.old) (self.new, taker.new)) }
-        ensures failed { OnErr result (HeardUntilFault C.told T.takes POLL_DATAGRAMS now (self.old, taker.old) (self.new, taker.new)) }
+        ensures done { OnOk result
+            (HeardAll C.told T.takes POLL_DATAGRAMS now (self.old, taker.old) (self.new, taker.new)) }
+        ensures failed { OnErr result
+            (HeardUntilFault C.told T.takes POLL_DATAGRAMS now (self.old, taker.old) (self.new, taker.new)) }
         ensures time { self.new.time ≤ now }
     {
         for _ in 0..POLL_DATAGRAMS {
@@ -230,7 +242,8 @@ impl<C: Channels, A: Allocator> End<C, A> {
     ) -> Result<bool, ChannelFault>
         requires now { now ≤ 2 ^ 62 }
         requires later { self.old.time ≤ now }
-        ensures heard { MatchResult result (λ came. HeardNext C.told T.takes now came (self.old, taker.old) (self.new, taker.new))
+        ensures heard { MatchResult result
+            (λ came. HeardNext C.told T.takes now came (self.old, taker.old) (self.new, taker.new))
             (λ fault. AskedOnce C.told (Err fault) (self.old, taker.old) (self.new, taker.new)) }
         ensures time { self.new.time ≤ now }
     {
@@ -256,9 +269,11 @@ impl<C: Channels, A: Allocator> End<C, A> {
     /// T_h, the limit of PDUs) or of the redundancy layer (T_seq). It may be past; `None` where no time does, as in a closed end.
     pub fn next_deadline(&self) -> Option<u64>
         // Before it a tick leaves the end as it is, but for its time, and sends nothing.
-        ensures before { (x : EndState) → EndStands C.told self.now x → is_shut x ≡ false → (now : ℕ) → IsBefore now result → IsQuiet now x }
+        ensures before { (x : EndState) → EndStands C.told self.now x → is_shut x ≡ false → (now : ℕ)
+            → IsBefore now result → IsQuiet now x }
         // From it on it does not.
-        ensures after { (x : EndState) → EndStands C.told self.now x → (now : ℕ) → now ≤ 2 ^ 62 → IsReachedAt now result → HasFallen now x }
+        ensures after { (x : EndState) → EndStands C.told self.now x → (now : ℕ) → now ≤ 2 ^ 62 → IsReachedAt now result
+            → HasFallen now x }
         ensures closed { (x : EndState) → EndStands C.told self.now x → is_shut x ≡ true → result ≡ None }
     {
         match self.layers.upper.machine.state() {

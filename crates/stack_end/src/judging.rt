@@ -62,8 +62,10 @@ pub(crate) struct ToSession<'a, 'b, 'c, A: Allocator, T> {
 
 impl<'a, 'b, 'c, A: Allocator, T: Taker> UnitIn for ToSession<'a, 'b, 'c, A, T> {
     ghost takes = { λ s unit t.
-        (t.session.ghost_name ≡ s.session.ghost_name) × (t.waiting.ghost_name ≡ s.waiting.ghost_name) × (t.taker.ghost_name ≡ s.taker.ghost_name)
-        × Judges T.takes (judge_next s.asked unit) (talk s.session.now s.waiting.now s.taker.now) (talk t.session.now t.waiting.now t.taker.now) t.asked };
+        (t.session.ghost_name ≡ s.session.ghost_name) × (t.waiting.ghost_name ≡ s.waiting.ghost_name)
+        × (t.taker.ghost_name ≡ s.taker.ghost_name)
+        × Judges T.takes (judge_next s.asked unit) (talk s.session.now s.waiting.now s.taker.now)
+        (talk t.session.now t.waiting.now t.taker.now) t.asked };
 
     ghost ready = { λ s. FewWait s.session.now s.waiting.now };
 
@@ -89,7 +91,8 @@ fn judge_unit<A: Allocator, T: Taker>(
     phases: &mut Phases,
 ) -> Option<(Reason, Detail)>
     requires few { FewWait session.old waiting.old }
-    ensures judged { Judges T.takes (judge_unpacked (unit_seen unit.now)) (talk session.old waiting.old taker.old) (talk session.new waiting.new taker.new) result }
+    ensures judged { Judges T.takes (judge_unpacked (unit_seen unit.now)) (talk session.old waiting.old taker.old)
+        (talk session.new waiting.new taker.new) result }
     ensures few { FewWait session.new waiting.new }
 {
     match unpack(unit) {
@@ -107,7 +110,8 @@ fn judge_messages<A: Allocator, T: Taker>(
     phases: &mut Phases,
 ) -> Option<(Reason, Detail)>
     requires few { FewWait session.old waiting.old }
-    ensures judged { Judges T.takes (judge_messages (texts_of messages.now)) (talk session.old waiting.old taker.old) (talk session.new waiting.new taker.new) result }
+    ensures judged { Judges T.takes (judge_messages (texts_of messages.now)) (talk session.old waiting.old taker.old)
+        (talk session.new waiting.new taker.new) result }
     ensures few { FewWait session.new waiting.new }
 {
     for message in messages {
@@ -128,7 +132,8 @@ fn judge_message<A: Allocator, T: Taker>(
     message: &[u8],
 ) -> Option<(Reason, Detail)>
     requires few { FewWait session.old waiting.old }
-    ensures judged { Judges T.takes (judge_read (tele_seen message.now)) (talk session.old waiting.old taker.old) (talk session.new waiting.new taker.new) result }
+    ensures judged { Judges T.takes (judge_read (tele_seen message.now)) (talk session.old waiting.old taker.old)
+        (talk session.new waiting.new taker.new) result }
     ensures few { FewWait session.new waiting.new }
 {
     match sci_telegram::decode(message) {

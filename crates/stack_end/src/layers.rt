@@ -36,7 +36,8 @@ impl<C: Channels, A: Allocator> Layers<C, A> {
             self.old.red (fields_of C.told self.old.upper) taker.old
             self.new.red (fields_of C.told self.new.upper) taker.new }
         ensures packs { (x : EndState) → Stands (fields_of C.told self.new.upper) x → can_pack x ≡ false }
-        ensures recent { (x : EndState) → BothStand self.old.red (fields_of C.told self.old.upper) x → DatagramRecent now octets.now x taker.old taker.new }
+        ensures recent { (x : EndState) → BothStand self.old.red (fields_of C.told self.old.upper) x
+            → DatagramRecent now octets.now x taker.old taker.new }
         ensures kept { IsKept self.new }
     {
         match self.upper.machine.state() {
@@ -59,7 +60,8 @@ impl<C: Channels, A: Allocator> Layers<C, A> {
             self.old.red (fields_of C.told self.old.upper) taker.old
             self.new.red (fields_of C.told self.new.upper) taker.new }
         ensures packs { (x : EndState) → Stands (fields_of C.told self.new.upper) x → can_pack x ≡ false }
-        ensures recent { (x : EndState) → BothStand self.old.red (fields_of C.told self.old.upper) x → InputRecent now (Datagram octets.now now) x taker.old taker.new }
+        ensures recent { (x : EndState) → BothStand self.old.red (fields_of C.told self.old.upper) x
+            → InputRecent now (Datagram octets.now now) x taker.old taker.new }
         ensures kept { IsKept self.new }
     {
         match self.upper.machine.state() {
@@ -79,7 +81,8 @@ impl<C: Channels, A: Allocator> Layers<C, A> {
             self.old.red (fields_of C.told self.old.upper) taker.old
             self.new.red (fields_of C.told self.new.upper) taker.new }
         ensures packs { (x : EndState) → Stands (fields_of C.told self.new.upper) x → can_pack x ≡ false }
-        ensures recent { (x : EndState) → BothStand self.old.red (fields_of C.told self.old.upper) x → TickRecent now x taker.old taker.new }
+        ensures recent { (x : EndState) → BothStand self.old.red (fields_of C.told self.old.upper) x
+            → TickRecent now x taker.old taker.new }
         ensures kept { IsKept self.new }
     {
         match self.upper.machine.state() {
@@ -102,7 +105,8 @@ impl<C: Channels, A: Allocator> Layers<C, A> {
             self.old.red (fields_of C.told self.old.upper) taker.old
             self.new.red (fields_of C.told self.new.upper) taker.new }
         ensures packs { (x : EndState) → Stands (fields_of C.told self.new.upper) x → can_pack x ≡ false }
-        ensures recent { (x : EndState) → BothStand self.old.red (fields_of C.told self.old.upper) x → InputRecent now (RedTick now) x taker.old taker.new }
+        ensures recent { (x : EndState) → BothStand self.old.red (fields_of C.told self.old.upper) x
+            → InputRecent now (RedTick now) x taker.old taker.new }
         ensures kept { IsKept self.new }
     {
         match self.upper.machine.state() {
@@ -120,11 +124,14 @@ impl<C: Channels, A: Allocator> Layers<C, A> {
         ensures does { OnOk result (BothAlone (did (Put kind payload.now now))
             self.old.red (fields_of C.told self.old.upper) self.new.red (fields_of C.told self.new.upper)) }
         ensures refused { OnErr result (self.new ≡ self.old) }
-        ensures answer { MatchResult result (λ _. put_refusal self.old.upper.session kind payload.now (length self.old.upper.waiting) ≡ None)
-            (λ fault. put_refusal self.old.upper.session kind payload.now (length self.old.upper.waiting) ≡ Some fault) }
+        ensures answer { MatchResult result
+            (λ _. put_refusal self.old.upper.session kind payload.now (length self.old.upper.waiting) ≡ None)
+            (λ fault. put_refusal self.old.upper.session kind payload.now (length self.old.upper.waiting)
+            ≡ Some fault) }
         ensures packs { OnOk result ((x : EndState) → Stands (fields_of C.told self.new.upper) x → can_pack x ≡ false) }
         ensures goes_out { OnOk result (GoesOut (fields_of C.told self.old.upper)
-            (self.old.upper.waiting ++ put_message self.old.upper.session.addressing kind payload.now ∷ []) (fields_of C.told self.new.upper)) }
+            (self.old.upper.waiting ++ put_message self.old.upper.session.addressing kind payload.now ∷ [])
+            (fields_of C.told self.new.upper)) }
         ensures kept { IsKept self.new }
     {
         self.upper.put(kind, payload, now)
@@ -136,7 +143,8 @@ impl<C: Channels, A: Allocator> Layers<C, A> {
         ensures does { OnOk result (BothAlone (did (InitDone now))
             self.old.red (fields_of C.told self.old.upper) self.new.red (fields_of C.told self.new.upper)) }
         ensures refused { OnErr result (self.new ≡ self.old) }
-        ensures answer { MatchResult result (λ _. init_refusal self.old.upper.session (length self.old.upper.waiting) ≡ None)
+        ensures answer { MatchResult result
+            (λ _. init_refusal self.old.upper.session (length self.old.upper.waiting) ≡ None)
             (λ fault. init_refusal self.old.upper.session (length self.old.upper.waiting) ≡ Some fault) }
         ensures packs { OnOk result ((x : EndState) → Stands (fields_of C.told self.new.upper) x → can_pack x ≡ false) }
         ensures kept { IsKept self.new }

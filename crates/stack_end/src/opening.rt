@@ -11,7 +11,7 @@ ghost use Rattle.pdi_session.specs.declared.TheConstants.{CHECKSUM_MAX, VERSIONS
 ghost use Rattle.pdi_session.specs.Settings.{AreVersions, Field, Interlocking, addressing_of, first_version};
 ghost use Rattle.pdi_session.specs.SessionStep.{opened as session_opened};
 ghost use Rattle.stack_end.specs.Datagrams.{sent_at_opening};
-ghost use Rattle.stack_end.specs.Ends.{new_end};
+ghost use Rattle.stack_end.specs.Ends.{opened_end};
 ghost use Rattle.stack_end.specs.Fields.{BothStand, fields_of};
 ghost use Rattle.stack_end.specs.Kept.{IsKept};
 ghost use Rattle.stack_end.specs.declared.OpenFault.TheVariants.{BadConfig};
@@ -39,10 +39,13 @@ pub(crate) fn open<C: Channels, A: Allocator + Copy>(
     first_sn: u32,
     now: u64,
 ) -> Result<Layers<C, A>, (OpenFault, C)>
-    ensures bad_config { IsErrAnd result (λ e. e.0 ≡ BadConfig) ↔ (are_fit (side_of side) (settings_of config) ≡ false) }
+    ensures bad_config { IsErrAnd result (λ e. e.0 ≡ BadConfig)
+        ↔ (are_fit (side_of side) (settings_of config) ≡ false) }
     ensures back { IfErr result (λ e. e.1 ≡ channels) }
-    ensures stands { IfOk result (λ layers. BothStand layers.red (fields_of C.told layers.upper) (new_end (side_of side) (settings_of config) first_sn now)) }
-    ensures sent { IfOk result (λ layers. FoldsTo SendsOne (C.told channels) (sent_at_opening (new_end (side_of side) (settings_of config) first_sn now)) (C.told layers.upper.channels)) }
+    ensures stands { IfOk result (λ layers. BothStand layers.red (fields_of C.told layers.upper)
+        (opened_end side config first_sn now)) }
+    ensures sent { IfOk result (λ layers. FoldsTo SendsOne (C.told channels)
+        (sent_at_opening (opened_end side config first_sn now)) (C.told layers.upper.channels)) }
     ensures kept { IfOk result (λ layers. IsKept layers) }
 {
     if !config.is_fit(side) {
@@ -100,10 +103,12 @@ fn open_machine<C: Channels, A: Allocator>(
     requires counted { config.now.channels ≤ CHANNELS_MAX }
     requires window { config.now.n_sendmax ≤ WINDOW_MAX }
     requires first { numbers.old ≡ 0 }
-    ensures stands { IfOk result (λ machine. StandsFor machine (new_end (side_of side) (settings_of config.now) first_sn now).machine) }
+    ensures stands { IfOk result (λ machine. StandsFor machine (opened_end side config.now first_sn now).machine) }
     ensures near { IfOk result (λ machine. machine.expected ≡ 0) }
-    ensures sent { OnOk result (FoldsTo SendsOne (C.told channels.old) (sent_at_opening (new_end (side_of side) (settings_of config.now) first_sn now)) (C.told channels.new)) }
-    ensures numbered { OnOk result (numbers.new ≡ length (new_end (side_of side) (settings_of config.now) first_sn now).machine.made % 2 ^ 32) }
+    ensures sent { OnOk result (FoldsTo SendsOne (C.told channels.old)
+        (sent_at_opening (opened_end side config.now first_sn now)) (C.told channels.new)) }
+    ensures numbered { OnOk result
+        (numbers.new ≡ length (opened_end side config.now first_sn now).machine.made % 2 ^ 32) }
     ensures nothing { OnErr result (channels.new ≡ channels.old) }
 {
     let mut out = ToChannels {
@@ -121,7 +126,8 @@ fn open_machine<C: Channels, A: Allocator>(
 /// The session of an end with these settings.
 fn session(config: &EndConfig, side: Side) -> Session
     requires { has_versions (side_of side) (settings_of config.now) ≡ true }
-    ensures { result ≡ session_opened (settings_of config.now).addressing (session_of (side_of side) (settings_of config.now)) }
+    ensures { result ≡ session_opened (settings_of config.now).addressing
+        (session_of (side_of side) (settings_of config.now)) }
 {
     let parties = Parties {
         protocol: config.protocol,

@@ -24,9 +24,11 @@ pub(crate) struct ToChannels<'a, 'b, C> {
 
 impl<'a, 'b, C: Channels> PduOut for ToChannels<'a, 'b, C> {
     ghost makes = { λ s pdu t.
-        (t.channels.ghost_name ≡ s.channels.ghost_name) × (t.numbers.ghost_name ≡ s.numbers.ghost_name) × (t.count ≡ s.count)
+        (t.channels.ghost_name ≡ s.channels.ghost_name) × (t.numbers.ghost_name ≡ s.numbers.ghost_name)
+        × (t.count ≡ s.count)
         × (t.numbers.now ≡ (s.numbers.now + 1) % 2 ^ 32)
-        × FoldsTo SendsOne (C.told s.channels.now) (on_channels s.count (red_text s.numbers.now pdu)) (C.told t.channels.now) };
+        × FoldsTo SendsOne (C.told s.channels.now) (on_channels s.count (red_text s.numbers.now pdu))
+        (C.told t.channels.now) };
 
     fn made(&mut self, pdu: &[u8]) {
         let mut buffer = [0; RED_PDU_MAX];

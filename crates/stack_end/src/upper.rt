@@ -75,7 +75,8 @@ impl<C: Channels, A: Allocator> Upper<C, A> {
         ensures asks { Asks (leaving_at now octets.now)
             (fields_of C.told self.old) result.asked }
         // Where something is taken, the PDU is recent.
-        ensures recent { (x : EndState) → Stands (fields_of C.told self.old) x → (taker.new ≡ taker.old) ⊎ RecentAt now octets.now x }
+        ensures recent { (x : EndState) → Stands (fields_of C.told self.old) x
+            → (taker.new ≡ taker.old) ⊎ RecentAt now octets.now x }
         ensures same { self.new.max ≡ self.old.max }
         ensures near { self.new.machine.expected ≤ self.old.machine.expected + index_step }
         ensures few { FewWait self.new.session self.new.waiting }
@@ -162,7 +163,8 @@ impl<C: Channels, A: Allocator> Upper<C, A> {
             (fields_of C.told self.old) taker.old
             (fields_of C.told self.new) taker.new }
         // Where something is taken, the PDU is recent.
-        ensures recent { (x : EndState) → Stands (fields_of C.told self.old) x → (taker.new ≡ taker.old) ⊎ RecentAt now octets.now x }
+        ensures recent { (x : EndState) → Stands (fields_of C.told self.old) x
+            → (taker.new ≡ taker.old) ⊎ RecentAt now octets.now x }
         ensures same { self.new.max ≡ self.old.max }
         ensures near { self.new.machine.expected ≤ self.old.machine.expected + index_step }
         ensures few { FewWait self.new.session self.new.waiting }
@@ -194,7 +196,8 @@ impl<C: Channels, A: Allocator> Upper<C, A> {
         ensures asks { Asks (leaving_at now octets.now)
             (fields_of C.told self.old) result }
         // Where something is taken, the PDU is recent.
-        ensures recent { (x : EndState) → Stands (fields_of C.told self.old) x → (taker.new ≡ taker.old) ⊎ RecentAt now octets.now x }
+        ensures recent { (x : EndState) → Stands (fields_of C.told self.old) x
+            → (taker.new ≡ taker.old) ⊎ RecentAt now octets.now x }
         ensures same { self.new.max ≡ self.old.max }
         ensures near { self.new.machine.expected ≤ self.old.machine.expected + index_step }
         ensures few { FewWait self.new.session self.new.waiting }
@@ -306,11 +309,13 @@ impl<C: Channels, A: Allocator> Upper<C, A> {
             (fields_of C.told self.old)
             (fields_of C.told self.new)) }
         ensures refused { OnErr result (self.new ≡ self.old) }
-        ensures answer { MatchResult result (λ _. put_refusal self.old.session kind payload.now (length self.old.waiting) ≡ None)
+        ensures answer { MatchResult result
+            (λ _. put_refusal self.old.session kind payload.now (length self.old.waiting) ≡ None)
             (λ fault. put_refusal self.old.session kind payload.now (length self.old.waiting) ≡ Some fault) }
         ensures packs { OnOk result ((x : EndState) → Stands (fields_of C.told self.new) x → can_pack x ≡ false) }
         ensures kept { OnOk result (GoesOut (fields_of C.told self.old)
-            (self.old.waiting ++ put_message self.old.session.addressing kind payload.now ∷ []) (fields_of C.told self.new)) }
+            (self.old.waiting ++ put_message self.old.session.addressing kind payload.now ∷ [])
+            (fields_of C.told self.new)) }
         ensures same { self.new.max ≡ self.old.max }
         ensures near { self.new.machine.expected ≡ self.old.machine.expected }
         ensures few { FewWait self.old.session self.old.waiting → FewWait self.new.session self.new.waiting }
@@ -438,7 +443,8 @@ impl<'a, 'b, C: Channels, A: Allocator, T: Taker> Upward for ToUpper<'a, 'b, C, 
         × Does T.takes (part s.now p.1)
         (fields_of C.told s.upper.now) s.taker.now
         (fields_of C.told t.upper.now) t.taker.now
-        × ((x : EndState) → Stands (fields_of C.told s.upper.now) x → (t.taker.now ≡ s.taker.now) ⊎ RecentAt s.now p.1 x) };
+        × ((x : EndState) → Stands (fields_of C.told s.upper.now) x
+        → (t.taker.now ≡ s.taker.now) ⊎ RecentAt s.now p.1 x) };
 
     ghost ready = { λ s n. (s.upper.now.machine.expected ≤ 321 * n) × FewWait s.upper.now.session s.upper.now.waiting };
 
@@ -464,7 +470,9 @@ impl<C: Channels, A: Allocator> Upper<C, A> {
         ensures does { BothDo T.takes (receives now (Datagram octets.now now))
             red.old (fields_of C.told self.old) taker.old
             red.new (fields_of C.told self.new) taker.new }
-        ensures recent { (x : EndState) → BothStand red.old (fields_of C.told self.old) x → TakesRecent now (passed_by (Datagram octets.now now) x.red) (with_input (Datagram octets.now now) x) taker.old taker.new }
+        ensures recent { (x : EndState) → BothStand red.old (fields_of C.told self.old) x
+            → TakesRecent now (passed_by (Datagram octets.now now) x.red)
+            (with_input (Datagram octets.now now) x) taker.old taker.new }
         ensures reach { self.new.machine.expected ≤ 321 * red.new.expected }
         ensures same { self.new.max ≡ self.old.max }
         ensures few { FewWait self.new.session self.new.waiting }
@@ -491,7 +499,8 @@ impl<C: Channels, A: Allocator> Upper<C, A> {
         ensures does { BothDo T.takes (receives now (RedTick now))
             red.old (fields_of C.told self.old) taker.old
             red.new (fields_of C.told self.new) taker.new }
-        ensures recent { (x : EndState) → BothStand red.old (fields_of C.told self.old) x → TakesRecent now (passed_by (RedTick now) x.red) (with_input (RedTick now) x) taker.old taker.new }
+        ensures recent { (x : EndState) → BothStand red.old (fields_of C.told self.old) x
+            → TakesRecent now (passed_by (RedTick now) x.red) (with_input (RedTick now) x) taker.old taker.new }
         ensures reach { self.new.machine.expected ≤ 321 * red.new.expected }
         ensures same { self.new.max ≡ self.old.max }
         ensures few { FewWait self.new.session self.new.waiting }

@@ -5,7 +5,7 @@ ghost use Rattle.end_settings.specs.EndSettings.{are_fit};
 ghost use Rattle.end_settings.specs.Configured.{settings_of, side_of};
 ghost use Rattle.pdi_session.specs.SessionStep.{init_refusal, put_refusal};
 ghost use Rattle.stack_end.specs.Dialogue.{session_in};
-ghost use Rattle.stack_end.specs.Ends.{EndState, new_end};
+ghost use Rattle.stack_end.specs.Ends.{EndState, opened_end};
 ghost use Rattle.stack_end.specs.Ends.Call.{Close, Deliver, InitDone, Put, Tick};
 ghost use Rattle.stack_end.specs.declared.OpenFault.TheVariants.{BadConfig};
 ghost use Rattle.stack_engine.specs.Bounds.{FewFirst};
@@ -69,10 +69,12 @@ impl<A: Allocator + Copy> Incarnation<A> {
         now: u64,
     ) -> Result<Self, OpenFault>
         requires now { now ≤ 2 ^ 62 }
-        requires few { are_fit (side_of side) (settings_of config) ≡ true → FewFirst (new_end (side_of side) (settings_of config) first_sn now) }
-        ensures bad_config { IsErrAnd result (λ fault. fault ≡ BadConfig) ↔ (are_fit (side_of side) (settings_of config) ≡ false) }
+        requires few { are_fit (side_of side) (settings_of config) ≡ true
+            → FewFirst (opened_end side config first_sn now) }
+        ensures bad_config { IsErrAnd result (λ fault. fault ≡ BadConfig)
+            ↔ (are_fit (side_of side) (settings_of config) ≡ false) }
         ensures joined { IfOk result (λ i. i.joined ≡ None) }
-        ensures stands { IfOk result (λ i. IncStands i (new_end (side_of side) (settings_of config) first_sn now)) }
+        ensures stands { IfOk result (λ i. IncStands i (opened_end side config first_sn now)) }
     {
         if !config.is_fit(side) {
             return Err(OpenFault::BadConfig);
@@ -209,7 +211,8 @@ impl<A: Allocator + Copy> Incarnation<A> {
         ensures joined { self.new.joined ≡ self.old.joined }
         ensures refused { OnErr result ((x : EndState) → IncStands self.old x → IncStands self.new x) }
         ensures answer { (x : EndState) → IncStands self.old x
-            → MatchResult result (λ _. put_refusal (session_in x.session) kind payload.now (length x.session.waiting) ≡ None)
+            → MatchResult result
+            (λ _. put_refusal (session_in x.session) kind payload.now (length x.session.waiting) ≡ None)
             (λ fault. put_refusal (session_in x.session) kind payload.now (length x.session.waiting) ≡ Some fault) }
     {
         match self.end.put(kind, payload, now) {
@@ -288,7 +291,8 @@ impl<A: Allocator + Copy> Incarnation<A> {
 
     /// Whether it made a PDU of these octets, but for its first `dead` ones.
     pub fn has_made(&self, dead: usize, part: &[u8]) -> bool
-        ensures { (x : EndState) → IncStands self.now x → result ≡ has_made (rule_of x.settings) part.now (drop dead x.machine.made) }
+        ensures { (x : EndState) → IncStands self.now x
+            → result ≡ has_made (rule_of x.settings) part.now (drop dead x.machine.made) }
     {
         self.end.channels_seen().has_part(dead, part)
     }

@@ -3,7 +3,7 @@
 ghost use Rattle.std.specs.Prelude.{◌≡◌, ◌≤◌, ◌^◌, true, false, List, [], ◌∷◌, length, reverse, slice_get, option_map, None, MatchResult, OnOk, OnErr, IfErr};
 ghost use Rattle.end_settings.specs.EndSettings.{are_fit};
 ghost use Rattle.end_settings.specs.Configured.{settings_of, side_of};
-ghost use Rattle.stack_end.specs.Ends.{Call, EndState, new_end, time_of};
+ghost use Rattle.stack_end.specs.Ends.{Call, EndState, opened_end, time_of};
 ghost use Rattle.stack_engine.specs.Bounds.{FewFirst};
 ghost use Rattle.stack_engine.specs.Premise.{breaks_at};
 ghost use Rattle.stack_engine.specs.Events.{call_of};
@@ -54,7 +54,8 @@ impl<A: Allocator + Copy> Openings<A> {
     /// Refused, and the first that holds is named: `EndNotOpen`, `Clock`.
     pub fn admits_call(&self, now: u64) -> Result<(), ApplyFault>
         ensures refusal { (xs : List EndState) (c : Call) → SideStands self.now xs → time_of c ≡ now
-            → MatchResult result (λ _. IsOfSession (call_refusal c (latest xs))) (λ fault. NamesRefusal fault (call_refusal c (latest xs))) }
+            → MatchResult result (λ _. IsOfSession (call_refusal c (latest xs)))
+            (λ fault. NamesRefusal fault (call_refusal c (latest xs))) }
         ensures open { OnOk result (IsOpenAt now self.now) }
         ensures no_memory { IfErr result (λ fault. is_memory fault ≡ false) }
     {
@@ -127,10 +128,13 @@ impl<A: Allocator + Copy> Openings<A> {
         first_sn: u32,
         now: u64,
     ) -> Result<(), ApplyFault>
-        requires few { are_fit (side_of side) (settings_of config) ≡ true → FewFirst (new_end (side_of side) (settings_of config) first_sn now) }
-        ensures does { OnOk result ((xs : List EndState) → SideStands self.old xs → SideStands self.new (new_end (side_of side) (settings_of config) first_sn now ∷ xs)) }
+        requires few { are_fit (side_of side) (settings_of config) ≡ true
+            → FewFirst (opened_end side config first_sn now) }
+        ensures does { OnOk result ((xs : List EndState) → SideStands self.old xs
+            → SideStands self.new (opened_end side config first_sn now ∷ xs)) }
         ensures unchanged { OnErr result ((xs : List EndState) → SideStands self.old xs → SideStands self.new xs) }
-        ensures joins { OnOk result ((xs : List EndState) → SideStands self.old xs → joins_of self.new ≡ None ∷ joins_of self.old) }
+        ensures joins { OnOk result ((xs : List EndState) → SideStands self.old xs
+            → joins_of self.new ≡ None ∷ joins_of self.old) }
         ensures same_joins { OnErr result (joins_of self.new ≡ joins_of self.old) }
         ensures refusal { (xs : List EndState) → SideStands self.old xs
             → MatchResult result (λ _. open_refusal (side_of side) (settings_of config) now (latest xs) ≡ None)
@@ -151,7 +155,8 @@ impl<A: Allocator + Copy> Openings<A> {
 
     /// The octets of the ConnReq that the present incarnation took.
     pub fn request(&self) -> Option<&[u8]>
-        ensures { (xs : List EndState) → SideStands self.now xs → option_map (λ octets. octets.now) result ≡ request_in (latest xs) }
+        ensures { (xs : List EndState) → SideStands self.now xs
+            → option_map (λ octets. octets.now) result ≡ request_in (latest xs) }
     {
         match &self.present {
             Some(present) => present.request(),
@@ -182,7 +187,8 @@ impl<A: Allocator + Copy> Openings<A> {
 
     /// The report on the incarnation at a place, from 0, which is joined to none.
     pub fn entry(&self, place: usize) -> Option<Entry<'_, A>>
-        ensures { option_map seen_entry result ≡ option_map (entry_of None) (slice_get (incarnations_of self.now) place) }
+        ensures { option_map seen_entry result
+            ≡ option_map (entry_of None) (slice_get (incarnations_of self.now) place) }
     {
         match self.incarnation(place) {
             Some(incarnation) => Some(report_on(incarnation, None)),
@@ -260,7 +266,8 @@ impl<A: Allocator + Copy> Openings<A> {
 
     /// Whether this part, coming to the present incarnation, is none that its peer made and that is still live.
     fn breaks_by(&self, peer: &Openings<A>, dead: usize, part: &[u8]) -> bool
-        ensures { (xs ys : List EndState) → SideStands self.now xs → SideStands peer.now ys → result ≡ breaks_with (latest xs) (latest ys) dead part.now }
+        ensures { (xs ys : List EndState) → SideStands self.now xs → SideStands peer.now ys
+            → result ≡ breaks_with (latest xs) (latest ys) dead part.now }
     {
         match &self.present {
             Some(present) => {
@@ -272,7 +279,8 @@ impl<A: Allocator + Copy> Openings<A> {
 
     /// Whether the delivery of a datagram would break the premise at once. The peer's first `dead` PDUs are dead.
     pub fn breaks(&self, peer: &Openings<A>, dead: usize, datagram: &[u8]) -> bool
-        ensures { (xs ys : List EndState) → SideStands self.now xs → SideStands peer.now ys → result ≡ breaks_at (latest xs) (latest ys) dead datagram.now }
+        ensures { (xs ys : List EndState) → SideStands self.now xs → SideStands peer.now ys
+            → result ≡ breaks_at (latest xs) (latest ys) dead datagram.now }
     {
         match red_pdu::decode(datagram) {
             Ok(pdu) => self.breaks_by(peer, dead, pdu.upper),

@@ -58,7 +58,8 @@ impl<A: Allocator + Copy> Sides<A> {
     /// Refused, and the first that holds is named: `EndNotOpen`, `BadConfig`, `Clock`.
     pub fn admits(&self, event: &Event<'_>) -> Result<(), ApplyFault>
         ensures refusal { (w : World) → SidesStand self.now w
-            → MatchResult result (λ _. IsOfSession (refusal (event_of event.now) w)) (λ fault. NamesRefusal fault (refusal (event_of event.now) w)) }
+            → MatchResult result (λ _. IsOfSession (refusal (event_of event.now) w))
+            (λ fault. NamesRefusal fault (refusal (event_of event.now) w)) }
         ensures no_memory { IfErr result (λ fault. is_memory fault ≡ false) }
     {
         let openings = self.openings(event.side);
@@ -198,7 +199,8 @@ impl<A: Allocator + Copy> Sides<A> {
 
     /// The incarnation of an end at a place, from 0, in the report.
     pub fn entry(&self, side: Side, place: usize) -> Option<Entry<'_, A>>
-        ensures { (w : World) → SidesStand self.now w → option_map seen_entry result ≡ slice_get (report_of (side_of side) w) place }
+        ensures { (w : World) → SidesStand self.now w
+            → option_map seen_entry result ≡ slice_get (report_of (side_of side) w) place }
     {
         match side {
             Side::Interlocking => self.il.entry(place),
