@@ -19,7 +19,7 @@ class Pair:
         self.changes = changes
         self.ends = {'il': [], 'fe': []}  # the incarnations, the first first
         self.joined = []  # of each field element the place of the interlocking whose ConnReq it took
-        self.dead = {'il': 0, 'fe': 0}  # of the PDUs that the present one made, so many were made before the later opening
+        self.dead = {'il': 0, 'fe': 0}  # how many of the PDUs that the present one made were made before the later opening
         self.is_genuine = True  # every event so far was
         self.last = None  # the end of the last accepted event
 

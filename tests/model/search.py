@@ -17,7 +17,7 @@ def shortened(events, runs):
 
 
 def first_broken(make, runs, lists):
-    """The number of the first list at which a clause is false, and that list shortened; None where there is none among so many."""
+    """The number of the first list at which a clause is false, and that list shortened; None where there is none among those tried."""
     for seed in range(lists):
         events = make(seed)
         if events and runs(events):

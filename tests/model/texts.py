@@ -24,7 +24,7 @@ class Pdu:
 
 
 class Rule:
-    """The rule of a safety code: so many octets of a digest of what stands before them."""
+    """The rule of a safety code: the first octets of a digest of what stands before them."""
 
     def __init__(self, octets, digest, initial_value):
         self.octets, self.digest, self.initial_value = octets, digest, initial_value

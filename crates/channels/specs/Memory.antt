@@ -23,7 +23,7 @@ told_of k =
       room = λ _. 0;
     }
 
--- with room for so many sendings and so many answers, and nothing kept
+-- with room for `room` sendings and as many answers, and nothing kept
 abbrev pub new_kept : ℕ → Kept
 new_kept room =
     record {
@@ -36,7 +36,7 @@ new_kept room =
       failed_receives = 0;
     }
 
--- there is room for so many more of each
+-- with room for `more` sendings and answers beyond those that it had
 abbrev pub with_more_room : ℕ → Kept → Kept
 with_more_room more k = record k { sends_left = k.sends_left + more; answers_left = k.answers_left + more }
 

@@ -32,7 +32,7 @@ abbrev pub least_of : {T : Type 0} → List (ℕ × T) → Option ℕ
 least_of [] = None
 least_of (e ∷ es) = Some e.0
 
--- what a table is to its callers: so many places, and the map of what waits in them
+-- what a table is to its callers: a number of places, and the map of what waits in them
 pub record Table (T : Type 0) : Type 0 where
   pub room : ℕ
   pub waiting : List (ℕ × T)

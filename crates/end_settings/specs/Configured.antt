@@ -22,7 +22,7 @@ abbrev pub role_of : Side → Role
 role_of Interlocking = Client
 role_of FieldElement = Server
 
--- a code of so many octets, where it is one of an end
+-- the length of code that a number of octets names: an end has 8 or 16, and any other number is none
 abbrev pub code_of : ℕ → CodeLength
 code_of octets = if octets == 8 then Eight else (if octets == 16 then Sixteen else Zero)
 

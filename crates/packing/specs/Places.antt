@@ -28,7 +28,7 @@ abbrev pub after : List (List ℕ) → Result (List (List ℕ)) PackFault → Re
 after read (Ok messages) = Ok (read ++ messages)
 after read (Err fault) = Err fault
 
--- the messages, where there is room for so many
+-- the messages, at most as many as there is room for
 unfoldable pub pieces_seen : ℕ → List ℕ → Result (List (List ℕ)) PackFault
 pieces_seen zero octets = if length octets == 0 then Ok [] else Err TooMany
 pieces_seen (suc room) octets =

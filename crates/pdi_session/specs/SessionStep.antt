@@ -132,7 +132,7 @@ texts ts = map tele_text ts
 abbrev pub HasRoom : SessionState → List (List ℕ) → Type 0
 HasRoom s waiting = is_early s.phase ≡ true → length waiting < WAITING_MAX
 
--- what makes it keepable: so many messages wait at most, since before Initialising the session itself adds all that there are
+-- what makes it keepable: how many messages wait at most, since before Initialising the session itself adds all that there are
 abbrev pub most_waiting : Phase → ℕ
 most_waiting Idle = 0
 most_waiting Checking = 1

@@ -9,7 +9,7 @@ pub record Numbered : Type 0 where
   pub number : ℕ
   pub octets : List ℕ
 
--- what is kept: room for so many units, and the units, the one sent first in front
+-- what is kept: for how many units there is room, and the units, the one sent first in front
 pub record Kept : Type 0 where
   pub room : ℕ
   pub units : List Numbered

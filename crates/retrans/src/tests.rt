@@ -6,7 +6,7 @@ use std::alloc::{AllocError, Allocator};
 use std::process::Abort;
 use std::test::Fail;
 
-// A unit of so many octets, each of one value.
+// A unit of `size` octets, each of one value.
 fn unit_of(value: u8, size: usize) -> Unit {
     let mut unit = Unit::new();
     for _ in 0..size {

@@ -42,7 +42,7 @@ settings_seen s =
       puts = map put_seen s.puts.items;
     }
 
--- what the end is opened with, over so many channels
+-- what the end is opened with, and the number of its channels
 abbrev pub configured_of : IdentitySeen → BeginningSeen → Limits → ℕ → EndSettings
 configured_of i b l channels =
     record {

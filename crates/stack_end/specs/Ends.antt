@@ -131,7 +131,7 @@ packed now x =
       session = record { history = x.session.history; waiting = drop n x.session.waiting };
     }
 
--- packing and sending while messages wait and the machine may send, so many times at most
+-- packing and sending while messages wait and the machine may send, a bounded number of times
 abbrev pub packed_up_to : ℕ → ℕ → EndState → EndState
 packed_up_to zero now x = x
 packed_up_to (suc n) now x =

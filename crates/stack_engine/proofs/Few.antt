@@ -65,7 +65,7 @@ small-tele m t e =
     let most : length m ≤ MESSAGE_MAX = grind (arith, nat_tests) in
     named-small m t (name_seen (sender_field m)) (name_seen (receiver_field m)) most)) e
 
--- Of telegrams taken: so many more, each of them small.
+-- Of telegrams taken: at most `n` more, each of them small.
 pub record Takes_ (n : ℕ) (d e : Dialogue) : Type 0 where
   pub few : length e.history.taken ≤ length d.history.taken + n
   pub small : AllByRecursion IsSmallItem d.history.taken → AllByRecursion IsSmallItem e.history.taken

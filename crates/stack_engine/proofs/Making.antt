@@ -10,7 +10,7 @@ use Rattle.stack_engine.specs.declared.openings.Openings.{Openings}
 use Rattle.stack_engine.specs.Openings.{SideStands, PresentStands, BeforeStand}
 use Rattle.stack_engine.specs.Pairs.{has_made, latest_maker}
 
--- the search goes on among the first so many incarnations
+-- the search goes on among the first `number` incarnations
 abbrev pub IsLeft : {A : Type 0} → List ℕ → List (Incarnation A) → ℕ → Type 0
 IsLeft octets incs number =
     (xs : List EndState) → BeforeStand (reverse incs) xs → (ys : List EndState) × BeforeStand (reverse (take number incs)) ys × (latest_maker octets xs ≡ latest_maker octets ys)

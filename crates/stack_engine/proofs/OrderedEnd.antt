@@ -48,7 +48,7 @@ pub record Next (side : Side) (m : M.World) (s : EndSettings) (n : ℕ) (octets 
   pub sender : made.pdu.sender ≡ s.connection.peer
   pub opened : WasOpened side m
 
--- the end during a call: these inputs came, and so many parts were heard
+-- the end during a call: the inputs `ins` came, and `n` parts were heard
 pub record OrdEnd (side : Side) (m : M.World) (k : ℕ) (s : EndSettings) (now : ℕ) (peer_fails : Type 0) (ins : List Input) (n : ℕ) (y : EndState) : Type 0 where
   pub whole : Whole side y
   pub heeds : Heeds y

@@ -32,7 +32,7 @@ event_in configs (e, octets) = deed_event configs (side_of e.side) e.time e.doin
 abbrev pub events_in : List EndConfig → List (Entry × List ℕ) → List Event
 events_in configs entries = map (event_in configs) entries
 
--- the settings of openings have their places among so many
+-- the settings of openings have their places among `count` of them
 abbrev pub IsPlaced : ℕ → Deed → Type 0
 IsPlaced count (deed.Open config first_sn) = config < count
 IsPlaced count _ = Unit {0}

@@ -21,7 +21,7 @@ abbrev pub datagrams_of : EndSettings → ℕ → List Made → List (List ℕ)
 datagrams_of s index [] = []
 datagrams_of s index (m ∷ ms) = red_text index (upper_of (rule_of s) m) ∷ datagrams_of s (index + 1) ms
 
--- for so many telegrams of the greatest size there is room
+-- how many telegrams of the greatest size there is room for
 abbrev pub sure_items : Shelf ℕ → ℕ
 sure_items s = min s.places (s.octets / PAYLOAD_MAX)
 

@@ -15,7 +15,7 @@ pub record Keeping : Type 0 where
 abbrev pub on_first : List ℕ → Sending
 on_first datagram = (1, datagram)
 
--- for so many of the greatest size there is room
+-- how many of the greatest size there is room for
 abbrev pub sure_room : Keeping → ℕ
 sure_room k = min k.places (k.octets / RED_PDU_MAX)
 

@@ -65,7 +65,7 @@ is_memory _ = false
 abbrev pub IsOpenAt : {A : Type 0} → ℕ → Openings A → Type 0
 IsOpenAt now o = MatchOption o.present ⊥ (λ i. (i.time ≤ now) × (now ≤ 2 ^ 62))
 
--- under a code of so many octets the end made a PDU of these octets, but for its first ones
+-- under a code of `code` octets the end made a PDU of these octets, but for its first ones
 abbrev pub live_in : (code : ℕ) → Option EndState → (dead : ℕ) → List ℕ → Bool
 live_in code None dead part = false
 live_in code (Some peer) dead part = (code == code_octets (rule_of peer.settings).length) && has_made (rule_of peer.settings) part (drop dead peer.machine.made)

@@ -18,7 +18,7 @@ pub record IsPair {A : Type 0} (p : Inside A) : Type 0 where
   pub typed : AreTyped (history_of p)
   pub stands : SidesStand p.sides (run (history_of p) start)
 
--- Events in turn: those that are accepted came to the history, and they are so many.
+-- Events in turn: those that are accepted came to the history.
 abbrev pub Ran : List Event → List Event → List Event → Type 0
 Ran before es after = after ≡ before ++ accepted es (run before start)
 

@@ -24,7 +24,7 @@ pub record JoinedEnd : Type 0 where
 pub record World : Type 0 where
   pub ils : List EndState
   pub fes : List JoinedEnd
-  pub dead_il : ℕ  -- of the PDUs that the present il made, the first so many are dead: made before the later opening
+  pub dead_il : ℕ  -- how many of the PDUs that the present il made are dead: made before the later opening
   pub dead_fe : ℕ
 
 -- nothing is opened yet

@@ -64,7 +64,7 @@ impl<A: Allocator + Copy> Keeper<A> {
         }
     }
 
-    /// Makes room for so many datagrams, and for what one event does beside.
+    /// Makes room for a number of datagrams, and for what one event does beside.
     ///
     /// # Errors
     ///
@@ -79,7 +79,7 @@ impl<A: Allocator + Copy> Keeper<A> {
         self.datagrams.reserve(datagrams, datagrams * RED_PDU_MAX)
     }
 
-    /// Forgets the first so many remarks.
+    /// Forgets remarks from the first on.
     pub fn forget(&mut self, remarks: usize)
         ensures { self.new ≡ self.old }
     {
@@ -93,7 +93,7 @@ impl<A: Allocator> Keeper<A> {
         self.remarks.len()
     }
 
-    /// What was done behind the first so many remarks; the telegrams are those that the end's application took.
+    /// What was done behind the first `remarks` of them; the telegrams are those that the end's application took.
     pub fn notes<'a>(&'a self, earlier: usize, taken: &'a Telegrams<A>) -> Notes<'a, A> {
         Notes {
             remarks: &self.remarks,
@@ -193,7 +193,7 @@ fn remark<A: Allocator>(remarks: &mut VecDeque<Remark, A>, made: Remark) {
     }
 }
 
-/// Forgets the first so many remarks.
+/// Forgets remarks from the first on, `count` of them.
 fn forget_first<A: Allocator>(remarks: &mut VecDeque<Remark, A>, count: usize) {
     for _ in 0..count {
         let _forgotten = remarks.pop_front();

@@ -254,7 +254,7 @@ impl<A: Allocator + Copy> Openings<A> {
         }
     }
 
-    /// Whether the present incarnation made this part under a code of so many octets, but for its first `dead` PDUs.
+    /// Whether the present incarnation made this part under a code of `code` octets, but for its first `dead` PDUs.
     fn has_live(&self, code: usize, dead: usize, part: &[u8]) -> bool
         ensures { (xs : List EndState) → SideStands self.now xs → result ≡ live_in code (latest xs) dead part.now }
     {

@@ -53,7 +53,7 @@ impl<T: Drop, A: Allocator + Copy> Texts<T, A> {
         }
     }
 
-    /// Makes room for so many texts of so many octets together.
+    /// Makes room for a number of texts, and for the octets that they have together.
     ///
     /// # Errors
     ///

@@ -1,5 +1,5 @@
 use Rattle.std.proofs.Common.{◌+◌, ◌*◌, ◌≤◌}
-use Rattle.bench_codecs.proofs.machine.bench_machine_arrives.Given as goal
+use Rattle.bench_stack.proofs.machine.bench_machine_arrives.Given as goal
 
 abbrev pub invariant-loop : goal.invariant-loop
 invariant-loop l = l.ends.server.expected ≤ 321 * l.counter + 642

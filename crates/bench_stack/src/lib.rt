@@ -81,7 +81,7 @@ impl Upward for Nowhere {
     ghost later = { λ _ _ _ _ h. h };
 }
 
-/// Hands a row of datagrams of one size to a new receiving half of the redundancy layer so many times,
+/// Hands a row of datagrams of one size to a new receiving half of the redundancy layer, `times` times,
 /// and answers how many of them were dropped as old.
 /// C: `bench_repeats(const uint8_t *, size_t, size_t, uint32_t)`.
 #[unsafe(no_mangle)]

@@ -1,5 +1,5 @@
 use Rattle.std.proofs.Common.{◌+◌, ◌*◌, ◌≤◌, length}
-use Rattle.bench_codecs.proofs.machine.bench_machine_rows.Given as goal
+use Rattle.bench_stack.proofs.machine.bench_machine_rows.Given as goal
 
 abbrev pub invariant-loop : goal.invariant-loop
 invariant-loop l =

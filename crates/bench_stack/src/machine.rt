@@ -107,7 +107,7 @@ fn tally_of(made: &Counted, units: &Units, state: ConnectionState) -> Tally {
     }
 }
 
-/// The settings of an end: the greatest window, the longest times, and a heartbeat after so many units.
+/// The settings of an end: the greatest window, the longest times, and a heartbeat after `mwa` units.
 fn settings(own: u32, peer: u32, code: u32, mwa: u32) -> MachineConfig {
     MachineConfig {
         own,
@@ -177,7 +177,7 @@ fn unit_of(octets: &[u8]) -> Unit
     unit
 }
 
-/// Makes two rows: the client's Data, which carry a unit so many times, and the heartbeats by which the server confirms
+/// Makes two rows: the client's Data, which carry one unit again and again, and the heartbeats by which the server confirms
 /// them, one after each `mwa` units. A row that is too short has what fits. It answers how many units the server took.
 /// C: `bench_machine_rows(const uint8_t *, size_t, uint32_t, uint32_t, uint32_t, uint8_t *, size_t, uint8_t *, size_t)`.
 #[unsafe(no_mangle)]
@@ -209,7 +209,7 @@ pub extern "C" fn bench_machine_rows(
     units.taken
 }
 
-/// A server that has just opened its connection hears a row of so many Data, each of one size.
+/// A server that has just opened its connection hears a row of Data, each of one size.
 /// C: `bench_machine_arrives(const uint8_t *, size_t, size_t, uint32_t, uint32_t, uint32_t)`.
 #[unsafe(no_mangle)]
 pub extern "C" fn bench_machine_arrives(
@@ -238,7 +238,7 @@ pub extern "C" fn bench_machine_arrives(
 }
 
 /// A client that has just opened its connection sends a unit `mwa` times and hears the next of a row of heartbeats of one
-/// size, so many times.
+/// size, and does both again and again.
 /// C: `bench_machine_sends(const uint8_t *, size_t, uint32_t, uint32_t, uint32_t, const uint8_t *, size_t, size_t)`.
 #[unsafe(no_mangle)]
 pub extern "C" fn bench_machine_sends(
@@ -271,7 +271,7 @@ pub extern "C" fn bench_machine_sends(
     tally_of(&made, &units, ends.client.state())
 }
 
-/// Sends a unit so many times, or as often as the window allows.
+/// Sends a unit `times` times, or as often as the window allows.
 fn send_times(client: &mut Machine, unit: &Unit, times: u32, made: &mut Counted)
     requires { IsUnitSized unit.now.items }
     ensures { client.new.expected ≡ client.old.expected }

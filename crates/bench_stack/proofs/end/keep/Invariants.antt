@@ -1,5 +1,5 @@
 use Rattle.std.proofs.Common.{◌≤◌, length}
-use Rattle.bench_codecs.proofs.end.keep.Given as goal
+use Rattle.bench_stack.proofs.end.keep.Given as goal
 
 abbrev pub invariant-loop-datagram : goal.invariant-loop-datagram
 invariant-loop-datagram l = l.filled ≤ length l.row

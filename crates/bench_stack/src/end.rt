@@ -1,4 +1,4 @@
-//! An end for C: two ends joined over channels that only count, and one end over a row of datagrams that the other made.
+//! An end for C: two ends joined over channels that only count, and one end over a row of datagrams from the other.
 
 ghost use Rattle.std.specs.Prelude.{◌≡◌, ◌≤◌, ◌^◌, None, length};
 
@@ -97,7 +97,7 @@ struct Station<A: Allocator = Global> {
 }
 
 impl<A: Allocator + Copy> Station<A> {
-    /// An end of the greatest window, the longest times, two channels, and a heartbeat after so many units.
+    /// An end of the greatest window, the longest times, two channels, and a heartbeat after `mwa` units.
     fn open(alloc: A, side: Side, mwa: u32, q: u32) -> Option<Self> {
         let wire = Wire {
             kept: ArrayVec::new(),
@@ -205,8 +205,8 @@ impl Joined {
     }
 }
 
-/// Makes two rows: the datagrams of a telegram that the interlocking puts in so many times, and those of the heartbeats by which the field
-/// element confirms them. A row that is too short has what fits. It answers how many telegrams were taken.
+/// Makes two rows: the datagrams of a telegram that the interlocking puts in again and again, and those of the heartbeats
+/// by which the field element confirms them. A row that is too short has what fits. It answers how many telegrams were taken.
 /// C: `bench_end_rows(const uint8_t *, size_t, uint32_t, uint32_t, uint8_t *, size_t, uint8_t *, size_t)`.
 #[unsafe(no_mangle)]
 pub extern "C" fn bench_end_rows(
@@ -250,7 +250,7 @@ fn keep(datagrams: &ArrayVec<Datagram, KEPT_MAX>, row: &mut [u8], filled: usize)
     filled
 }
 
-/// A field element with a new session hears a row of so many datagrams, each of one size, and each on so many channels.
+/// A field element with a new session hears a row of datagrams of one size, each on a number of channels.
 /// C: `bench_end_arrives(const uint8_t *, size_t, size_t, uint32_t, uint32_t, uint32_t)`.
 #[unsafe(no_mangle)]
 pub extern "C" fn bench_end_arrives(
@@ -279,7 +279,8 @@ pub extern "C" fn bench_end_arrives(
     joined.fe.tally()
 }
 
-/// An interlocking with a new session puts a telegram in `mwa` times and hears the next of a row of heartbeats of one size, so many times.
+/// An interlocking with a new session puts a telegram in `mwa` times and hears the next of a row of heartbeats of one
+/// size, and does both again and again.
 /// C: `bench_end_puts(const uint8_t *, size_t, uint32_t, uint32_t, const uint8_t *, size_t, size_t)`.
 #[unsafe(no_mangle)]
 pub extern "C" fn bench_end_puts(
@@ -318,7 +319,7 @@ fn no_end() -> EndTally {
     }
 }
 
-/// How many octets one end holds with a table of so many places. C: `bench_end_octets(uint32_t)`.
+/// How many octets one end holds with a table of `q` places. C: `bench_end_octets(uint32_t)`.
 #[unsafe(no_mangle)]
 pub extern "C" fn bench_end_octets(alloc: Global, q: u32) -> EndHeld {
     EndHeld {

@@ -1,5 +1,5 @@
 use Rattle.std.proofs.Common.{◌≤◌, length}
-use Rattle.bench_codecs.proofs.end.bench_end_rows.Given as goal
+use Rattle.bench_stack.proofs.end.bench_end_rows.Given as goal
 
 abbrev pub invariant-loop-datagram : goal.invariant-loop-datagram
 invariant-loop-datagram l = record { sent : l.sent ≤ length l.data_row; confirmed : l.confirmed ≤ length l.heartbeat_row }
