@@ -93,7 +93,7 @@ impl<A: Allocator> Keeper<A> {
         self.remarks.len()
     }
 
-    /// What was done behind the first `remarks` of them; the telegrams are those that the end's application took.
+    /// What was done behind the first `earlier` remarks; the telegrams are those that the end's application took.
     pub fn notes<'a>(&'a self, earlier: usize, taken: &'a Telegrams<A>) -> Notes<'a, A> {
         Notes {
             remarks: &self.remarks,
