@@ -3,6 +3,3 @@ pub mod MessageText
 pub mod HexText
 pub mod ShowText
 pub mod Shown
-pub mod CommandLine
-pub mod Status
-pub mod Waiting

@@ -8,9 +8,9 @@ use Rattle.safe_pdu.specs.declared.CodeLength.{CodeLength}
 use Rattle.safe_pdu.specs.declared.CodeRule.{CodeRule}
 use Rattle.std.specs.Option.{option_copied}
 use Rattle.clap.specs.Words.{Text}
-use Rattle.rasta_cli.specs.CommandLine.{Asks}
-use Rattle.rasta_cli.specs.declared.command_line.Request.{Request}
-use Rattle.rasta_cli.specs.declared.command_line.Request.TheVariants.{Digest, Show, Sim, Net}
+use Rattle.rasta_words.specs.CommandLine.{Asks}
+use Rattle.rasta_words.specs.declared.command_line.Request.{Request}
+use Rattle.rasta_words.specs.declared.command_line.Request.TheVariants.{Digest, Show, Sim, Net}
 use Rattle.rasta_cli.specs.HexText.{octets_of, message_of, initial_value_of}
 use Rattle.rasta_cli.specs.ShowText.{show_text, is_clean}
 

@@ -4,9 +4,9 @@ ghost use Rattle.std.specs.Prelude.{◌≡◌, ◌⊎◌, None, Some, Err, IfOk,
 ghost use Rattle.std.specs.Option.{option_copied};
 ghost use Rattle.rasta_cli.specs.HexText.{initial_value_of, octets_of};
 
-use crate::status::Fault;
 use hex::FromHexError;
 use octets::places::u32_at;
+use rasta_words::Fault;
 use std::alloc::Global;
 
 /// The initial value that 32 hex digits name, least significant octet of each word first.

@@ -1,18 +1,13 @@
 //! The program `rasta`.
 #![tactic(auto)]
 
-mod command_line;
 mod hex_text;
 mod lines;
 mod messages;
-mod net;
 mod program;
 mod runs;
 mod show;
 mod sim;
-mod status;
-mod ticking;
-mod turns;
 
 use program::run_words;
 use std::process::ExitCode;
@@ -23,8 +18,6 @@ fn main(rt: HostRuntime) -> ExitCode {
 
 #[cfg(test)]
 mod damage_tests;
-#[cfg(test)]
-mod net_tests;
 #[cfg(test)]
 mod program_tests;
 #[cfg(test)]

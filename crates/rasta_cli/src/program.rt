@@ -2,16 +2,15 @@
 
 ghost use Rattle.std.specs.Prelude.{◌≡◌, ◌≤◌, [], map, length, IfOk};
 ghost use Rattle.clap.specs.Words.{fault_of};
-ghost use Rattle.rasta_cli.specs.CommandLine.{rasta_app};
+ghost use Rattle.rasta_words.specs.CommandLine.{rasta_app};
 ghost use Rattle.rasta_cli.specs.Shown.{DoneAs};
-ghost use Rattle.rasta_cli.specs.Status.{EndsBy};
+ghost use Rattle.rasta_words.specs.Status.{EndsBy};
 
-use crate::command_line::{Request, WordsFault, command};
-use crate::net::run_net;
-use crate::runs::{report, run_md4, run_show};
+use crate::runs::{run_md4, run_show};
 use crate::sim::run_sim;
-use crate::status::{Fault, Status};
 use clap::error::ErrorKind;
+use rasta_net::run_net;
+use rasta_words::{Fault, Request, Status, WordsFault, command, report};
 use settings_file::Word;
 use std::alloc::{AllocError, Global};
 use std::convert::AsStr;

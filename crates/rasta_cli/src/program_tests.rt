@@ -1,5 +1,5 @@
 use crate::program::{run, run_words};
-use crate::status::{Fault, Status};
+use rasta_words::{Fault, Status};
 use std::env::{Env, FillError};
 use std::io;
 use std::io::{ErrorKind, Write};

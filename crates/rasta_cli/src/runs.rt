@@ -5,11 +5,11 @@ ghost use Rattle.std.specs.Io.KnownBytes.{Appends};
 ghost use Rattle.std.specs.Option.{option_copied};
 ghost use Rattle.rasta_cli.specs.HexText.{initial_value_of, message_of, octets_of};
 ghost use Rattle.rasta_cli.specs.Shown.{HasDigested, HasShown, digest_line};
-ghost use Rattle.rasta_cli.specs.Status.{status_of};
+ghost use Rattle.rasta_words.specs.Status.{status_of};
 
 use crate::hex_text::{hex_octets, initial_value};
 use crate::show::show;
-use crate::status::{Fault, Status};
+use rasta_words::{Fault, Status, report};
 use safe_pdu::{CodeLength, CodeRule};
 use sim_lines::write_hex;
 use std::alloc::Global;
@@ -95,15 +95,6 @@ fn write_digest<O: Write>(out: &mut O, octets: &[u8]) -> io::Result<()>
     let digest = md4::digest(md4::INITIAL_VALUE, octets);
     write_hex(out, &digest)?;
     out.write_all(b"\n")
-}
-
-/// Names a fault on standard error, and answers how the program ends. Where that output fails too,
-/// the status alone tells.
-pub fn report<E: Write>(err: &mut E, fault: Fault) -> Status
-    ensures { result ≡ status_of fault }
-{
-    let _ = writeln!(err, "{fault}");
-    fault.status()
 }
 
 /// Shows the datagram that a text of hex digits spells, and answers whether it has no fault.

@@ -2,7 +2,7 @@
 
 ghost use Rattle.std.specs.Prelude.{◌≢◌};
 
-use crate::status::Status;
+use rasta_words::Status;
 use sim_lines::SimStatus;
 use std::alloc::Allocator;
 use std::io::{Read, Write};

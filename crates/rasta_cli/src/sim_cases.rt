@@ -1,4 +1,4 @@
-use crate::status::Status;
+use rasta_words::Status;
 
 /// A script, and what the word `sim` does with it.
 pub struct Case {

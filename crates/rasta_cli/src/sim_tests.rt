@@ -1,7 +1,7 @@
 use crate::sim::run_sim;
 use crate::sim_cases::{Case, EXAMPLES, LOSSES, OPENINGS, VERSIONS};
-use crate::status::Status;
 use linked_list_allocator::LocalHeap;
+use rasta_words::Status;
 use std::io;
 use std::io::{ErrorKind, Write};
 use std::process::Abort;

@@ -1,7 +1,6 @@
-use crate::command_line::{Request, WordsFault, command};
 use crate::runs::{run_md4, run_show};
 use crate::show::show;
-use crate::status::Status;
+use rasta_words::{Request, Status, WordsFault, command};
 use safe_pdu::{CodeLength, CodeRule};
 use settings_file::Word;
 use std::io;

@@ -5,10 +5,10 @@ use Rattle.std.specs.Str.Parse.{IsNumeral, digits_value, without_leading_plus}
 use Rattle.clap.specs.Words.{App, HasKind, Row, Rule, Text, fault_of, first_of, new_app, new_rule, subcommand_of, with_rule, with_subcommand}
 use Rattle.safe_pdu.specs.declared.CodeLength.{CodeLength}
 use Rattle.safe_pdu.specs.declared.CodeLength.TheVariants.{Zero, Eight, Sixteen}
-use Rattle.rasta_cli.specs.declared.command_line.Request.{Request}
-use Rattle.rasta_cli.specs.declared.command_line.Request.TheVariants.{Digest, Show, Sim, Net}
-use Rattle.rasta_cli.specs.declared.command_line.WordsFault.{WordsFault}
-use Rattle.rasta_cli.specs.declared.command_line.WordsFault.TheVariants.{Words, BadCode, BadTurns, NotText, Memory}
+use Rattle.rasta_words.specs.declared.command_line.Request.{Request}
+use Rattle.rasta_words.specs.declared.command_line.Request.TheVariants.{Digest, Show, Sim, Net}
+use Rattle.rasta_words.specs.declared.command_line.WordsFault.{WordsFault}
+use Rattle.rasta_words.specs.declared.command_line.WordsFault.TheVariants.{Words, BadCode, BadTurns, NotText, Memory}
 use Rattle.settings_file.specs.declared.Word.{Word}
 use Rattle.settings_file.specs.declared.Word.TheVariants.{Il, Fe, Pair}
 

@@ -1,6 +1,6 @@
 use Rattle.std.proofs.Common.{refl, subst}
-use Rattle.rasta_cli.specs.CommandLine.{FindsNone}
-use Rattle.rasta_cli.proofs.command_line.command.Goals as goal
+use Rattle.rasta_words.specs.CommandLine.{FindsNone}
+use Rattle.rasta_words.proofs.command_line.command.Goals as goal
 
 pub returns-in-None-clause-refused : goal.returns-in-None-clause-refused
 returns-in-None-clause-refused g c = subst FindsNone c.in_ok-matches.ensures.rows (c.in-None.ensures.none refl)

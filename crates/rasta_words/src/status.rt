@@ -1,8 +1,9 @@
 //! How the program ends, and the faults that it names on standard error.
 
 ghost use Rattle.std.specs.Prelude.{◌≡◌};
-ghost use Rattle.rasta_cli.specs.Status.{status_code, status_of};
+ghost use Rattle.rasta_words.specs.Status.{status_code, status_of};
 
+use std::io::Write;
 use thiserror::Error;
 
 /// How the program ends.
@@ -68,4 +69,13 @@ impl Fault {
             Fault::Network | Fault::Clock | Fault::Output => Status::Failed,
         }
     }
+}
+
+/// Names a fault on standard error, and answers how the program ends. Where that output fails too,
+/// the status alone tells.
+pub fn report<E: Write>(err: &mut E, fault: Fault) -> Status
+    ensures { result ≡ status_of fault }
+{
+    let _ = writeln!(err, "{fault}");
+    fault.status()
 }

@@ -2,7 +2,7 @@
 
 ghost use Rattle.std.specs.Prelude.{◌≡◌, ◌≤◌, ◌^◌, IfOk, OnErr};
 
-use crate::status::Fault;
+use rasta_words::Fault;
 use std::time::{Clock, Instant};
 
 /// The greatest time that an end may be handed, in milliseconds.

@@ -2,14 +2,13 @@
 
 ghost use Rattle.std.specs.Prelude.{◌≡◌, ◌≢◌, ◌≤◌, ◌^◌, IfOk};
 ghost use Rattle.stack_end.specs.Deadlines.{earliest};
-ghost use Rattle.rasta_cli.specs.Waiting.{pause_of};
+ghost use Rattle.rasta_net.specs.Waiting.{pause_of};
 
-use crate::runs::report;
-use crate::status::{Fault, Status};
 use crate::ticking::RunClock;
 use crate::turns::Actor;
 use channels::{UdpChannels, UdpFault, Watch};
 use end_settings::Side;
+use rasta_words::{Fault, Status, report};
 use settings_file::{Ends, Settings, SettingsFault, Word, settings};
 use stack_end::{End, OpenFault};
 use std::alloc::Global;

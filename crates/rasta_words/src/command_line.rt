@@ -4,7 +4,7 @@ ghost use Rattle.std.specs.Prelude.{◌≡◌, ℕ, [], Some, IsOk, IfOk, IfErr,
 ghost use Rattle.std.specs.Option.{option_copied};
 ghost use Rattle.clap.specs.declared.Command.TheViews.{out-Command};
 ghost use Rattle.clap.specs.Words.{app_of, fault_of, first_of, found_of, rows_of, subcommand_of, subcommand_rows_of};
-ghost use Rattle.rasta_cli.specs.CommandLine.{Asks, FindsNone, HasEntries, HasNoEntries, IsFaultOf, IsFound, IsTurns, Refuses, code_word, coded_app, ends_word, local_app, md4_app, net_app, plain_app, rasta_app, show_app, sim_app};
+ghost use Rattle.rasta_words.specs.CommandLine.{Asks, FindsNone, HasEntries, HasNoEntries, IsFaultOf, IsFound, IsTurns, Refuses, code_word, coded_app, ends_word, local_app, md4_app, net_app, plain_app, rasta_app, show_app, sim_app};
 
 use clap::{Arg, ArgMatches, Command};
 use safe_pdu::CodeLength;

@@ -2,10 +2,10 @@
 
 ghost use Rattle.std.specs.Prelude.{◌≡◌, ◌≤◌, ◌^◌};
 
-use crate::status::Fault;
 use channels::Channels;
 use end_settings::Side;
 use pdi_session::{InitFault, Phase, PutFault, Taker};
+use rasta_words::Fault;
 use settings_file::Put;
 use sim_lines::{Standing, write_refusal, write_report, write_take};
 use stack_end::End;

@@ -2,12 +2,12 @@
 use Rattle.std.specs.Prelude.{◌≡◌, ◌≢◌, ◌⊎◌, ℕ}
 use Rattle.clap.specs.Values.{kind_of}
 use Rattle.clap.specs.declared.error.kind.ErrorKind.TheVariants as kind
-use Rattle.rasta_cli.specs.declared.command_line.WordsFault.{WordsFault}
-use Rattle.rasta_cli.specs.declared.command_line.WordsFault.TheVariants.{Words, BadCode, BadTurns, NotText, Memory}
-use Rattle.rasta_cli.specs.declared.status.Status.{Status}
-use Rattle.rasta_cli.specs.declared.status.Status.TheVariants.{Done, Refused, WrongWords, Failed}
-use Rattle.rasta_cli.specs.declared.status.Fault.{Fault}
-use Rattle.rasta_cli.specs.declared.status.Fault.TheVariants as fault
+use Rattle.rasta_words.specs.declared.command_line.WordsFault.{WordsFault}
+use Rattle.rasta_words.specs.declared.command_line.WordsFault.TheVariants.{Words, BadCode, BadTurns, NotText, Memory}
+use Rattle.rasta_words.specs.declared.status.Status.{Status}
+use Rattle.rasta_words.specs.declared.status.Status.TheVariants.{Done, Refused, WrongWords, Failed}
+use Rattle.rasta_words.specs.declared.status.Fault.{Fault}
+use Rattle.rasta_words.specs.declared.status.Fault.TheVariants as fault
 
 abbrev pub status_code : Status → ℕ
 status_code Done = 0

@@ -1,6 +1,6 @@
 use Rattle.std.proofs.Common.{◌≡◌, [], map, refl, subst, true}
 use Rattle.clap.specs.Words.{App, HasKind, fault_of, is_simple_and_free}
-use Rattle.rasta_cli.proofs.command_line.matched.Goals as goal
+use Rattle.rasta_words.proofs.command_line.matched.Goals as goal
 
 pub returns-in-Ok-try_get_matches_from-clause-fits : goal.returns-in-Ok-try_get_matches_from-clause-fits
 returns-in-Ok-try_get_matches_from-clause-fits g c = λ _.

@@ -1,0 +1,10 @@
+//! Ends over sockets: the words `il`, `fe` and `pair` of the program, turn by turn.
+#![tactic(auto)]
+
+mod net;
+#[cfg(test)]
+mod net_tests;
+mod ticking;
+mod turns;
+
+pub use net::run_net;
