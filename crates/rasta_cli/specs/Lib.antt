@@ -1,7 +1,4 @@
-pub mod Lines
-pub mod MessageText
 pub mod HexText
-pub mod ShowText
 pub mod Shown
 pub mod CommandLine
 pub mod Status

@@ -1,6 +1,6 @@
-use crate::show::show;
 use crate::sim_tests::plays;
 use crate::status::Status;
+use pdu_text::show;
 use safe_pdu::{CodeLength, CodeRule};
 use std::process::Abort;
 use std::test::Fail;

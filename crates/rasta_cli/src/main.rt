@@ -2,13 +2,9 @@
 #![tactic(auto)]
 
 mod command_line;
-mod hex_text;
-mod lines;
-mod messages;
 mod net;
 mod program;
 mod runs;
-mod show;
 mod sim;
 mod status;
 mod ticking;
