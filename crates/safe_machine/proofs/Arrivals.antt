@@ -8,14 +8,14 @@ use Rattle.safe_machine.specs.declared.ConnectionState.TheVariants.{RetrRun}
 use Rattle.safe_machine.specs.Made.{Made, after_pdu, carries, is_request, is_answer}
 use Rattle.safe_machine.specs.State.{State, make, move_to, pass, confirm_units, hand_up, note_request, reply, ask, cs_step, unconfirmed}
 use Rattle.safe_machine.specs.Decision.{cs_fits, distance, in_turn}
-use Rattle.safe_machine.specs.Decision.Decision.{Takes, Resumes, AnswersNext, AnswersEarly}
+use Rattle.safe_machine.specs.declared.decision.Decision.TheVariants.{Takes, Resumes, AnswersNext, AnswersEarly}
 use Rattle.safe_machine.specs.Step.{is_connected, beat, tests_passed, carry_out}
 use Rattle.safe_machine.proofs.Cases.{if_both}
 use Rattle.safe_machine.proofs.Runs.{requests, answers, count-at, every-at, no_requests, RequestAt}
 use Rattle.safe_machine.proofs.Invariant.{room, needs_peer, Told, Sound, Started, SoloOf, Solo, Half, Pair, Few}
 use Rattle.safe_machine.proofs.Moves.{room-le, pair-beat, pair-ask, pair-reply, started-from}
 use Rattle.safe_machine.proofs.Passing.{half-take, half-resume, half-confirm, confirm-index}
-use Rattle.safe_machine.proofs.Table.{carries-unit, carries-none, in_turn-room}
+use Rattle.safe_machine.proofs.TableLemmas.{carries-unit, carries-none, in_turn-room}
 use Rattle.safe_machine.proofs.Resending.{resend-connection}
 
 -- what is known where a PDU of the peer comes in

@@ -12,8 +12,9 @@ use Rattle.safe_machine.specs.declared.Reason.{Reason}
 use Rattle.safe_machine.specs.declared.Detail.{Detail}
 use Rattle.safe_machine.specs.Made.{carries, leaving_body}
 use Rattle.safe_machine.specs.State.{State, make, move_to, pass, confirm_units, note_request, reply, unconfirmed, hand_up, leave, says_goodbye, ask}
-use Rattle.safe_machine.specs.Decision.{Decision, decide, in_turn, distance}
-use Rattle.safe_machine.specs.Decision.Decision.{Nothing, Drops, Shuts, Leaves, Rejects, Accepts, Connects, Takes, Asks, Resumes, AnswersNext, AnswersEarly}
+use Rattle.safe_machine.specs.declared.decision.Decision.{Decision}
+use Rattle.safe_machine.specs.Decision.{decide, in_turn, distance}
+use Rattle.safe_machine.specs.declared.decision.Decision.TheVariants.{Nothing, Drops, Shuts, Leaves, Rejects, Accepts, Connects, Takes, Asks, Resumes, AnswersNext, AnswersEarly}
 use Rattle.safe_machine.specs.Step.{carry_out, receive, arrive, guard, beat, tests_passed}
 use Rattle.safe_machine.specs.Course.{Allows, Passes, cs_ahead, handed_by}
 use Rattle.safe_machine.specs.View.{View, StandsFor, HandsUp, overdue}

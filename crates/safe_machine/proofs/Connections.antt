@@ -14,10 +14,12 @@ use Rattle.safe_machine.specs.declared.Detail.{Detail}
 use Rattle.safe_machine.specs.declared.Detail.TheVariants.{Unspecified, ConfirmedNumber, ConfirmedTimestamp}
 use Rattle.safe_machine.specs.Made.{carries}
 use Rattle.safe_machine.specs.State.{State, make, move_to, pass, hand_up, note_request, confirm_units, reply, ask, unconfirmed, cs_step}
-use Rattle.safe_machine.specs.Table.{Cell, cell, start_row, up_row, run_row, request_row}
-use Rattle.safe_machine.specs.Table.Cell.{Take, Ask, Answer as Reply, Resume, Refuse, Skip}
-use Rattle.safe_machine.specs.Decision.{Decision, is_stranger, is_closed, is_goodbye, is_ours, in_turn, cs_fits, cts_fits, tested, in_down, as_client, in_start, by_cell, by_table, by_connection, heard, distance}
-use Rattle.safe_machine.specs.Decision.Decision.{Nothing, Drops, Shuts, Leaves, Rejects, Accepts, Connects, Takes, Resumes, AnswersNext, AnswersEarly}
+use Rattle.safe_machine.specs.declared.table.Cell.{Cell}
+use Rattle.safe_machine.specs.Table.{cell, start_row, up_row, run_row, request_row}
+use Rattle.safe_machine.specs.declared.table.Cell.TheVariants.{Take, Ask, Answer as Reply, Resume, Refuse, Skip}
+use Rattle.safe_machine.specs.declared.decision.Decision.{Decision}
+use Rattle.safe_machine.specs.Decision.{is_stranger, is_closed, is_goodbye, is_ours, in_turn, cs_fits, cts_fits, tested, in_down, as_client, in_start, by_cell, by_table, by_connection, heard, distance}
+use Rattle.safe_machine.specs.declared.decision.Decision.TheVariants.{Nothing, Drops, Shuts, Leaves, Rejects, Accepts, Connects, Takes, Resumes, AnswersNext, AnswersEarly}
 use Rattle.safe_machine.specs.Step.{carry_out, guard, receive, beat, tests_passed, is_connected, last_time}
 use Rattle.safe_machine.specs.Moves.{Move, move, GoesOn, HearsNothing, ConnectionsLaw}
 use Rattle.safe_machine.specs.Moves.Move.{Guards, Hears, Ticks, Sends, Leaves as LeavesNow}

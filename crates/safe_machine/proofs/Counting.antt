@@ -12,8 +12,9 @@ use Rattle.safe_pdu.specs.Bodies.{window_of}
 use Rattle.safe_machine.specs.Made.{Made, after_pdu, run_after, run_of, carries, opening_body, leaving_body}
 use Rattle.safe_machine.specs.Settings.{Settings}
 use Rattle.safe_machine.specs.State.{State, unconfirmed, next_made, make, move_to, pass, confirm_units, hand_up, note_request, resend, reply, ask, leave, says_goodbye, cs_step}
-use Rattle.safe_machine.specs.Decision.{Decision, cs_fits, distance, in_turn, decide}
-use Rattle.safe_machine.specs.Decision.Decision.{Nothing, Drops, Shuts, Leaves, Rejects, Accepts, Connects, Takes, Asks, Resumes, AnswersNext, AnswersEarly}
+use Rattle.safe_machine.specs.declared.decision.Decision.{Decision}
+use Rattle.safe_machine.specs.Decision.{cs_fits, distance, in_turn, decide}
+use Rattle.safe_machine.specs.declared.decision.Decision.TheVariants.{Nothing, Drops, Shuts, Leaves, Rejects, Accepts, Connects, Takes, Asks, Resumes, AnswersNext, AnswersEarly}
 use Rattle.safe_machine.specs.Step.{is_live, is_connected, beat, tests_passed, carry_out, set_window, confirm_to, guard, receive, send, may_send, heartbeat, last_time}
 use Rattle.safe_machine.proofs.Cases.{if_both, leb-false, and-parts}
 use Rattle.safe_machine.proofs.Runs.{run_after-append}

@@ -9,15 +9,17 @@ use Rattle.safe_machine.specs.declared.ConnectionState.TheVariants.{Closed, Down
 use Rattle.safe_pdu.specs.Pdu.{Pdu}
 use Rattle.safe_machine.specs.Made.{is_answer}
 use Rattle.safe_machine.specs.State.{State, cs_step}
-use Rattle.safe_machine.specs.Table.{Cell, cell}
-use Rattle.safe_machine.specs.Table.Cell.{Take, Ask, Answer, Resume, Refuse, Skip}
-use Rattle.safe_machine.specs.Decision.{Decision, is_ours, is_stranger, cs_fits, cts_fits, tested, in_down, as_client, distance, in_turn, answering, by_cell, by_table, in_start, is_goodbye, by_connection, decide, is_closed, heard}
-use Rattle.safe_machine.specs.Decision.Decision.{Nothing, Drops, Shuts, Leaves, Rejects, Accepts, Connects, Takes, Asks, Resumes, AnswersNext, AnswersEarly}
+use Rattle.safe_machine.specs.declared.table.Cell.{Cell}
+use Rattle.safe_machine.specs.Table.{cell}
+use Rattle.safe_machine.specs.declared.table.Cell.TheVariants.{Take, Ask, Answer, Resume, Refuse, Skip}
+use Rattle.safe_machine.specs.declared.decision.Decision.{Decision}
+use Rattle.safe_machine.specs.Decision.{is_ours, is_stranger, cs_fits, cts_fits, tested, in_down, as_client, distance, in_turn, answering, by_cell, by_table, in_start, is_goodbye, by_connection, decide, is_closed, heard}
+use Rattle.safe_machine.specs.declared.decision.Decision.TheVariants.{Nothing, Drops, Shuts, Leaves, Rejects, Accepts, Connects, Takes, Asks, Resumes, AnswersNext, AnswersEarly}
 use Rattle.safe_machine.specs.declared.DropCause.TheVariants.{Stranger, Number, Answered, Below}
 use Rattle.safe_machine.specs.Step.{is_live, is_connected}
 use Rattle.safe_machine.proofs.Cases.{if_both, and-parts, leb-false}
 use Rattle.safe_machine.proofs.Invariant.{room, needs_peer}
-use Rattle.safe_machine.proofs.Table.{Allowed, cell-allowed}
+use Rattle.safe_machine.proofs.TableLemmas.{Allowed, cell-allowed}
 use Rattle.safe_machine.specs.declared.Reason.TheVariants.{WrongVersion, RetransmissionImpossible, ProtocolError}
 use Rattle.safe_machine.specs.declared.Detail.TheVariants.{Unspecified, ConfirmedNumber, ConfirmedTimestamp}
 

@@ -13,8 +13,9 @@ use Rattle.safe_machine.specs.declared.Detail.{Detail}
 use Rattle.safe_machine.specs.declared.Detail.TheVariants.{Unspecified, Limit}
 use Rattle.safe_machine.specs.Made.{carries, leaving_body, opening_body}
 use Rattle.safe_machine.specs.State.{State, unconfirmed, make, move_to, pass, confirm_units, hand_up, note_request, resend, reply, ask, leave, says_goodbye, cs_step, opened}
-use Rattle.safe_machine.specs.Decision.{Decision, decide, distance, in_turn}
-use Rattle.safe_machine.specs.Decision.Decision.{Nothing, Drops, Shuts, Leaves, Rejects, Accepts, Connects, Takes, Asks, Resumes, AnswersNext, AnswersEarly}
+use Rattle.safe_machine.specs.declared.decision.Decision.{Decision}
+use Rattle.safe_machine.specs.Decision.{decide, distance, in_turn}
+use Rattle.safe_machine.specs.declared.decision.Decision.TheVariants.{Nothing, Drops, Shuts, Leaves, Rejects, Accepts, Connects, Takes, Asks, Resumes, AnswersNext, AnswersEarly}
 use Rattle.safe_machine.specs.Step.{is_live, is_connected, beat, tests_passed, carry_out, set_window, guard, tick, send, may_send, last_time}
 use Rattle.safe_machine.specs.Moves.{Move, move, moved}
 use Rattle.safe_machine.specs.Moves.Move.{Guards, Hears, Ticks, Sends, Leaves as LeavesNow}

@@ -8,8 +8,9 @@ use Rattle.safe_pdu.specs.Pdu.{Pdu}
 use Rattle.safe_machine.specs.Made.{carries}
 use Rattle.safe_machine.specs.State.{State, leave, make, move_to, reply, ask, pass, note_request, confirm_units, unconfirmed, hand_up}
 use Rattle.safe_machine.specs.Step.{guard, tick, send, arrive, may_send, is_live, heartbeat, carry_out, take_unit, beat, tests_passed, is_connected, last_time}
-use Rattle.safe_machine.specs.Decision.{Decision, decide, distance, in_turn, is_stranger}
-use Rattle.safe_machine.specs.Decision.Decision.{Nothing, Drops, Shuts, Leaves, Rejects, Accepts, Connects, Takes, Asks, Resumes, AnswersNext, AnswersEarly}
+use Rattle.safe_machine.specs.declared.decision.Decision.{Decision}
+use Rattle.safe_machine.specs.Decision.{decide, distance, in_turn, is_stranger}
+use Rattle.safe_machine.specs.declared.decision.Decision.TheVariants.{Nothing, Drops, Shuts, Leaves, Rejects, Accepts, Connects, Takes, Asks, Resumes, AnswersNext, AnswersEarly}
 use Rattle.safe_machine.specs.World.{joins}
 use Rattle.safe_machine.proofs.Cases.{if_both}
 use Rattle.safe_machine.proofs.Deciding.{Fits, decide-fits}

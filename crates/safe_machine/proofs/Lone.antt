@@ -12,7 +12,7 @@ use Rattle.safe_machine.specs.Made.{Made, units, first_sent, after_pdu, leaving_
 use Rattle.safe_machine.specs.Settings.{Settings}
 use Rattle.safe_machine.specs.State.{State, unconfirmed, next_made, make, move_to, leave, says_goodbye}
 use Rattle.safe_machine.specs.Decision.{is_stranger, by_connection, in_turn, is_closed, heard}
-use Rattle.safe_machine.specs.Decision.Decision.{Drops, Nothing}
+use Rattle.safe_machine.specs.declared.decision.Decision.TheVariants.{Drops, Nothing}
 use Rattle.safe_machine.specs.declared.DropCause.TheVariants.{Stranger}
 use Rattle.safe_machine.specs.Step.{is_live, is_connected, guard, receive, arrive, carry_out, heartbeat, tick, may_send, send, last_time}
 use Rattle.safe_machine.specs.World.{IsBeginningOf, Among, GenuineAt}

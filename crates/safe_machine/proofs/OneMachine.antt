@@ -10,8 +10,9 @@ use Rattle.safe_pdu.specs.Bodies.{window_of}
 use Rattle.safe_machine.specs.Made.{carries, units, first_sent, opening_body, leaving_body}
 use Rattle.safe_machine.specs.State.{State, next_made, leave, make, move_to, reply, resend, ask, pass, note_request, confirm_units, unconfirmed, hand_up, says_goodbye}
 use Rattle.safe_machine.specs.Step.{guard, receive, tick, send, arrive, may_send, is_live, carry_out, beat, tests_passed, is_connected, last_time, set_window}
-use Rattle.safe_machine.specs.Decision.{Decision, decide, distance, in_turn, is_closed, heard}
-use Rattle.safe_machine.specs.Decision.Decision.{Nothing, Drops, Shuts, Leaves, Rejects, Accepts, Connects, Takes, Asks, Resumes, AnswersNext, AnswersEarly}
+use Rattle.safe_machine.specs.declared.decision.Decision.{Decision}
+use Rattle.safe_machine.specs.Decision.{decide, distance, in_turn, is_closed, heard}
+use Rattle.safe_machine.specs.declared.decision.Decision.TheVariants.{Nothing, Drops, Shuts, Leaves, Rejects, Accepts, Connects, Takes, Asks, Resumes, AnswersNext, AnswersEarly}
 use Rattle.safe_machine.proofs.Cases.{if_both}
 use Rattle.safe_machine.proofs.Runs.{units-append}
 use Rattle.safe_machine.proofs.Lone.{guard-idle}

@@ -8,8 +8,9 @@ use Rattle.safe_machine.specs.declared.ConnectionState.{ConnectionState}
 use Rattle.safe_machine.specs.declared.ConnectionState.TheVariants.{Closed, Down, Start, Up}
 use Rattle.safe_machine.specs.Made.{Made, opening_body, carries}
 use Rattle.safe_machine.specs.State.{State, next_made, make, move_to, pass, hand_up}
-use Rattle.safe_machine.specs.Decision.{Decision, decide, is_stranger, cs_fits, cts_fits}
-use Rattle.safe_machine.specs.Decision.Decision.{Accepts, Connects, Takes}
+use Rattle.safe_machine.specs.declared.decision.Decision.{Decision}
+use Rattle.safe_machine.specs.Decision.{decide, is_stranger, cs_fits, cts_fits}
+use Rattle.safe_machine.specs.declared.decision.Decision.TheVariants.{Accepts, Connects, Takes}
 use Rattle.safe_machine.specs.Step.{is_live, beat, tests_passed, set_window, carry_out, receive}
 use Rattle.safe_machine.specs.InOrder.{client_state, server_state}
 use Rattle.safe_machine.proofs.Cases.{if_both}

@@ -8,8 +8,9 @@ use Rattle.safe_machine.specs.declared.ConnectionState.TheVariants.{Closed, Down
 use Rattle.safe_pdu.specs.Pdu.{Pdu}
 use Rattle.safe_machine.specs.Made.{Made, units, leaving_body}
 use Rattle.safe_machine.specs.State.{State, next_made, make, move_to, leave, says_goodbye, unconfirmed}
-use Rattle.safe_machine.specs.Decision.{Decision, decide, in_turn}
-use Rattle.safe_machine.specs.Decision.Decision.{Nothing, Drops, Shuts, Leaves, Rejects, Accepts, Connects, Takes, Asks, Resumes, AnswersNext, AnswersEarly}
+use Rattle.safe_machine.specs.declared.decision.Decision.{Decision}
+use Rattle.safe_machine.specs.Decision.{decide, in_turn}
+use Rattle.safe_machine.specs.declared.decision.Decision.TheVariants.{Nothing, Drops, Shuts, Leaves, Rejects, Accepts, Connects, Takes, Asks, Resumes, AnswersNext, AnswersEarly}
 use Rattle.safe_machine.specs.Step.{is_live, is_connected, guard, receive, arrive, carry_out, tick, may_send, send, last_time}
 use Rattle.safe_machine.specs.World.{Served, GenuineAt}
 use Rattle.safe_machine.specs.Law.{JoinsFall}

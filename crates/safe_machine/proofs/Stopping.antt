@@ -15,8 +15,9 @@ use Rattle.safe_machine.specs.declared.Detail.TheVariants.{Unspecified, Limit}
 use Rattle.safe_machine.specs.Numbers.{sn_of, ahead}
 use Rattle.safe_machine.specs.Made.{Made, carries, leaving_body, opening_body}
 use Rattle.safe_machine.specs.State.{State, next_made, make, move_to, pass, confirm_units, note_request, cs_step, resend, reply, unconfirmed, hand_up, leave, says_goodbye, ask, opened}
-use Rattle.safe_machine.specs.Decision.{Decision, decide, distance, in_turn, cs_fits}
-use Rattle.safe_machine.specs.Decision.Decision.{Nothing, Drops, Shuts, Leaves, Rejects, Accepts, Connects, Takes, Asks, Resumes, AnswersNext, AnswersEarly}
+use Rattle.safe_machine.specs.declared.decision.Decision.{Decision}
+use Rattle.safe_machine.specs.Decision.{decide, distance, in_turn, cs_fits}
+use Rattle.safe_machine.specs.declared.decision.Decision.TheVariants.{Nothing, Drops, Shuts, Leaves, Rejects, Accepts, Connects, Takes, Asks, Resumes, AnswersNext, AnswersEarly}
 use Rattle.safe_machine.specs.Step.{carry_out, arrive, guard, is_live, take_unit, beat, tests_passed, set_window}
 use Rattle.safe_machine.specs.Ring.{carried_at, ring_of}
 use Rattle.safe_machine.specs.Moves.{moved}

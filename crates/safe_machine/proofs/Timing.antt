@@ -11,8 +11,9 @@ use Rattle.safe_machine.specs.declared.ConnectionState.TheVariants.{Closed, Star
 use Rattle.safe_pdu.specs.Bodies.{window_of}
 use Rattle.safe_machine.specs.Made.{Made, opening_body, leaving_body, carries}
 use Rattle.safe_machine.specs.State.{State, unconfirmed, next_made, make, move_to, pass, confirm_units, hand_up, note_request, resend, reply, ask, leave, says_goodbye, cts_step}
-use Rattle.safe_machine.specs.Decision.{Decision, distance, in_turn}
-use Rattle.safe_machine.specs.Decision.Decision.{Nothing, Drops, Shuts, Leaves, Rejects, Accepts, Connects, Takes, Asks, Resumes, AnswersNext, AnswersEarly}
+use Rattle.safe_machine.specs.declared.decision.Decision.{Decision}
+use Rattle.safe_machine.specs.Decision.{distance, in_turn}
+use Rattle.safe_machine.specs.declared.decision.Decision.TheVariants.{Nothing, Drops, Shuts, Leaves, Rejects, Accepts, Connects, Takes, Asks, Resumes, AnswersNext, AnswersEarly}
 use Rattle.safe_machine.specs.Step.{is_live, is_connected, beat, tests_passed, carry_out, set_window, confirm_to, guard, heartbeat, may_send, send, last_time}
 use Rattle.safe_machine.proofs.Cases.{if_both, leb-false}
 use Rattle.safe_machine.proofs.Runs.{Every, every-at, every-weaken, at-length}

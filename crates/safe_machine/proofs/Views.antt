@@ -26,7 +26,7 @@ use Rattle.safe_machine.specs.Made.{leaving_body, opening_body, carries}
 use Rattle.safe_machine.specs.State.{State, next_made, make, move_to, leave, says_goodbye, pass, confirm_units, note_request, cs_step, resend, reply, unconfirmed, hand_up, ask}
 use Rattle.safe_machine.specs.Step.{last_time, guard, heartbeat, is_live, tests_passed, set_window, carry_out, take_unit, beat, confirm_to}
 use Rattle.safe_machine.specs.Decision.{distance, in_turn}
-use Rattle.safe_machine.specs.Decision.Decision.{Rejects, Accepts, Connects, Takes, Resumes, AnswersNext, AnswersEarly}
+use Rattle.safe_machine.specs.declared.decision.Decision.TheVariants.{Rejects, Accepts, Connects, Takes, Resumes, AnswersNext, AnswersEarly}
 use Rattle.safe_pdu.specs.Bodies.{window_of, IsBody}
 use Rattle.safe_machine.specs.Course.{cs_ahead, cts_ahead, sn_ahead}
 use Rattle.safe_machine.specs.Ring.{after_at, carried_at, ring_of}

@@ -1,13 +1,7 @@
--- What the machine's own words for its decisions mean.
+-- What an endpoint decides from, and what a branch relies on.
 use Rattle.std.specs.Prelude.{◌≡◌, ◌<◌, ◌≤◌, ℕ, ◌-◌, ◌+◌, nat_lt, nat_le, Bool, if◌then◌else◌, List, [], ◌∷◌}
-use Rattle.safe_machine.specs.declared.decisions.Course.{Course}
-use Rattle.safe_machine.specs.declared.decisions.Course.TheVariants.{Nothing as NothingToDo, Drops as DropsIt, Shuts as ShutsDown, Leaves as LeavesNow, Rejects as RejectsIt, Accepts as AcceptsIt, Connects as ConnectsNow, Takes as TakesIt, Asks as AsksAgain, Resumes as ResumesNow, AnswersNext as AnswersInTurn, AnswersEarly as AnswersAhead}
-use Rattle.safe_machine.specs.declared.decisions.Entry.{Entry}
-use Rattle.safe_machine.specs.declared.decisions.Entry.TheVariants.{Take as TakeIt, Ask as AskAgain, Answer as AnswerIt, Resume as ResumeNow, Refuse as RefuseIt, Skip as SkipIt}
-use Rattle.safe_machine.specs.Table.{Cell}
-use Rattle.safe_machine.specs.Table.Cell.{Take, Ask, Answer, Resume, Refuse, Skip}
-use Rattle.safe_machine.specs.Decision.{Decision}
-use Rattle.safe_machine.specs.Decision.Decision.{Nothing, Drops, Shuts, Leaves, Rejects, Accepts, Connects, Takes, Asks, Resumes, AnswersNext, AnswersEarly}
+use Rattle.safe_machine.specs.declared.decision.Decision.{Decision}
+use Rattle.safe_machine.specs.declared.decision.Decision.TheVariants.{Drops, Leaves, Accepts, Connects, Takes, Resumes, AnswersNext, AnswersEarly}
 use Rattle.safe_machine.specs.declared.DropCause.TheVariants.{Below}
 use Rattle.safe_machine.specs.declared.Reason.TheVariants.{RetransmissionImpossible}
 use Rattle.safe_machine.specs.declared.Detail.TheVariants.{Unspecified}
@@ -17,28 +11,6 @@ use Rattle.safe_pdu.specs.declared.Kind.TheVariants.{ConnReq}
 use Rattle.safe_machine.specs.Made.{carries}
 use Rattle.safe_machine.specs.Numbers.{sn_of, ahead}
 use Rattle.safe_machine.specs.View.{View}
-
-abbrev pub meaning : Course → Decision
-meaning NothingToDo = Nothing
-meaning (DropsIt cause) = Drops cause
-meaning ShutsDown = Shuts
-meaning (LeavesNow reason detail) = Leaves reason detail
-meaning RejectsIt = Rejects
-meaning AcceptsIt = Accepts
-meaning ConnectsNow = Connects
-meaning (TakesIt connection) = Takes connection
-meaning AsksAgain = Asks
-meaning ResumesNow = Resumes
-meaning AnswersInTurn = AnswersNext
-meaning AnswersAhead = AnswersEarly
-
-abbrev pub says : Entry → Cell
-says (TakeIt connection) = Take connection
-says AskAgain = Ask
-says AnswerIt = Answer
-says ResumeNow = Resume
-says (RefuseIt reason) = Refuse reason
-says SkipIt = Skip
 
 -- how far numbers of a PDU lie ahead of what is kept
 abbrev pub sn_ahead : View → ℕ → ℕ

@@ -7,8 +7,8 @@ use Rattle.safe_machine.specs.declared.ConnectionState.{ConnectionState}
 use Rattle.safe_machine.specs.declared.ConnectionState.TheVariants.{Closed, Down, Start, Up, RetrRun}
 use Rattle.safe_machine.specs.declared.DropCause.{DropCause}
 use Rattle.safe_machine.specs.declared.DropCause.TheVariants.{Stranger, NotOpened, Number, Request, Answered, Below}
-use Rattle.safe_machine.specs.declared.Reason.{Reason}
-use Rattle.safe_machine.specs.declared.Detail.{Detail}
+use Rattle.safe_machine.specs.declared.decision.Decision.{Decision}
+use Rattle.safe_machine.specs.declared.decision.Decision.TheVariants.{Nothing, Drops, Shuts, Leaves, Rejects, Accepts, Connects, Takes, Asks, Resumes, AnswersNext, AnswersEarly}
 use Rattle.safe_machine.specs.declared.Step.{Step as Answer}
 use Rattle.safe_machine.specs.declared.Step.TheVariants.{Taken, Dropped, Gap, Left, Nothing as NoAnswer}
 use Rattle.safe_machine.specs.Made.{our_version}
@@ -17,25 +17,11 @@ use Rattle.std.specs.Str.{bytes_eq}
 use Rattle.safe_pdu.specs.Pdu.{Pdu}
 use Rattle.safe_pdu.specs.Bodies.{version_of}
 use Rattle.safe_machine.specs.State.{State, cs_step, cts_step}
-use Rattle.safe_machine.specs.Table.{Cell, cell}
-use Rattle.safe_machine.specs.Table.Cell.{Take, Ask, Answer as Reply, Resume, Refuse, Skip}
+use Rattle.safe_machine.specs.declared.table.Cell.{Cell}
+use Rattle.safe_machine.specs.Table.{cell}
+use Rattle.safe_machine.specs.declared.table.Cell.TheVariants.{Take, Ask, Answer as Reply, Resume, Refuse, Skip}
 use Rattle.safe_machine.specs.declared.Reason.TheVariants.{UnexpectedPdu, WrongVersion, RetransmissionImpossible, ProtocolError}
 use Rattle.safe_machine.specs.declared.Detail.TheVariants.{Unspecified, ConfirmedNumber, ConfirmedTimestamp}
-
--- What an end may do on an arrival.
-pub data Decision : Type 0 where
-  Nothing : Decision
-  Drops : DropCause → Decision
-  Shuts : Decision  -- a DiscReq
-  Leaves : Reason → Detail → Decision
-  Rejects : Decision  -- a ConnReq of another version
-  Accepts : Decision  -- a ConnReq
-  Connects : Decision  -- a ConnResp
-  Takes : ConnectionState → Decision
-  Asks : Decision
-  Resumes : Decision
-  AnswersNext : Decision  -- a RetrReq that is the next PDU
-  AnswersEarly : Decision  -- any other RetrReq
 
 -- a ConnReq or ConnResp has the version of this profile
 abbrev pub is_ours : List ℕ → Bool

@@ -9,8 +9,9 @@ use Rattle.safe_machine.specs.Made.{Made, opening_body, leaving_body, carries}
 use Rattle.safe_machine.specs.State.{State, unconfirmed, make, move_to, pass, confirm_units, confirm_time, hand_up, note_request, reply, ask, leave}
 use Rattle.safe_machine.specs.declared.Step.{Step as Answer}
 use Rattle.safe_machine.specs.declared.Step.TheVariants.{Left}
-use Rattle.safe_machine.specs.Decision.{Decision, answer_of, decide, distance, in_turn}
-use Rattle.safe_machine.specs.Decision.Decision.{Nothing, Drops, Shuts, Leaves, Rejects, Accepts, Connects, Takes, Asks, Resumes, AnswersNext, AnswersEarly}
+use Rattle.safe_machine.specs.declared.decision.Decision.{Decision}
+use Rattle.safe_machine.specs.Decision.{answer_of, decide, distance, in_turn}
+use Rattle.safe_machine.specs.declared.decision.Decision.TheVariants.{Nothing, Drops, Shuts, Leaves, Rejects, Accepts, Connects, Takes, Asks, Resumes, AnswersNext, AnswersEarly}
 use Rattle.safe_machine.specs.declared.Reason.TheVariants.{Timeout, WrongVersion, ProtocolError}
 use Rattle.safe_machine.specs.declared.Detail.TheVariants.{Unspecified, Limit}
 

@@ -9,19 +9,19 @@ ghost use Rattle.safe_pdu.specs.SafeText.{safe_text};
 ghost use Rattle.safe_pdu.specs.Bodies.{IsBody, window_of};
 ghost use Rattle.safe_machine.specs.Made.{carries, opening_body};
 ghost use Rattle.safe_machine.specs.State.{State, ask, make, next_made, note_request, pass, reply, resend};
-ghost use Rattle.safe_machine.specs.Decision.{Decision, answer_of, decide};
+ghost use Rattle.safe_machine.specs.Decision.{answer_of, decide};
 ghost use Rattle.safe_machine.specs.Moves.{IsUnitSized};
 ghost use Rattle.safe_machine.specs.Octets.{arrive_octets, heard_answer, octets_answer};
 ghost use Rattle.safe_machine.specs.Properties.{HandsIf, IsNextData, IsRecent, OnlyConfirms, index_step};
 ghost use Rattle.safe_machine.specs.Reached.{IsReached, Known, Sound};
 ghost use Rattle.safe_machine.specs.declared.ConnectionState.TheVariants.{Up};
 ghost use Rattle.safe_pdu.specs.Places.{safe_seen};
-ghost use Rattle.safe_machine.specs.Decision.Decision.{Accepts, AnswersEarly, AnswersNext, Asks, Connects, Rejects, Resumes, Takes};
+ghost use Rattle.safe_machine.specs.declared.decision.Decision.TheVariants.{Accepts, AnswersEarly, AnswersNext, Asks, Connects, Rejects, Resumes, Takes};
 ghost use Rattle.safe_machine.specs.Step.{arrive, arrive_answer, beat, carry_out, guard, receive, send, take_unit, set_window, tests_passed};
-ghost use Rattle.safe_machine.specs.Course.{Allows, cs_ahead, handed_by, meaning, cts_ahead, carried, sn_ahead};
+ghost use Rattle.safe_machine.specs.Course.{Allows, cs_ahead, handed_by, cts_ahead, carried, sn_ahead};
 ghost use Rattle.safe_machine.specs.View.{AllBelow, AllUnits, Does, Hands, HandsOut, HandsUp, StandsFor, Turns, answered_ahead, beside, has_room, leaves_units};
 
-use super::decisions::Course;
+use super::decision::Decision;
 use super::endpoint::{Endpoint, opening_octets};
 use super::{ConnectionState, Detail, DropCause, PduOut, Reason, Step, Unit, UnitIn};
 use octets::limits::UNIT_MAX;
@@ -415,7 +415,7 @@ impl<A: Allocator> Endpoint<A> {
     /// Does what was decided.
     fn carry_out<O: PduOut, U: UnitIn>(
         &mut self,
-        course: Course,
+        decision: Decision,
         pdu: &SafePdu<'_>,
         now: u64,
         out: &mut O,
@@ -423,24 +423,24 @@ impl<A: Allocator> Endpoint<A> {
     )
         requires sound { Sound self.old }
         requires reach { self.old.expected < 2 ^ 62 }
-        requires allows { Allows self.old (pdu_of pdu.now) now (meaning course) }
+        requires allows { Allows self.old (pdu_of pdu.now) now decision }
         requires ready { U.ready units.old }
-        ensures does { Does O.makes (carry_out (pdu_of pdu.now) now (meaning course)) self.old out.old self.new out.new }
-        ensures taken { FoldsTo U.takes units.old (handed_by (meaning course) (pdu_of pdu.now)) units.new }
+        ensures does { Does O.makes (carry_out (pdu_of pdu.now) now decision) self.old out.old self.new out.new }
+        ensures taken { FoldsTo U.takes units.old (handed_by decision (pdu_of pdu.now)) units.new }
         ensures ready { U.ready units.new }
     {
-        match course {
-            Course::Nothing | Course::Drops(_) => {}
-            Course::Shuts => self.move_to(ConnectionState::Closed),
-            Course::Leaves(reason, detail) => self.leave(reason, detail, now, out),
-            Course::Rejects => self.rejects(pdu, now, out),
-            Course::Accepts => self.accepts(pdu, now, out),
-            Course::Connects => self.connects(pdu, now, out),
-            Course::Takes(connection) => self.takes(pdu, now, connection, out, units),
-            Course::Asks => self.asks(now, out),
-            Course::Resumes => self.resumes(pdu, now),
-            Course::AnswersNext => self.answers_next(pdu, now, out),
-            Course::AnswersEarly => self.answers_early(pdu, now, out),
+        match decision {
+            Decision::Nothing | Decision::Drops(_) => {}
+            Decision::Shuts => self.move_to(ConnectionState::Closed),
+            Decision::Leaves(reason, detail) => self.leave(reason, detail, now, out),
+            Decision::Rejects => self.rejects(pdu, now, out),
+            Decision::Accepts => self.accepts(pdu, now, out),
+            Decision::Connects => self.connects(pdu, now, out),
+            Decision::Takes(connection) => self.takes(pdu, now, connection, out, units),
+            Decision::Asks => self.asks(now, out),
+            Decision::Resumes => self.resumes(pdu, now),
+            Decision::AnswersNext => self.answers_next(pdu, now, out),
+            Decision::AnswersEarly => self.answers_early(pdu, now, out),
         }
     }
 
@@ -462,9 +462,9 @@ impl<A: Allocator> Endpoint<A> {
         ensures answer { (s : State) → StandsFor self.old s → result ≡ answer_of (decide s (pdu_of pdu.now) now) }
         ensures ready { U.ready units.new }
     {
-        let course = self.decide(pdu, now);
-        self.carry_out(course, pdu, now, out, units);
-        course.answer()
+        let decision = self.decide(pdu, now);
+        self.carry_out(decision, pdu, now, out, units);
+        decision.answer()
     }
 
     /// The guard, and then what a PDU brings.
@@ -503,8 +503,8 @@ impl<A: Allocator> Endpoint<A> {
         ensures does { Does O.makes (guard now) self.old out.old self.new out.new }
         ensures answer { (s : State) → StandsFor self.old s → result ≡ heard_answer (Err fault) now s }
     {
-        let course = self.overdue(now);
-        if let Some((reason, detail)) = course {
+        let leaving = self.overdue(now);
+        if let Some((reason, detail)) = leaving {
             self.leave(reason, detail, now, out);
             return Step::Left(reason, detail);
         }
@@ -545,17 +545,17 @@ impl<A: Allocator> Endpoint<A> {
     }
 }
 
-impl Course {
+impl Decision {
     /// What a decision is told as.
     fn answer(self) -> Step
-        ensures { result ≡ answer_of (meaning self) }
+        ensures { result ≡ answer_of self }
     {
         match self {
-            Course::Nothing | Course::Shuts => Step::Nothing,
-            Course::Drops(cause) => Step::Dropped(cause),
-            Course::Leaves(reason, detail) => Step::Left(reason, detail),
-            Course::Rejects => Step::Left(Reason::WrongVersion, Detail::Unspecified),
-            Course::Asks => Step::Gap,
+            Decision::Nothing | Decision::Shuts => Step::Nothing,
+            Decision::Drops(cause) => Step::Dropped(cause),
+            Decision::Leaves(reason, detail) => Step::Left(reason, detail),
+            Decision::Rejects => Step::Left(Reason::WrongVersion, Detail::Unspecified),
+            Decision::Asks => Step::Gap,
             _ => Step::Taken,
         }
     }
