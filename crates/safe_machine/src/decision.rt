@@ -3,11 +3,8 @@
 ghost use Rattle.std.specs.Prelude.{◌≡◌, ◌+◌, ◌<◌, ◌^◌, ◌%◌, ℕ, Bool};
 ghost use Rattle.safe_pdu.specs.Pdu.{Pdu, pdu_of};
 ghost use Rattle.safe_pdu.specs.Bodies.{IsBody};
-ghost use Rattle.safe_machine.specs.Numbers.{ahead, sn_of};
-ghost use Rattle.safe_machine.specs.State.{State};
-ghost use Rattle.safe_machine.specs.Decision.{answering, as_client, by_cell, by_connection, by_table, decide, distance, heard, in_down, in_start, is_closed, is_ours, is_stranger, tested};
-ghost use Rattle.safe_machine.specs.Course.{cs_ahead, cs_in, cts_ahead, cts_in, for_unfit, sn_ahead};
-ghost use Rattle.safe_machine.specs.View.{StandsFor};
+ghost use Rattle.safe_machine.specs.Numbers.{ahead};
+ghost use Rattle.safe_machine.specs.Decision.{answering, as_client, by_cell, by_connection, by_table, decide, distance, heard, in_down, in_start, is_ours, is_foreign, tested, cs_step, cs_fits, cts_step, cts_fits, unconfirming};
 
 use super::endpoint::{Endpoint, VERSION, low};
 use super::table::{Cell, cell_of};
@@ -80,14 +77,14 @@ fn in_down(pdu: &SafePdu<'_>) -> Decision
 impl<A: Allocator> Endpoint<A> {
     /// How far a PDU lies ahead of the expected one.
     pub(crate) fn distance(&self, pdu: &SafePdu<'_>) -> u32
-        ensures { result ≡ sn_ahead self.now pdu.now.sn }
+        ensures { result ≡ distance self.now (pdu_of pdu.now) }
     {
         steps_ahead(self.last_sn.wrapping_add(1), pdu.sn)
     }
 
     /// How many PDUs it confirms beyond those that were confirmed.
     pub(crate) fn cs_step(&self, pdu: &SafePdu<'_>) -> u32
-        ensures { result ≡ cs_ahead self.now pdu.now.cs }
+        ensures { result ≡ cs_step self.now (pdu_of pdu.now) }
     {
         let confirmed = self.first.wrapping_add(low(self.confirmed));
         steps_ahead(confirmed, pdu.cs)
@@ -95,35 +92,35 @@ impl<A: Allocator> Endpoint<A> {
 
     /// How far it confirms the own time beyond what was confirmed.
     pub(crate) fn cts_step(&self, pdu: &SafePdu<'_>) -> u32
-        ensures { result ≡ cts_ahead self.now pdu.now.cts }
+        ensures { result ≡ cts_step self.now (pdu_of pdu.now) }
     {
         steps_ahead(low(self.confirmed_at), pdu.cts)
     }
 
     /// Whether it confirms what was made.
     fn cs_fits(&self, pdu: &SafePdu<'_>) -> bool
-        ensures { result ≡ cs_in self.now pdu.now.cs }
+        ensures { result ≡ cs_fits self.now (pdu_of pdu.now) }
     {
         u64::from(self.cs_step(pdu)) < self.made.saturating_sub(self.confirmed)
     }
 
     /// Whether it confirms a time that is past.
     fn cts_fits(&self, pdu: &SafePdu<'_>, now: u64) -> bool
-        ensures { result ≡ cts_in self.now pdu.now.cts now }
+        ensures { result ≡ cts_fits self.now (pdu_of pdu.now) now }
     {
         u64::from(self.cts_step(pdu)) <= now.saturating_sub(self.confirmed_at)
     }
 
     /// Whether it is not of this pair of ends.
-    fn is_stranger(&self, pdu: &SafePdu<'_>) -> bool
-        ensures { (s : State) → StandsFor self.now s → result ≡ is_stranger s (pdu_of pdu.now) }
+    fn is_foreign(&self, pdu: &SafePdu<'_>) -> bool
+        ensures { result ≡ is_foreign self.now.settings (pdu_of pdu.now) }
     {
         pdu.receiver != self.config.own || pdu.sender != self.config.peer
     }
 
     /// A decision under the confirmation tests.
     fn tested(&self, pdu: &SafePdu<'_>, now: u64, decision: Decision) -> Decision
-        ensures { (s : State) → StandsFor self.now s → result ≡ tested s (pdu_of pdu.now) now decision }
+        ensures { result ≡ tested self.now (pdu_of pdu.now) now decision }
     {
         if !self.cs_fits(pdu) {
             return Decision::Leaves(Reason::ProtocolError, Detail::ConfirmedNumber);
@@ -137,7 +134,7 @@ impl<A: Allocator> Endpoint<A> {
     /// What a client in Start decides.
     fn as_client(&self, pdu: &SafePdu<'_>, now: u64) -> Decision
         requires { IsBody pdu.now.kind pdu.now.body.now }
-        ensures { (s : State) → StandsFor self.now s → result ≡ as_client s (pdu_of pdu.now) now pdu.now.kind }
+        ensures { result ≡ as_client self.now (pdu_of pdu.now) now pdu.now.kind }
     {
         match pdu.kind {
             Kind::ConnResp => {
@@ -154,13 +151,13 @@ impl<A: Allocator> Endpoint<A> {
     /// What the number of a RetrReq makes of it.
     fn answering(&self, pdu: &SafePdu<'_>, now: u64, distance: u32) -> Decision
         requires { self.now.expected < 2 ^ 62 }
-        ensures { (s : State) → StandsFor self.now s → result ≡ answering s (pdu_of pdu.now) now distance }
+        ensures { result ≡ answering self.now (pdu_of pdu.now) now distance }
     {
         if self.expected + u64::from(distance) <= self.answered {
             return Decision::Drops(DropCause::Answered);
         }
         if !self.cs_fits(pdu) {
-            return self.not_confirming(pdu);
+            return self.unconfirming(pdu);
         }
         if distance != 0 || !self.connection.in_turn() {
             return Decision::AnswersEarly;
@@ -172,8 +169,8 @@ impl<A: Allocator> Endpoint<A> {
     }
 
     /// What becomes of a RetrReq that confirms nothing that awaits it.
-    fn not_confirming(&self, pdu: &SafePdu<'_>) -> Decision
-        ensures { result ≡ for_unfit self.now pdu.now.cs }
+    fn unconfirming(&self, pdu: &SafePdu<'_>) -> Decision
+        ensures { result ≡ unconfirming self.now (pdu_of pdu.now) }
     {
         if self.cs_step(pdu) >= 0x8000_0000 {
             Decision::Drops(DropCause::Below)
@@ -185,7 +182,7 @@ impl<A: Allocator> Endpoint<A> {
     /// What a cell of the table makes of a PDU.
     fn by_cell(&self, pdu: &SafePdu<'_>, now: u64, distance: u32, cell: Cell) -> Decision
         requires { self.now.expected < 2 ^ 62 }
-        ensures { (s : State) → StandsFor self.now s → result ≡ by_cell s (pdu_of pdu.now) now distance cell }
+        ensures { result ≡ by_cell self.now (pdu_of pdu.now) now distance cell }
     {
         match cell {
             Cell::Take(connection) => self.tested(pdu, now, Decision::Takes(connection)),
@@ -200,7 +197,7 @@ impl<A: Allocator> Endpoint<A> {
     /// What an end with an expected number decides.
     fn by_table(&self, pdu: &SafePdu<'_>, now: u64) -> Decision
         requires { self.now.expected < 2 ^ 62 }
-        ensures { (s : State) → StandsFor self.now s → result ≡ by_table s (pdu_of pdu.now) now (distance s (pdu_of pdu.now)) }
+        ensures { result ≡ by_table self.now (pdu_of pdu.now) now (distance self.now (pdu_of pdu.now)) }
     {
         let distance = self.distance(pdu);
         if u64::from(distance) > REACH * u64::from(self.config.n_sendmax) {
@@ -214,7 +211,7 @@ impl<A: Allocator> Endpoint<A> {
     fn in_start(&self, pdu: &SafePdu<'_>, now: u64) -> Decision
         requires body { IsBody pdu.now.kind pdu.now.body.now }
         requires reach { self.now.expected < 2 ^ 62 }
-        ensures { (s : State) → StandsFor self.now s → result ≡ in_start s (pdu_of pdu.now) now }
+        ensures { result ≡ in_start self.now (pdu_of pdu.now) now }
     {
         match self.role {
             Role::Client => self.as_client(pdu, now),
@@ -226,7 +223,7 @@ impl<A: Allocator> Endpoint<A> {
     fn by_connection(&self, pdu: &SafePdu<'_>, now: u64) -> Decision
         requires body { IsBody pdu.now.kind pdu.now.body.now }
         requires reach { self.now.expected < 2 ^ 62 }
-        ensures { (s : State) → StandsFor self.now s → result ≡ by_connection s (pdu_of pdu.now) now self.now.connection }
+        ensures { result ≡ by_connection self.now (pdu_of pdu.now) now self.now.connection }
     {
         let is_goodbye = matches!(pdu.kind, Kind::DiscReq);
         match self.connection {
@@ -242,9 +239,9 @@ impl<A: Allocator> Endpoint<A> {
     fn heard(&self, pdu: &SafePdu<'_>, now: u64) -> Decision
         requires body { IsBody pdu.now.kind pdu.now.body.now }
         requires reach { self.now.expected < 2 ^ 62 }
-        ensures { (s : State) → StandsFor self.now s → result ≡ heard s (pdu_of pdu.now) now }
+        ensures { result ≡ heard self.now (pdu_of pdu.now) now }
     {
-        if self.is_stranger(pdu) {
+        if self.is_foreign(pdu) {
             return Decision::Drops(DropCause::Stranger);
         }
         self.by_connection(pdu, now)
@@ -254,7 +251,7 @@ impl<A: Allocator> Endpoint<A> {
     pub(crate) fn decide(&self, pdu: &SafePdu<'_>, now: u64) -> Decision
         requires body { IsBody pdu.now.kind pdu.now.body.now }
         requires reach { self.now.expected < 2 ^ 62 }
-        ensures { (s : State) → StandsFor self.now s → result ≡ decide s (pdu_of pdu.now) now }
+        ensures { result ≡ decide self.now (pdu_of pdu.now) now }
     {
         if self.connection == ConnectionState::Closed {
             return Decision::Nothing;
