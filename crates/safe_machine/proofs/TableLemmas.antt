@@ -5,11 +5,11 @@ use Rattle.safe_pdu.specs.declared.Kind.TheVariants.{ConnReq, ConnResp, RetrReq,
 use Rattle.safe_machine.specs.declared.ConnectionState.{ConnectionState}
 use Rattle.safe_machine.specs.declared.ConnectionState.TheVariants.{Closed, Down, Start, Up, RetrReq as Requesting, RetrRun}
 use Rattle.safe_machine.specs.Made.{carries, after_pdu, is_answer}
-use Rattle.safe_machine.specs.Decision.{in_turn}
-use Rattle.safe_machine.specs.Step.{is_connected}
-use Rattle.safe_machine.specs.Table.{Cell, cell, start_row, up_row, run_row, request_row}
-use Rattle.safe_machine.specs.Table.Cell.{Take, Ask, Answer, Resume, Refuse, Skip}
+use Rattle.safe_machine.specs.declared.table.Cell.{Cell}
+use Rattle.safe_machine.specs.Table.{cell, start_row, up_row, run_row, request_row}
+use Rattle.safe_machine.specs.declared.table.Cell.TheVariants.{Take, Ask, Answer, Resume, Refuse, Skip}
 use Rattle.safe_machine.proofs.Invariant.{room, needs_peer}
+use Rattle.safe_machine.specs.Connections.{in_turn, is_connected}
 
 -- the facts on which the law rests: each entry of the table, and nothing else of it
 abbrev pub Allowed : ConnectionState → Bool → Kind → Cell → Type 0
