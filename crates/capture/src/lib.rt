@@ -14,7 +14,7 @@ mod window;
 mod words;
 
 pub use connections::{CONNECTIONS, Connection, Connections, Route, follow};
-pub use direction::{CHANNELS, Direction, Place, Remarks, Tally, follow_pdu};
+pub use direction::{CHANNELS, Direction, Opening, Place, Remarks, Tally, follow_pdu};
 pub use following::{Following, Remark, Totals, sum_up};
 pub use heard::{Header, Heard, hear};
 pub use line::{Address, Buffer, LineFault, PAYLOAD_ROOM, Record, read_line};

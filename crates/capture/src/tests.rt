@@ -120,6 +120,7 @@ fn remarks(
     age: Option<u32>,
 ) -> Remark {
     Remark::Pdu(Remarks {
+        opens: false,
         channel: Some(channel),
         together,
         sequence,
@@ -201,8 +202,9 @@ fn goes_round_and_begins_anew(rt: HostRuntime) {
     assert_eq!(rt; note(&mut window, 65_536, 3), Judged::Ahead(65_535));
     assert_eq!(rt; note(&mut window, 4_000_000, 4), Judged::Anew);
     assert_eq!(rt; note(&mut window, 4_000_001, 5), Judged::Next);
-    assert_eq!(rt; note(&mut window, 0, 6), Judged::Anew);
-    assert_eq!(rt; window.missing, 65_535);
+    assert_eq!(rt; note(&mut window, 0, 6), Judged::Stale);
+    assert_eq!(rt; note(&mut window, 4_000_002, 7), Judged::Next);
+    assert_eq!(rt; (window.missing, window.stale), (65_535, 1));
 }
 
 // Nothing is said of a PDU that follows as it should, and each remark has its words.
@@ -210,6 +212,7 @@ fn goes_round_and_begins_anew(rt: HostRuntime) {
 fn writes_remarks(rt: HostRuntime) -> Result<(), Fail> {
     let mut text = Vec::new(rt.alloc());
     let quiet = Remarks {
+        opens: false,
         channel: Some(Judged::First),
         together: Judged::Next,
         sequence: Some(Judged::Next),
@@ -220,6 +223,7 @@ fn writes_remarks(rt: HostRuntime) -> Result<(), Fail> {
     write_remarks(&mut text, &quiet)?;
     assert!(rt; text.is_empty());
     let loud = Remarks {
+        opens: true,
         channel: Some(Judged::Repeat(12)),
         together: Judged::Late,
         sequence: Some(Judged::Ahead(2)),
@@ -232,7 +236,7 @@ fn writes_remarks(rt: HostRuntime) -> Result<(), Fail> {
     };
     write_remarks(&mut text, &loud)?;
     let wanted =
-        b" channel repeat of line 12 all late sn ahead 2 resent age 45 ms detail 3 reason 5";
+        b" opens channel repeat of line 12 all late sn ahead 2 resent age 45 ms detail 3 reason 5";
     assert!(rt; text.as_slice() == wanted.as_slice());
     Ok(())
 }
@@ -242,8 +246,65 @@ fn writes_remarks(rt: HostRuntime) -> Result<(), Fail> {
 fn keeps_the_newest(rt: HostRuntime) -> Result<(), Fail> {
     let mut window = Window::new();
     assert_eq!(rt; note(&mut window, 100, 1), Judged::First);
-    assert_eq!(rt; judge(&window, 68), Judged::Anew);
+    assert_eq!(rt; judge(&window, 68), Judged::Stale);
     assert_eq!(rt; note(&mut window, 69, 2), Judged::Late);
     assert_eq!(rt; judge(&window, 100), Judged::Repeat(1));
     Ok(())
+}
+
+fn opening(seq: u32, sn: u32, ts: u32) -> Heard {
+    Heard::Pdu(
+        seq,
+        Header {
+            kind: Kind::ConnReq,
+            receiver: 2,
+            sender: 1,
+            sn,
+            cs: 0,
+            ts,
+            cts: 0,
+            leaving: None,
+        },
+    )
+}
+
+// A copy more than 31 numbers late changes nothing; a new ConnReq begins all numbers, and a copy of it does not.
+#[test]
+fn opens_again(rt: HostRuntime) {
+    let mut all = Following::new();
+    for seq in 0..50u32 {
+        let at = seq as u64 + 1;
+        let _remark = all.hear(at, &record(at, 0, false), &pdu(seq, (1, 2), seq, (100, 0)));
+    }
+    let stale = all.hear(51, &record(51, 1, false), &pdu(3, (1, 2), 3, (100, 0)));
+    assert_eq!(rt; stale, remarks(Judged::First, Judged::Stale, None, None));
+    let next = all.hear(52, &record(52, 0, false), &pdu(50, (1, 2), 50, (150, 0)));
+    assert_eq!(rt;
+        next,
+        remarks(Judged::Next, Judged::Next, Some(Judged::Next), None)
+    );
+    let fresh = Remarks {
+        opens: true,
+        channel: Some(Judged::First),
+        together: Judged::First,
+        sequence: Some(Judged::First),
+        resent: false,
+        age: None,
+        leaving: None,
+    };
+    assert_eq!(rt;
+        all.hear(53, &record(53, 0, false), &opening(0, 900, 7)),
+        Remark::Pdu(fresh)
+    );
+    let copy = all.hear(54, &record(54, 1, false), &opening(0, 900, 7));
+    assert_eq!(rt;
+        copy,
+        remarks(Judged::First, Judged::Repeat(53), None, None)
+    );
+    let wanted = Totals {
+        heard: 52,
+        missing: 0,
+        repeats: 1,
+    };
+    assert_eq!(rt; sum_up(all.connections.as_slice()), wanted);
 }
