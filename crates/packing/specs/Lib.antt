@@ -1,2 +1,3 @@
 pub mod UnitText
 pub mod Places
+pub mod FaultNames

@@ -5,6 +5,9 @@
 //! this project's profile.
 #![tactic(auto)]
 
+ghost use Rattle.std.specs.Prelude.{◌≡◌};
+ghost use Rattle.packing.specs.FaultNames.{unit_name, unit_number};
+
 use arrayvec::ArrayVec;
 use octets::limits::{UNIT_MAX, UNIT_MESSAGES};
 
@@ -31,6 +34,30 @@ pub enum PackFault {
     Length,
     /// Three messages were read and octets remain.
     TooMany,
+}
+
+impl PackFault {
+    /// The fault's number, as it is printed: its place among the faults, from 1.
+    pub fn number(self) -> u8
+        ensures { result ≡ unit_number self }
+    {
+        match self {
+            PackFault::Empty => 1,
+            PackFault::Length => 2,
+            PackFault::TooMany => 3,
+        }
+    }
+
+    /// The fault's name, as it is printed.
+    pub fn name(self) -> &'static str
+        ensures { result.now ≡ unit_name self }
+    {
+        match self {
+            PackFault::Empty => "Empty",
+            PackFault::Length => "Length",
+            PackFault::TooMany => "TooMany",
+        }
+    }
 }
 
 /// As many messages wait as there is room for.

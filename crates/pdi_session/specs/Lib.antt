@@ -5,3 +5,4 @@ pub mod SessionStep
 pub mod Histories
 pub mod Laws
 pub mod JoinedSessions
+pub mod FaultNames

@@ -6,6 +6,7 @@
 #![tactic(auto)]
 
 ghost use Rattle.std.specs.Prelude.{◌≡◌, ℕ, List};
+ghost use Rattle.pdi_session.specs.FaultNames.{init_fault_name, put_fault_name};
 ghost use Rattle.pdi_session.specs.Tables.{detail_number};
 
 use arrayvec::ArrayVec;
@@ -146,6 +147,20 @@ pub enum PutFault {
     TooLong,
 }
 
+impl PutFault {
+    /// The refusal's name, as it is printed.
+    pub fn name(self) -> &'static str
+        ensures { result.now ≡ put_fault_name self }
+    {
+        match self {
+            PutFault::NotEstablished => "NotEstablished",
+            PutFault::Full => "Full",
+            PutFault::ReservedType => "ReservedType",
+            PutFault::TooLong => "TooLong",
+        }
+    }
+}
+
 /// Why the end of the initialisation was not accepted. Where both hold, the first is named.
 #[derive(Clone, Copy, Debug, PartialEq, Eq)]
 pub enum InitFault {
@@ -153,6 +168,18 @@ pub enum InitFault {
     NotInitialising,
     /// As many messages wait as there is room for.
     Full,
+}
+
+impl InitFault {
+    /// The refusal's name, as it is printed.
+    pub fn name(self) -> &'static str
+        ensures { result.now ≡ init_fault_name self }
+    {
+        match self {
+            InitFault::NotInitialising => "NotInitialising",
+            InitFault::Full => "Full",
+        }
+    }
 }
 
 /// What takes the commands or status that the session accepts.

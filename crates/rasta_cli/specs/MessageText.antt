@@ -4,36 +4,16 @@ use Rattle.std.specs.Fmt.{decimal}
 use Rattle.std.specs.Int.{w16, to_be_bytes}
 use Rattle.hex.specs.Hex.{encode_lower}
 use Rattle.packing.specs.declared.PackFault.{PackFault}
-use Rattle.packing.specs.declared.PackFault.TheVariants as unit
+use Rattle.packing.specs.FaultNames.{unit_name, unit_number}
 use Rattle.packing.specs.Places.{unit_seen}
 use Rattle.safe_pdu.specs.declared.Kind.{Kind}
 use Rattle.safe_pdu.specs.declared.Kind.TheVariants.{Data, RetrData}
 use Rattle.sci_telegram.specs.declared.TeleFault.{TeleFault}
-use Rattle.sci_telegram.specs.declared.TeleFault.TheVariants as telegram
+use Rattle.sci_telegram.specs.FaultNames.{telegram_name, telegram_number}
 use Rattle.sci_telegram.specs.Places.{tele_seen}
 use Rattle.sci_telegram.specs.Tele.{Tele}
 use Rattle.rasta_cli.specs.Lines.{fault_line}
 use Rattle.sim_lines.specs.Lines.{joined, octets_text}
-
-abbrev pub unit_number : PackFault → ℕ
-unit_number unit.Empty = 1
-unit_number unit.Length = 2
-unit_number unit.TooMany = 3
-
-abbrev pub unit_name : PackFault → List ℕ
-unit_name unit.Empty = codes "Empty"
-unit_name unit.Length = codes "Length"
-unit_name unit.TooMany = codes "TooMany"
-
-abbrev pub telegram_number : TeleFault → ℕ
-telegram_number telegram.Short = 1
-telegram_number telegram.Long = 2
-telegram_number telegram.Name = 3
-
-abbrev pub telegram_name : TeleFault → List ℕ
-telegram_name telegram.Short = codes "Short"
-telegram_name telegram.Long = codes "Long"
-telegram_name telegram.Name = codes "Name"
 
 -- message NUMBER
 abbrev pub message_label : ℕ → List ℕ

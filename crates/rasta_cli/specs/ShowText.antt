@@ -2,54 +2,19 @@
 use Rattle.std.specs.Prelude.{ℕ, Bool, false, List, [], ◌∷◌, ◌++◌, length, codes, Result, Ok, Err}
 use Rattle.std.specs.Fmt.{decimal}
 use Rattle.red_pdu.specs.declared.RedFault.{RedFault}
-use Rattle.red_pdu.specs.declared.RedFault.TheVariants as red
+use Rattle.red_pdu.specs.FaultNames.{red_name, red_number}
 use Rattle.red_pdu.specs.RedText.{red_seen}
 use Rattle.safe_pdu.specs.declared.CodeRule.{CodeRule}
 use Rattle.safe_pdu.specs.declared.Kind.{Kind}
-use Rattle.safe_pdu.specs.declared.Kind.TheVariants.{ConnReq, ConnResp, RetrReq, RetrResp, DiscReq, Heartbeat, Data, RetrData}
+use Rattle.safe_pdu.specs.declared.Kind.TheVariants.{ConnReq, ConnResp, DiscReq}
 use Rattle.safe_pdu.specs.declared.SafeFault.{SafeFault}
-use Rattle.safe_pdu.specs.declared.SafeFault.TheVariants as safe
 use Rattle.safe_pdu.specs.Pdu.{Pdu}
+use Rattle.safe_pdu.specs.Names.{kind_name, safe_name, safe_number}
 use Rattle.safe_pdu.specs.Bodies.{version_of, window_of, detail_of, reason_of}
 use Rattle.safe_pdu.specs.Places.{safe_seen}
 use Rattle.rasta_cli.specs.Lines.{fault_line}
 use Rattle.sim_lines.specs.Lines.{joined}
 use Rattle.rasta_cli.specs.MessageText.{unit_lines, is_clean_body}
-
--- a fault's number is its place among the faults of its layer, from 1
-abbrev pub red_number : RedFault → ℕ
-red_number red.Short = 1
-red_number red.Length = 2
-red_number red.Reserve = 3
-
-abbrev pub red_name : RedFault → List ℕ
-red_name red.Short = codes "Short"
-red_name red.Length = codes "Length"
-red_name red.Reserve = codes "Reserve"
-
-abbrev pub safe_number : SafeFault → ℕ
-safe_number safe.Short = 1
-safe_number safe.Length = 2
-safe_number safe.Code = 3
-safe_number safe.BadType = 4
-safe_number safe.Body = 5
-
-abbrev pub safe_name : SafeFault → List ℕ
-safe_name safe.Short = codes "Short"
-safe_name safe.Length = codes "Length"
-safe_name safe.Code = codes "Code"
-safe_name safe.BadType = codes "Type"
-safe_name safe.Body = codes "Body"
-
-abbrev pub kind_name : Kind → List ℕ
-kind_name ConnReq = codes "ConnReq"
-kind_name ConnResp = codes "ConnResp"
-kind_name RetrReq = codes "RetrReq"
-kind_name RetrResp = codes "RetrResp"
-kind_name DiscReq = codes "DiscReq"
-kind_name Heartbeat = codes "HB"
-kind_name Data = codes "Data"
-kind_name RetrData = codes "RetrData"
 
 abbrev pub red_line : ℕ → ℕ → List ℕ
 red_line size seq = joined (codes "red length " ∷ decimal size ∷ codes " seq " ∷ decimal seq ∷ codes "\n" ∷ [])

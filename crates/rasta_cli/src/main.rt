@@ -5,7 +5,6 @@ mod command_line;
 mod hex_text;
 mod lines;
 mod messages;
-mod names;
 mod net;
 mod program;
 mod runs;

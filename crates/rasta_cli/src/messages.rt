@@ -10,7 +10,6 @@ ghost use Rattle.rasta_cli.specs.MessageText.{are_telegrams, hex_field, telegram
 ghost use Rattle.packing.specs.Places.{unit_seen};
 
 use crate::lines::write_fault;
-use crate::names::{name_of_telegram, name_of_unit, number_of_telegram, number_of_unit};
 use safe_pdu::Kind;
 use sci_telegram::Telegram;
 use sim_lines::{write_hex, write_octets, write_text};
@@ -42,7 +41,7 @@ fn show_unit<W: Write>(writer: &mut W, unit: &[u8]) -> io::Result<bool>
             Ok(clean)
         }
         Err(fault) => {
-            write_fault(writer, "unit", number_of_unit(fault), name_of_unit(fault))?;
+            write_fault(writer, "unit", fault.number(), fault.name())?;
             Ok(false)
         }
     }
@@ -72,12 +71,7 @@ fn write_message<W: Write>(writer: &mut W, number: usize, message: &[u8]) -> io:
             Ok(true)
         }
         Err(fault) => {
-            write_message_fault(
-                writer,
-                number,
-                number_of_telegram(fault),
-                name_of_telegram(fault),
-            )?;
+            write_message_fault(writer, number, fault.number(), fault.name())?;
             Ok(false)
         }
     }

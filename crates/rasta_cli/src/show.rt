@@ -11,7 +11,6 @@ ghost use Rattle.rasta_cli.specs.ShowText.{body_text, fields_text, is_clean, is_
 
 use crate::lines::write_fault;
 use crate::messages::show_body;
-use crate::names::{name_of_kind, name_of_red, name_of_safe, number_of_red, number_of_safe};
 use safe_pdu::{CodeRule, Kind, Leaving, Opening, SafePdu, read_leaving, read_opening};
 use sim_lines::write_text;
 use std::io;
@@ -35,7 +34,7 @@ pub fn show<W: Write>(octets: &[u8], rule: &CodeRule, writer: &mut W) -> io::Res
             Ok(clean)
         }
         Err(fault) => {
-            write_fault(writer, "red", number_of_red(fault), name_of_red(fault))?;
+            write_fault(writer, "red", fault.number(), fault.name())?;
             Ok(false)
         }
     }
@@ -53,7 +52,7 @@ fn show_upper<W: Write>(upper: &[u8], rule: &CodeRule, writer: &mut W) -> io::Re
             Ok(clean)
         }
         Err(fault) => {
-            write_fault(writer, "safe", number_of_safe(fault), name_of_safe(fault))?;
+            write_fault(writer, "safe", fault.number(), fault.name())?;
             Ok(false)
         }
     }
@@ -88,7 +87,7 @@ fn write_fields<W: Write>(writer: &mut W, pdu: &SafePdu<'_>) -> io::Result<()>
         cts,
         body: _,
     } = *pdu;
-    let name = name_of_kind(kind);
+    let name = kind.name();
     write!(
         writer,
         "{name} receiver {receiver} sender {sender} sn {sn} cs {cs} ts {ts} cts {cts}"

@@ -7,9 +7,7 @@ use channels::Channels;
 use end_settings::Side;
 use pdi_session::{InitFault, Phase, PutFault, Taker};
 use settings_file::Put;
-use sim_lines::{
-    Standing, init_fault_name, put_fault_name, write_refusal, write_report, write_take,
-};
+use sim_lines::{Standing, write_refusal, write_report, write_take};
 use stack_end::End;
 use std::alloc::{Allocator, Global};
 use std::io;
@@ -149,7 +147,7 @@ impl<'a, C: Channels, A: Allocator + Copy> Actor<'a, C, A> {
                     return Ok(());
                 }
                 Err(fault) => {
-                    if write_refusal(writer, put_fault_name(fault)).is_err() {
+                    if write_refusal(writer, fault.name()).is_err() {
                         return Err(Fault::Output);
                     }
                 }
@@ -170,7 +168,7 @@ impl<'a, C: Channels, A: Allocator + Copy> Actor<'a, C, A> {
         }
         match self.end.init_done(now) {
             Ok(()) | Err(InitFault::Full) => Ok(()),
-            Err(fault) => match write_refusal(writer, init_fault_name(fault)) {
+            Err(fault) => match write_refusal(writer, fault.name()) {
                 Ok(()) => Ok(()),
                 Err(_) => Err(Fault::Output),
             },

@@ -6,6 +6,7 @@
 #![tactic(auto)]
 
 ghost use Rattle.std.specs.Prelude.{◌≡◌, ℕ, ◌+◌, ◌≤◌, List, length, take, drop, IfOk, IfErr, IsOkAnd};
+ghost use Rattle.red_pdu.specs.FaultNames.{red_name, red_number};
 ghost use Rattle.red_pdu.specs.RedText.{RedText, FirstFault, red_seen, seen_of};
 
 use octets::limits::{RED_HEADER, RED_PDU_MAX, SAFE_PDU_MAX};
@@ -20,6 +21,30 @@ pub enum RedFault {
     Length,
     /// The reserve is not zero.
     Reserve,
+}
+
+impl RedFault {
+    /// The fault's number, as it is printed: its place among the faults, from 1.
+    pub fn number(self) -> u8
+        ensures { result ≡ red_number self }
+    {
+        match self {
+            RedFault::Short => 1,
+            RedFault::Length => 2,
+            RedFault::Reserve => 3,
+        }
+    }
+
+    /// The fault's name, as it is printed.
+    pub fn name(self) -> &'static str
+        ensures { result.now ≡ red_name self }
+    {
+        match self {
+            RedFault::Short => "Short",
+            RedFault::Length => "Length",
+            RedFault::Reserve => "Reserve",
+        }
+    }
 }
 
 /// A redundancy PDU as a view of the datagram that it was read from.

@@ -3,3 +3,4 @@ pub mod Bodies
 pub mod SafeText
 pub mod Places
 pub mod Laws
+pub mod Names

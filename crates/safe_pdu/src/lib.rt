@@ -8,6 +8,7 @@
 
 ghost use Rattle.std.specs.Prelude.{◌≡◌, ◌↔◌, ◌+◌, ◌≤◌, ◌++◌, length, take, drop, IsTrue};
 ghost use Rattle.std.specs.Str.{bytes_eq};
+ghost use Rattle.safe_pdu.specs.Names.{kind_name, safe_name, safe_number};
 ghost use Rattle.safe_pdu.specs.Pdu.{kind_number};
 ghost use Rattle.safe_pdu.specs.SafeText.{code_octets, code_over};
 
@@ -54,6 +55,22 @@ impl Kind {
             Kind::Heartbeat => 6220,
             Kind::Data => 6240,
             Kind::RetrData => 6241,
+        }
+    }
+
+    /// The type's name, as it is printed.
+    pub fn name(self) -> &'static str
+        ensures { result.now ≡ kind_name self }
+    {
+        match self {
+            Kind::ConnReq => "ConnReq",
+            Kind::ConnResp => "ConnResp",
+            Kind::RetrReq => "RetrReq",
+            Kind::RetrResp => "RetrResp",
+            Kind::DiscReq => "DiscReq",
+            Kind::Heartbeat => "HB",
+            Kind::Data => "Data",
+            Kind::RetrData => "RetrData",
         }
     }
 }
@@ -128,6 +145,34 @@ pub enum SafeFault {
     BadType,
     /// The body does not fit the type.
     Body,
+}
+
+impl SafeFault {
+    /// The fault's number, as it is printed: its place among the faults, from 1.
+    pub fn number(self) -> u8
+        ensures { result ≡ safe_number self }
+    {
+        match self {
+            SafeFault::Short => 1,
+            SafeFault::Length => 2,
+            SafeFault::Code => 3,
+            SafeFault::BadType => 4,
+            SafeFault::Body => 5,
+        }
+    }
+
+    /// The fault's name, as it is printed.
+    pub fn name(self) -> &'static str
+        ensures { result.now ≡ safe_name self }
+    {
+        match self {
+            SafeFault::Short => "Short",
+            SafeFault::Length => "Length",
+            SafeFault::Code => "Code",
+            SafeFault::BadType => "Type",
+            SafeFault::Body => "Body",
+        }
+    }
 }
 
 /// A safety PDU as a view of the datagram that it was read from.

@@ -2,3 +2,4 @@ pub mod Names
 pub mod Tele
 pub mod TeleText
 pub mod Places
+pub mod FaultNames

@@ -5,6 +5,8 @@
 //! The session layer above RaSTA, in this project's profile.
 #![tactic(auto)]
 
+ghost use Rattle.std.specs.Prelude.{◌≡◌};
+ghost use Rattle.sci_telegram.specs.FaultNames.{telegram_name, telegram_number};
 ghost use Rattle.sci_telegram.specs.Names.{IsName};
 
 use arrayvec::ArrayString;
@@ -79,6 +81,30 @@ pub enum TeleFault {
     Long,
     /// The sender's name or the receiver's is not well formed.
     Name,
+}
+
+impl TeleFault {
+    /// The fault's number, as it is printed: its place among the faults, from 1.
+    pub fn number(self) -> u8
+        ensures { result ≡ telegram_number self }
+    {
+        match self {
+            TeleFault::Short => 1,
+            TeleFault::Long => 2,
+            TeleFault::Name => 3,
+        }
+    }
+
+    /// The fault's name, as it is printed.
+    pub fn name(self) -> &'static str
+        ensures { result.now ≡ telegram_name self }
+    {
+        match self {
+            TeleFault::Short => "Short",
+            TeleFault::Long => "Long",
+            TeleFault::Name => "Name",
+        }
+    }
 }
 
 #[cfg(test)]

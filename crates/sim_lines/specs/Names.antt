@@ -6,10 +6,6 @@ use Rattle.safe_machine.specs.declared.ConnectionState.{ConnectionState}
 use Rattle.safe_machine.specs.declared.ConnectionState.TheVariants as state
 use Rattle.pdi_session.specs.declared.Phase.{Phase}
 use Rattle.pdi_session.specs.declared.Phase.TheVariants as phase
-use Rattle.pdi_session.specs.declared.PutFault.{PutFault}
-use Rattle.pdi_session.specs.declared.PutFault.TheVariants as put_fault
-use Rattle.pdi_session.specs.declared.InitFault.{InitFault}
-use Rattle.pdi_session.specs.declared.InitFault.TheVariants as init_fault
 use Rattle.red_layer.specs.declared.RedEvent.{RedEvent}
 use Rattle.red_layer.specs.declared.RedEvent.TheVariants as event
 use Rattle.red_pdu.specs.declared.RedFault.TheVariants as red_fault
@@ -17,7 +13,7 @@ use Rattle.safe_machine.specs.declared.DropCause.{DropCause}
 use Rattle.safe_machine.specs.declared.DropCause.TheVariants as cause
 use Rattle.safe_machine.specs.declared.Step.{Step}
 use Rattle.safe_machine.specs.declared.Step.TheVariants as step
-use Rattle.safe_pdu.specs.declared.SafeFault.TheVariants as safe_fault
+use Rattle.safe_pdu.specs.Names.{safe_name}
 
 abbrev pub side_name : Side → List ℕ
 side_name side.Interlocking = codes "il"
@@ -47,16 +43,6 @@ phase_name phase.Initialising = codes "Initialising"
 phase_name phase.Established = codes "Established"
 phase_name phase.Ended = codes "Ended"
 
-abbrev pub put_fault_name : PutFault → List ℕ
-put_fault_name put_fault.NotEstablished = codes "NotEstablished"
-put_fault_name put_fault.Full = codes "Full"
-put_fault_name put_fault.ReservedType = codes "ReservedType"
-put_fault_name put_fault.TooLong = codes "TooLong"
-
-abbrev pub init_fault_name : InitFault → List ℕ
-init_fault_name init_fault.NotInitialising = codes "NotInitialising"
-init_fault_name init_fault.Full = codes "Full"
-
 -- why the redundancy layer dropped a datagram
 abbrev pub red_cause : RedEvent → Option (List ℕ)
 red_cause event.Passed = None
@@ -70,11 +56,7 @@ red_cause (event.Fault red_fault.Length) = Some (codes "red-Length")
 red_cause (event.Fault red_fault.Reserve) = Some (codes "red-Reserve")
 
 abbrev pub drop_cause : DropCause → List ℕ
-drop_cause (cause.Fault safe_fault.Short) = codes "Short"
-drop_cause (cause.Fault safe_fault.Length) = codes "Length"
-drop_cause (cause.Fault safe_fault.Code) = codes "Code"
-drop_cause (cause.Fault safe_fault.BadType) = codes "Type"
-drop_cause (cause.Fault safe_fault.Body) = codes "Body"
+drop_cause (cause.Fault fault) = safe_name fault
 drop_cause cause.Stranger = codes "stranger"
 drop_cause cause.NotOpened = codes "down"
 drop_cause cause.Number = codes "number"

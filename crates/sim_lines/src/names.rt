@@ -5,11 +5,10 @@ ghost use Rattle.std.specs.Option.{option_copied};
 ghost use Rattle.sim_lines.specs.Names as names;
 
 use end_settings::Side;
-use pdi_session::{InitFault, Phase, PutFault};
+use pdi_session::Phase;
 use red_layer::RedEvent;
 use red_pdu::RedFault;
 use safe_machine::{ConnectionState, DropCause, Step};
-use safe_pdu::SafeFault;
 
 /// The word for an end: `il` or `fe`.
 pub fn side_name(side: Side) -> &'static str
@@ -62,28 +61,6 @@ pub fn phase_name(phase: Phase) -> &'static str
     }
 }
 
-/// The name of a telegram's refusal.
-pub fn put_fault_name(fault: PutFault) -> &'static str
-    ensures { result.now ≡ names.put_fault_name fault }
-{
-    match fault {
-        PutFault::NotEstablished => "NotEstablished",
-        PutFault::Full => "Full",
-        PutFault::ReservedType => "ReservedType",
-        PutFault::TooLong => "TooLong",
-    }
-}
-
-/// The name of the refusal of an initialisation's end.
-pub fn init_fault_name(fault: InitFault) -> &'static str
-    ensures { result.now ≡ names.init_fault_name fault }
-{
-    match fault {
-        InitFault::NotInitialising => "NotInitialising",
-        InitFault::Full => "Full",
-    }
-}
-
 /// Why the redundancy layer dropped a datagram; `None` where it passed it on or lets it wait.
 pub fn red_cause(event: RedEvent) -> Option<&'static str>
     ensures { option_copied result ≡ names.red_cause event }
@@ -115,11 +92,7 @@ fn drop_cause(cause: DropCause) -> &'static str
     ensures { result.now ≡ names.drop_cause cause }
 {
     match cause {
-        DropCause::Fault(SafeFault::Short) => "Short",
-        DropCause::Fault(SafeFault::Length) => "Length",
-        DropCause::Fault(SafeFault::Code) => "Code",
-        DropCause::Fault(SafeFault::BadType) => "Type",
-        DropCause::Fault(SafeFault::Body) => "Body",
+        DropCause::Fault(fault) => fault.name(),
         DropCause::Stranger => "stranger",
         DropCause::NotOpened => "down",
         DropCause::Number => "number",

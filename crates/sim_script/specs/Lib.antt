@@ -1,4 +1,3 @@
-pub mod RefusalName
 pub mod Made
 pub mod MadeView
 pub mod Ledger

@@ -6,7 +6,6 @@
 
 mod labels;
 mod made;
-mod refusal;
 mod script;
 mod trace;
 

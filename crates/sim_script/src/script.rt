@@ -1,7 +1,6 @@
 //! Running a script, line by line.
 
 use crate::labels::Labels;
-use crate::refusal::refusal_name;
 use crate::trace::{Happening, Trace};
 use end_settings::Side;
 use sim_lines::{
@@ -171,7 +170,7 @@ impl<W: Write + Drop, A: Allocator + Copy> Script<W, A> {
                 came: None,
                 is_tick,
             }),
-            Err(fault) => self.trace.refuse(refusal_name(fault)),
+            Err(fault) => self.trace.refuse(fault.name()),
         }
     }
 
@@ -206,7 +205,7 @@ impl<W: Write + Drop, A: Allocator + Copy> Script<W, A> {
                     is_tick: false,
                 })
             }
-            Err(fault) => self.trace.refuse(refusal_name(fault)),
+            Err(fault) => self.trace.refuse(fault.name()),
         }
     }
 
@@ -241,7 +240,7 @@ impl<W: Write + Drop, A: Allocator + Copy> Script<W, A> {
     fn set_clock(&mut self, side: Side, now: u64) -> Result<(), LineFault> {
         let clock = self.clocks.of_mut(side);
         if now < *clock || now > CLOCK_MAX {
-            return self.trace.refuse(refusal_name(ApplyFault::Clock));
+            return self.trace.refuse(ApplyFault::Clock.name());
         }
         *clock = now;
         Ok(())
@@ -328,7 +327,7 @@ impl<W: Write + Drop, A: Allocator + Copy> Script<W, A> {
                 came: Some(label),
                 is_tick: false,
             }),
-            Err(refusal) => self.trace.refuse(refusal_name(refusal)),
+            Err(refusal) => self.trace.refuse(refusal.name()),
         }
     }
 }

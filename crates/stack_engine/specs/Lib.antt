@@ -18,3 +18,4 @@ pub mod Joins
 pub mod Reports
 pub mod PairValue
 pub mod Promises
+pub mod RefusalName

@@ -7,4 +7,4 @@ returns-in_ok-clean-in-Ok-clause-written g c =
 
 pub returns-in_ok-write_fault-in-Err-clause-written : goal.returns-in_ok-write_fault-in-Err-clause-written
 returns-in_ok-write_fault-in-Err-clause-written g c =
-    rw (← c.in-Err.ensures.exact) (rw (c.number_of_safe.ensures, c.name_of_safe.ensures) at c.in_ok-write_fault-in-Err.ensures)
+    rw (← c.in-Err.ensures.exact) (rw (c.number.ensures, c.name.ensures) at c.in_ok-write_fault-in-Err.ensures)

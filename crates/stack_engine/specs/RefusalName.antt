@@ -2,7 +2,7 @@
 use Rattle.std.specs.Prelude.{codes, List, ℕ}
 use Rattle.stack_engine.specs.declared.ApplyFault.{ApplyFault}
 use Rattle.stack_engine.specs.declared.ApplyFault.TheVariants as refusal
-use Rattle.sim_lines.specs.Names.{init_fault_name, put_fault_name}
+use Rattle.pdi_session.specs.FaultNames.{init_fault_name, put_fault_name}
 
 abbrev pub refusal_name : ApplyFault → List ℕ
 refusal_name refusal.Memory = codes "Memory"
