@@ -87,7 +87,7 @@ opening_as ConnResp opening = Some opening
 opening_as _ opening = None
 
 abbrev pub opening_of : ℕ → Header → Option Opening
-opening_of seq h = opening_as h.kind (record { seq = seq; sn = h.sn; ts = h.ts })
+opening_of seq h = opening_as h.kind (record { kind = h.kind; seq = seq; sn = h.sn; ts = h.ts })
 
 abbrev pub is_same_opening : Option Opening → Opening → Bool
 is_same_opening None opening = false
@@ -153,6 +153,7 @@ abbrev pub remarks_in : Direction → Bool → Option ℕ → Place → ℕ → 
 remarks_in d opens peer place seq h =
     record {
       opens = opens;
+      route = place.channel;
       channel = channel_judged d.channels place.channel seq;
       together = judged d.together seq;
       sequence = sequence_judged (is_new (judged d.together seq)) d.sequence h.sn;

@@ -31,6 +31,8 @@ pub struct Direction {
 /// What tells a ConnReq or ConnResp from the others of its end.
 #[derive(Clone, Copy, Debug, PartialEq, Eq)]
 pub struct Opening {
+    /// Which of the two it is.
+    pub kind: Kind,
     /// The redundancy number.
     pub seq: u32,
     /// The sequence number (SN).
@@ -65,6 +67,8 @@ pub struct Tally {
 pub struct Remarks {
     /// It opens (ConnReq or ConnResp) and is no copy: the numbers of its end begin anew.
     pub opens: bool,
+    /// The number of its channel, from 0 on; from `CHANNELS` on channels are not told apart.
+    pub route: usize,
     /// How its redundancy number follows on those of its channel; none where the channel is not told apart.
     pub channel: Option<Judged>,
     /// How it follows on those of all channels.
@@ -161,6 +165,7 @@ fn follow_opened(
     }
     Remarks {
         opens,
+        route: place.channel,
         channel,
         together,
         sequence,
@@ -176,6 +181,7 @@ fn opening_in(seq: u32, header: &Header) -> Option<Opening>
 {
     match header.kind {
         Kind::ConnReq | Kind::ConnResp => Some(Opening {
+            kind: header.kind,
             seq,
             sn: header.sn,
             ts: header.ts,

@@ -9,7 +9,6 @@ mod direction;
 mod following;
 mod heard;
 mod line;
-mod text;
 mod window;
 mod words;
 
@@ -18,7 +17,6 @@ pub use direction::{CHANNELS, Direction, Opening, Place, Remarks, Tally, follow_
 pub use following::{Following, Remark, Totals, sum_up};
 pub use heard::{Header, Heard, hear};
 pub use line::{Address, Buffer, LineFault, PAYLOAD_ROOM, Record, read_line};
-pub use text::write_remarks;
 pub use window::{Judged, KEPT, PASSED_MAX, Window, judge, note};
 
 #[cfg(test)]

@@ -4,12 +4,9 @@ use Rattle.std.specs.Fmt.{decimal}
 use Rattle.safe_pdu.specs.declared.Leaving.{Leaving}
 use Rattle.capture.specs.declared.direction.Remarks.{Remarks}
 use Rattle.capture.specs.declared.window.Judged.{Judged}
+use Rattle.capture_text.specs.Pieces.{pieces}
+use Rattle.capture_text.specs.Reasons.{leaving_words}
 use Rattle.capture.specs.declared.window.Judged.TheVariants.{First, Next, Ahead, Late, Repeat, Stale, Anew}
-
--- the pieces, one after the other
-abbrev pub pieces : List (List ℕ) → List ℕ
-pieces [] = []
-pieces (piece ∷ rest) = piece ++ pieces rest
 
 -- how a number followed; nothing, where it was the first or the next
 abbrev pub judged_text : List ℕ → Judged → List ℕ
@@ -39,7 +36,7 @@ age_text (Some age) = pieces (codes " age " ∷ decimal age ∷ codes " ms" ∷ 
 
 abbrev pub leaving_text : Option Leaving → List ℕ
 leaving_text None = []
-leaving_text (Some leaving) = pieces (codes " detail " ∷ decimal leaving.detail ∷ codes " reason " ∷ decimal leaving.reason ∷ [])
+leaving_text (Some leaving) = leaving_words leaving
 
 -- all that is remarkable in a PDU
 abbrev pub remarks_text : Remarks → List ℕ

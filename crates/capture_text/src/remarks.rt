@@ -2,10 +2,10 @@
 
 ghost use Rattle.std.specs.Prelude.{◌≡◌, OnOk, codes};
 ghost use Rattle.std.specs.Io.KnownBytes.{Appends};
-ghost use Rattle.capture.specs.RemarkText.{age_text, judged_text, leaving_text, maybe_text, opens_text, remarks_text, resent_text};
+ghost use Rattle.capture_text.specs.RemarkText.{age_text, judged_text, leaving_text, maybe_text, opens_text, remarks_text, resent_text};
 
-use crate::direction::Remarks;
-use crate::window::Judged;
+use crate::reasons::write_reasons;
+use capture::{Judged, Remarks};
 use safe_pdu::Leaving;
 use std::io;
 use std::io::Write;
@@ -82,10 +82,7 @@ fn write_leaving<W: Write>(writer: &mut W, leaving: Option<Leaving>) -> io::Resu
     ensures { OnOk result (Appends (W.contents writer.old) (W.contents writer.new) (leaving_text leaving)) }
 {
     match leaving {
-        Some(leaving) => {
-            let Leaving { detail, reason } = leaving;
-            write!(writer, " detail {detail} reason {reason}")
-        }
+        Some(leaving) => write_reasons(writer, leaving),
         None => Ok(()),
     }
 }
