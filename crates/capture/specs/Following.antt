@@ -1,22 +1,24 @@
 -- What is remarkable in a PDU, and what is kept of it.
-use Rattle.std.specs.Prelude.{ℕ, ◌-◌, max, Bool, true, false, nat_lt, List, slice_index_or, slice_set, replicate, if◌then◌else◌, Option, Some, None}
+use Rattle.std.specs.Prelude.{ℕ, ◌-◌, max, ◌^◌, ◌==◌, ◌&&◌, Bool, true, false, not, nat_lt, List, map, slice_index_or, slice_set, replicate, if◌then◌else◌, Option, Some, None}
 use Rattle.safe_pdu.specs.declared.Kind.{Kind}
-use Rattle.safe_pdu.specs.declared.Kind.TheVariants.{Heartbeat, RetrData, RetrReq}
+use Rattle.safe_pdu.specs.declared.Kind.TheVariants.{ConnReq, ConnResp, Heartbeat, RetrData, RetrReq}
 use Rattle.safe_pdu.specs.declared.Leaving.{Leaving}
 use Rattle.capture.specs.declared.heard.Header.{Header}
 use Rattle.capture.specs.declared.window.Window.{Window}
 use Rattle.capture.specs.declared.window.Judged.{Judged}
-use Rattle.capture.specs.declared.window.Judged.TheVariants.{Late, Repeat}
+use Rattle.capture.specs.declared.window.Judged.TheVariants.{Late, Repeat, Stale}
 use Rattle.capture.specs.declared.direction.TheConstants.{CHANNELS}
 use Rattle.capture.specs.declared.direction.Direction.{Direction}
+use Rattle.capture.specs.declared.direction.Opening.{Opening}
 use Rattle.capture.specs.declared.direction.Place.{Place}
 use Rattle.capture.specs.declared.direction.Remarks.{Remarks}
 use Rattle.capture.specs.declared.direction.Tally.{Tally}
-use Rattle.capture.specs.Numbers.{ahead, counted, judged, noted, open_window}
+use Rattle.capture.specs.Numbers.{ahead, counted, judged, noted, open_window, reopened}
 
 -- nothing was counted yet
 abbrev pub open_tally : Tally
-open_tally = record { heartbeats = 0; requests = 0; resent = 0; oldest = 0; last = 0; silence = 0; leaving = None }
+open_tally =
+    record { openings = 0; heartbeats = 0; requests = 0; resent = 0; oldest = 0; last = 0; silence = 0; leaving = None }
 
 -- nothing was heard yet
 abbrev pub open_direction : Direction
@@ -26,6 +28,7 @@ open_direction =
       together = open_window;
       sequence = open_window;
       stamp = None;
+      opening = None;
       tally = open_tally;
     }
 
@@ -37,14 +40,16 @@ abbrev pub channel_noted : List Window → ℕ → ℕ → ℕ → List Window
 channel_noted ws channel seq line =
     if nat_lt channel CHANNELS then slice_set ws channel (noted (slice_index_or ws channel open_window) seq line) else ws
 
--- a PDU is new where its redundancy number was heard on no channel
+-- a PDU is new where its redundancy number was heard on no channel, and could be told if it had been
 abbrev pub is_new : Judged → Bool
 is_new (Repeat _) = false
+is_new Stale = false
 is_new _ = true
 
 -- and the newest, where it is no late one
 abbrev pub is_furthest : Judged → Bool
 is_furthest (Repeat _) = false
+is_furthest Stale = false
 is_furthest Late = false
 is_furthest _ = true
 
@@ -61,10 +66,55 @@ abbrev pub is_resent : Kind → Bool
 is_resent RetrData = true
 is_resent _ = false
 
+-- a confirmed timestamp that is later than all that were heard has no age
+abbrev pub age_within : ℕ → Option ℕ
+age_within age = if nat_lt age (2 ^ 31) then Some age else None
+
 -- how old a confirmed timestamp is at the end that made it: that end's last timestamp minus the confirmed one
-abbrev pub age_of : Option ℕ → ℕ → Option ℕ
-age_of None confirmed = None
-age_of (Some stamp) confirmed = Some (ahead confirmed stamp)
+abbrev pub age_at : Option ℕ → ℕ → Option ℕ
+age_at None confirmed = None
+age_at (Some stamp) confirmed = age_within (ahead confirmed stamp)
+
+-- a ConnReq confirms nothing
+abbrev pub age_of : Option ℕ → Kind → ℕ → Option ℕ
+age_of stamp ConnReq confirmed = None
+age_of stamp _ confirmed = age_at stamp confirmed
+
+-- a ConnReq or ConnResp opens, and its numbers and timestamp tell it from others
+abbrev pub opening_as : Kind → Opening → Option Opening
+opening_as ConnReq opening = Some opening
+opening_as ConnResp opening = Some opening
+opening_as _ opening = None
+
+abbrev pub opening_of : ℕ → Header → Option Opening
+opening_of seq h = opening_as h.kind (record { kind = h.kind; seq = seq; sn = h.sn; ts = h.ts })
+
+abbrev pub is_same_opening : Option Opening → Opening → Bool
+is_same_opening None opening = false
+is_same_opening (Some last) opening = (last.seq == opening.seq) && ((last.sn == opening.sn) && (last.ts == opening.ts))
+
+-- it begins the numbers anew, unless it is a copy of the last one
+abbrev pub is_opened : Option Opening → Option Opening → Bool
+is_opened last None = false
+is_opened last (Some opening) = not (is_same_opening last opening)
+
+abbrev pub tally_opened : Tally → Tally
+tally_opened t = record t { openings = counted t.openings 1; last = 0; leaving = None }
+
+-- what is kept once an opening came: what was counted, but for the reason of a leaving before
+abbrev pub opened_as : Bool → Direction → Option Opening → Direction
+opened_as true d opening =
+    record d {
+      channels = map reopened d.channels;
+      together = reopened d.together;
+      sequence = reopened d.sequence;
+      opening = opening;
+      tally = tally_opened d.tally;
+    }
+opened_as false d opening = d
+
+abbrev pub opened_with : Direction → Option Opening → Direction
+opened_with d opening = opened_as (is_opened d.opening opening) d opening
 
 abbrev pub kind_counted : Kind → Tally → Tally
 kind_counted Heartbeat t = record t { heartbeats = counted t.heartbeats 1 }
@@ -98,25 +148,34 @@ abbrev pub tally_after : Bool → Tally → ℕ → Option ℕ → Header → Ta
 tally_after true t time age h = tallied t time age h
 tally_after false t time age h = t
 
--- what is remarkable in a PDU with this redundancy number
-abbrev pub remarks_of : Direction → Option ℕ → Place → ℕ → Header → Remarks
-remarks_of d peer place seq h =
+-- what is remarkable in a PDU with this redundancy number, once its opening is taken into account
+abbrev pub remarks_in : Direction → Bool → Option ℕ → Place → ℕ → Header → Remarks
+remarks_in d opens peer place seq h =
     record {
+      opens = opens;
+      route = place.channel;
       channel = channel_judged d.channels place.channel seq;
       together = judged d.together seq;
       sequence = sequence_judged (is_new (judged d.together seq)) d.sequence h.sn;
       resent = is_resent h.kind;
-      age = age_of peer h.cts;
+      age = age_of peer h.kind h.cts;
       leaving = h.leaving;
     }
 
+abbrev pub remarks_of : Direction → Option ℕ → Place → ℕ → Header → Remarks
+remarks_of d peer place seq h =
+    remarks_in (opened_with d (opening_of seq h)) (is_opened d.opening (opening_of seq h)) peer place seq h
+
 -- what is kept after it
-abbrev pub followed : Direction → Option ℕ → Place → ℕ → Header → Direction
-followed d peer place seq h =
-    record {
+abbrev pub followed_in : Direction → Option ℕ → Place → ℕ → Header → Direction
+followed_in d peer place seq h =
+    record d {
       channels = channel_noted d.channels place.channel seq place.line;
       together = noted d.together seq place.line;
       sequence = sequence_noted (is_new (judged d.together seq)) d.sequence h.sn place.line;
       stamp = if is_furthest (judged d.together seq) then Some h.ts else d.stamp;
-      tally = tally_after (is_new (judged d.together seq)) d.tally place.time (age_of peer h.cts) h;
+      tally = tally_after (is_new (judged d.together seq)) d.tally place.time (age_of peer h.kind h.cts) h;
     }
+
+abbrev pub followed : Direction → Option ℕ → Place → ℕ → Header → Direction
+followed d peer place seq h = followed_in (opened_with d (opening_of seq h)) peer place seq h

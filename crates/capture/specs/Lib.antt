@@ -5,4 +5,3 @@ pub mod Numbers
 pub mod Following
 pub mod Connecting
 pub mod Whole
-pub mod RemarkText

@@ -1,18 +1,20 @@
 -- A whole capture, datagram by datagram.
-use Rattle.std.specs.Prelude.{ℕ, List, fold}
+use Rattle.std.specs.Prelude.{ℕ, ◌==◌, ◌&&◌, Bool, List, fold, length, is_none, if◌then◌else◌}
 use Rattle.capture.specs.declared.heard.Heard.{Heard}
 use Rattle.capture.specs.declared.heard.Heard.TheVariants as heard
 use Rattle.capture.specs.declared.line.Record.{Record}
 use Rattle.capture.specs.declared.connections.Connection.{Connection}
+use Rattle.capture.specs.declared.connections.TheConstants.{CONNECTIONS}
+use Rattle.capture.specs.declared.heard.Header.{Header}
 use Rattle.capture.specs.declared.following.Remark.{Remark}
 use Rattle.capture.specs.declared.following.Remark.TheVariants as remark
 use Rattle.capture.specs.declared.following.Totals.{Totals}
 use Rattle.capture.specs.Numbers.{counted}
-use Rattle.capture.specs.Connecting.{step, step_remarks}
+use Rattle.capture.specs.Connecting.{found, step, step_remarks}
 
 -- what is remarkable in a datagram
 abbrev pub remark_of : List Connection → ℕ → Record → Heard → Remark
-remark_of cs line r (heard.Pdu seq h) = remark.Pdu (step_remarks cs line r seq h)
+remark_of cs line r (heard.Pdu seq h) = remark.Pdu seq h (step_remarks cs line r seq h)
 remark_of cs line r (heard.NoSafe seq fault) = remark.NoSafe seq fault
 remark_of cs line r (heard.NoRed fault) = remark.NoRed fault
 
@@ -26,6 +28,18 @@ abbrev pub damaged_after : ℕ → Heard → ℕ
 damaged_after damaged (heard.Pdu seq h) = damaged
 damaged_after damaged (heard.NoSafe seq fault) = counted damaged 1
 damaged_after damaged (heard.NoRed fault) = counted damaged 1
+
+-- a further connection, for which there is no room: one is forgotten
+abbrev pub forgets : List Connection → Header → Bool
+forgets cs h = (length cs == CONNECTIONS) && is_none (found h.sender h.receiver cs)
+
+abbrev pub forgotten_with : ℕ → List Connection → Header → ℕ
+forgotten_with forgotten cs h = if forgets cs h then counted forgotten 1 else forgotten
+
+abbrev pub forgotten_after : ℕ → List Connection → Heard → ℕ
+forgotten_after forgotten cs (heard.Pdu seq h) = forgotten_with forgotten cs h
+forgotten_after forgotten cs (heard.NoSafe seq fault) = forgotten
+forgotten_after forgotten cs (heard.NoRed fault) = forgotten
 
 abbrev pub no_totals : Totals
 no_totals = record { heard = 0; missing = 0; repeats = 0 }

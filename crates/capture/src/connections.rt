@@ -2,6 +2,7 @@
 
 ghost use Rattle.std.specs.Prelude.{◌≡◌, ◌<◌, ◌≤◌, ◌++◌, ◌∷◌, [], length, IfSome};
 ghost use Rattle.arrayvec.specs.ArrayVec.{array_vec_len};
+ghost use Rattle.capture.specs.Whole.{forgets};
 ghost use Rattle.capture.specs.Connecting.{channel_of, connection_after, connection_remarks, ends_of, is_from_low, is_held, is_same_address, left, opened, place_of, room_made, route_place_of, routes_after, step, step_remarks, taken};
 
 use crate::direction::{CHANNELS, Direction, Place, Remarks, follow_pdu};
@@ -66,6 +67,17 @@ pub fn follow(
     let remarks = follow_in(&mut connection, line, record, seq, header);
     connections.push(connection);
     remarks
+}
+
+/// Whether a PDU is of a further connection, for which one has to be forgotten.
+pub(crate) fn has_no_room(connections: &Connections, header: &Header) -> bool
+    ensures { result ≡ forgets connections.now.items header.now }
+{
+    if !connections.is_full() {
+        return false;
+    }
+    let (low, high) = ends(header.sender, header.receiver);
+    place(connections, low, high).is_none()
 }
 
 /// Takes the connection between two ends out of the list: a new one, where none is followed.

@@ -1,10 +1,11 @@
 //! What is remarkable in a PDU, by what was heard before it.
 
-ghost use Rattle.std.specs.Prelude.{◌≡◌, ◌<◌, length};
-ghost use Rattle.capture.specs.Following.{age_of, channel_judged, channel_noted, followed, is_furthest, is_new, is_resent, kind_counted, open_direction, remarks_of, sequence_judged, sequence_noted, tallied};
+ghost use Rattle.std.specs.Prelude.{◌≡◌, ◌<◌, length, map, true};
+ghost use Rattle.capture.specs.Following.{age_at, age_of, age_within, channel_judged, channel_noted, followed, followed_in, is_furthest, is_new, is_opened, is_resent, is_same_opening, kind_counted, open_direction, opened_as, opened_with, opening_of, remarks_in, remarks_of, sequence_judged, sequence_noted, tallied, tally_opened};
+ghost use Rattle.capture.specs.Numbers.{reopened};
 
 use crate::heard::Header;
-use crate::window::{Judged, Window, note};
+use crate::window::{Judged, Window, note, reopen};
 use safe_pdu::{Kind, Leaving};
 
 /// How many channels of a connection are told apart.
@@ -21,13 +22,30 @@ pub struct Direction {
     pub sequence: Window,
     /// The timestamp of the newest PDU.
     pub stamp: Option<u32>,
+    /// The ConnReq or ConnResp that was heard last.
+    pub opening: Option<Opening>,
     /// What its PDUs were.
     pub tally: Tally,
+}
+
+/// What tells a ConnReq or ConnResp from the others of its end.
+#[derive(Clone, Copy, Debug, PartialEq, Eq)]
+pub struct Opening {
+    /// Which of the two it is.
+    pub kind: Kind,
+    /// The redundancy number.
+    pub seq: u32,
+    /// The sequence number (SN).
+    pub sn: u32,
+    /// The timestamp (TS) in milliseconds.
+    pub ts: u32,
 }
 
 /// What the PDUs of a direction were, each counted once.
 #[derive(Clone, Copy, Debug, PartialEq, Eq)]
 pub struct Tally {
+    /// Openings: a ConnReq or ConnResp that is no copy of the one before it.
+    pub openings: u64,
     /// Heartbeats.
     pub heartbeats: u64,
     /// Requests for retransmission (RetrReq).
@@ -36,17 +54,21 @@ pub struct Tally {
     pub resent: u64,
     /// The greatest age of a confirmed timestamp, in milliseconds.
     pub oldest: u32,
-    /// When the last one was heard, in microseconds; 0 before the first.
+    /// When the last one was heard, in microseconds; 0 before the first since an opening.
     pub last: u64,
-    /// The longest time between two of them, in microseconds.
+    /// The longest time between two of them, in microseconds; none between two openings counts.
     pub silence: u64,
-    /// Reason and detail of the last DiscReq.
+    /// Reason and detail of the last DiscReq since an opening.
     pub leaving: Option<Leaving>,
 }
 
 /// What is remarkable in a PDU.
 #[derive(Clone, Copy, Debug, PartialEq, Eq)]
 pub struct Remarks {
+    /// It opens (ConnReq or ConnResp) and is no copy: the numbers of its end begin anew.
+    pub opens: bool,
+    /// The number of its channel, from 0 on; from `CHANNELS` on channels are not told apart.
+    pub route: usize,
     /// How its redundancy number follows on those of its channel; none where the channel is not told apart.
     pub channel: Option<Judged>,
     /// How it follows on those of all channels.
@@ -55,8 +77,8 @@ pub struct Remarks {
     pub sequence: Option<Judged>,
     /// It carries a unit that was sent before (RetrData).
     pub resent: bool,
-    /// How old the timestamp that it confirms is at the end that made that timestamp, in milliseconds; none where that
-    /// end was not heard.
+    /// How old the timestamp that it confirms is at the end that made that timestamp, in milliseconds; none of a
+    /// ConnReq, and where that end was not heard, or nothing as late as the confirmed timestamp.
     pub age: Option<u32>,
     /// Reason and detail, of a DiscReq.
     pub leaving: Option<Leaving>,
@@ -83,7 +105,9 @@ impl Direction {
             together: Window::new(),
             sequence: Window::new(),
             stamp: None,
+            opening: None,
             tally: Tally {
+                openings: 0,
                 heartbeats: 0,
                 requests: 0,
                 resent: 0,
@@ -108,11 +132,31 @@ pub fn follow_pdu(
     ensures remarks { result ≡ remarks_of direction.old peer place seq header.now }
     ensures followed { direction.new ≡ followed direction.old peer place seq header.now }
 {
+    let opening = opening_in(seq, header);
+    let opens = begins_anew(direction.opening, opening);
+    if opens {
+        open(direction, opening);
+    }
+    follow_opened(direction, opens, peer, place, seq, header)
+}
+
+/// Takes a PDU into account whose opening was.
+fn follow_opened(
+    direction: &mut Direction,
+    opens: bool,
+    peer: Option<u32>,
+    place: Place,
+    seq: u32,
+    header: &Header,
+) -> Remarks
+    ensures remarks { result ≡ remarks_in direction.old opens peer place seq header.now }
+    ensures followed { direction.new ≡ followed_in direction.old peer place seq header.now }
+{
     let channel = note_channel(&mut direction.channels, place, seq);
     let together = note(&mut direction.together, seq, place.line);
     let is_new = is_first_copy(together);
     let sequence = note_sequence(&mut direction.sequence, is_new, header.sn, place.line);
-    let age = age(peer, header.cts);
+    let age = age(peer, header.kind, header.cts);
     if is_newest(together) {
         direction.stamp = Some(header.ts);
     }
@@ -120,6 +164,8 @@ pub fn follow_pdu(
         count(&mut direction.tally, place.time, age, header);
     }
     Remarks {
+        opens,
+        route: place.channel,
         channel,
         together,
         sequence,
@@ -127,6 +173,67 @@ pub fn follow_pdu(
         age,
         leaving: header.leaving,
     }
+}
+
+/// What tells an opening from others; none of a PDU that is none.
+fn opening_in(seq: u32, header: &Header) -> Option<Opening>
+    ensures { result ≡ opening_of seq header.now }
+{
+    match header.kind {
+        Kind::ConnReq | Kind::ConnResp => Some(Opening {
+            kind: header.kind,
+            seq,
+            sn: header.sn,
+            ts: header.ts,
+        }),
+        Kind::RetrReq
+        | Kind::RetrResp
+        | Kind::DiscReq
+        | Kind::Heartbeat
+        | Kind::Data
+        | Kind::RetrData => None,
+    }
+}
+
+/// Whether a PDU opens, and is no copy of the opening before it.
+fn begins_anew(last: Option<Opening>, opening: Option<Opening>) -> bool
+    ensures { result ≡ is_opened last opening }
+{
+    match opening {
+        None => false,
+        Some(opening) => !is_copy(last, opening),
+    }
+}
+
+fn is_copy(last: Option<Opening>, opening: Opening) -> bool
+    ensures { result ≡ is_same_opening last opening }
+{
+    match last {
+        None => false,
+        Some(last) => last.seq == opening.seq && last.sn == opening.sn && last.ts == opening.ts,
+    }
+}
+
+/// Begins all numbers anew.
+fn open(direction: &mut Direction, opening: Option<Opening>)
+    ensures { direction.new ≡ opened_as true direction.old opening }
+{
+    reopen_all(&mut direction.channels);
+    reopen(&mut direction.together);
+    reopen(&mut direction.sequence);
+    direction.opening = opening;
+    direction.tally.openings = direction.tally.openings.saturating_add(1);
+    direction.tally.last = 0;
+    direction.tally.leaving = None;
+}
+
+fn reopen_all(channels: &mut [Window; CHANNELS])
+    ensures { channels.new ≡ map reopened channels.old }
+{
+    reopen(&mut channels[0]);
+    reopen(&mut channels[1]);
+    reopen(&mut channels[2]);
+    reopen(&mut channels[3]);
 }
 
 fn note_channel(channels: &mut [Window; CHANNELS], place: Place, seq: u32) -> Option<Judged>
@@ -139,22 +246,22 @@ fn note_channel(channels: &mut [Window; CHANNELS], place: Place, seq: u32) -> Op
     None
 }
 
-/// Whether a PDU that followed so was not heard before, on whatever channel.
+/// Whether a PDU that followed so was not heard before, on whatever channel; of a stale one that can't be told.
 fn is_first_copy(together: Judged) -> bool
     ensures { result ≡ is_new together }
 {
     match together {
-        Judged::Repeat(_) => false,
+        Judged::Repeat(_) | Judged::Stale => false,
         Judged::First | Judged::Next | Judged::Ahead(_) | Judged::Late | Judged::Anew => true,
     }
 }
 
-/// Whether a PDU that followed so is the newest: no late one.
+/// Whether a PDU that followed so is the newest: no late or stale one.
 fn is_newest(together: Judged) -> bool
     ensures { result ≡ is_furthest together }
 {
     match together {
-        Judged::Repeat(_) | Judged::Late => false,
+        Judged::Repeat(_) | Judged::Late | Judged::Stale => false,
         Judged::First | Judged::Next | Judged::Ahead(_) | Judged::Anew => true,
     }
 }
@@ -184,14 +291,28 @@ fn carries_again(kind: Kind) -> bool
     }
 }
 
-/// How old a confirmed timestamp is at the end that made it, in milliseconds of the ring of 32 bits.
-fn age(stamp: Option<u32>, confirmed: u32) -> Option<u32>
-    ensures { result ≡ age_of stamp confirmed }
+/// How old the timestamp that a PDU confirms is at the end that made it, in milliseconds of the ring of 32 bits.
+fn age(stamp: Option<u32>, kind: Kind, confirmed: u32) -> Option<u32>
+    ensures { result ≡ age_of stamp kind confirmed }
 {
-    match stamp {
-        Some(stamp) => Some(stamp.wrapping_sub(confirmed)),
-        None => None,
+    match kind {
+        Kind::ConnReq => None,
+        Kind::ConnResp
+        | Kind::RetrReq
+        | Kind::RetrResp
+        | Kind::DiscReq
+        | Kind::Heartbeat
+        | Kind::Data
+        | Kind::RetrData => age_behind(stamp, confirmed),
     }
+}
+
+fn age_behind(stamp: Option<u32>, confirmed: u32) -> Option<u32>
+    ensures { result ≡ age_at stamp confirmed }
+{
+    let stamp = stamp?;
+    let age = stamp.wrapping_sub(confirmed);
+    if age < 0x8000_0000 { Some(age) } else { None }
 }
 
 /// Counts a PDU that was not heard before.

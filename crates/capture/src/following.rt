@@ -1,11 +1,11 @@
 //! A whole capture: connections, datagrams that say nothing, and the sums over all.
 
 ghost use Rattle.std.specs.Prelude.{◌≡◌, [], fold};
-ghost use Rattle.capture.specs.Whole.{connections_after, counted_in, damaged_after, no_totals, remark_of, totals_of};
+ghost use Rattle.capture.specs.Whole.{connections_after, counted_in, damaged_after, forgotten_after, forgotten_with, no_totals, remark_of, totals_of};
 
-use crate::connections::{Connection, Connections, follow};
+use crate::connections::{Connection, Connections, follow, has_no_room};
 use crate::direction::Remarks;
-use crate::heard::Heard;
+use crate::heard::{Header, Heard};
 use crate::line::Record;
 use arrayvec::ArrayVec;
 use red_pdu::RedFault;
@@ -18,6 +18,8 @@ pub struct Following {
     pub connections: Connections,
     /// How many datagrams were no PDU.
     pub damaged: u64,
+    /// How many connections were forgotten for want of room.
+    pub forgotten: u64,
 }
 
 /// What is remarkable in a datagram.
@@ -27,8 +29,8 @@ pub enum Remark {
     NoRed(RedFault),
     /// Its redundancy PDU has this number, and carries no safety PDU.
     NoSafe(u32, SafeFault),
-    /// What is remarkable in its PDU.
-    Pdu(Remarks),
+    /// Its redundancy PDU has this number, and this is remarkable in its safety PDU.
+    Pdu(u32, Header, Remarks),
 }
 
 /// Sums over directions, each PDU counted once.
@@ -47,10 +49,12 @@ impl Following {
     pub fn new() -> Self
         ensures connections { result.connections.items ≡ [] }
         ensures damaged { result.damaged ≡ 0 }
+        ensures forgotten { result.forgotten ≡ 0 }
     {
         Following {
             connections: ArrayVec::new(),
             damaged: 0,
+            forgotten: 0,
         }
     }
 
@@ -59,10 +63,13 @@ impl Following {
         ensures remark { result ≡ remark_of self.old.connections.items line record.now heard.now }
         ensures connections { self.new.connections.items ≡ connections_after self.old.connections.items line record.now heard.now }
         ensures damaged { self.new.damaged ≡ damaged_after self.old.damaged heard.now }
+        ensures forgotten { self.new.forgotten ≡ forgotten_after self.old.forgotten self.old.connections.items heard.now }
     {
         match *heard {
             Heard::Pdu(seq, header) => {
-                Remark::Pdu(follow(&mut self.connections, line, record, seq, &header))
+                self.forgotten = count_forgotten(self.forgotten, &self.connections, &header);
+                let remarks = follow(&mut self.connections, line, record, seq, &header);
+                Remark::Pdu(seq, header, remarks)
             }
             Heard::NoSafe(seq, fault) => {
                 self.damaged = self.damaged.saturating_add(1);
@@ -74,6 +81,16 @@ impl Following {
             }
         }
     }
+}
+
+/// How many connections are forgotten, once a PDU is taken into account.
+fn count_forgotten(forgotten: u64, connections: &Connections, header: &Header) -> u64
+    ensures { result ≡ forgotten_with forgotten connections.now.items header.now }
+{
+    if has_no_room(connections, header) {
+        return forgotten.saturating_add(1);
+    }
+    forgotten
 }
 
 /// The sums over all connections.

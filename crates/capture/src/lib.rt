@@ -9,16 +9,14 @@ mod direction;
 mod following;
 mod heard;
 mod line;
-mod text;
 mod window;
 mod words;
 
 pub use connections::{CONNECTIONS, Connection, Connections, Route, follow};
-pub use direction::{CHANNELS, Direction, Place, Remarks, Tally, follow_pdu};
+pub use direction::{CHANNELS, Direction, Opening, Place, Remarks, Tally, follow_pdu};
 pub use following::{Following, Remark, Totals, sum_up};
 pub use heard::{Header, Heard, hear};
 pub use line::{Address, Buffer, LineFault, PAYLOAD_ROOM, Record, read_line};
-pub use text::write_remarks;
 pub use window::{Judged, KEPT, PASSED_MAX, Window, judge, note};
 
 #[cfg(test)]

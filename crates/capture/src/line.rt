@@ -1,6 +1,6 @@
 //! A line of a capture: six fields parted by tabs.
 
-ghost use Rattle.std.specs.Prelude.{◌≡◌};
+ghost use Rattle.std.specs.Prelude.{◌≡◌, ◌≤◌, IfOk};
 ghost use Rattle.capture.specs.Lines.{address_of, line_of, payload_of, payload_seen, record_seen};
 
 use crate::words::{are_parted_by, host, number, part, time};
@@ -59,7 +59,8 @@ const TAB: u8 = 9;
 ///
 /// Refused, and the first that holds is named: `Fields`, `Time`, `Source`, `Destination`, `Long`, `Payload`.
 pub fn read_line(line: &[u8], buffer: &mut Buffer) -> Result<Record, LineFault>
-    ensures { record_seen result buffer.new ≡ line_of line.now }
+    ensures read { record_seen result buffer.new ≡ line_of line.now }
+    ensures fits { IfOk result (λ found. found.size ≤ PAYLOAD_ROOM) }
 {
     if !are_parted_by(line, TAB, 5) {
         return Err(LineFault::Fields);
@@ -101,7 +102,8 @@ fn read_address(host_text: &[u8], port_text: &[u8]) -> Option<Address>
 
 /// Puts the octets that hex digits spell in front of the buffer, and answers how many they are.
 fn put_payload(digits: &[u8], buffer: &mut Buffer) -> Result<usize, LineFault>
-    ensures { payload_seen result buffer.new ≡ payload_of digits.now }
+    ensures put { payload_seen result buffer.new ≡ payload_of digits.now }
+    ensures fits { IfOk result (λ size. size ≤ PAYLOAD_ROOM) }
 {
     if digits.len() > 2 * PAYLOAD_ROOM {
         return Err(LineFault::Long);

@@ -2,10 +2,10 @@
 
 use crate::{
     Address, Following, Header, Heard, Judged, LineFault, PAYLOAD_ROOM, Record, Remark, Remarks,
-    Totals, Window, hear, judge, note, read_line, sum_up, write_remarks,
+    Totals, Window, hear, judge, note, read_line, sum_up,
 };
 use red_pdu::RedFault;
-use safe_pdu::{CodeLength, CodeRule, Kind, Leaving};
+use safe_pdu::{CodeLength, CodeRule, Kind};
 use std::test::Fail;
 
 const HEARTBEAT: &[u8] =
@@ -112,14 +112,25 @@ fn pdu(seq: u32, ends: (u32, u32), sn: u32, stamps: (u32, u32)) -> Heard {
     )
 }
 
+/// What is remarkable in a PDU.
+fn told(remark: Remark) -> Option<Remarks> {
+    match remark {
+        Remark::Pdu(_, _, remarks) => Some(remarks),
+        Remark::NoRed(_) | Remark::NoSafe(_, _) => None,
+    }
+}
+
 /// Remarks on a PDU that is neither sent again nor a DiscReq.
 fn remarks(
+    route: usize,
     channel: Judged,
     together: Judged,
     sequence: Option<Judged>,
     age: Option<u32>,
-) -> Remark {
-    Remark::Pdu(Remarks {
+) -> Option<Remarks> {
+    Some(Remarks {
+        opens: false,
+        route,
         channel: Some(channel),
         together,
         sequence,
@@ -133,37 +144,47 @@ fn remarks(
 #[test]
 fn follows_two_channels(rt: HostRuntime) {
     let mut all = Following::new();
-    let first = all.hear(1, &record(1000, 0, false), &pdu(0, (1, 2), 10, (100, 0)));
+    let first = told(all.hear(1, &record(1000, 0, false), &pdu(0, (1, 2), 10, (100, 0))));
     assert_eq!(rt;
         first,
-        remarks(Judged::First, Judged::First, Some(Judged::First), None)
+        remarks(0, Judged::First, Judged::First, Some(Judged::First), None)
     );
-    let copy = all.hear(2, &record(1001, 1, false), &pdu(0, (1, 2), 10, (100, 0)));
-    assert_eq!(rt; copy, remarks(Judged::First, Judged::Repeat(1), None, None));
-    let gap = all.hear(3, &record(4000, 0, false), &pdu(3, (1, 2), 13, (130, 0)));
+    let copy = told(all.hear(2, &record(1001, 1, false), &pdu(0, (1, 2), 10, (100, 0))));
+    assert_eq!(rt;
+        copy,
+        remarks(1, Judged::First, Judged::Repeat(1), None, None)
+    );
+    let gap = told(all.hear(3, &record(4000, 0, false), &pdu(3, (1, 2), 13, (130, 0))));
     assert_eq!(rt;
         gap,
         remarks(
+            0,
             Judged::Ahead(2),
             Judged::Ahead(2),
             Some(Judged::Ahead(2)),
             None
         )
     );
-    let late = all.hear(4, &record(4100, 1, false), &pdu(1, (1, 2), 11, (110, 0)));
+    let late = told(all.hear(4, &record(4100, 1, false), &pdu(1, (1, 2), 11, (110, 0))));
     assert_eq!(rt;
         late,
-        remarks(Judged::Next, Judged::Late, Some(Judged::Late), None)
+        remarks(1, Judged::Next, Judged::Late, Some(Judged::Late), None)
     );
-    let answer = all.hear(5, &record(5000, 0, true), &pdu(7, (2, 1), 500, (9, 100)));
+    let answer = told(all.hear(5, &record(5000, 0, true), &pdu(7, (2, 1), 500, (9, 100))));
     assert_eq!(rt;
         answer,
-        remarks(Judged::First, Judged::First, Some(Judged::First), Some(30))
+        remarks(
+            0,
+            Judged::First,
+            Judged::First,
+            Some(Judged::First),
+            Some(30)
+        )
     );
-    let again = all.hear(6, &record(6000, 0, false), &pdu(3, (1, 2), 13, (130, 0)));
+    let again = told(all.hear(6, &record(6000, 0, false), &pdu(3, (1, 2), 13, (130, 0))));
     assert_eq!(rt;
         again,
-        remarks(Judged::Repeat(3), Judged::Repeat(3), None, Some(9))
+        remarks(0, Judged::Repeat(3), Judged::Repeat(3), None, Some(9))
     );
     let broken = all.hear(7, &record(7000, 0, false), &Heard::NoRed(RedFault::Length));
     assert_eq!(rt; broken, Remark::NoRed(RedFault::Length));
@@ -190,6 +211,7 @@ fn forgets_the_one_silent_longest(rt: HostRuntime) {
     let ends = all.connections.as_slice();
     assert_eq!(rt; ends.len(), 16);
     assert!(rt; ends.iter().all(|connection| connection.low != 1));
+    assert_eq!(rt; all.forgotten, 1);
 }
 
 // Numbers go round, and a restart begins them anew without a gap.
@@ -201,40 +223,9 @@ fn goes_round_and_begins_anew(rt: HostRuntime) {
     assert_eq!(rt; note(&mut window, 65_536, 3), Judged::Ahead(65_535));
     assert_eq!(rt; note(&mut window, 4_000_000, 4), Judged::Anew);
     assert_eq!(rt; note(&mut window, 4_000_001, 5), Judged::Next);
-    assert_eq!(rt; note(&mut window, 0, 6), Judged::Anew);
-    assert_eq!(rt; window.missing, 65_535);
-}
-
-// Nothing is said of a PDU that follows as it should, and each remark has its words.
-#[test]
-fn writes_remarks(rt: HostRuntime) -> Result<(), Fail> {
-    let mut text = Vec::new(rt.alloc());
-    let quiet = Remarks {
-        channel: Some(Judged::First),
-        together: Judged::Next,
-        sequence: Some(Judged::Next),
-        resent: false,
-        age: None,
-        leaving: None,
-    };
-    write_remarks(&mut text, &quiet)?;
-    assert!(rt; text.is_empty());
-    let loud = Remarks {
-        channel: Some(Judged::Repeat(12)),
-        together: Judged::Late,
-        sequence: Some(Judged::Ahead(2)),
-        resent: true,
-        age: Some(45),
-        leaving: Some(Leaving {
-            detail: 3,
-            reason: 5,
-        }),
-    };
-    write_remarks(&mut text, &loud)?;
-    let wanted =
-        b" channel repeat of line 12 all late sn ahead 2 resent age 45 ms detail 3 reason 5";
-    assert!(rt; text.as_slice() == wanted.as_slice());
-    Ok(())
+    assert_eq!(rt; note(&mut window, 0, 6), Judged::Stale);
+    assert_eq!(rt; note(&mut window, 4_000_002, 7), Judged::Next);
+    assert_eq!(rt; (window.missing, window.stale), (65_535, 1));
 }
 
 // The 31 numbers before the newest may come late, and none of them takes the newest's place: a copy of that is told.
@@ -242,8 +233,66 @@ fn writes_remarks(rt: HostRuntime) -> Result<(), Fail> {
 fn keeps_the_newest(rt: HostRuntime) -> Result<(), Fail> {
     let mut window = Window::new();
     assert_eq!(rt; note(&mut window, 100, 1), Judged::First);
-    assert_eq!(rt; judge(&window, 68), Judged::Anew);
+    assert_eq!(rt; judge(&window, 68), Judged::Stale);
     assert_eq!(rt; note(&mut window, 69, 2), Judged::Late);
     assert_eq!(rt; judge(&window, 100), Judged::Repeat(1));
     Ok(())
+}
+
+fn opening(seq: u32, sn: u32, ts: u32) -> Heard {
+    Heard::Pdu(
+        seq,
+        Header {
+            kind: Kind::ConnReq,
+            receiver: 2,
+            sender: 1,
+            sn,
+            cs: 0,
+            ts,
+            cts: 0,
+            leaving: None,
+        },
+    )
+}
+
+// A copy more than 31 numbers late changes nothing; a new ConnReq begins all numbers, and a copy of it does not.
+#[test]
+fn opens_again(rt: HostRuntime) {
+    let mut all = Following::new();
+    for seq in 0..50u32 {
+        let at = seq as u64 + 1;
+        let _remark = all.hear(at, &record(at, 0, false), &pdu(seq, (1, 2), seq, (100, 0)));
+    }
+    let stale = told(all.hear(51, &record(51, 1, false), &pdu(3, (1, 2), 3, (100, 0))));
+    assert_eq!(rt; stale, remarks(1, Judged::First, Judged::Stale, None, None));
+    let next = told(all.hear(52, &record(52, 0, false), &pdu(50, (1, 2), 50, (150, 0))));
+    assert_eq!(rt;
+        next,
+        remarks(0, Judged::Next, Judged::Next, Some(Judged::Next), None)
+    );
+    let fresh = Remarks {
+        opens: true,
+        route: 0,
+        channel: Some(Judged::First),
+        together: Judged::First,
+        sequence: Some(Judged::First),
+        resent: false,
+        age: None,
+        leaving: None,
+    };
+    assert_eq!(rt;
+        told(all.hear(53, &record(53, 0, false), &opening(0, 900, 7))),
+        Some(fresh)
+    );
+    let copy = told(all.hear(54, &record(54, 1, false), &opening(0, 900, 7)));
+    assert_eq!(rt;
+        copy,
+        remarks(1, Judged::First, Judged::Repeat(53), None, None)
+    );
+    let wanted = Totals {
+        heard: 52,
+        missing: 0,
+        repeats: 1,
+    };
+    assert_eq!(rt; sum_up(all.connections.as_slice()), wanted);
 }

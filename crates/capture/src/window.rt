@@ -1,19 +1,19 @@
 //! The numbers that were heard of late, and how the next one follows on them.
 
 ghost use Rattle.std.specs.Prelude.{◌≡◌, ◌<◌, ◌%◌};
-ghost use Rattle.capture.specs.Numbers.{judged, judged_ahead, kept, noted, open_window};
+ghost use Rattle.capture.specs.Numbers.{judged, judged_ahead, kept, noted, open_window, reopened};
 
 /// How many numbers are kept: those with different remainders by 32.
 pub const KEPT: usize = 32;
 
-/// How many numbers may be passed over at most; a number further ahead begins the numbers anew, as after a restart.
+/// How many numbers may be passed over at most; a number further ahead begins the numbers anew.
 pub const PASSED_MAX: u32 = 65_535;
 
 /// The numbers that were heard of late.
 #[derive(Clone, Copy, Debug, PartialEq, Eq)]
 pub struct Window {
-    /// The furthest number so far.
-    pub newest: u32,
+    /// The furthest number so far; none where the numbers begin with the next one.
+    pub newest: Option<u32>,
     /// The last number that was heard of each remainder.
     pub numbers: [u32; KEPT],
     /// The line that it was heard in, from 1 on, or 0 where there was none.
@@ -24,6 +24,8 @@ pub struct Window {
     pub missing: u64,
     /// How many were heard again.
     pub repeats: u64,
+    /// How many came so late that nothing can be said of them.
+    pub stale: u64,
 }
 
 /// How a number follows on those before it.
@@ -39,7 +41,9 @@ pub enum Judged {
     Late,
     /// It was heard in this line before.
     Repeat(u64),
-    /// It lies further back than what is kept, or further ahead than a gap may be: numbers begin anew.
+    /// It lies further back than what is kept: it was heard before, or is missing still.
+    Stale,
+    /// It lies further ahead than a gap may be: numbers begin anew.
     Anew,
 }
 
@@ -49,12 +53,13 @@ impl Window {
         ensures { result ≡ open_window }
     {
         Window {
-            newest: 0,
+            newest: None,
             numbers: [0; KEPT],
             lines: [0; KEPT],
             heard: 0,
             missing: 0,
             repeats: 0,
+            stale: 0,
         }
     }
 }
@@ -68,10 +73,10 @@ pub fn judge(window: &Window, number: u32) -> Judged
     if line > 0 && window.numbers[slot] == number {
         return Judged::Repeat(line);
     }
-    if window.heard == 0 {
-        return Judged::First;
+    match window.newest {
+        None => Judged::First,
+        Some(newest) => judge_ahead(number.wrapping_sub(newest)),
     }
-    judge_ahead(number.wrapping_sub(window.newest))
 }
 
 /// How a number that is not kept follows on the newest; `steps` is how far it lies ahead, in the ring of 32 bits.
@@ -84,6 +89,8 @@ fn judge_ahead(steps: u32) -> Judged
         Judged::Ahead(steps - 1)
     } else if steps > 0xffff_ffff - KEPT as u32 + 1 {
         Judged::Late
+    } else if steps >= 0x8000_0000 {
+        Judged::Stale
     } else {
         Judged::Anew
     }
@@ -97,26 +104,35 @@ pub fn note(window: &mut Window, number: u32, line: u64) -> Judged
     let judged = judge(window, number);
     match judged {
         Judged::Repeat(_) => window.repeats = window.repeats.saturating_add(1),
+        Judged::Stale => window.stale = window.stale.saturating_add(1),
         Judged::Late => {
             window.missing = window.missing.saturating_sub(1);
             keep(window, number, line);
         }
         Judged::Ahead(passed) => {
             window.missing = window.missing.saturating_add(passed as u64);
-            window.newest = number;
+            window.newest = Some(number);
             keep(window, number, line);
         }
         Judged::First | Judged::Next => {
-            window.newest = number;
+            window.newest = Some(number);
             keep(window, number, line);
         }
         Judged::Anew => {
             window.lines = [0; KEPT];
-            window.newest = number;
+            window.newest = Some(number);
             keep(window, number, line);
         }
     }
     judged
+}
+
+/// Begins the numbers with the next one; what was counted stays.
+pub(crate) fn reopen(window: &mut Window)
+    ensures { window.new ≡ reopened window.old }
+{
+    window.newest = None;
+    window.lines = [0; KEPT];
 }
 
 /// Keeps a number and its line in the slot of its remainder.

@@ -4,12 +4,9 @@ use Rattle.std.specs.Fmt.{decimal}
 use Rattle.safe_pdu.specs.declared.Leaving.{Leaving}
 use Rattle.capture.specs.declared.direction.Remarks.{Remarks}
 use Rattle.capture.specs.declared.window.Judged.{Judged}
-use Rattle.capture.specs.declared.window.Judged.TheVariants.{First, Next, Ahead, Late, Repeat, Anew}
-
--- the pieces, one after the other
-abbrev pub pieces : List (List ℕ) → List ℕ
-pieces [] = []
-pieces (piece ∷ rest) = piece ++ pieces rest
+use Rattle.capture_text.specs.Pieces.{pieces}
+use Rattle.capture_text.specs.Reasons.{leaving_words}
+use Rattle.capture.specs.declared.window.Judged.TheVariants.{First, Next, Ahead, Late, Repeat, Stale, Anew}
 
 -- how a number followed; nothing, where it was the first or the next
 abbrev pub judged_text : List ℕ → Judged → List ℕ
@@ -18,11 +15,16 @@ judged_text name Next = []
 judged_text name (Ahead passed) = pieces (codes " " ∷ name ∷ codes " ahead " ∷ decimal passed ∷ [])
 judged_text name Late = pieces (codes " " ∷ name ∷ codes " late" ∷ [])
 judged_text name (Repeat line) = pieces (codes " " ∷ name ∷ codes " repeat of line " ∷ decimal line ∷ [])
+judged_text name Stale = pieces (codes " " ∷ name ∷ codes " stale" ∷ [])
 judged_text name Anew = pieces (codes " " ∷ name ∷ codes " anew" ∷ [])
 
 abbrev pub maybe_text : List ℕ → Option Judged → List ℕ
 maybe_text name None = []
 maybe_text name (Some judged) = judged_text name judged
+
+abbrev pub opens_text : Bool → List ℕ
+opens_text true = codes " opens"
+opens_text false = []
 
 abbrev pub resent_text : Bool → List ℕ
 resent_text true = codes " resent"
@@ -34,11 +36,11 @@ age_text (Some age) = pieces (codes " age " ∷ decimal age ∷ codes " ms" ∷ 
 
 abbrev pub leaving_text : Option Leaving → List ℕ
 leaving_text None = []
-leaving_text (Some leaving) = pieces (codes " detail " ∷ decimal leaving.detail ∷ codes " reason " ∷ decimal leaving.reason ∷ [])
+leaving_text (Some leaving) = leaving_words leaving
 
 -- all that is remarkable in a PDU
 abbrev pub remarks_text : Remarks → List ℕ
 remarks_text r =
     pieces
-    (maybe_text (codes "channel") r.channel ∷ judged_text (codes "all") r.together ∷ maybe_text (codes "sn") r.sequence
+    (opens_text r.opens ∷ maybe_text (codes "channel") r.channel ∷ judged_text (codes "all") r.together ∷ maybe_text (codes "sn") r.sequence
     ∷ resent_text r.resent ∷ age_text r.age ∷ leaving_text r.leaving ∷ [])

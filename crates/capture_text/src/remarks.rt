@@ -2,10 +2,10 @@
 
 ghost use Rattle.std.specs.Prelude.{◌≡◌, OnOk, codes};
 ghost use Rattle.std.specs.Io.KnownBytes.{Appends};
-ghost use Rattle.capture.specs.RemarkText.{age_text, judged_text, leaving_text, maybe_text, remarks_text, resent_text};
+ghost use Rattle.capture_text.specs.RemarkText.{age_text, judged_text, leaving_text, maybe_text, opens_text, remarks_text, resent_text};
 
-use crate::direction::Remarks;
-use crate::window::Judged;
+use crate::reasons::write_reasons;
+use capture::{Judged, Remarks};
 use safe_pdu::Leaving;
 use std::io;
 use std::io::Write;
@@ -19,6 +19,7 @@ use std::io::Write;
 pub fn write_remarks<W: Write>(writer: &mut W, remarks: &Remarks) -> io::Result<()>
     ensures { OnOk result (Appends (W.contents writer.old) (W.contents writer.new) (remarks_text remarks.now)) }
 {
+    write_opens(writer, remarks.opens)?;
     write_maybe(writer, "channel", remarks.channel)?;
     write_judged(writer, "all", remarks.together)?;
     write_maybe(writer, "sn", remarks.sequence)?;
@@ -45,8 +46,18 @@ fn write_judged<W: Write>(writer: &mut W, name: &str, judged: Judged) -> io::Res
         Judged::Ahead(passed) => write!(writer, " {name} ahead {passed}"),
         Judged::Late => write!(writer, " {name} late"),
         Judged::Repeat(line) => write!(writer, " {name} repeat of line {line}"),
+        Judged::Stale => write!(writer, " {name} stale"),
         Judged::Anew => write!(writer, " {name} anew"),
     }
+}
+
+fn write_opens<W: Write>(writer: &mut W, opens: bool) -> io::Result<()>
+    ensures { OnOk result (Appends (W.contents writer.old) (W.contents writer.new) (opens_text opens)) }
+{
+    if opens {
+        return writer.write_all(b" opens");
+    }
+    Ok(())
 }
 
 fn write_resent<W: Write>(writer: &mut W, resent: bool) -> io::Result<()>
@@ -71,10 +82,7 @@ fn write_leaving<W: Write>(writer: &mut W, leaving: Option<Leaving>) -> io::Resu
     ensures { OnOk result (Appends (W.contents writer.old) (W.contents writer.new) (leaving_text leaving)) }
 {
     match leaving {
-        Some(leaving) => {
-            let Leaving { detail, reason } = leaving;
-            write!(writer, " detail {detail} reason {reason}")
-        }
+        Some(leaving) => write_reasons(writer, leaving),
         None => Ok(()),
     }
 }

@@ -1,0 +1,5 @@
+pub mod Pieces
+pub mod Reasons
+pub mod RemarkText
+pub mod RecordText
+pub mod Choice

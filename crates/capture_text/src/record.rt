@@ -1,0 +1,115 @@
+//! The line of a datagram.
+
+ghost use Rattle.std.specs.Prelude.{◌≡◌, OnOk};
+ghost use Rattle.std.specs.Io.KnownBytes.{Appends};
+ghost use Rattle.capture_text.specs.RecordText.{fields_text, head_text, pdu_text, record_text, red_fault_text, remark_text, safe_fault_text, way_text};
+
+use crate::pieces::{channel_name, write_address, write_ends, write_since, write_text};
+use crate::remarks::write_remarks;
+use capture::{Header, Record, Remark, Remarks};
+use red_pdu::RedFault;
+use safe_pdu::SafeFault;
+use std::io;
+use std::io::Write;
+
+/// Writes the line of a datagram: when it was recorded, as seconds since `first`, its line in the capture, and what it
+/// says and what is remarkable in it, or its fault.
+///
+/// # Errors
+///
+/// An error is the writer's; what came before it stays written.
+pub fn write_record<W: Write>(
+    writer: &mut W,
+    first: u64,
+    line: u64,
+    record: &Record,
+    remark: &Remark,
+) -> io::Result<()>
+    ensures { OnOk result (Appends (W.contents writer.old) (W.contents writer.new) (record_text first line «record».now remark.now)) }
+{
+    write_head(writer, first, line, record)?;
+    write_remark(writer, record, remark)?;
+    write_text(writer, "\n")
+}
+
+fn write_head<W: Write>(writer: &mut W, first: u64, line: u64, record: &Record) -> io::Result<()>
+    ensures { OnOk result (Appends (W.contents writer.old) (W.contents writer.new) (head_text first line «record».now)) }
+{
+    write_since(writer, first, record.time)?;
+    write!(writer, " line {line} ")
+}
+
+fn write_remark<W: Write>(writer: &mut W, record: &Record, remark: &Remark) -> io::Result<()>
+    ensures { OnOk result (Appends (W.contents writer.old) (W.contents writer.new) (remark_text «record».now remark.now)) }
+{
+    match *remark {
+        Remark::Pdu(seq, header, remarks) => write_pdu(writer, seq, &header, &remarks),
+        Remark::NoSafe(seq, fault) => {
+            write_way(writer, record)?;
+            write_safe_fault(writer, seq, fault)
+        }
+        Remark::NoRed(fault) => {
+            write_way(writer, record)?;
+            write_red_fault(writer, fault)
+        }
+    }
+}
+
+fn write_pdu<W: Write>(
+    writer: &mut W,
+    seq: u32,
+    header: &Header,
+    remarks: &Remarks,
+) -> io::Result<()>
+    ensures { OnOk result (Appends (W.contents writer.old) (W.contents writer.new) (pdu_text seq header.now remarks.now)) }
+{
+    write_ends(writer, header.sender, header.receiver)?;
+    write_text(writer, channel_name(remarks.route))?;
+    write_fields(writer, seq, header)?;
+    write_remarks(writer, remarks)
+}
+
+fn write_fields<W: Write>(writer: &mut W, seq: u32, header: &Header) -> io::Result<()>
+    ensures { OnOk result (Appends (W.contents writer.old) (W.contents writer.new) (fields_text seq header.now)) }
+{
+    let name = header.kind.name();
+    let Header {
+        kind: _,
+        receiver: _,
+        sender: _,
+        sn,
+        cs,
+        ts,
+        cts,
+        leaving: _,
+    } = *header;
+    write!(
+        writer,
+        " red {seq} {name} sn {sn} cs {cs} ts {ts} cts {cts}"
+    )
+}
+
+/// Writes where a datagram that is no PDU comes from and goes to.
+fn write_way<W: Write>(writer: &mut W, record: &Record) -> io::Result<()>
+    ensures { OnOk result (Appends (W.contents writer.old) (W.contents writer.new) (way_text «record».now)) }
+{
+    write_address(writer, record.source)?;
+    write_text(writer, "->")?;
+    write_address(writer, record.destination)
+}
+
+fn write_safe_fault<W: Write>(writer: &mut W, seq: u32, fault: SafeFault) -> io::Result<()>
+    ensures { OnOk result (Appends (W.contents writer.old) (W.contents writer.new) (safe_fault_text seq fault)) }
+{
+    let number = fault.number();
+    let name = fault.name();
+    write!(writer, " red {seq} safe fault {number} {name}")
+}
+
+fn write_red_fault<W: Write>(writer: &mut W, fault: RedFault) -> io::Result<()>
+    ensures { OnOk result (Appends (W.contents writer.old) (W.contents writer.new) (red_fault_text fault)) }
+{
+    let number = fault.number();
+    let name = fault.name();
+    write!(writer, " red fault {number} {name}")
+}
