@@ -3,21 +3,17 @@ use Rattle.std.specs.Prelude.{◌≡◌, ℕ, ◌≤◌, ⊤, true, List, codes,
 use Rattle.std.specs.Option.{option_copied}
 use Rattle.std.specs.Str.Parse.{IsNumeral, digits_value, without_leading_plus}
 use Rattle.clap.specs.Words.{App, HasKind, Row, Rule, Text, fault_of, first_of, new_app, new_rule, subcommand_of, with_rule, with_subcommand}
-use Rattle.safe_pdu.specs.declared.CodeLength.{CodeLength}
-use Rattle.safe_pdu.specs.declared.CodeLength.TheVariants.{Zero, Eight, Sixteen}
+use Rattle.rasta_words.specs.Choices.{HasChoices, code_word, file_rule, follow_app, iv_rule}
 use Rattle.rasta_words.specs.declared.command_line.Request.{Request}
-use Rattle.rasta_words.specs.declared.command_line.Request.TheVariants.{Digest, Show, Sim, Net}
+use Rattle.rasta_words.specs.declared.command_line.Request.TheVariants.{Digest, Show, Sim, Follow, Net}
 use Rattle.rasta_words.specs.declared.command_line.WordsFault.{WordsFault}
-use Rattle.rasta_words.specs.declared.command_line.WordsFault.TheVariants.{Words, BadCode, BadTurns, NotText, Memory}
+use Rattle.rasta_words.specs.declared.command_line.WordsFault.TheVariants.{Words, BadCode, BadTurns, BadChoice, NotText, Memory}
 use Rattle.settings_file.specs.declared.Word.{Word}
 use Rattle.settings_file.specs.declared.Word.TheVariants.{Il, Fe, Pair}
 
 -- show --code N [--iv HEX] HEX
 abbrev pub code_rule : Rule
 code_rule = record (new_rule (codes "code")) { long = Some (codes "code"); required = true }
-
-abbrev pub iv_rule : Rule
-iv_rule = record (new_rule (codes "iv")) { long = Some (codes "iv") }
 
 abbrev pub hex_rule : Rule
 hex_rule = record (new_rule (codes "hex")) { required = true }
@@ -48,9 +44,6 @@ ends_word Pair = codes "pair"
 abbrev pub turns_rule : Rule
 turns_rule = record (new_rule (codes "turns")) { long = Some (codes "turns"); required = true }
 
-abbrev pub file_rule : Rule
-file_rule = record (new_rule (codes "file")) { required = true }
-
 abbrev pub net_app : Text → App
 net_app name = with_rule (with_rule (new_app name) turns_rule) file_rule
 
@@ -62,19 +55,17 @@ bare_app = record (new_app (codes "rasta")) { top = record (new_app (codes "rast
 abbrev pub plain_app : App
 plain_app = with_subcommand (with_subcommand bare_app md4_app.top) show_app.top
 
--- with those that use no sockets
+-- with `sim`
 abbrev pub local_app : App
 local_app = with_subcommand plain_app sim_app.top
 
+-- and with `follow`
+abbrev pub file_app : App
+file_app = with_subcommand local_app follow_app.top
+
 abbrev pub rasta_app : App
 rasta_app =
-    with_subcommand (with_subcommand (with_subcommand local_app (net_app (codes "il")).top) (net_app (codes "fe")).top) (net_app (codes "pair")).top
-
--- how a length of code is written
-abbrev pub code_word : CodeLength → Text
-code_word Zero = codes "0"
-code_word Eight = codes "8"
-code_word Sixteen = codes "16"
+    with_subcommand (with_subcommand (with_subcommand file_app (net_app (codes "il")).top) (net_app (codes "fe")).top) (net_app (codes "pair")).top
 
 -- how a number of turns is written: in decimal digits, before which a plus may stand
 abbrev pub IsTurns : Text → ℕ → Type 0
@@ -87,6 +78,7 @@ HasEntries (Digest hex) name rows = (name ≡ codes "md4") × (first_of (codes "
 HasEntries (Show code iv hex) name rows =
     (name ≡ codes "show") × (first_of (codes "code") rows ≡ Some (code_word code)) × (first_of (codes "iv") rows ≡ option_copied iv)
     × (first_of (codes "hex") rows ≡ Some hex.now)
+HasEntries (Follow choices) name rows = (name ≡ codes "follow") × HasChoices rows choices
 HasEntries (Sim script) name rows = (name ≡ codes "sim") × (first_of (codes "script") rows ≡ Some script.now)
 HasEntries (Net word file turns) name rows =
     (name ≡ ends_word word) × (first_of (codes "file") rows ≡ Some file.now)
@@ -111,6 +103,7 @@ abbrev pub IsFaultOf : List Text → WordsFault → Type 0
 IsFaultOf words (Words error) = HasKind (fault_of rasta_app words) error
 IsFaultOf words BadCode = ⊥
 IsFaultOf words BadTurns = ⊥
+IsFaultOf words BadChoice = ⊥
 IsFaultOf words NotText = ⊥
 IsFaultOf words (Memory error) = ⊤
 
@@ -118,4 +111,5 @@ IsFaultOf words (Memory error) = ⊤
 abbrev pub Refuses : List Text → WordsFault → Type 0
 Refuses words BadCode = (request : Request) → ¬ Asks words request
 Refuses words BadTurns = (request : Request) → ¬ Asks words request
+Refuses words BadChoice = (request : Request) → ¬ Asks words request
 Refuses words fault = IsFaultOf words fault

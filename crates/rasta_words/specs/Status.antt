@@ -3,7 +3,7 @@ use Rattle.std.specs.Prelude.{◌≡◌, ◌≢◌, ◌⊎◌, ℕ}
 use Rattle.clap.specs.Values.{kind_of}
 use Rattle.clap.specs.declared.error.kind.ErrorKind.TheVariants as kind
 use Rattle.rasta_words.specs.declared.command_line.WordsFault.{WordsFault}
-use Rattle.rasta_words.specs.declared.command_line.WordsFault.TheVariants.{Words, BadCode, BadTurns, NotText, Memory}
+use Rattle.rasta_words.specs.declared.command_line.WordsFault.TheVariants.{Words, BadCode, BadTurns, BadChoice, NotText, Memory}
 use Rattle.rasta_words.specs.declared.status.Status.{Status}
 use Rattle.rasta_words.specs.declared.status.Status.TheVariants.{Done, Refused, WrongWords, Failed}
 use Rattle.rasta_words.specs.declared.status.Fault.{Fault}
@@ -32,5 +32,6 @@ EndsBy (Words error) status =
     × ((kind_of error ≡ kind.DisplayHelp) ⊎ (kind_of error ≡ kind.DisplayVersion) → (status ≡ Done) ⊎ (status ≡ Failed))
 EndsBy BadCode status = status ≡ WrongWords
 EndsBy BadTurns status = status ≡ WrongWords
+EndsBy BadChoice status = status ≡ WrongWords
 EndsBy NotText status = status ≡ WrongWords
 EndsBy (Memory error) status = status ≡ Refused

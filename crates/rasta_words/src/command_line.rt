@@ -4,9 +4,11 @@ ghost use Rattle.std.specs.Prelude.{◌≡◌, ℕ, [], Some, IsOk, IfOk, IfErr,
 ghost use Rattle.std.specs.Option.{option_copied};
 ghost use Rattle.clap.specs.declared.Command.TheViews.{out-Command};
 ghost use Rattle.clap.specs.Words.{app_of, fault_of, first_of, found_of, rows_of, subcommand_of, subcommand_rows_of};
-ghost use Rattle.rasta_words.specs.CommandLine.{Asks, FindsNone, HasEntries, HasNoEntries, IsFaultOf, IsFound, IsTurns, Refuses, code_word, coded_app, ends_word, local_app, md4_app, net_app, plain_app, rasta_app, show_app, sim_app};
+ghost use Rattle.rasta_words.specs.CommandLine.{Asks, FindsNone, HasEntries, HasNoEntries, IsFaultOf, IsFound, IsTurns, Refuses, code_word, coded_app, ends_word, file_app, local_app, md4_app, net_app, plain_app, rasta_app, show_app, sim_app};
+ghost use Rattle.rasta_words.specs.Choices.{HasChoices, HasNoChoices, IsAgeChosen, IsCodeChosen, IsMilliseconds, IsRemarkChosen, chosen_app, follow_app, is_flagged, remark_word};
 
-use clap::{Arg, ArgMatches, Command};
+use capture_text::Word as Remarkable;
+use clap::{Arg, ArgAction, ArgMatches, Command};
 use safe_pdu::CodeLength;
 use settings_file::Word;
 use std::alloc::{AllocError, Global};
@@ -35,6 +37,8 @@ pub enum Request<'a> {
         /// The name of the script's file.
         script: &'a str,
     },
+    /// `follow FILE` with its choices: a recorded connection, and what is remarkable in it.
+    Follow(Following<'a>),
     /// `il FILE --turns N`, `fe FILE --turns N` or `pair FILE --turns N`: ends over sockets.
     Net {
         /// The ends that run.
@@ -44,6 +48,23 @@ pub enum Request<'a> {
         /// How many turns they are given, 1 to 1,000,000.
         turns: u32,
     },
+}
+
+/// How a recorded connection is followed.
+#[derive(Clone, Copy, Debug, PartialEq, Eq)]
+pub struct Following<'a> {
+    /// `--code`: how many octets of safety code a PDU has; 8 where nothing is said.
+    pub code: CodeLength,
+    /// `--iv`: the initial value of the code as hex digits, or that of RFC 1320.
+    pub iv: Option<&'a str>,
+    /// `--messages`: the telegrams of each unit are printed too.
+    pub messages: bool,
+    /// `--only`: the remark whose lines alone are printed.
+    pub only: Option<Remarkable>,
+    /// `--t-max`: the age of a confirmed timestamp that is remarkable, in milliseconds; 1,800 where nothing is said.
+    pub t_max: u32,
+    /// The name of the capture's file; `-` is standard input.
+    pub file: &'a str,
 }
 
 /// Why words are no command. The text is for standard error, but that of a call for help.
@@ -58,6 +79,9 @@ pub enum WordsFault {
     /// A number of turns that is none.
     #[error("error: turns are a number from 1 to 1,000,000\n\nUsage: rasta <il|fe|pair> --turns <turns> <file>\n\nFor more information, try 'rasta --help'.")]
     BadTurns,
+    /// A choice of `follow` that is none.
+    #[error("error: a code has 0, 8 or 16 octets, T_max is a number of milliseconds from 1 to 4,294,967,295, and lines are chosen by opens, repeat, ahead, late, stale, anew, resent, age, reason or fault\n\nUsage: rasta follow [--code <0|8|16>] [--iv <iv>] [--messages] [--only <word>] [--t-max <ms>] <file>\n\nFor more information, try 'rasta follow --help'.")]
+    BadChoice,
     /// A word is not UTF-8.
     #[error("error: a word is no UTF-8 text\n\nUsage: rasta <COMMAND>\n\nFor more information, try 'rasta --help'.")]
     NotText,
@@ -70,8 +94,8 @@ pub enum WordsFault {
 ///
 /// # Errors
 ///
-/// Refused: `Words`, where clap's rules find a fault in the words, or have no memory; `BadCode` or `BadTurns`, where
-/// they find none and yet no command is asked for, as with a code of 9 octets or with 0 turns; `Memory`.
+/// Refused: `Words`, where clap's rules find a fault in the words, or have no memory; `BadCode`, `BadChoice` or `BadTurns`,
+/// where they find none and yet no command is asked for, as with a code of 9 octets or with 0 turns; `Memory`.
 pub fn command<'a, S: AsStr>(alloc: Global, words: &'a [S]) -> Result<Request<'a>, WordsFault>
     ensures found { IfOk result (Asks (map S.text words.entry.now)) }
     ensures fits { IsOk result → fault_of rasta_app (map S.text words.entry.now) ≡ [] }
@@ -81,6 +105,7 @@ pub fn command<'a, S: AsStr>(alloc: Global, words: &'a [S]) -> Result<Request<'a
     match asked(&matches) {
         Some(request) => Ok(request),
         None if matches.subcommand_name() == Some("show") => Err(WordsFault::BadCode),
+        None if matches.subcommand_name() == Some("follow") => Err(WordsFault::BadChoice),
         None => Err(WordsFault::BadTurns),
     }
 }
@@ -112,12 +137,100 @@ fn asked_by<'a>(name: &str, entries: &ArgMatches<'a>) -> Option<Request<'a>>
             let script = entry(entries, "script")?;
             Some(Request::Sim { script })
         }
+        "follow" => Some(Request::Follow(following(entries)?)),
         _ => {
             let word = ends(name)?;
             let file = entry(entries, "file")?;
             let turns = turns(entry(entries, "turns")?)?;
             Some(Request::Net { word, file, turns })
         }
+    }
+}
+
+/// What the entries of `follow` choose.
+fn following<'a>(entries: &ArgMatches<'a>) -> Option<Following<'a>>
+    ensures found { IfSome result (HasChoices (rows_of (found_of entries.now))) }
+    ensures none { IsNone result → HasNoChoices (rows_of (found_of entries.now)) }
+{
+    Some(Following {
+        code: chosen_code(entry(entries, "code"))?,
+        iv: entry(entries, "iv"),
+        messages: is_chosen(entry(entries, "messages")),
+        only: chosen_remark(entry(entries, "only"))?,
+        t_max: chosen_age(entry(entries, "t-max"))?,
+        file: entry(entries, "file")?,
+    })
+}
+
+/// The length of code that a word names: 8 octets where there is none.
+fn chosen_code(word: Option<&str>) -> Option<CodeLength>
+    ensures found { IfSome result (IsCodeChosen (option_copied word.entry)) }
+    ensures only { (code : CodeLength) → IsCodeChosen (option_copied word.entry) code → result ≡ Some code }
+{
+    match word {
+        None => Some(CodeLength::Eight),
+        Some(word) => code_length(word),
+    }
+}
+
+/// Whether a flag was given.
+fn is_chosen(word: Option<&str>) -> bool
+    ensures { result ≡ is_flagged (option_copied word.entry) }
+{
+    match word {
+        None => false,
+        Some(word) => word == "true",
+    }
+}
+
+/// The remark that a word names; none where there is no word.
+fn chosen_remark(word: Option<&str>) -> Option<Option<Remarkable>>
+    ensures found { IfSome result (IsRemarkChosen (option_copied word.entry)) }
+    ensures only { (remark : Option Remarkable) → IsRemarkChosen (option_copied word.entry) remark → result ≡ Some remark }
+{
+    match word {
+        None => Some(None),
+        Some(word) => Some(Some(remarkable(word)?)),
+    }
+}
+
+fn remarkable(word: &str) -> Option<Remarkable>
+    ensures found { IfSome result (λ remark. word.now ≡ remark_word remark) }
+    ensures only { (remark : Remarkable) → word.now ≡ remark_word remark → result ≡ Some remark }
+{
+    match word {
+        "opens" => Some(Remarkable::Opens),
+        "repeat" => Some(Remarkable::Repeat),
+        "ahead" => Some(Remarkable::Ahead),
+        "late" => Some(Remarkable::Late),
+        "stale" => Some(Remarkable::Stale),
+        "anew" => Some(Remarkable::Anew),
+        "resent" => Some(Remarkable::Resent),
+        "age" => Some(Remarkable::Age),
+        "reason" => Some(Remarkable::Leaving),
+        "fault" => Some(Remarkable::Fault),
+        _ => None,
+    }
+}
+
+/// The age that a word names, in milliseconds; 1,800 where there is none.
+fn chosen_age(word: Option<&str>) -> Option<u32>
+    ensures found { IfSome result (IsAgeChosen (option_copied word.entry)) }
+    ensures only { (age : ℕ) → IsAgeChosen (option_copied word.entry) age → result ≡ Some age }
+{
+    match word {
+        None => Some(1800),
+        Some(word) => milliseconds(word),
+    }
+}
+
+fn milliseconds(word: &str) -> Option<u32>
+    ensures found { IfSome result (IsMilliseconds word.now) }
+    ensures only { (age : ℕ) → IsMilliseconds word.now age → result ≡ Some age }
+{
+    match word.parse::<u32>() {
+        Ok(age) if 1 <= age => Some(age),
+        _ => None,
     }
 }
 
@@ -181,7 +294,7 @@ fn rasta_command<'a>(alloc: Global) -> Result<Command<'a>, AllocError>
     ensures app { IfOk result (λ command. app_of command ≡ rasta_app) }
     ensures local { IfOk result (λ command. (out-Command command).has_globals ≡ false) }
 {
-    local_command(alloc)?
+    file_command(alloc)?
         .subcommand(net_command(alloc, "il", "Runs an interlocking over UDP")?)?
         .subcommand(net_command(alloc, "fe", "Runs a field element over UDP")?)?
         .subcommand(net_command(
@@ -192,6 +305,14 @@ fn rasta_command<'a>(alloc: Global) -> Result<Command<'a>, AllocError>
 }
 
 /// The program with the commands that use no sockets.
+fn file_command<'a>(alloc: Global) -> Result<Command<'a>, AllocError>
+    ensures app { IfOk result (λ command. app_of command ≡ file_app) }
+    ensures local { IfOk result (λ command. (out-Command command).has_globals ≡ false) }
+{
+    local_command(alloc)?.subcommand(follow_command(alloc)?)
+}
+
+/// The program with the commands that read no capture.
 fn local_command<'a>(alloc: Global) -> Result<Command<'a>, AllocError>
     ensures app { IfOk result (λ command. app_of command ≡ local_app) }
     ensures local { IfOk result (λ command. (out-Command command).has_globals ≡ false) }
@@ -253,6 +374,46 @@ fn coded_command<'a>(alloc: Global) -> Result<Command<'a>, AllocError>
         .about("Prints the fields of a captured datagram, or the first fault of each layer")
         .arg(code)?
         .arg(iv)
+}
+
+fn follow_command<'a>(alloc: Global) -> Result<Command<'a>, AllocError>
+    ensures app { IfOk result (λ command. app_of command ≡ follow_app) }
+    ensures local { IfOk result (λ command. (out-Command command).has_globals ≡ false) }
+{
+    let only = Arg::new(alloc, "only").long("only").help(
+        "Prints the lines with this remark alone: opens, repeat, ahead, late, stale, anew, resent, age, reason or fault",
+    );
+    let t_max = Arg::new(alloc, "t-max").long("t-max").help(
+        "The age of a confirmed timestamp that is remarkable, in milliseconds; without it 1800",
+    );
+    let file = Arg::new(alloc, "file").required(true).help(
+        "The capture, - for standard input: what `tshark -T fields -e frame.time_epoch -e ip.src -e udp.srcport -e ip.dst -e udp.dstport -e udp.payload` prints",
+    );
+    chosen_command(alloc)?.arg(only)?.arg(t_max)?.arg(file)
+}
+
+/// The command `follow` with what it takes of the safety code and of telegrams.
+fn chosen_command<'a>(alloc: Global) -> Result<Command<'a>, AllocError>
+    ensures app { IfOk result (λ command. app_of command ≡ chosen_app) }
+    ensures local { IfOk result (λ command. (out-Command command).has_globals ≡ false) }
+{
+    let code = Arg::new(alloc, "code").long("code").help(
+        "Octets of safety code at the end of a safety PDU: 0, 8 or 16; without it 8",
+    );
+    let iv = Arg::new(alloc, "iv").long("iv").help(
+        "Initial value of the code as 32 hex digits; without it that of RFC 1320",
+    );
+    let messages = Arg::new(alloc, "messages")
+        .long("messages")
+        .action(ArgAction::SetTrue)
+        .help("Prints the telegrams of each unit too");
+    Command::new(alloc, "follow")
+        .about(
+            "Follows a recorded connection: what was lost, repeated and sent again, and who left and why",
+        )
+        .arg(code)?
+        .arg(iv)?
+        .arg(messages)
 }
 
 fn sim_command<'a>(alloc: Global) -> Result<Command<'a>, AllocError>

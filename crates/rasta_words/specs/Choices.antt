@@ -1,0 +1,95 @@
+-- The choices of `follow`, and how its words name them.
+use Rattle.std.specs.Prelude.{◌≡◌, ℕ, ◌≤◌, ◌<◌, ◌^◌, Bool, false, true, List, codes, Option, None, Some}
+use Rattle.std.specs.Option.{option_copied}
+use Rattle.std.specs.Str.{bytes_eq}
+use Rattle.std.specs.Str.Parse.{IsNumeral, digits_value, without_leading_plus}
+use Rattle.clap.specs.Words.{App, Row, Rule, Text, first_of, new_app, new_rule, with_rule}
+use Rattle.clap.specs.declared.builder.action.ArgAction.TheVariants.{SetTrue}
+use Rattle.capture_text.specs.declared.choice.Word.{Word as Remarkable}
+use Rattle.capture_text.specs.declared.choice.Word.TheVariants.{Opens, Repeat, Ahead, Late, Stale, Anew, Resent, Age, Leaving, Fault}
+use Rattle.safe_pdu.specs.declared.CodeLength.{CodeLength}
+use Rattle.safe_pdu.specs.declared.CodeLength.TheVariants.{Zero, Eight, Sixteen}
+use Rattle.rasta_words.specs.declared.command_line.Following.{Following}
+
+-- follow [--code N] [--iv HEX] [--messages] [--only WORD] [--t-max MS] FILE
+abbrev pub chosen_code_rule : Rule
+chosen_code_rule = record (new_rule (codes "code")) { long = Some (codes "code") }
+
+abbrev pub iv_rule : Rule
+iv_rule = record (new_rule (codes "iv")) { long = Some (codes "iv") }
+
+abbrev pub messages_rule : Rule
+messages_rule = record (new_rule (codes "messages")) { long = Some (codes "messages"); action = Some SetTrue }
+
+abbrev pub only_rule : Rule
+only_rule = record (new_rule (codes "only")) { long = Some (codes "only") }
+
+abbrev pub t_max_rule : Rule
+t_max_rule = record (new_rule (codes "t-max")) { long = Some (codes "t-max") }
+
+abbrev pub file_rule : Rule
+file_rule = record (new_rule (codes "file")) { required = true }
+
+abbrev pub chosen_app : App
+chosen_app = with_rule (with_rule (with_rule (new_app (codes "follow")) chosen_code_rule) iv_rule) messages_rule
+
+abbrev pub follow_app : App
+follow_app = with_rule (with_rule (with_rule chosen_app only_rule) t_max_rule) file_rule
+
+-- how a length of code is written
+abbrev pub code_word : CodeLength → Text
+code_word Zero = codes "0"
+code_word Eight = codes "8"
+code_word Sixteen = codes "16"
+
+-- 8 octets, where no length is written
+abbrev pub IsCodeChosen : Option Text → CodeLength → Type 0
+IsCodeChosen None code = code ≡ Eight
+IsCodeChosen (Some word) code = word ≡ code_word code
+
+-- whether a flag was given
+abbrev pub is_flagged : Option Text → Bool
+is_flagged None = false
+is_flagged (Some word) = bytes_eq word (codes "true")
+
+-- how a remark is written by which lines are chosen
+abbrev pub remark_word : Remarkable → Text
+remark_word Opens = codes "opens"
+remark_word Repeat = codes "repeat"
+remark_word Ahead = codes "ahead"
+remark_word Late = codes "late"
+remark_word Stale = codes "stale"
+remark_word Anew = codes "anew"
+remark_word Resent = codes "resent"
+remark_word Age = codes "age"
+remark_word Leaving = codes "reason"
+remark_word Fault = codes "fault"
+
+abbrev pub IsWritten : Text → Option Remarkable → Type 0
+IsWritten word None = ⊥
+IsWritten word (Some remark) = word ≡ remark_word remark
+
+-- all lines, where no remark is written
+abbrev pub IsRemarkChosen : Option Text → Option Remarkable → Type 0
+IsRemarkChosen None remark = remark ≡ None
+IsRemarkChosen (Some word) remark = IsWritten word remark
+
+-- how an age is written: in decimal digits, before which a plus may stand; in milliseconds
+abbrev pub IsMilliseconds : Text → ℕ → Type 0
+IsMilliseconds word age =
+    IsNumeral 10 (without_leading_plus word) × (digits_value 10 (without_leading_plus word) ≡ age) × (1 ≤ age) × (age < 2 ^ 32)
+
+-- 1,800 ms, where none is written
+abbrev pub IsAgeChosen : Option Text → ℕ → Type 0
+IsAgeChosen None age = age ≡ 1800
+IsAgeChosen (Some word) age = IsMilliseconds word age
+
+-- the choices are those of the entries found
+abbrev pub HasChoices : List Row → Following → Type 0
+HasChoices rows f =
+    IsCodeChosen (first_of (codes "code") rows) f.code × (first_of (codes "iv") rows ≡ option_copied f.iv)
+    × (is_flagged (first_of (codes "messages") rows) ≡ f.messages) × IsRemarkChosen (first_of (codes "only") rows) f.only
+    × IsAgeChosen (first_of (codes "t-max") rows) f.t_max × (first_of (codes "file") rows ≡ Some f.file.now)
+
+abbrev pub HasNoChoices : List Row → Type 0
+HasNoChoices rows = (f : Following) → ¬ HasChoices rows f
