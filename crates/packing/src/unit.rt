@@ -59,7 +59,8 @@ pub fn unpack(octets: &[u8]) -> Result<Messages<'_>, PackFault>
     ensures found { IfOk result (λ messages. UnitText (messages_of messages) octets.now) }
 
     // What is spelled so is read.
-    ensures only { (ms : List (List ℕ)) → UnitText ms octets.now → IsOkAnd result (λ messages. messages_of messages ≡ ms) }
+    ensures only { (ms : List (List ℕ)) → UnitText ms octets.now
+        → IsOkAnd result (λ messages. messages_of messages ≡ ms) }
 
     // Which fault it is.
     ensures fault { IfErr result (FirstFault octets.now) }

@@ -82,7 +82,8 @@ fn add_equal<A: Allocator>(
     requires fits { length checksum.now ≤ CHECKSUM_MAX }
     requires room { length waiting.old < WAITING_MAX }
     ensures { waiting.new ≡ waiting.old
-        ++ tele_text (telegram (addressing_of parties.now) (kind_of (Notice.VersionEqual version)) (payload_of checksum.now (Notice.VersionEqual version))) ∷ [] }
+        ++ tele_text (telegram (addressing_of parties.now) (kind_of (Notice.VersionEqual version))
+        (payload_of checksum.now (Notice.VersionEqual version))) ∷ [] }
 {
     let mut payload = ArrayVec::<u8, ANSWER_MAX>::new();
     payload

@@ -73,7 +73,8 @@ impl Session {
     /// different ones (`are_versions`).
     pub fn field(config: FieldConfig) -> Self
         requires { AreVersions config.versions.items }
-        ensures opened { result ≡ opened (addressing_of config.parties) (Field config.versions.items config.checksum.items) }
+        ensures opened { result ≡ opened (addressing_of config.parties)
+            (Field config.versions.items config.checksum.items) }
         ensures settings { AreSettings result.addressing result.role }
     {
         Session {
@@ -99,7 +100,8 @@ impl Session {
         requires room { HasRoom self.old waiting.old }
         ensures left { self.new ≡ after Event.Up self.old }
         ensures added { waiting.new ≡ waiting.old ++ texts (added_by Event.Up self.old) }
-        ensures stands { (h : History) → StandsFor self.old waiting.old h → StandsFor self.new waiting.new (grown Event.Up h) }
+        ensures stands { (h : History) → StandsFor self.old waiting.old h
+            → StandsFor self.new waiting.new (grown Event.Up h) }
         ensures few { FewWait self.old waiting.old → FewWait self.new waiting.new }
     {
         let verdict = match self.side {
@@ -128,7 +130,8 @@ impl Session {
             (λ end. end_of (judged self.old (tele_of telegram.now)) ≡ Some end.detail) }
         ensures left { self.new ≡ after (Event.Arrives (tele_of telegram.now)) self.old }
         ensures added { waiting.new ≡ waiting.old ++ texts (added_by (Event.Arrives (tele_of telegram.now)) self.old) }
-        ensures stands { (h : History) → StandsFor self.old waiting.old h → StandsFor self.new waiting.new (grown (Event.Arrives (tele_of telegram.now)) h) }
+        ensures stands { (h : History) → StandsFor self.old waiting.old h
+            → StandsFor self.new waiting.new (grown (Event.Arrives (tele_of telegram.now)) h) }
         ensures taken { FoldsTo T.takes taker.old (taken_by (Event.Arrives (tele_of telegram.now)) self.old) taker.new }
         ensures few { FewWait self.old waiting.old → FewWait self.new waiting.new }
     {
@@ -159,9 +162,11 @@ impl Session {
     ) -> Result<(), PutFault>
         ensures answer { MatchResult result (λ _. put_refusal self.now kind payload.now (length waiting.old) ≡ None)
             (λ fault. put_refusal self.now kind payload.now (length waiting.old) ≡ Some fault) }
-        ensures added { waiting.new ≡ waiting.old ++ texts (added_by (Event.Puts kind payload.now (length waiting.old)) self.now) }
+        ensures added { waiting.new
+            ≡ waiting.old ++ texts (added_by (Event.Puts kind payload.now (length waiting.old)) self.now) }
         ensures refused { OnErr result (waiting.new ≡ waiting.old) }
-        ensures stands { (h : History) → StandsFor self.now waiting.old h → StandsFor self.now waiting.new (grown (Event.Puts kind payload.now (length waiting.old)) h) }
+        ensures stands { (h : History) → StandsFor self.now waiting.old h
+            → StandsFor self.now waiting.new (grown (Event.Puts kind payload.now (length waiting.old)) h) }
         ensures few { FewWait self.now waiting.old → FewWait self.now waiting.new }
     {
         if !self.may_put() {
@@ -192,7 +197,8 @@ impl Session {
         ensures left { self.new ≡ after (Event.InitDone (length waiting.old)) self.old }
         ensures added { waiting.new ≡ waiting.old ++ texts (added_by (Event.InitDone (length waiting.old)) self.old) }
         ensures refused { OnErr result ((self.new ≡ self.old) × (waiting.new ≡ waiting.old)) }
-        ensures stands { (h : History) → StandsFor self.old waiting.old h → StandsFor self.new waiting.new (grown (Event.InitDone (length waiting.old)) h) }
+        ensures stands { (h : History) → StandsFor self.old waiting.old h
+            → StandsFor self.new waiting.new (grown (Event.InitDone (length waiting.old)) h) }
         ensures few { FewWait self.old waiting.old → FewWait self.new waiting.new }
     {
         if !self.is_initialising() {
@@ -210,7 +216,8 @@ impl Session {
     #[tactic(auto, using(crate::proofs::Growing::stands_on))]
     pub fn end(&mut self)
         ensures left { self.new ≡ after Event.Closes self.old }
-        ensures stands { (waiting : List (List ℕ)) (h : History) → StandsFor self.old waiting h → StandsFor self.new waiting (grown Event.Closes h) }
+        ensures stands { (waiting : List (List ℕ)) (h : History) → StandsFor self.old waiting h
+            → StandsFor self.new waiting (grown Event.Closes h) }
         ensures few { (waiting : List (List ℕ)) → FewWait self.old waiting → FewWait self.new waiting }
     {
         self.phase = Phase::Ended;

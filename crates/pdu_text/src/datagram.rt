@@ -112,7 +112,8 @@ fn write_body<W: Write>(writer: &mut W, kind: Kind, body: &[u8]) -> io::Result<(
 
 fn write_opening<W: Write>(writer: &mut W, opening: &Opening<'_>) -> io::Result<()>
     ensures { OnOk result (Appends (W.contents writer.old) (W.contents writer.new)
-        (joined (codes " version " ∷ opening.now.version.now ∷ codes " nsendmax " ∷ decimal opening.now.n_sendmax ∷ []))) }
+        (joined (codes " version " ∷ opening.now.version.now
+        ∷ codes " nsendmax " ∷ decimal opening.now.n_sendmax ∷ []))) }
 {
     write_text(writer, " version ")?;
     writer.write_all(opening.version)?;

@@ -159,5 +159,6 @@ pub fn text_law()
     ensures asked { AskedLaw }
 
     // The test of a text tells exactly the texts.
-    ensures test { (p : Pdu) (rule : CodeRule) (octets : List ℕ) → IsTrue (is_text p rule octets) ↔ SafeText p rule octets }
+    ensures test { (p : Pdu) (rule : CodeRule) (octets : List ℕ) → IsTrue (is_text p rule octets)
+        ↔ SafeText p rule octets }
 {}

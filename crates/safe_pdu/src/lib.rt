@@ -201,8 +201,8 @@ pub struct SafePdu<'a> {
 pub struct Opening<'a> {
     /// The version: four ASCII digits.
     pub version: &'a [u8],
-    /// N_sendmax, 1 to 32: how many units the peer of the sender may have unconfirmed, the size of the receive buffer that
-    /// the sender offers.
+    /// N_sendmax, 1 to 32: how many units the peer of the sender may have unconfirmed, the size of the receive buffer
+    /// that the sender offers.
     pub n_sendmax: u16,
 }
 

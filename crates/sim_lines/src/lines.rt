@@ -27,7 +27,8 @@ pub struct Standing {
 
 /// Writes the line of a telegram that an application takes: its kind, and its payload in hex digits.
 pub fn write_take<W: Write>(writer: &mut W, side: Side, kind: u16, payload: &[u8]) -> io::Result<()>
-    ensures { OnOk result (Appends (W.contents writer.old) (W.contents writer.new) (lines.take_line side kind payload.now)) }
+    ensures { OnOk result (Appends (W.contents writer.old) (W.contents writer.new)
+        (lines.take_line side kind payload.now)) }
 {
     write_text(writer, side_name(side))?;
     write_text(writer, " takes ")?;
@@ -59,7 +60,8 @@ pub fn write_report<W: Write>(
 }
 
 fn write_standing<W: Write>(writer: &mut W, side: &str, standing: &Standing) -> io::Result<()>
-    ensures { OnOk result (Appends (W.contents writer.old) (W.contents writer.new) (lines.standing_line side.now standing.now)) }
+    ensures { OnOk result (Appends (W.contents writer.old) (W.contents writer.new)
+        (lines.standing_line side.now standing.now)) }
 {
     let state = state_name(standing.state);
     let phase = phase_name(standing.phase);
