@@ -186,7 +186,8 @@ fn is_chosen(word: Option<&str>) -> bool
 /// The remark that a word names; none where there is no word.
 fn chosen_remark(word: Option<&str>) -> Option<Option<Remarkable>>
     ensures found { IfSome result (IsRemarkChosen (option_copied word.entry)) }
-    ensures only { (remark : Option Remarkable) → IsRemarkChosen (option_copied word.entry) remark → result ≡ Some remark }
+    ensures only { (remark : Option Remarkable) → IsRemarkChosen (option_copied word.entry) remark
+        → result ≡ Some remark }
 {
     match word {
         None => Some(None),
@@ -276,7 +277,8 @@ fn code_length(word: &str) -> Option<CodeLength>
 }
 
 fn matched<'a, S: AsStr>(alloc: Global, words: &'a [S]) -> Result<ArgMatches<'a>, WordsFault>
-    ensures rows { IfOk result (λ matches. subcommand_rows_of matches ≡ subcommand_of rasta_app (map S.text words.entry.now)) }
+    ensures rows { IfOk result
+        (λ matches. subcommand_rows_of matches ≡ subcommand_of rasta_app (map S.text words.entry.now)) }
     ensures fits { IsOk result → fault_of rasta_app (map S.text words.entry.now) ≡ [] }
     ensures refused { IfErr result (IsFaultOf (map S.text words.entry.now)) }
 {
