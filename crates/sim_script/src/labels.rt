@@ -136,7 +136,8 @@ fn first_from<A: Allocator>(il: &Made<A>, fe: &Made<A>, order: &[Label], from: u
     requires named { list_all (named_by il.now fe.now) (take from order.now) ≡ true }
     ensures within { result ≤ length order.now }
     ensures named { list_all (named_by il.now fe.now) (take result order.now) ≡ true }
-    ensures first { slice_get order.now result ≡ slice_get (filter (λ label. not (named_by il.now fe.now label)) order.now) 0 }
+    ensures first { slice_get order.now result
+        ≡ slice_get (filter (λ label. not (named_by il.now fe.now label)) order.now) 0 }
 {
     for place in from..order.len() {
         if !is_named(il, fe, order[place]) {
