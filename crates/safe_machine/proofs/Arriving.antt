@@ -19,7 +19,7 @@ use Rattle.safe_machine.specs.State.{State, make, move_to, pass, note_request, r
 use Rattle.safe_machine.specs.declared.decision.Decision.{Decision}
 use Rattle.safe_machine.specs.Decision.{decide, distance, cs_step}
 use Rattle.safe_machine.specs.declared.decision.Decision.TheVariants.{Nothing, Drops, Shuts, Leaves, Rejects, Accepts, Connects, Takes, Asks, Resumes, AnswersNext, AnswersEarly}
-use Rattle.safe_machine.specs.Step.{carry_out, receive, arrive, guard, beat, tests_passed, confirm_units}
+use Rattle.safe_machine.specs.Step.{carry_out, respond, arrive, guard, beat, tests_passed, confirm_units}
 use Rattle.safe_machine.specs.View.{View, StandsFor, Does, HandsUp, kept_of}
 use Rattle.safe_machine.proofs.Cases.{if_both}
 use Rattle.safe_machine.proofs.OneMachine.{plain-guard}
@@ -85,25 +85,25 @@ decided-taken p now AnswersEarly s =
     if_both (λ (u : State). u.taken ≡ s.taken ++ []) (in_turn s.connection) (ask now t) t (λ _. same-taken s (ask now t) e) (λ _. same-taken s t e)
 
 pub hands-up : {U : Type 0} (takes : U → List ℕ → U → Type 0) (a b : U) (p : Pdu) (now : ℕ) (d : Decision) (s : State) → decide (kept_of s) p now ≡ d → FoldsTo takes a (handed_by d p) b →
-    HandsUp takes a s (receive p now s) b
+    HandsUp takes a s (respond p now s) b
 hands-up takes a b p now d s is h =
-    let more : drop (length s.taken) (receive p now s).taken ≡ handed_by d p =
+    let more : drop (length s.taken) (respond p now s).taken ≡ handed_by d p =
     ap (λ e. drop (length s.taken) (carry_out p now e s).taken) is ∙ (ap (drop (length s.taken)) (decided-taken p now d s) ∙ drop-append_seam s.taken (handed_by d p)) in
     subst (λ us. FoldsTo takes a us b) (sym more) h
 
 -- what was decided from what is kept is done
-pub receive-does : {O : Type 0} (makes : O → List ℕ → O → Type 0) (p : Pdu) (now : ℕ) (d : Decision) (m n : View) (a b : O) → d ≡ decide m p now → Does makes (carry_out p now d) m a n b →
-    Does makes (receive p now) m a n b
-receive-does makes p now d m n a b is h =
-    does-as makes (carry_out p now d) (receive p now) m n a b
+pub respond-does : {O : Type 0} (makes : O → List ℕ → O → Type 0) (p : Pdu) (now : ℕ) (d : Decision) (m n : View) (a b : O) → d ≡ decide m p now → Does makes (carry_out p now d) m a n b →
+    Does makes (respond p now) m a n b
+respond-does makes p now d m n a b is h =
+    does-as makes (carry_out p now d) (respond p now) m n a b
     (λ s stands. ap (λ v. carry_out p now (decide v p now) s) (sym stands) ∙ ap (λ e. carry_out p now e s) (sym is)) h
 
 -- the guard leaves, or it does nothing
 pub arrive-left : (p : Pdu) (now : ℕ) (m : View) (s : State) (reason : Reason) (detail : Detail) → StandsFor m s → overdue now m ≡ Some (reason, detail) → arrive p now s ≡ leave reason detail now s
-arrive-left p now m s reason detail h e = ap (receive p now) (guard-is now m s h ∙ ap (λ o. left_by now o s) e)
+arrive-left p now m s reason detail h e = ap (respond p now) (guard-is now m s h ∙ ap (λ o. left_by now o s) e)
 
-pub arrive-goes : (p : Pdu) (now : ℕ) (m : View) (s : State) → StandsFor m s → overdue now m ≡ None → arrive p now s ≡ receive p now s
-arrive-goes p now m s h e = ap (receive p now) (guard-is now m s h ∙ ap (λ o. left_by now o s) e)
+pub arrive-goes : (p : Pdu) (now : ℕ) (m : View) (s : State) → StandsFor m s → overdue now m ≡ None → arrive p now s ≡ respond p now s
+arrive-goes p now m s h e = ap (respond p now) (guard-is now m s h ∙ ap (λ o. left_by now o s) e)
 
 -- the guard hands up nothing
 pub hands-nothing : {U : Type 0} (takes : U → List ℕ → U → Type 0) (a : U) (now : ℕ) (s : State) → HandsUp takes a s (guard now s) a

@@ -10,7 +10,7 @@ use Rattle.safe_pdu.specs.declared.Kind.TheVariants.{ConnReq, ConnResp, RetrReq,
 use Rattle.safe_machine.specs.declared.ConnectionState.TheVariants.{Start, Down}
 use Rattle.safe_machine.specs.Made.{Made, units, first_sent, opening_body}
 use Rattle.safe_machine.specs.Settings.{Settings}
-use Rattle.safe_machine.specs.State.{State, next_made, make, resend, reply, unconfirmed, opened, fresh}
+use Rattle.safe_machine.specs.State.{State, next_made, make, resend, reply, unconfirmed, opened, blank}
 use Rattle.retrans.specs.Units.{Numbered, above, renumbered, octets_of}
 use Rattle.safe_machine.specs.Ring.{after_at, carried_at, is_resent, resent, carried_again, after_carrier, carriers_from, carriers}
 use Rattle.safe_machine.specs.Moves.{Move, moved, move, ReachedState, ReachedLaw}
@@ -366,8 +366,8 @@ carriers-moved (m ∷ ms) s h = carriers-moved ms (move m s) (kept-move Anything
 carriers-opened : (settings : Settings) (first now : ℕ) → Carriers (opened settings first now)
 carriers-opened settings first now =
     let none : CarriersOf [] 0 = record { front = []; is = refl; none = refl; placed = inr (refl, refl); all = refl } in
-    if_both Carriers settings.client (make ConnReq (opening_body settings.n_sendmax) now (fresh settings first now Start)) (fresh settings first now Down)
-    (λ _. push [] 0 (next_made (fresh settings first now Start) ConnReq (opening_body settings.n_sendmax) now) refl none) (λ _. none)
+    if_both Carriers settings.client (make ConnReq (opening_body settings.n_sendmax) now (blank settings first now Start)) (blank settings first now Down)
+    (λ _. push [] 0 (next_made (blank settings first now Start) ConnReq (opening_body settings.n_sendmax) now) refl none) (λ _. none)
 
 reached : (s : State) → Carriers s → ReachedState s
 reached s h =

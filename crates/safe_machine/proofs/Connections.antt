@@ -18,9 +18,9 @@ use Rattle.safe_machine.specs.declared.table.Cell.{Cell}
 use Rattle.safe_machine.specs.Table.{cell, start_row, up_row, run_row, request_row}
 use Rattle.safe_machine.specs.declared.table.Cell.TheVariants.{Take, Ask, Answer as Reply, Resume, Refuse, Skip}
 use Rattle.safe_machine.specs.declared.decision.Decision.{Decision}
-use Rattle.safe_machine.specs.Decision.{is_stranger, is_goodbye, is_ours, cs_fits, cts_fits, tested, in_down, as_client, in_start, by_cell, by_table, by_connection, heard, distance, cs_step}
+use Rattle.safe_machine.specs.Decision.{is_stranger, is_goodbye, is_ours, cs_fits, cts_fits, tested, in_down, as_client, in_start, by_cell, by_table, by_connection, by_sender, distance, cs_step}
 use Rattle.safe_machine.specs.declared.decision.Decision.TheVariants.{Nothing, Drops, Shuts, Leaves, Rejects, Accepts, Connects, Takes, Resumes, AnswersNext, AnswersEarly}
-use Rattle.safe_machine.specs.Step.{carry_out, guard, receive, beat, tests_passed, confirm_units}
+use Rattle.safe_machine.specs.Step.{carry_out, guard, respond, beat, tests_passed, confirm_units}
 use Rattle.safe_machine.specs.Moves.{Move, move, GoesOn, HearsNothing, ConnectionsLaw}
 use Rattle.safe_machine.specs.Moves.Move.{Guards, Hears, Ticks, Sends, Leaves as LeavesNow}
 use Rattle.safe_machine.proofs.Cases.{if_both}
@@ -187,9 +187,9 @@ module _ (p : Pdu) (now : ℕ) (s : State) where
   by-goes Requesting e = on-goes (ap is_connected e)
   by-goes RetrRun e = on-goes (ap is_connected e)
 
-  receive-goes : GoesOn s.connection (receive p now s).connection
-  receive-goes =
-      if_both Q (is_closed s.connection) Nothing (heard (kept_of s) p now) (λ _. inl refl)
+  respond-goes : GoesOn s.connection (respond p now s).connection
+  respond-goes =
+      if_both Q (is_closed s.connection) Nothing (by_sender (kept_of s) p now) (λ _. inl refl)
       (λ _. if_both Q (is_stranger s p) (Drops Stranger) (by_connection (kept_of s) p now s.connection) (λ _. inl refl) (λ _. by-goes s.connection refl))
 
 guard-goes : (now : ℕ) (s : State) → GoesOn s.connection (guard now s).connection
@@ -199,8 +199,8 @@ connection-goes : (m : Move) (s : State) → GoesOn s.connection (move m s).conn
 connection-goes (Guards now) s = guard-goes now s
 connection-goes (Hears p now) s =
     elim (guarded now s) [
-      | inl closed ↦ inr (inl (ap (λ c. (carry_out p now (if is_closed c then Nothing else heard (kept_of (guard now s)) p now) (guard now s)).connection) closed ∙ closed))
-      | inr same ↦ subst (λ (t : State). GoesOn s.connection (receive p now t).connection) (sym same) (receive-goes p now s)
+      | inl closed ↦ inr (inl (ap (λ c. (carry_out p now (if is_closed c then Nothing else by_sender (kept_of (guard now s)) p now) (guard now s)).connection) closed ∙ closed))
+      | inr same ↦ subst (λ (t : State). GoesOn s.connection (respond p now t).connection) (sym same) (respond-goes p now s)
     ]
 connection-goes (Ticks now) s =
     let g = guard now s in

@@ -15,7 +15,7 @@ use Rattle.safe_machine.specs.State.{State, unconfirmed, next_made, make, move_t
 use Rattle.safe_machine.specs.declared.decision.Decision.{Decision}
 use Rattle.safe_machine.specs.Decision.{cs_fits, distance, decide, cs_step}
 use Rattle.safe_machine.specs.declared.decision.Decision.TheVariants.{Nothing, Drops, Shuts, Leaves, Rejects, Accepts, Connects, Takes, Asks, Resumes, AnswersNext, AnswersEarly}
-use Rattle.safe_machine.specs.Step.{beat, tests_passed, carry_out, set_window, confirm_to, guard, receive, send, may_send, heartbeat, confirm_units}
+use Rattle.safe_machine.specs.Step.{beat, tests_passed, carry_out, set_window, confirm_to, guard, respond, send, may_send, heartbeat, confirm_units}
 use Rattle.safe_machine.proofs.Cases.{if_both, leb-false, and-parts}
 use Rattle.safe_machine.proofs.Runs.{run_after-append}
 use Rattle.safe_machine.proofs.Invariant.{is_opening}
@@ -282,8 +282,8 @@ bounded-carry now p x b ready down window AnswersEarly f =
     (λ _. omega (arith, length-make RetrReq [] now t, bt.2)))
     (λ _. bt.0)
 
-pub bounded-receive : (now : ℕ) (p : Pdu) (x : State) → Bounded x → Ready x → (x.connection ≡ Down → x.made ≡ []) → (1 ≤ is_opening p.kind → window_of p.body ≤ 32) → Bounded (receive p now x)
-bounded-receive now p x b ready down window = bounded-carry now p x b ready down window (decide (kept_of x) p now) (decide-fits x p now)
+pub bounded-respond : (now : ℕ) (p : Pdu) (x : State) → Bounded x → Ready x → (x.connection ≡ Down → x.made ≡ []) → (1 ≤ is_opening p.kind → window_of p.body ≤ 32) → Bounded (respond p now x)
+bounded-respond now p x b ready down window = bounded-carry now p x b ready down window (decide (kept_of x) p now) (decide-fits x p now)
 
 pub connected-live : (connection : ConnectionState) → is_connected connection ≡ true → is_live connection ≡ true
 connected-live Up e = refl

@@ -13,7 +13,7 @@ use Rattle.safe_machine.specs.declared.table.Cell.{Cell}
 use Rattle.safe_machine.specs.Table.{cell}
 use Rattle.safe_machine.specs.declared.table.Cell.TheVariants.{Take, Ask, Answer, Resume, Refuse, Skip}
 use Rattle.safe_machine.specs.declared.decision.Decision.{Decision}
-use Rattle.safe_machine.specs.Decision.{is_ours, is_stranger, cs_fits, cts_fits, tested, in_down, as_client, distance, answering, by_cell, by_table, in_start, is_goodbye, by_connection, decide, heard, cs_step}
+use Rattle.safe_machine.specs.Decision.{is_ours, is_stranger, cs_fits, cts_fits, tested, in_down, as_client, distance, answering, by_cell, by_table, in_start, is_goodbye, by_connection, decide, by_sender, cs_step}
 use Rattle.safe_machine.specs.declared.decision.Decision.TheVariants.{Nothing, Drops, Shuts, Leaves, Rejects, Accepts, Connects, Takes, Asks, Resumes, AnswersNext, AnswersEarly}
 use Rattle.safe_machine.specs.declared.DropCause.TheVariants.{Stranger, Number, Answered, Below}
 use Rattle.safe_machine.proofs.Cases.{if_both, and-parts, leb-false}
@@ -182,5 +182,5 @@ fits-connection x p now RetrRun is = fits-listens x p now (ap (λ c. listens c x
 -- Each decision that is made says this.
 pub decide-fits : (x : State) (p : Pdu) (now : ℕ) → Fits x p now (decide (kept_of x) p now)
 decide-fits x p now =
-    if_both (Fits x p now) (is_closed x.connection) Nothing (heard (kept_of x) p now) (λ _. tt)
+    if_both (Fits x p now) (is_closed x.connection) Nothing (by_sender (kept_of x) p now) (λ _. tt)
     (λ _. if_both (Fits x p now) (is_stranger x p) (Drops Stranger) (by_connection (kept_of x) p now x.connection) (λ _. tt) (λ _. fits-connection x p now x.connection refl))

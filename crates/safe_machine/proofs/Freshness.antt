@@ -10,11 +10,11 @@ use Rattle.safe_pdu.specs.Pdu.{Pdu}
 use Rattle.safe_machine.specs.Made.{Made, carries, opening_body}
 use Rattle.safe_machine.specs.Numbers.{sn_of}
 use Rattle.safe_machine.specs.Settings.{Settings, is_legal}
-use Rattle.safe_machine.specs.State.{State, unconfirmed, make, move_to, pass, hand_up, note_request, reply, ask, leave, opened, fresh, next_made}
+use Rattle.safe_machine.specs.State.{State, unconfirmed, make, move_to, pass, hand_up, note_request, reply, ask, leave, opened, blank, next_made}
 use Rattle.safe_machine.specs.declared.decision.Decision.{Decision}
 use Rattle.safe_machine.specs.Decision.{decide, distance}
 use Rattle.safe_machine.specs.declared.decision.Decision.TheVariants.{Nothing, Drops, Shuts, Leaves, Rejects, Accepts, Connects, Takes, Asks, Resumes, AnswersNext, AnswersEarly}
-use Rattle.safe_machine.specs.Step.{guard, receive, arrive, carry_out, tick, send, tests_passed, beat, confirm_units}
+use Rattle.safe_machine.specs.Step.{guard, respond, arrive, carry_out, tick, send, tests_passed, beat, confirm_units}
 use Rattle.safe_machine.specs.World.{World, Event, start, changed, run, event_end, event_time, at_end, Timely, happens, GenuineAt, GenuineEvent, Genuine, as_role, open_il, open_fe, with_il, with_fe}
 use Rattle.safe_machine.specs.World.Event.{Open, Send, Close, Guard, Tick, Arrive}
 use Rattle.safe_machine.specs.Law.{Fresh, FreshEvent, AllFresh, FreshLaw, FreshAtLastLaw}
@@ -146,11 +146,11 @@ met-arrive clock other now n p x y later h peer bounded bounded_peer short both 
     let incoming : Incoming r.0 m r.2 s y =
     record { pair = hs; peer = peer; few = omega (arith, bs.0.few); few_peer = omega (arith, bounded_peer.few); small = bs.0.small; at = r.3 } in
     let fits = decide-fits s m.pdu now in
-    let steps : Steps now s (receive m.pdu now s) y =
+    let steps : Steps now s (respond m.pdu now s) y =
     steps-carry now other now r.0 m r.2 s y (omega arith) (λ live. omega (arith, guarded live)) incoming both_s.receives both_s.sends (decide (kept_of s) m.pdu now) fits in
-    subst (λ (q : Pdu). Arrived clock other now q x (receive q now s) y) r.4
+    subst (λ (q : Pdu). Arrived clock other now q x (respond q now s) y) r.4
     (record {
-      both = both-step now other now s (receive m.pdu now s) y (omega arith) hs.1 hs.2 both_s steps;
+      both = both-step now other now s (respond m.pdu now s) y (omega arith) hs.1 hs.2 both_s steps;
       fresh = took_fresh clock now r.0 m r.2 x y incoming lone.taken short_s guarded both_s.receives (decide (kept_of s) m.pdu now) fits;
     }))
   where
@@ -313,7 +313,7 @@ opened-times settings first now cf fe k past =
     }
   where
     first_made : Settings → ℕ → ℕ → Made
-    first_made settings first now = next_made (fresh (as_role true settings) first now Start) ConnReq (opening_body settings.n_sendmax) now
+    first_made settings first now = next_made (blank (as_role true settings) first now Start) ConnReq (opening_body settings.n_sendmax) now
 
     rise : (i j : ℕ) (a b : Made) (ra rb : List Made) → drop i (opened (as_role true settings) first now).made ≡ a ∷ ra → drop j (opened (as_role true settings) first now).made ≡ b ∷ rb → a.time ≤ b.time
     rise i j a b ra rb ea eb =

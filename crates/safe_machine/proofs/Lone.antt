@@ -11,17 +11,17 @@ use Rattle.safe_pdu.specs.Pdu.{Pdu}
 use Rattle.safe_machine.specs.Made.{Made, units, first_sent, after_pdu, leaving_body, last_time}
 use Rattle.safe_machine.specs.Settings.{Settings}
 use Rattle.safe_machine.specs.State.{State, unconfirmed, next_made, make, move_to, leave}
-use Rattle.safe_machine.specs.Decision.{is_stranger, by_connection, heard}
+use Rattle.safe_machine.specs.Decision.{is_stranger, by_connection, by_sender}
 use Rattle.safe_machine.specs.declared.decision.Decision.TheVariants.{Drops, Nothing}
 use Rattle.safe_machine.specs.declared.DropCause.TheVariants.{Stranger}
-use Rattle.safe_machine.specs.Step.{guard, receive, arrive, carry_out, heartbeat, tick, may_send, send}
+use Rattle.safe_machine.specs.Step.{guard, respond, arrive, carry_out, heartbeat, tick, may_send, send}
 use Rattle.safe_machine.specs.World.{IsBeginningOf, Among, GenuineAt}
 use Rattle.safe_machine.proofs.Cases.{if_both, and-parts}
 use Rattle.safe_machine.proofs.Runs.{units-append, Every, every-at, every-drop_push}
 use Rattle.safe_machine.proofs.Invariant.{is_opening, NotOpening, Sound, Started, Solo, Pair}
 use Rattle.safe_machine.proofs.Moves.{pair-leave, pair-beat, pair-sent}
-use Rattle.safe_machine.proofs.Receiving.{Incoming, pair-receive}
-use Rattle.safe_machine.proofs.Counting.{Bounded, bounded-guard, bounded-receive, bounded-heartbeat, connected-live, turn-live, unconfirmed-make}
+use Rattle.safe_machine.proofs.Receiving.{Incoming, pair-respond}
+use Rattle.safe_machine.proofs.Counting.{Bounded, bounded-guard, bounded-respond, bounded-heartbeat, connected-live, turn-live, unconfirmed-make}
 use Rattle.safe_machine.specs.declared.Reason.{Reason}
 use Rattle.safe_machine.specs.declared.Reason.TheVariants.{Timeout, ProtocolError}
 use Rattle.safe_machine.specs.declared.Detail.{Detail}
@@ -174,12 +174,12 @@ pair-send unit now x y h =
     (λ both. pair-sent unit now x y (turn-connected x.connection (and-parts (in_turn x.connection) (nat_lt (length (unconfirmed x)) x.window) both).0) h) (λ _. h)
 
 -- An arrival: the guard, and for an end that is not closed and is meant, the step by decision.
-pub receive-closed : (p : Pdu) (now : ℕ) (s : State) → s.connection ≡ Closed → (P : State → Type 0) → P s → P (receive p now s)
-receive-closed p now s e P h = subst (λ (b : Bool). P (carry_out p now (if b then Nothing else heard (kept_of s) p now) s)) (sym (ap is_closed e)) h
+pub respond-closed : (p : Pdu) (now : ℕ) (s : State) → s.connection ≡ Closed → (P : State → Type 0) → P s → P (respond p now s)
+respond-closed p now s e P h = subst (λ (b : Bool). P (carry_out p now (if b then Nothing else by_sender (kept_of s) p now) s)) (sym (ap is_closed e)) h
 
-receive-stranger : (p : Pdu) (now : ℕ) (s : State) → is_stranger s p ≡ true → (P : State → Type 0) → P s → P (receive p now s)
-receive-stranger p now s e P h =
-    if_both (λ d. P (carry_out p now d s)) (is_closed s.connection) Nothing (heard (kept_of s) p now) (λ _. h)
+respond-stranger : (p : Pdu) (now : ℕ) (s : State) → is_stranger s p ≡ true → (P : State → Type 0) → P s → P (respond p now s)
+respond-stranger p now s e P h =
+    if_both (λ d. P (carry_out p now d s)) (is_closed s.connection) Nothing (by_sender (kept_of s) p now) (λ _. h)
     (λ _. subst (λ (b : Bool). P (carry_out p now (if b then Drops Stranger else by_connection (kept_of s) p now s.connection) s)) (sym e) h)
 
 -- an end that is not live passes its guard as it is
@@ -209,15 +209,15 @@ bool_or true = inl refl
 bool_or false = inr refl
 
 pub arrive-by : (P : State → Type 0) (p : Pdu) (now : ℕ) (x : State) → P (guard now x) →
-    (x.connection ≢ Closed → is_stranger x p ≡ false → P (receive p now (guard now x))) → P (arrive p now x)
+    (x.connection ≢ Closed → is_stranger x p ≡ false → P (respond p now (guard now x))) → P (arrive p now x)
 arrive-by P p now x h f =
     let s = guard now x in
     let lone = lone-guard now x in
     elim (closed_or s.connection) [
-      | inl closed ↦ receive-closed p now s closed P h
+      | inl closed ↦ respond-closed p now s closed P h
       | inr on ↦
           elim (bool_or (is_stranger s p)) [
-            | inl stranger ↦ receive-stranger p now s stranger P h
+            | inl stranger ↦ respond-stranger p now s stranger P h
             | inr meant ↦
                 f (λ closed. on (ap (λ (t : State). t.connection) (lone.closed closed) ∙ closed))
                 (subst (λ (k : Settings). (if (p.receiver == k.own) && (p.sender == k.peer) then false else true) ≡ false) lone.settings meant)
@@ -248,8 +248,8 @@ pair-arrive now n p x y h peer bounded bounded_peer genuine =
     let incoming : Incoming r.0 m r.2 s y =
     record { pair = hs; peer = peer; few = omega (arith, bs.0.few); few_peer = omega (arith, bounded_peer.few); small = bs.0.small; at = r.3 } in
     let down : s.connection ≡ Down → s.made ≡ [] = λ e. (subst (λ (c : ConnectionState). Started c s.settings.client s.expected s.made) e hs.0.started).0 in
-    subst (λ (q : Pdu). Pair (receive q now s) y × Bounded (receive q now s)) r.4
-    (pair-receive now r.0 m r.2 s y incoming, bounded-receive now m.pdu s bs.0 bs.1 down sound.window))
+    subst (λ (q : Pdu). Pair (respond q now s) y × Bounded (respond q now s)) r.4
+    (pair-respond now r.0 m r.2 s y incoming, bounded-respond now m.pdu s bs.0 bs.1 down sound.window))
 
 pub lone-closed : (s : State) → Lone s (move_to Closed s)
 lone-closed s =

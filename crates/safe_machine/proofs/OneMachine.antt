@@ -9,9 +9,9 @@ use Rattle.safe_pdu.specs.Pdu.{Pdu}
 use Rattle.safe_pdu.specs.Bodies.{window_of}
 use Rattle.safe_machine.specs.Made.{carries, units, first_sent, opening_body, leaving_body, last_time}
 use Rattle.safe_machine.specs.State.{State, next_made, leave, make, move_to, reply, resend, ask, pass, note_request, unconfirmed, hand_up}
-use Rattle.safe_machine.specs.Step.{guard, receive, tick, send, arrive, may_send, carry_out, beat, tests_passed, set_window, confirm_units}
+use Rattle.safe_machine.specs.Step.{guard, respond, tick, send, arrive, may_send, carry_out, beat, tests_passed, set_window, confirm_units}
 use Rattle.safe_machine.specs.declared.decision.Decision.{Decision}
-use Rattle.safe_machine.specs.Decision.{decide, distance, heard}
+use Rattle.safe_machine.specs.Decision.{decide, distance, by_sender}
 use Rattle.safe_machine.specs.declared.decision.Decision.TheVariants.{Nothing, Drops, Shuts, Leaves, Rejects, Accepts, Connects, Takes, Asks, Resumes, AnswersNext, AnswersEarly}
 use Rattle.safe_machine.proofs.Cases.{if_both}
 use Rattle.safe_machine.proofs.Runs.{units-append}
@@ -140,8 +140,8 @@ closed-idle RetrRun e = cc
 pub closed-guard : (now : ℕ) (s : State) → s.connection ≡ Closed → guard now s ≡ s
 closed-guard now s e = guard-idle now s (closed-idle s.connection e)
 
-closed-receive : (p : Pdu) (now : ℕ) (s : State) → s.connection ≡ Closed → receive p now s ≡ s
-closed-receive p now s e = ap (λ c. carry_out p now (if is_closed c then Nothing else heard (kept_of s) p now) s) e
+closed-respond : (p : Pdu) (now : ℕ) (s : State) → s.connection ≡ Closed → respond p now s ≡ s
+closed-respond p now s e = ap (λ c. carry_out p now (if is_closed c then Nothing else by_sender (kept_of s) p now) s) e
 
 pub closed-arrive : (p : Pdu) (now : ℕ) (s : State) → s.connection ≡ Closed → arrive p now s ≡ s
-closed-arrive p now s e = ap (λ t. receive p now t) (closed-guard now s e) ∙ closed-receive p now s e
+closed-arrive p now s e = ap (λ t. respond p now t) (closed-guard now s e) ∙ closed-respond p now s e

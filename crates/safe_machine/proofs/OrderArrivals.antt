@@ -11,7 +11,7 @@ use Rattle.safe_machine.specs.State.{State, next_made, make, move_to, pass, hand
 use Rattle.safe_machine.specs.declared.decision.Decision.{Decision}
 use Rattle.safe_machine.specs.Decision.{decide, is_stranger, cs_fits, cts_fits}
 use Rattle.safe_machine.specs.declared.decision.Decision.TheVariants.{Accepts, Connects, Takes}
-use Rattle.safe_machine.specs.Step.{beat, tests_passed, set_window, carry_out, receive}
+use Rattle.safe_machine.specs.Step.{beat, tests_passed, set_window, carry_out, respond}
 use Rattle.safe_machine.specs.InOrder.{client_state, server_state}
 use Rattle.safe_machine.proofs.Cases.{if_both}
 use Rattle.safe_machine.proofs.Runs.{every-at, every-from}
@@ -102,7 +102,7 @@ next-shuts-or-takes client n k clock now m rest x y h one some grown live state 
 
 -- A ConnResp comes in at the client.
 next-connects : (n k clock now : ℕ) (m : Made) (rest : List Made) (x y : State) → NextIn true n k clock now m rest x y → x.connection ≡ Start → m.pdu.kind ≡ ConnResp →
-    m.pdu.body ≡ opening_body y.settings.n_sendmax → 1 ≤ length x.made → Ends true (n + 1) k (receive m.pdu now x) y
+    m.pdu.body ≡ opening_body y.settings.n_sendmax → 1 ≤ length x.made → Ends true (n + 1) k (respond m.pdu now x) y
 next-connects n k clock now m rest x y h start is body some =
     let a = next-arrival true n k clock now m rest x y h in
     let t = next-tests true n k clock now m rest x y h (ap is_live start) (ap needs_peer is) in
@@ -123,7 +123,7 @@ next-connects n k clock now m rest x y h start is body some =
 
 -- A ConnReq comes in at the server.
 next-accepts : (k clock now : ℕ) (m : Made) (rest : List Made) (x y : State) → NextIn false 0 k clock now m rest x y → x.connection ≡ Down → m.pdu.kind ≡ ConnReq →
-    m.pdu.body ≡ opening_body y.settings.n_sendmax → x.made ≡ [] → Ends false 1 k (receive m.pdu now x) y
+    m.pdu.body ≡ opening_body y.settings.n_sendmax → x.made ≡ [] → Ends false 1 k (respond m.pdu now x) y
 next-accepts k clock now m rest x y h down is body empty =
     let e = decide-accepts x m.pdu now y.settings.n_sendmax down h.meant is body in
     let none : length x.made ≡ 0 = ap length empty in
@@ -151,7 +151,7 @@ up-started : (x : State) → Solo x → x.connection ≡ Up → 1 ≤ length x.m
 up-started x solo up = (subst (λ (c : ConnectionState). Started c x.settings.client x.expected x.made) up solo.started).1
 
 -- Whatever it is.
-pub next-ends : (client : Bool) (n k clock now : ℕ) (m : Made) (rest : List Made) (x y : State) → NextIn client n k clock now m rest x y → Ends client (n + 1) k (receive m.pdu now x) y
+pub next-ends : (client : Bool) (n k clock now : ℕ) (m : Made) (rest : List Made) (x y : State) → NextIn client n k clock now m rest x y → Ends client (n + 1) k (respond m.pdu now x) y
 next-ends true zero k clock now m rest x y h =
     let start : x.connection ≡ Start = h.ends.own.state h.on in
     let good : GoodAt false y.settings.n_sendmax 0 m = h.ends.peer.kinds 0 m rest h.at in

@@ -8,7 +8,7 @@ use Rattle.safe_machine.specs.declared.ConnectionState.{ConnectionState}
 use Rattle.safe_machine.specs.declared.ConnectionState.TheVariants.{Closed, Down, Start, Up}
 use Rattle.safe_machine.specs.Made.{Made, opening_body, units, run_of}
 use Rattle.safe_machine.specs.Settings.{Settings, is_legal}
-use Rattle.safe_machine.specs.State.{State, next_made, fresh, opened, leave}
+use Rattle.safe_machine.specs.State.{State, next_made, blank, opened, leave}
 use Rattle.safe_machine.specs.Step.{guard, arrive, tick, send}
 use Rattle.safe_machine.specs.World.{World, Served, Event, start, run, event_end, event_time, at_end, changed, happens, GenuineEvent, Genuine, Timely, as_role, open_il, open_fe}
 use Rattle.safe_machine.specs.World.Event.{Open, Send, Close, Guard, Tick, Arrive}
@@ -50,7 +50,7 @@ fe-stands n k k' w ci cf now t two one (apart h) = apart (one h)
 ends-opened : (settings : Settings) (first now : ℕ) (fe : State) → fe.connection ≡ Down → Untouched fe → Ends true 0 0 (opened (as_role true settings) first now) fe
 ends-opened settings first now fe down u =
     let il = opened (as_role true settings) first now in
-    let m = next_made (fresh (as_role true settings) first now Start) ConnReq (opening_body settings.n_sendmax) now in
+    let m = next_made (blank (as_role true settings) first now Start) ConnReq (opening_body settings.n_sendmax) now in
     let own : End true 0 il fe =
     record {
       role_is = refl;
@@ -105,7 +105,7 @@ stands-open_il n k settings first now w ci cf t legal first_time (apart h) =
             mute = mute-il settings first now;
             none = h.none;
             some = λ on. omega arith;
-            first = λ m rest e. let here : next_made (fresh (as_role true settings) first now Start) ConnReq (opening_body settings.n_sendmax) now ≡ m = cc in
+            first = λ m rest e. let here : next_made (blank (as_role true settings) first now Start) ConnReq (opening_body settings.n_sendmax) now ≡ m = cc in
                 ap (λ (v : Made). is_opening v.pdu.kind) (sym here);
             still = h.still;
             made = h.made;

@@ -12,7 +12,7 @@ use Rattle.safe_machine.specs.Table.{cell}
 use Rattle.safe_machine.specs.declared.table.Cell.TheVariants.{Take}
 use Rattle.safe_machine.specs.Decision.{is_stranger, is_goodbye, by_table, decide, distance, as_client}
 use Rattle.safe_machine.specs.declared.decision.Decision.TheVariants.{Shuts, Takes, Connects, Accepts}
-use Rattle.safe_machine.specs.Step.{carry_out, receive, beat, set_window, tests_passed}
+use Rattle.safe_machine.specs.Step.{carry_out, respond, beat, set_window, tests_passed}
 use Rattle.safe_machine.proofs.Cases.{if_both}
 use Rattle.safe_machine.proofs.Runs.{Every, every-push}
 use Rattle.safe_machine.proofs.Invariant.{needs_peer}
@@ -91,12 +91,12 @@ decide-starts s p now start server meant bare stays h =
     ∙ (ap (λ (b : Bool). if b then as_client (kept_of s) p now p.kind else table) server
     ∙ table-takes s p now h (ap (λ c. cell c true p.kind) start ∙ start-takes p.kind bare stays)))
 
-by-takes : (x : State) (p : Pdu) (now : ℕ) → decide (kept_of x) p now ≡ Takes Up → IsOpen x → IsOpen (receive p now x)
+by-takes : (x : State) (p : Pdu) (now : ℕ) → decide (kept_of x) p now ≡ Takes Up → IsOpen x → IsOpen (respond p now x)
 by-takes x p now e h = subst (λ d. IsOpen (carry_out p now d x)) (sym e) (takes-open p now x h)
 
 -- the next PDU in order, that is no DiscReq, leaves an open end open
 pub next-open : (client : Bool) (n k clock now : ℕ) (m : Made) (rest : List Made) (x y : State) → NextIn client n k clock now m rest x y → Remains m → Every Remains x.made →
-    IsOpen (receive m.pdu now x)
+    IsOpen (respond m.pdu now x)
 next-open true zero k clock now m rest x y h stays made =
     let start : x.connection ≡ Start = h.ends.own.state h.on in
     let good : GoodAt false y.settings.n_sendmax 0 m = h.ends.peer.kinds 0 m rest h.at in

@@ -11,7 +11,7 @@ use Rattle.safe_machine.specs.declared.Detail.{Detail}
 use Rattle.safe_machine.specs.Made.{Made, leaving_body, last_time}
 use Rattle.safe_machine.specs.State.{State, unconfirmed, next_made, make, move_to, leave}
 use Rattle.safe_machine.specs.Decision.{is_stranger}
-use Rattle.safe_machine.specs.Step.{guard, receive, arrive, heartbeat, tick, may_send, send}
+use Rattle.safe_machine.specs.Step.{guard, respond, arrive, heartbeat, tick, may_send, send}
 use Rattle.safe_machine.specs.World.{GenuineAt}
 use Rattle.safe_machine.specs.InOrder.{GuardHolds, NextArrival, AllThere}
 use Rattle.safe_machine.proofs.Cases.{if_both, and-parts}
@@ -160,9 +160,9 @@ ends-arrive client n k clock other now p x y later h bounded bounded_peer short 
             meant = subst (λ (q : Pdu). is_stranger x q ≡ false) (sym a.is) a.ours;
             on = on;
           } in
-          let received : Ends client (n + 1) k (receive p now x) y =
-          subst (λ (q : Pdu). Ends client (n + 1) k (receive q now x) y) a.is (next-ends client n k clock now a.made a.later x y next) in
-          subst (λ (t : State). Ends client (n + 1) k (receive p now t) y) (sym a.holds) received
+          let received : Ends client (n + 1) k (respond p now x) y =
+          subst (λ (q : Pdu). Ends client (n + 1) k (respond q now x) y) a.is (next-ends client n k clock now a.made a.later x y next) in
+          subst (λ (t : State). Ends client (n + 1) k (respond p now t) y) (sym a.holds) received
     ]
 
 pub two-arrive : (client : Bool) (n k clock other now dead : ℕ) (p : Pdu) (x y : State) → clock ≤ now → Two client n k clock other x y → Bounded x → Bounded y → x.settings.t_max ≤ 60000 →

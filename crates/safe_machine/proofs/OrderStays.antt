@@ -9,7 +9,7 @@ use Rattle.safe_machine.specs.declared.ConnectionState.TheVariants.{Closed, Down
 use Rattle.safe_machine.specs.Settings.{Settings, is_legal}
 use Rattle.safe_machine.specs.State.{State, make, opened}
 use Rattle.safe_machine.specs.Decision.{is_stranger}
-use Rattle.safe_machine.specs.Step.{guard, receive, arrive, heartbeat, tick, may_send, send}
+use Rattle.safe_machine.specs.Step.{guard, respond, arrive, heartbeat, tick, may_send, send}
 use Rattle.safe_machine.specs.World.{World, Event, start, run, event_end, event_time, at_end, changed, happens, GenuineEvent, Genuine, Timely, as_role, open_il, open_fe}
 use Rattle.safe_machine.specs.World.Event.{Open, Send, Close, Guard, Tick, Arrive}
 use Rattle.safe_machine.specs.InOrder.{GuardHolds, NextArrival, InOrderEvent, InOrder, heard_by_il, heard_by_fe, is_close, has_close, StaysLaw}
@@ -73,9 +73,9 @@ open-arrive client n k clock other now p x y later h bounded bounded_peer short 
       on = own.0;
     } in
     let stays : Remains a.made = every-at Remains 0 n y.made a.made a.later peer.1 (omega arith) a.at in
-    let received : IsOpen (receive p now x) =
-    subst (λ (q : Pdu). IsOpen (receive q now x)) a.is (next-open client n k clock now a.made a.later x y next stays own.1) in
-    subst (λ (t : State). IsOpen (receive p now t)) (sym a.holds) received
+    let received : IsOpen (respond p now x) =
+    subst (λ (q : Pdu). IsOpen (respond q now x)) a.is (next-open client n k clock now a.made a.later x y next stays own.1) in
+    subst (λ (t : State). IsOpen (respond p now t)) (sym a.holds) received
 
 open-arrive_il : (n k now : ℕ) (p : Pdu) (w : World) (ci cf : ℕ) → TInv w ci cf → ci ≤ now → (w.il_before ≢ []) × NextArrival w.il p now n w.fe.made → StandsAt n k w ci cf → OpenBoth w → IsOpen (arrive p now w.il)
 open-arrive_il n k now p w ci cf t later o (joint two il_opened fe_opened) h =

@@ -16,7 +16,7 @@ use Rattle.safe_machine.specs.Decision.{decide, distance, is_goodbye, is_strange
 use Rattle.safe_machine.specs.Table.{cell}
 use Rattle.safe_machine.specs.Ring.{ring_of}
 use Rattle.safe_machine.specs.declared.decision.Decision.TheVariants.{Nothing, Drops, Shuts, Leaves, Rejects, Accepts, Connects, Takes, Asks, Resumes, AnswersNext, AnswersEarly}
-use Rattle.safe_machine.specs.Step.{carry_out, receive, arrive, guard, take_unit, beat, tests_passed}
+use Rattle.safe_machine.specs.Step.{carry_out, respond, arrive, guard, take_unit, beat, tests_passed}
 use Rattle.safe_machine.specs.Moves.{moved}
 use Rattle.safe_machine.specs.Reached.{IsReached}
 use Rattle.safe_machine.specs.View.{View, StandsFor, HandsUp, Turns, beside, kept_of}
@@ -55,7 +55,7 @@ recent-arrive p now s =
     let at : g.confirmed_at ≡ s.confirmed_at = (makes-guard now s).confirmed_at in
     let long : g.settings.t_max ≡ s.settings.t_max = ap (λ (k : Settings). k.t_max) l.settings in
     let d = decide (kept_of g) p now in
-    let handed : drop (length s.taken) (receive p now g).taken ≡ handed_by d p =
+    let handed : drop (length s.taken) (respond p now g).taken ≡ handed_by d p =
     ap (drop (length s.taken)) (decided-taken p now d g ∙ ap (λ us. us ++ handed_by d p) l.taken) ∙ drop-append_seam s.taken (handed_by d p) in
     arrive-by (λ t. drop (length s.taken) t.taken ≢ [] → now < s.confirmed_at + cts_step (kept_of s) p + s.settings.t_max) p now s
     (λ some. absurd (some (drop-same s.taken g.taken l.taken)))

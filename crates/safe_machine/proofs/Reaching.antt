@@ -24,15 +24,15 @@ use Rattle.safe_machine.specs.Settings.{Settings, is_legal}
 use Rattle.safe_machine.specs.declared.decision.Decision.{Decision}
 use Rattle.safe_machine.specs.Decision.{decide, distance}
 use Rattle.safe_machine.specs.declared.decision.Decision.TheVariants.{Nothing, Drops, Shuts, Leaves, Rejects, Accepts, Connects, Takes, Asks, Resumes, AnswersNext, AnswersEarly}
-use Rattle.safe_machine.specs.Step.{beat, take_unit, tests_passed, carry_out, guard, receive, heartbeat, send, may_send, confirm_units, has_room}
+use Rattle.safe_machine.specs.Step.{beat, take_unit, tests_passed, carry_out, guard, respond, heartbeat, send, may_send, confirm_units, has_room}
 use Rattle.safe_machine.specs.Moves.{Move, move, moved, IsUnitSized}
 use Rattle.safe_machine.specs.Moves.Move.{Guards, Hears, Ticks, Sends, Leaves as LeavesNow}
-use Rattle.safe_machine.specs.State.{State, opened, fresh, make, move_to, pass, note_request, resend, reply, unconfirmed, hand_up, leave, ask}
+use Rattle.safe_machine.specs.State.{State, opened, blank, make, move_to, pass, note_request, resend, reply, unconfirmed, hand_up, leave, ask}
 use Rattle.safe_machine.proofs.Cases.{if_both, and-parts, leb-false}
 use Rattle.safe_machine.proofs.Invariant.{is_opening}
 use Rattle.safe_machine.proofs.Deciding.{Fits, decide-fits}
 use Rattle.safe_machine.proofs.Lone.{arrive-by}
-use Rattle.safe_machine.proofs.Counting.{Bounded, bounded-guard, bounded-receive, bounded-heartbeat, bounded-send, bounded-leave}
+use Rattle.safe_machine.proofs.Counting.{Bounded, bounded-guard, bounded-respond, bounded-heartbeat, bounded-send, bounded-leave}
 use Rattle.safe_machine.proofs.Kept.{Kept, AllowsMove, Anything, anything, kept-move}
 use Rattle.safe_machine.proofs.Legal.{legal as lawful}
 use Rattle.safe_machine.proofs.Texts.{Texts, own-legal, kept-texts, texts-make, AllSized, sized-run, texts-drop}
@@ -182,7 +182,7 @@ sure-move (Hears p now) s a h =
     let b = bounded-guard now s h.bounded in
     let w = waits-guard now s (waits s h) in
     arrive-by Sure p now s (sure g b.0 w)
-    (λ _ _. sure (receive p now g) (bounded-receive now p g b.0 b.1 w.0 (opening-window p.kind p.body a.1)) (waits-decided p now (decide (kept_of g) p now) g (decide-fits g p now) w))
+    (λ _ _. sure (respond p now g) (bounded-respond now p g b.0 b.1 w.0 (opening-window p.kind p.body a.1)) (waits-decided p now (decide (kept_of g) p now) g (decide-fits g p now) w))
 sure-move (Ticks now) s a h =
     let g = guard now s in
     let b = bounded-guard now s h.bounded in
@@ -224,9 +224,9 @@ texts-moved (m ∷ ms) s a h = texts-moved ms (move m s) a.1 (kept-move HasNumbe
 pub opened-sure : (settings : Settings) (first now : ℕ) → is_legal settings ≡ true → Sure (opened settings first now)
 opened-sure settings first now legal =
     let r = lawful settings legal in
-    let begun : State = fresh settings first now Start in
+    let begun : State = blank settings first now Start in
     let m = make ConnReq (opening_body settings.n_sendmax) now begun in
-    if_both Sure settings.client m (fresh settings first now Down)
+    if_both Sure settings.client m (blank settings first now Down)
     (λ _. record {
       bounded = record {
         small = r.window_most;
@@ -259,15 +259,15 @@ opened-sure settings first now legal =
 opened-texts : (settings : Settings) (first now : ℕ) → is_legal settings ≡ true → Texts (opened settings first now)
 opened-texts settings first now legal =
     let own = own-legal settings legal in
-    let begun : State = fresh settings first now Start in
+    let begun : State = blank settings first now Start in
     let before : Texts begun = record { own = own; sn = omega arith; ts = omega arith; texts = tt } in
-    if_both Texts settings.client (make ConnReq (opening_body settings.n_sendmax) now begun) (fresh settings first now Down)
+    if_both Texts settings.client (make ConnReq (opening_body settings.n_sendmax) now begun) (blank settings first now Down)
     (λ _. texts-make ConnReq (opening_body settings.n_sendmax) now begun own.window (omega arith) before)
     (λ _. record { own = own; sn = omega arith; ts = omega arith; texts = tt })
 
 opened-legal : (settings : Settings) (first now : ℕ) → is_legal settings ≡ true → is_legal (opened settings first now).settings ≡ true
 opened-legal settings first now legal =
-    if_both (λ (s : State). is_legal s.settings ≡ true) settings.client (make ConnReq (opening_body settings.n_sendmax) now (fresh settings first now Start)) (fresh settings first now Down)
+    if_both (λ (s : State). is_legal s.settings ≡ true) settings.client (make ConnReq (opening_body settings.n_sendmax) now (blank settings first now Start)) (blank settings first now Down)
     (λ _. legal) (λ _. legal)
 
 -- the ring of a state

@@ -13,7 +13,7 @@ use Rattle.safe_machine.specs.State.{State, make, move_to, pass, next_made}
 use Rattle.safe_machine.specs.declared.decision.Decision.{Decision}
 use Rattle.safe_machine.specs.Decision.{cs_fits, distance, decide}
 use Rattle.safe_machine.specs.declared.decision.Decision.TheVariants.{Nothing, Drops, Shuts, Leaves, Rejects, Accepts, Connects, Takes, Asks, Resumes, AnswersNext, AnswersEarly}
-use Rattle.safe_machine.specs.Step.{tests_passed, carry_out, set_window, receive}
+use Rattle.safe_machine.specs.Step.{tests_passed, carry_out, set_window, respond}
 use Rattle.safe_machine.proofs.Runs.{Every, every-at, every-push, numbered-push}
 use Rattle.safe_machine.proofs.Invariant.{room, needs_peer, is_opening, Sound, NotOpening, Started, Solo, Half, Pair, Few}
 use Rattle.safe_machine.proofs.Making.{make-sends, make-receives}
@@ -163,5 +163,5 @@ pair-carry now i m rest x y a AnswersEarly f =
     arrival-early_request now m rest x y (incoming-arrival i m rest x y a f.table) f.request f.new f.connected f.cs
 
 -- Whatever PDU of the peer comes, the invariant is kept.
-pub pair-receive : (now i : ℕ) (m : Made) (rest : List Made) (x y : State) → Incoming i m rest x y → Pair (receive m.pdu now x) y
-pair-receive now i m rest x y a = pair-carry now i m rest x y a (decide (kept_of x) m.pdu now) (decide-fits x m.pdu now)
+pub pair-respond : (now i : ℕ) (m : Made) (rest : List Made) (x y : State) → Incoming i m rest x y → Pair (respond m.pdu now x) y
+pair-respond now i m rest x y a = pair-carry now i m rest x y a (decide (kept_of x) m.pdu now) (decide-fits x m.pdu now)

@@ -8,9 +8,9 @@ use Rattle.safe_machine.specs.declared.ConnectionState.TheVariants.{Down, Start}
 use Rattle.safe_machine.specs.declared.DropCause.TheVariants.{Stranger}
 use Rattle.safe_machine.specs.State.{State}
 use Rattle.safe_machine.specs.declared.decision.Decision.{Decision}
-use Rattle.safe_machine.specs.Decision.{is_stranger, is_ours, in_down, by_connection, heard, decide}
+use Rattle.safe_machine.specs.Decision.{is_stranger, is_ours, in_down, by_connection, by_sender, decide}
 use Rattle.safe_machine.specs.declared.decision.Decision.TheVariants.{Nothing, Drops, Rejects, Accepts}
-use Rattle.safe_machine.specs.Step.{carry_out, guard, receive}
+use Rattle.safe_machine.specs.Step.{carry_out, guard, respond}
 use Rattle.safe_machine.specs.Moves.{RequestsLaw}
 use Rattle.safe_machine.specs.Moves.Move.{Guards, Hears, Ticks, Sends, Leaves}
 use Rattle.safe_machine.proofs.MovesLaw.{moves_law_holds}
@@ -40,7 +40,7 @@ by-kind p now s RetrData k down = stays-down p s down
 
 decided : (p : Pdu) (now : ℕ) (s : State) → s.connection ≡ Down → Starts p now s (decide (kept_of s) p now)
 decided p now s down =
-    by_cond (Starts p now s) (is_closed s.connection) Nothing (heard (kept_of s) p now) (λ _. stays-down p s down) (λ _.
+    by_cond (Starts p now s) (is_closed s.connection) Nothing (by_sender (kept_of s) p now) (λ _. stays-down p s down) (λ _.
     by_cond (Starts p now s) (is_stranger s p) (Drops Stranger) (by_connection (kept_of s) p now s.connection) (λ _. stays-down p s down) (λ _.
     subst (λ c. Starts p now s (by_connection (kept_of s) p now c)) (sym down) (by-kind p now s p.kind refl down)))
 
@@ -50,7 +50,7 @@ unguarded now s down =
 
 pub requests_law_holds : RequestsLaw
 requests_law_holds (Guards now) s down e = absurd ((moves_law_holds (Guards now) s).starts down e)
-requests_law_holds (Hears p now) s down e = decided p now s down (sym (ap (λ t. (receive p now t).connection) (unguarded now s down)) ∙ e)
+requests_law_holds (Hears p now) s down e = decided p now s down (sym (ap (λ t. (respond p now t).connection) (unguarded now s down)) ∙ e)
 requests_law_holds (Ticks now) s down e = absurd ((moves_law_holds (Ticks now) s).starts down e)
 requests_law_holds (Sends unit now) s down e = absurd ((moves_law_holds (Sends unit now) s).starts down e)
 requests_law_holds (Leaves reason detail now) s down e = absurd ((moves_law_holds (Leaves reason detail now) s).starts down e)

@@ -11,7 +11,7 @@ use Rattle.safe_machine.specs.State.{State, next_made, make, move_to, leave, unc
 use Rattle.safe_machine.specs.declared.decision.Decision.{Decision}
 use Rattle.safe_machine.specs.Decision.{decide}
 use Rattle.safe_machine.specs.declared.decision.Decision.TheVariants.{Nothing, Drops, Shuts, Leaves, Rejects, Accepts, Connects, Takes, Asks, Resumes, AnswersNext, AnswersEarly}
-use Rattle.safe_machine.specs.Step.{guard, receive, arrive, carry_out, tick, may_send, send}
+use Rattle.safe_machine.specs.Step.{guard, respond, arrive, carry_out, tick, may_send, send}
 use Rattle.safe_machine.specs.World.{Served, GenuineAt}
 use Rattle.safe_machine.specs.Law.{JoinsFall}
 use Rattle.safe_machine.proofs.Cases.{if_both, and-parts}
@@ -227,7 +227,7 @@ still-arrive now n p fe made still b dead genuine =
     (λ on meant.
     let r = among-dropped p n made (genuine on meant) in
     let plain : is_opening p.kind ≡ 0 = ap (λ (q : Pdu). is_opening q.kind) (sym r.4) ∙ every-at NotOpening n r.0 made r.1 r.2 dead r.5 r.3 in
-    subst (λ t. P (receive p now t)) (sym same) (still-carry p now fe plain still b (decide (kept_of fe) p now) (decide-fits fe p now)))
+    subst (λ t. P (respond p now t)) (sym same) (still-carry p now fe plain still b (decide (kept_of fe) p now) (decide-fits fe p now)))
   where
     still-carry : (p : Pdu) (now : ℕ) (s : State) → is_opening p.kind ≡ 0 → (s.connection ≡ Down) ⊎ (s.connection ≡ Closed) → Bounded s → (e : Decision) → Fits s p now e →
         Lone s (carry_out p now e s) × Bounded (carry_out p now e s) × (((carry_out p now e s).connection ≡ Down) ⊎ ((carry_out p now e s).connection ≡ Closed)) × ((carry_out p now e s).made ≡ s.made) × ((carry_out p now e s).confirmed_at ≡ s.confirmed_at)

@@ -15,9 +15,9 @@ use Rattle.safe_machine.specs.Settings.{Settings}
 use Rattle.safe_machine.specs.State.{State, move_to, pass, hand_up}
 use Rattle.safe_machine.specs.Table.{cell, start_row}
 use Rattle.safe_machine.specs.declared.decision.Decision.{Decision}
-use Rattle.safe_machine.specs.Decision.{is_stranger, is_goodbye, is_ours, cs_fits, cts_fits, tested, in_down, as_client, in_start, by_cell, by_table, by_connection, heard, distance}
+use Rattle.safe_machine.specs.Decision.{is_stranger, is_goodbye, is_ours, cs_fits, cts_fits, tested, in_down, as_client, in_start, by_cell, by_table, by_connection, by_sender, distance}
 use Rattle.safe_machine.specs.declared.decision.Decision.TheVariants.{Nothing, Drops, Shuts, Leaves, Rejects, Accepts, Connects, Takes}
-use Rattle.safe_machine.specs.Step.{carry_out, guard, receive, beat, tests_passed}
+use Rattle.safe_machine.specs.Step.{carry_out, guard, respond, beat, tests_passed}
 use Rattle.safe_machine.specs.Moves.{StrangersLaw, WaitsLaw}
 use Rattle.safe_machine.specs.Moves.Move.{Guards, Hears, Ticks, Sends, Leaves as LeavesNow}
 use Rattle.safe_machine.specs.State.{leave}
@@ -28,9 +28,9 @@ use Rattle.safe_machine.proofs.Identified.{settings_law_holds}
 use Rattle.safe_machine.specs.Connections.{is_closed, is_live}
 use Rattle.safe_machine.specs.View.{kept_of}
 
-strange-drops : (p : Pdu) (now : ℕ) (s : State) → is_stranger s p ≡ true → receive p now s ≡ s
+strange-drops : (p : Pdu) (now : ℕ) (s : State) → is_stranger s p ≡ true → respond p now s ≡ s
 strange-drops p now s strange =
-    if_both (λ d. carry_out p now d s ≡ s) (is_closed s.connection) Nothing (heard (kept_of s) p now) (λ _. refl)
+    if_both (λ d. carry_out p now d s ≡ s) (is_closed s.connection) Nothing (by_sender (kept_of s) p now) (λ _. refl)
     (λ _. if_both (λ d. carry_out p now d s ≡ s) (is_stranger s p) (Drops Stranger) (by_connection (kept_of s) p now s.connection) (λ _. refl) (λ meant. let no : true ≡ false = sym strange ∙ meant in cc))
 
 pub strangers_law_holds : StrangersLaw
@@ -108,9 +108,9 @@ module _ (p : Pdu) (now : ℕ) (s : State) where
   meant-quiet (inl down) = subst (λ c. Q (by_connection (kept_of s) p now c)) (sym down) (down-quiet p.kind)
   meant-quiet (inr start) = subst (λ c. Q (by_connection (kept_of s) p now c)) (sym start) (start-quiet start)
 
-  receive-quiet : (s.connection ≡ Down) ⊎ (s.connection ≡ Start) → (receive p now s).taken ≡ s.taken
-  receive-quiet before =
-      if_both Q (is_closed s.connection) Nothing (heard (kept_of s) p now) (λ _. refl)
+  respond-quiet : (s.connection ≡ Down) ⊎ (s.connection ≡ Start) → (respond p now s).taken ≡ s.taken
+  respond-quiet before =
+      if_both Q (is_closed s.connection) Nothing (by_sender (kept_of s) p now) (λ _. refl)
       (λ _. if_both Q (is_stranger s p) (Drops Stranger) (by_connection (kept_of s) p now s.connection) (λ _. refl) (λ _. meant-quiet before))
 
 -- the guard leaves it as it is, or closed
@@ -129,12 +129,12 @@ pub waits_law_holds : WaitsLaw
 waits_law_holds (Guards now) s before = (plain-guard now s).taken
 waits_law_holds (Hears p now) s before =
     elim (guarded now s) [
-      | inl closed ↦ ap (λ (t : State). t.taken) (closed-receive p now (guard now s) closed) ∙ (plain-guard now s).taken
-      | inr same ↦ ap (λ (t : State). (receive p now t).taken) same ∙ receive-quiet p now s before
+      | inl closed ↦ ap (λ (t : State). t.taken) (closed-respond p now (guard now s) closed) ∙ (plain-guard now s).taken
+      | inr same ↦ ap (λ (t : State). (respond p now t).taken) same ∙ respond-quiet p now s before
     ]
   where
-    closed-receive : (p : Pdu) (now : ℕ) (s : State) → s.connection ≡ Closed → receive p now s ≡ s
-    closed-receive p now s closed = ap (λ c. carry_out p now (if is_closed c then Nothing else heard (kept_of s) p now) s) closed
+    closed-respond : (p : Pdu) (now : ℕ) (s : State) → s.connection ≡ Closed → respond p now s ≡ s
+    closed-respond p now s closed = ap (λ c. carry_out p now (if is_closed c then Nothing else by_sender (kept_of s) p now) s) closed
 waits_law_holds (Ticks now) s before = (plain-tick now s).taken
 waits_law_holds (Sends unit now) s before = send-taken unit now s
 waits_law_holds (LeavesNow reason detail now) s before = (plain-leave reason detail now s).taken

@@ -12,7 +12,7 @@ use Rattle.safe_pdu.specs.SafeText.{HasNumbers}
 use Rattle.safe_pdu.proofs.SafeLemmas.{length-text}
 use Rattle.safe_machine.specs.Numbers.{sn_of}
 use Rattle.safe_machine.specs.Made.{Made, opening_body, after_pdu, run_after}
-use Rattle.safe_machine.specs.State.{State, next_made, make, resend, reply, unconfirmed, opened, fresh}
+use Rattle.safe_machine.specs.State.{State, next_made, make, resend, reply, unconfirmed, opened, blank}
 use Rattle.safe_machine.specs.Settings.{Settings, is_legal}
 use Rattle.safe_machine.specs.Moves.{Move, moved, move, HasText, HaveTexts, IsUnitSized, AreSoundMoves, IsSoundMove, TextsLaw}
 use Rattle.safe_machine.specs.Moves.Move.{Guards, Hears, Ticks, Sends, Leaves}
@@ -173,9 +173,9 @@ texts-moved (m ∷ ms) s a h = texts-moved ms (move m s) a.1 (kept-move HasNumbe
 pub texts_law_holds : TextsLaw
 texts_law_holds settings first now ms lawful sound =
     let own = own-legal settings lawful in
-    let begun : State = fresh settings first now Start in
+    let begun : State = blank settings first now Start in
     let before : Texts begun = record { own = own; sn = omega arith; ts = omega arith; texts = tt } in
     (texts-moved ms (opened settings first now) sound
-    (if_both Texts settings.client (make ConnReq (opening_body settings.n_sendmax) now begun) (fresh settings first now Down)
+    (if_both Texts settings.client (make ConnReq (opening_body settings.n_sendmax) now begun) (blank settings first now Down)
     (λ _. texts-make ConnReq (opening_body settings.n_sendmax) now begun own.window (omega arith) before)
     (λ _. record { own = own; sn = omega arith; ts = omega arith; texts = tt }))).texts

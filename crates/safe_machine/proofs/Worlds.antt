@@ -13,7 +13,7 @@ use Rattle.safe_machine.specs.State.{State, next_made, make, move_to, pass, hand
 use Rattle.safe_machine.specs.declared.decision.Decision.{Decision}
 use Rattle.safe_machine.specs.Decision.{decide, distance}
 use Rattle.safe_machine.specs.declared.decision.Decision.TheVariants.{Nothing, Drops, Shuts, Leaves, Rejects, Accepts, Connects, Takes, Asks, Resumes, AnswersNext, AnswersEarly}
-use Rattle.safe_machine.specs.Step.{guard, receive, arrive, carry_out, tick, send, tests_passed, beat, confirm_units}
+use Rattle.safe_machine.specs.Step.{guard, respond, arrive, carry_out, tick, send, tests_passed, beat, confirm_units}
 use Rattle.safe_machine.specs.World.{World, Served, Event, unopened, start, happens, run, Among, GenuineAt, GenuineEvent, Genuine, joins, IsBeginningOf, as_role, open_il, open_fe, with_il, with_fe}
 use Rattle.safe_machine.specs.World.Event.{Open, Send, Close, Guard, Tick, Arrive}
 use Rattle.safe_machine.specs.Law.{next_bound, JoinsFall, taken_from_il}
@@ -26,7 +26,7 @@ use Rattle.safe_machine.proofs.Moves.{pair-leave}
 use Rattle.safe_machine.proofs.Receiving.{opening_window}
 use Rattle.safe_machine.proofs.Deciding.{Fits, listens, decide-fits}
 use Rattle.safe_machine.proofs.Counting.{Bounded, bounded-guard, bounded-leave, bounded-send}
-use Rattle.safe_machine.proofs.Lone.{Lone, lone-leave, lone-guard, lone-tick, lone-send, guard-idle, pair-guard, pair-send, pair-tick, pair-arrive, bounded-tick, arrive-by, among-dropped, down_or, receive-closed}
+use Rattle.safe_machine.proofs.Lone.{Lone, lone-leave, lone-guard, lone-tick, lone-send, guard-idle, pair-guard, pair-send, pair-tick, pair-arrive, bounded-tick, arrive-by, among-dropped, down_or, respond-closed}
 use Rattle.safe_machine.proofs.Incarnations.{linked-latest, takes-other, takes-pushed, takes-il_lone, takes-fe_lone, fall-more, all-takes, only-weaken}
 use Rattle.safe_machine.proofs.Status.{Settled, JoinedTo, Met, Mute, IlLater, FeLater, Status, Untouched, mute-leave, mute-guard, mute-tick, mute-send, mute-arrive, deaf-arrive, still-arrive}
 use Rattle.safe_machine.proofs.Lost.{met-loses_nothing, mute-loses_nothing, taken-other, taken-pushed, lone-owes}
@@ -343,7 +343,7 @@ on-arrive p now s on =
 pub closed-arrive : (p : Pdu) (now : ℕ) (s : State) → s.connection ≡ Closed → arrive p now s ≡ s
 closed-arrive p now s e =
     let g = guard-idle now s (ap is_live e) in
-    ap (receive p now) g ∙ receive-closed p now s e (λ t. t ≡ s) refl
+    ap (respond p now) g ∙ respond-closed p now s e (λ t. t ≡ s) refl
 
 -- what a field element in Down does
 abbrev AfterDown : ℕ → State → State → Type 0
@@ -395,7 +395,7 @@ fe-arrive_met w p now h m genuine = elim (down_or w.fe.connection) [ inl down �
         let k = h.idle down in
         let same : guard now w.fe ≡ w.fe = guard-idle now w.fe (ap is_live down) in
         let c = down-carry (length w.il_before) p now w.fe down k.0 (decide (kept_of w.fe) p now) (decide-fits w.fe p now) in
-        let after : AfterDown (length w.il_before) w.fe (arrive p now w.fe) = subst (λ (s : State). AfterDown (length w.il_before) w.fe (receive p now s)) (sym same) c in
+        let after : AfterDown (length w.il_before) w.fe (arrive p now w.fe) = subst (λ (s : State). AfterDown (length w.il_before) w.fe (respond p now s)) (sym same) c in
         let joined : JoinedTo (length w.il_before) (arrive p now w.fe) (joined_after w (arrive p now w.fe)) =
         subst (λ (q : Option ℕ). JoinedTo (length w.il_before) (arrive p now w.fe) (if joins w.fe.connection (arrive p now w.fe).connection then Some (length w.il_before) else q)) (sym k.1) after.0 in
         let idle : Idle (arrive p now w.fe) (joined_after w (arrive p now w.fe)) =

@@ -13,7 +13,7 @@ use Rattle.safe_machine.proofs.Nearing.{reached-near, reached-still}
 use Rattle.safe_machine.proofs.Properties.{reached-recent, reached-passes, one-read, none-read}
 use Rattle.safe_machine.proofs.Reaching.{reached-move, reached-sound}
 use Rattle.safe_machine.proofs.Stopping.{reached-stops, reached-keeps}
-use Rattle.safe_machine.proofs.endpoint.Endpoint.hear.Goals as goal
+use Rattle.safe_machine.proofs.endpoint.Endpoint.arrive_octets.Goals as goal
 
 pub arrive-requires-clause-sound : goal.arrive-requires-clause-sound
 arrive-requires-clause-sound g c = reached-sound c.args.self.now c.requires.reached

@@ -1,6 +1,6 @@
 use Rattle.safe_pdu.specs.Pdu.{pdu_of}
 use Rattle.safe_machine.proofs.Views.{rejects-does}
-use Rattle.safe_machine.proofs.endpoint.Endpoint.rejects.Goals as goal
+use Rattle.safe_machine.proofs.endpoint.Endpoint.reject.Goals as goal
 
 pub returns : goal.returns
 returns g c = record {
