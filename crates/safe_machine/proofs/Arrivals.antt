@@ -1,16 +1,14 @@
 -- An arrival of a PDU that the peer made keeps the invariant.
 use Rattle.std.proofs.Common.{◌≡◌, ℕ, ◌+◌, ◌-◌, ◌<◌, ◌≤◌, List, [], ◌∷◌, ◌++◌, length, drop, true, false, refl, sym, ap, ◌∙◌, arith}
-use Rattle.std.specs.Prelude.{nat_le}
 use Rattle.std.proofs.lemmas.List.{append-nil}
-use Rattle.safe_pdu.specs.declared.Kind.TheVariants.{RetrReq, RetrResp, Heartbeat}
+use Rattle.safe_pdu.specs.declared.Kind.TheVariants.{RetrReq, RetrResp}
 use Rattle.safe_machine.specs.declared.ConnectionState.{ConnectionState}
 use Rattle.safe_machine.specs.declared.ConnectionState.TheVariants.{RetrRun}
 use Rattle.safe_machine.specs.Made.{Made, after_pdu, carries, is_request, is_answer}
 use Rattle.safe_machine.specs.State.{State, make, move_to, pass, hand_up, note_request, reply, ask, unconfirmed}
 use Rattle.safe_machine.specs.Decision.{cs_fits, distance, cs_step}
 use Rattle.safe_machine.specs.declared.decision.Decision.TheVariants.{Takes, Resumes, AnswersNext, AnswersEarly}
-use Rattle.safe_machine.specs.Step.{beat, tests_passed, carry_out, confirm_units}
-use Rattle.safe_machine.proofs.Cases.{if_both}
+use Rattle.safe_machine.specs.Step.{tests_passed, carry_out, confirm_units}
 use Rattle.safe_machine.proofs.Runs.{requests, answers, count-at, every-at, no_requests, RequestAt}
 use Rattle.safe_machine.proofs.Invariant.{room, needs_peer, Told, Sound, Started, SoloOf, Solo, Half, Pair, Few}
 use Rattle.safe_machine.proofs.Moves.{room-le, pair-beat, pair-ask, pair-reply, started-from}
@@ -19,6 +17,8 @@ use Rattle.safe_machine.proofs.TableLemmas.{carries-unit, carries-none, in_turn-
 use Rattle.safe_machine.proofs.Resending.{resend-connection}
 use Rattle.safe_machine.specs.Connections.{in_turn, is_connected}
 use Rattle.safe_machine.specs.View.{kept_of}
+use Rattle.safe_machine.proofs.StepCases.{unit-cases}
+use Rattle.std.proofs.lemmas.Bool.{cond_both}
 
 -- what is known where a PDU of the peer comes in
 pub record Arrival (d : ℕ) (m : Made) (rest : List Made) (x y : State) : Type 0 where
@@ -56,15 +56,11 @@ arrival-take now to m rest x y a closed connected plain needs fits some =
     let started : Started to x.settings.client (x.expected + 0 + 1) x.made = started-from to x.settings.client (x.expected + 0 + 1) x.made connected (omega arith) some in
     let solo = solo-at to (x.expected + 0 + 1) x a.pair.0 started in
     let sends = arrival-confirm 0 m rest x y a needs fits in
-    let unit : carries p.kind ≡ true → Pair (beat now (hand_up p z)) y =
-    λ c.
-    let taken : Pair (hand_up p z) y =
-    (solo, sends, half-take (p.body ∷ []) (x.taken ++ p.body ∷ []) to m rest x y a.peer a.pair.2 closed a.at plain (carries-unit p.kind p.body c) refl) in
-    if_both (λ s. Pair s y) (nat_le x.settings.mwa (x.since + 1)) (make Heartbeat [] now (hand_up p z)) (hand_up p z)
-    (λ _. pair-beat now [] (hand_up p z) y connected taken) (λ _. taken) in
+    let unit : carries p.kind ≡ true → Pair (hand_up p z) y =
+    λ c. (solo, sends, half-take (p.body ∷ []) (x.taken ++ p.body ∷ []) to m rest x y a.peer a.pair.2 closed a.at plain (carries-unit p.kind p.body c) refl) in
     let none : carries p.kind ≡ false → Pair z y =
     λ c. (solo, sends, half-take [] x.taken to m rest x y a.peer a.pair.2 closed a.at plain (carries-none p.kind p.body c) (sym (append-nil x.taken))) in
-    if_both (λ s. Pair s y) (carries p.kind) (beat now (hand_up p z)) z unit none
+    unit-cases (λ s. Pair s y) p now z (λ c. pair-beat now [] (hand_up p z) y connected (unit c)) (λ c _. unit c) none
 
 -- The answer to the own request.
 pub arrival-resume : (now : ℕ) (m : Made) (rest : List Made) (x y : State) → Arrival (distance (kept_of x) m.pdu) m rest x y →
@@ -133,6 +129,6 @@ arrival-early_request now m rest x y a is new connected fits =
     let t = reply now z in
     let replied : Pair t y = pair-reply now z y connected before k.none k.one k.all in
     let same : t.connection ≡ x.connection = resend-connection (unconfirmed z) now (make RetrResp [] now z) in
-    if_both (λ s. Pair s y) (in_turn x.connection) (ask now t) t
+    cond_both (in_turn x.connection) (ask now t) t (λ s. Pair s y)
     (λ turn. let r = in_turn-room x.connection turn in pair-ask now t y (ap is_connected same ∙ connected) (ap room same ∙ r.0) replied)
     (λ _. replied)

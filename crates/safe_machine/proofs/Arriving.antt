@@ -1,10 +1,10 @@
 -- What a decision allows its branch to rely on, and what an arrival hands up.
-use Rattle.std.proofs.Common.{◌≡◌, ℕ, ◌-◌, ◌<◌, List, [], ◌∷◌, ◌++◌, length, drop, Bool, true, false, refl, sym, ap, subst, ◌∙◌, append-nil, Result}
-use Rattle.std.specs.Prelude.{if◌then◌else◌, nat_le, Some, None}
+use Rattle.std.proofs.Common.{◌≡◌, ℕ, ◌-◌, ◌<◌, List, [], ◌∷◌, ◌++◌, length, drop, true, refl, sym, ap, subst, ◌∙◌, append-nil, Result}
+use Rattle.std.specs.Prelude.{Some, None}
 use Rattle.std.specs.List.{FoldsTo}
 use Rattle.std.proofs.lemmas.Bool.{ltb-true, leb-true}
 use Rattle.std.proofs.Math.Seq.{drop-append_seam}
-use Rattle.safe_pdu.specs.declared.Kind.TheVariants.{DiscReq, RetrResp, Heartbeat}
+use Rattle.safe_pdu.specs.declared.Kind.TheVariants.{RetrResp}
 use Rattle.safe_pdu.specs.Pdu.{Pdu}
 use Rattle.safe_pdu.specs.Bodies.{IsBody}
 use Rattle.safe_pdu.specs.Places.{safe_seen}
@@ -14,21 +14,20 @@ use Rattle.safe_machine.specs.Octets.{arrive_octets, heard}
 use Rattle.safe_machine.specs.declared.ConnectionState.TheVariants.{Down}
 use Rattle.safe_machine.specs.declared.Reason.{Reason}
 use Rattle.safe_machine.specs.declared.Detail.{Detail}
-use Rattle.safe_machine.specs.Made.{carries, leaving_body}
-use Rattle.safe_machine.specs.State.{State, make, move_to, pass, note_request, reply, unconfirmed, hand_up, leave, ask}
+use Rattle.safe_machine.specs.Made.{carries}
+use Rattle.safe_machine.specs.State.{State, make, move_to, pass, note_request, reply, unconfirmed, leave, ask}
 use Rattle.safe_machine.specs.declared.decision.Decision.{Decision}
 use Rattle.safe_machine.specs.Decision.{decide, distance, cs_step}
 use Rattle.safe_machine.specs.declared.decision.Decision.TheVariants.{Nothing, Drops, Shuts, Leaves, Rejects, Accepts, Connects, Takes, Asks, Resumes, AnswersNext, AnswersEarly}
-use Rattle.safe_machine.specs.Step.{carry_out, respond, arrive, guard, beat, tests_passed, confirm_units}
+use Rattle.safe_machine.specs.Step.{carry_out, respond, arrive, guard, take_unit, tests_passed, confirm_units}
 use Rattle.safe_machine.specs.View.{View, StandsFor, Does, HandsUp, kept_of}
-use Rattle.safe_machine.proofs.Cases.{if_both}
 use Rattle.safe_machine.proofs.OneMachine.{plain-guard}
 use Rattle.safe_machine.proofs.Deciding.{Fits, Tested}
 use Rattle.safe_machine.proofs.Views.{guard-is, left_by, does-as}
 use Rattle.safe_machine.proofs.Resending.{resend-taken}
-use Rattle.safe_machine.specs.Connections.{is_live, in_turn}
-use Rattle.safe_machine.specs.Allows.{Allows, Passes, handed_by}
+use Rattle.safe_machine.specs.Allows.{Allows, Passes, handed_by, carried}
 use Rattle.safe_machine.specs.Deadlines.{overdue}
+use Rattle.safe_machine.proofs.StepCases.{leave-cases, unit-cases, early-cases}
 
 passes-from : (v : View) (s : State) (p : Pdu) (now : ℕ) → StandsFor v s → Tested s p now → Passes v p now
 passes-from v s p now h t =
@@ -55,14 +54,12 @@ same-taken : (s t : State) → t.taken ≡ s.taken → t.taken ≡ s.taken ++ []
 same-taken s t e = e ∙ sym (append-nil s.taken)
 
 leave-taken : (reason : Reason) (detail : Detail) (now : ℕ) (s : State) → (leave reason detail now s).taken ≡ s.taken
-leave-taken reason detail now s = if_both (λ (t : State). t.taken ≡ s.taken) (is_live s.connection) (make DiscReq (leaving_body reason detail) now s) s (λ _. refl) (λ _. refl)
+leave-taken reason detail now s = leave-cases (λ t. t.taken ≡ s.taken) reason detail now s (λ _. refl) (λ _. refl)
 
-beat-taken : (now : ℕ) (s : State) → (beat now s).taken ≡ s.taken
-beat-taken now s = if_both (λ (t : State). t.taken ≡ s.taken) (nat_le s.settings.mwa s.since) (make Heartbeat [] now s) s (λ _. refl) (λ _. refl)
-
-unit-taken : (p : Pdu) (now : ℕ) (s : State) (b : Bool) → (if b then beat now (hand_up p s) else s).taken ≡ s.taken ++ (if b then p.body ∷ [] else [])
-unit-taken p now s true = beat-taken now (hand_up p s)
-unit-taken p now s false = sym (append-nil s.taken)
+unit-taken : (p : Pdu) (now : ℕ) (s : State) → (take_unit p now s).taken ≡ s.taken ++ carried p
+unit-taken p now s =
+    let up : carries p.kind ≡ true → s.taken ++ p.body ∷ [] ≡ s.taken ++ carried p = λ e. rw e refl in
+    unit-cases (λ t. t.taken ≡ s.taken ++ carried p) p now s up (λ e _. up e) (λ e. rw e (sym (append-nil s.taken)))
 
 pub decided-taken : (p : Pdu) (now : ℕ) (d : Decision) (s : State) → (carry_out p now d s).taken ≡ s.taken ++ handed_by d p
 decided-taken p now Nothing s = sym (append-nil s.taken)
@@ -72,7 +69,7 @@ decided-taken p now (Leaves reason detail) s = same-taken s (leave reason detail
 decided-taken p now Rejects s = sym (append-nil s.taken)
 decided-taken p now Accepts s = sym (append-nil s.taken)
 decided-taken p now Connects s = sym (append-nil s.taken)
-decided-taken p now (Takes to) s = unit-taken p now (move_to to (pass p 0 (tests_passed p s))) (carries p.kind)
+decided-taken p now (Takes to) s = unit-taken p now (move_to to (pass p 0 (tests_passed p s)))
 decided-taken p now Asks s = sym (append-nil s.taken)
 decided-taken p now Resumes s = sym (append-nil s.taken)
 decided-taken p now AnswersNext s =
@@ -82,7 +79,7 @@ decided-taken p now AnswersEarly s =
     let z = note_request (distance (kept_of s) p) (confirm_units p s) in
     let t = reply now z in
     let e : t.taken ≡ s.taken = resend-taken (unconfirmed z) now (make RetrResp [] now z) in
-    if_both (λ (u : State). u.taken ≡ s.taken ++ []) (in_turn s.connection) (ask now t) t (λ _. same-taken s (ask now t) e) (λ _. same-taken s t e)
+    early-cases (λ u. u.taken ≡ s.taken ++ []) p now s (λ _. same-taken s (ask now t) e) (same-taken s t e)
 
 pub hands-up : {U : Type 0} (takes : U → List ℕ → U → Type 0) (a b : U) (p : Pdu) (now : ℕ) (d : Decision) (s : State) → decide (kept_of s) p now ≡ d → FoldsTo takes a (handed_by d p) b →
     HandsUp takes a s (respond p now s) b

@@ -3,7 +3,7 @@ use Rattle.std.proofs.Common.{◌≡◌, ◌⊎◌, inl, inr, ℕ, suc, ◌+◌,
 use Rattle.std.specs.Prelude.{if◌then◌else◌, nat_lt}
 use Rattle.std.proofs.lemmas.List.{drop-append-le, length-drop}
 use Rattle.std.proofs.Math.Seq.{take-append_seam, drop-append_seam}
-use Rattle.std.proofs.lemmas.Bool.{lt-ltb, ltb-true}
+use Rattle.std.proofs.lemmas.Bool.{lt-ltb, ltb-true, cond_both}
 use Rattle.std.proofs.lemmas.Bool.Decides.{nat_tests}
 use Rattle.safe_pdu.specs.declared.Kind.{Kind}
 use Rattle.safe_pdu.specs.declared.Kind.TheVariants.{ConnReq, ConnResp, RetrReq, RetrResp, DiscReq, Heartbeat, Data, RetrData}
@@ -14,7 +14,6 @@ use Rattle.safe_machine.specs.State.{State, next_made, make, resend, reply, unco
 use Rattle.retrans.specs.Units.{Numbered, above, renumbered, octets_of}
 use Rattle.safe_machine.specs.Ring.{after_at, carried_at, is_resent, resent, carried_again, after_carrier, carriers_from, carriers}
 use Rattle.safe_machine.specs.Moves.{Move, moved, move, ReachedState, ReachedLaw}
-use Rattle.safe_machine.proofs.Cases.{if_both}
 use Rattle.safe_machine.proofs.Runs.{units-append}
 use Rattle.safe_machine.proofs.OneMachine.{plain-reply}
 use Rattle.safe_machine.proofs.Ring.{octets_of-append, octets_of-length, carried_at-append, above-append, carried_at-above, ring_of-units, ring-confirm, ring-resend}
@@ -366,7 +365,7 @@ carriers-moved (m ∷ ms) s h = carriers-moved ms (move m s) (kept-move Anything
 carriers-opened : (settings : Settings) (first now : ℕ) → Carriers (opened settings first now)
 carriers-opened settings first now =
     let none : CarriersOf [] 0 = record { front = []; is = refl; none = refl; placed = inr (refl, refl); all = refl } in
-    if_both Carriers settings.client (make ConnReq (opening_body settings.n_sendmax) now (blank settings first now Start)) (blank settings first now Down)
+    cond_both settings.client (make ConnReq (opening_body settings.n_sendmax) now (blank settings first now Start)) (blank settings first now Down) Carriers
     (λ _. push [] 0 (next_made (blank settings first now Start) ConnReq (opening_body settings.n_sendmax) now) refl none) (λ _. none)
 
 reached : (s : State) → Carriers s → ReachedState s

@@ -12,23 +12,23 @@ use Rattle.safe_machine.specs.declared.Reason.{Reason}
 use Rattle.safe_machine.specs.declared.Reason.TheVariants.{WrongVersion, UnexpectedPdu, SequenceError, ProtocolError, RetransmissionImpossible}
 use Rattle.safe_machine.specs.declared.Detail.{Detail}
 use Rattle.safe_machine.specs.declared.Detail.TheVariants.{Unspecified, ConfirmedNumber, ConfirmedTimestamp}
-use Rattle.safe_machine.specs.Made.{carries, last_time}
-use Rattle.safe_machine.specs.State.{State, make, move_to, pass, hand_up, note_request, reply, ask, unconfirmed}
+use Rattle.safe_machine.specs.State.{State, make, move_to, pass, note_request, reply, unconfirmed}
 use Rattle.safe_machine.specs.declared.table.Cell.{Cell}
 use Rattle.safe_machine.specs.Table.{cell, start_row, up_row, run_row, request_row}
 use Rattle.safe_machine.specs.declared.table.Cell.TheVariants.{Take, Ask, Answer as Reply, Resume, Refuse, Skip}
 use Rattle.safe_machine.specs.declared.decision.Decision.{Decision}
 use Rattle.safe_machine.specs.Decision.{is_stranger, is_goodbye, is_ours, cs_fits, cts_fits, tested, in_down, as_client, in_start, by_cell, by_table, by_connection, by_sender, distance, cs_step}
 use Rattle.safe_machine.specs.declared.decision.Decision.TheVariants.{Nothing, Drops, Shuts, Leaves, Rejects, Accepts, Connects, Takes, Resumes, AnswersNext, AnswersEarly}
-use Rattle.safe_machine.specs.Step.{carry_out, guard, respond, beat, tests_passed, confirm_units}
+use Rattle.safe_machine.specs.Step.{carry_out, guard, respond, tests_passed, confirm_units}
 use Rattle.safe_machine.specs.Moves.{Move, move, GoesOn, HearsNothing, ConnectionsLaw}
 use Rattle.safe_machine.specs.Moves.Move.{Guards, Hears, Ticks, Sends, Leaves as LeavesNow}
-use Rattle.safe_machine.proofs.Cases.{if_both}
 use Rattle.safe_machine.proofs.Resending.{resend-connection}
 use Rattle.safe_machine.proofs.OneMachine.{send-connection}
 use Rattle.safe_machine.proofs.Strangers.{guarded}
 use Rattle.safe_machine.specs.Connections.{is_closed, in_turn, is_connected}
 use Rattle.safe_machine.specs.View.{kept_of}
+use Rattle.safe_machine.proofs.StepCases.{heartbeat-cases, unit-cases, early-cases}
+use Rattle.std.proofs.lemmas.Bool.{cond_both}
 
 -- a cell by which an end goes on connected
 abbrev IsGoodCell : Cell → Type 0
@@ -98,22 +98,19 @@ module _ (p : Pdu) (now : ℕ) (s : State) where
 
   tested-goes : (d : Decision) → Q d → Q (tested (kept_of s) p now d)
   tested-goes d h =
-      if_both Q (cs_fits (kept_of s) p) (if cts_fits (kept_of s) p now then d else Leaves ProtocolError ConfirmedTimestamp) (Leaves ProtocolError ConfirmedNumber)
-      (λ _. if_both Q (cts_fits (kept_of s) p now) d (Leaves ProtocolError ConfirmedTimestamp) (λ _. h) (λ _. inr (inl refl)))
+      cond_both (cs_fits (kept_of s) p) (if cts_fits (kept_of s) p now then d else Leaves ProtocolError ConfirmedTimestamp) (Leaves ProtocolError ConfirmedNumber) Q
+      (λ _. cond_both (cts_fits (kept_of s) p now) d (Leaves ProtocolError ConfirmedTimestamp) Q (λ _. h) (λ _. inr (inl refl)))
       (λ _. inr (inl refl))
 
   takes-is : (connection : ConnectionState) → (carry_out p now (Takes connection) s).connection ≡ connection
   takes-is connection =
-      let z = move_to connection (pass p 0 (tests_passed p s)) in
-      let u = hand_up p z in
-      let P : State → Type 0 = λ t. t.connection ≡ connection in
-      if_both P (carries p.kind) (beat now u) z (λ _. if_both P (nat_le u.settings.mwa u.since) (make Heartbeat [] now u) u (λ _. refl) (λ _. refl)) (λ _. refl)
+      unit-cases (λ t. t.connection ≡ connection) p now (move_to connection (pass p 0 (tests_passed p s))) (λ _. refl) (λ _ _. refl) (λ _. refl)
 
   reply-is : (t : State) → (reply now t).connection ≡ t.connection
   reply-is t = resend-connection (unconfirmed t) now (make RetrResp [] now t)
 
   down-goes : s.connection ≡ Down → (kind : Kind) → Q (in_down p kind)
-  down-goes down ConnReq = if_both Q (is_ours p.body) Accepts Rejects (λ _. inr (inr (inl (down, refl)))) (λ _. inr (inl refl))
+  down-goes down ConnReq = cond_both (is_ours p.body) Accepts Rejects Q (λ _. inr (inr (inl (down, refl)))) (λ _. inr (inl refl))
   down-goes down ConnResp = inl refl
   down-goes down RetrReq = inl refl
   down-goes down RetrResp = inl refl
@@ -124,7 +121,7 @@ module _ (p : Pdu) (now : ℕ) (s : State) where
 
   client-goes : s.connection ≡ Start → (kind : Kind) → Q (as_client (kept_of s) p now kind)
   client-goes start ConnResp =
-      if_both Q (is_ours p.body) (tested (kept_of s) p now Connects) (Leaves WrongVersion Unspecified) (λ _. tested-goes Connects (inr (inr (inr (inl (start, refl)))))) (λ _. inr (inl refl))
+      cond_both (is_ours p.body) (tested (kept_of s) p now Connects) (Leaves WrongVersion Unspecified) Q (λ _. tested-goes Connects (inr (inr (inr (inl (start, refl)))))) (λ _. inr (inl refl))
   client-goes start ConnReq = leaves-goes UnexpectedPdu Unspecified
   client-goes start RetrReq = leaves-goes UnexpectedPdu Unspecified
   client-goes start RetrResp = leaves-goes UnexpectedPdu Unspecified
@@ -156,32 +153,31 @@ module _ (p : Pdu) (now : ℕ) (s : State) where
   connected-goes on d Ask good = inr (inr (inr (inr (on, refl))))
   connected-goes on d Reply good =
       let early : Q AnswersEarly =
-      let t = reply now (note_request (distance (kept_of s) p) (confirm_units p s)) in
-      if_both (λ u. GoesOn s.connection u.connection) (in_turn s.connection) (ask now t) t (λ _. inr (inr (inr (inr (on, refl))))) (λ _. inl (reply-is (note_request (distance (kept_of s) p) (confirm_units p s))))
+      early-cases (λ u. GoesOn s.connection u.connection) p now s (λ _. inr (inr (inr (inr (on, refl))))) (inl (reply-is (note_request (distance (kept_of s) p) (confirm_units p s))))
       in
       let next : Q AnswersNext = inl (reply-is (pass p 0 (note_request 0 (tests_passed p s)))) in
-      if_both Q (nat_le (s.expected + d) s.answered) (Drops Answered) _ (λ _. inl refl)
-      (λ _. if_both Q (cs_fits (kept_of s) p) _ _
-      (λ _. if_both Q ((d == 0) && in_turn s.connection) _ AnswersEarly (λ _. if_both Q (cts_fits (kept_of s) p now) AnswersNext (Leaves ProtocolError ConfirmedTimestamp) (λ _. next) (λ _. inr (inl refl))) (λ _. early))
-      (λ _. if_both Q (nat_le 0x8000_0000 (cs_step (kept_of s) p)) (Drops Below) (Leaves RetransmissionImpossible Unspecified) (λ _. inl refl) (λ _. inr (inl refl))))
+      cond_both (nat_le (s.expected + d) s.answered) (Drops Answered) _ Q (λ _. inl refl)
+      (λ _. cond_both (cs_fits (kept_of s) p) _ _ Q
+      (λ _. cond_both ((d == 0) && in_turn s.connection) _ AnswersEarly Q (λ _. cond_both (cts_fits (kept_of s) p now) AnswersNext (Leaves ProtocolError ConfirmedTimestamp) Q (λ _. next) (λ _. inr (inl refl))) (λ _. early))
+      (λ _. cond_both (nat_le 0x8000_0000 (cs_step (kept_of s) p)) (Drops Below) (Leaves RetransmissionImpossible Unspecified) Q (λ _. inl refl) (λ _. inr (inl refl))))
   connected-goes on d Resume good = tested-goes Resumes (inr (inr (inr (inr (on, refl)))))
   connected-goes on d (Refuse reason) good = inr (inl refl)
   connected-goes on d Skip good = inl refl
 
   table-goes : ((d : ℕ) → Q (by_cell (kept_of s) p now d (cell s.connection (d == 0) p.kind))) → (d : ℕ) → Q (by_table (kept_of s) p now d)
-  table-goes h d = if_both Q (nat_le d (REACH * s.settings.n_sendmax)) (by_cell (kept_of s) p now d (cell s.connection (d == 0) p.kind)) (Drops Number) (λ _. h d) (λ _. inl refl)
+  table-goes h d = cond_both (nat_le d (REACH * s.settings.n_sendmax)) (by_cell (kept_of s) p now d (cell s.connection (d == 0) p.kind)) (Drops Number) Q (λ _. h d) (λ _. inl refl)
 
   on-goes : is_connected s.connection ≡ true → Q (if is_goodbye p.kind then Shuts else by_table (kept_of s) p now (distance (kept_of s) p))
   on-goes on =
-      if_both Q (is_goodbye p.kind) Shuts (by_table (kept_of s) p now (distance (kept_of s) p)) (λ _. inr (inl refl))
+      cond_both (is_goodbye p.kind) Shuts (by_table (kept_of s) p now (distance (kept_of s) p)) Q (λ _. inr (inl refl))
       (λ _. table-goes (λ d. connected-goes on d (cell s.connection (d == 0) p.kind) (cell-good s.connection (d == 0) p.kind on)) (distance (kept_of s) p))
 
   by-goes : (connection : ConnectionState) → s.connection ≡ connection → Q (by_connection (kept_of s) p now connection)
   by-goes Closed e = inl refl
   by-goes Down e = down-goes e p.kind
   by-goes Start e =
-      if_both Q (is_goodbye p.kind) Shuts (in_start (kept_of s) p now) (λ _. inr (inl refl))
-      (λ _. if_both Q s.settings.client (as_client (kept_of s) p now p.kind) (by_table (kept_of s) p now (distance (kept_of s) p)) (λ _. client-goes e p.kind)
+      cond_both (is_goodbye p.kind) Shuts (in_start (kept_of s) p now) Q (λ _. inr (inl refl))
+      (λ _. cond_both s.settings.client (as_client (kept_of s) p now p.kind) (by_table (kept_of s) p now (distance (kept_of s) p)) Q (λ _. client-goes e p.kind)
       (λ _. table-goes (λ d. subst (λ c. Q (by_cell (kept_of s) p now d (cell c (d == 0) p.kind))) (sym e) (start-goes e (d == 0) p.kind d)) (distance (kept_of s) p)))
   by-goes Up e = on-goes (ap is_connected e)
   by-goes Requesting e = on-goes (ap is_connected e)
@@ -189,8 +185,8 @@ module _ (p : Pdu) (now : ℕ) (s : State) where
 
   respond-goes : GoesOn s.connection (respond p now s).connection
   respond-goes =
-      if_both Q (is_closed s.connection) Nothing (by_sender (kept_of s) p now) (λ _. inl refl)
-      (λ _. if_both Q (is_stranger s p) (Drops Stranger) (by_connection (kept_of s) p now s.connection) (λ _. inl refl) (λ _. by-goes s.connection refl))
+      cond_both (is_closed s.connection) Nothing (by_sender (kept_of s) p now) Q (λ _. inl refl)
+      (λ _. cond_both (is_stranger s p) (Drops Stranger) (by_connection (kept_of s) p now s.connection) Q (λ _. inl refl) (λ _. by-goes s.connection refl))
 
 guard-goes : (now : ℕ) (s : State) → GoesOn s.connection (guard now s).connection
 guard-goes now s = elim (guarded now s) [ inl closed ↦ inr (inl closed) | inr same ↦ inl (ap (λ (t : State). t.connection) same) ]
@@ -203,8 +199,7 @@ connection-goes (Hears p now) s =
       | inr same ↦ subst (λ (t : State). GoesOn s.connection (respond p now t).connection) (sym same) (respond-goes p now s)
     ]
 connection-goes (Ticks now) s =
-    let g = guard now s in
-    if_both (λ t. GoesOn s.connection t.connection) (is_connected g.connection && nat_le (last_time g.made 0 + g.settings.t_h) now) (make Heartbeat [] now g) g (λ _. guard-goes now s) (λ _. guard-goes now s)
+    heartbeat-cases (λ t. GoesOn s.connection t.connection) now (guard now s) (λ _. guard-goes now s) (guard-goes now s)
 connection-goes (Sends unit now) s = inl (send-connection unit now s)
 connection-goes (LeavesNow reason detail now) s = inr (inl refl)
 
@@ -215,8 +210,7 @@ connection-stays : (m : Move) (s : State) → HearsNothing m → ((move m s).con
 connection-stays (Guards now) s quiet = guard-stays now s
 connection-stays (Hears p now) s quiet = absurd quiet
 connection-stays (Ticks now) s quiet =
-    let g = guard now s in
-    if_both (λ t. (t.connection ≡ s.connection) ⊎ (t.connection ≡ Closed)) (is_connected g.connection && nat_le (last_time g.made 0 + g.settings.t_h) now) (make Heartbeat [] now g) g (λ _. guard-stays now s) (λ _. guard-stays now s)
+    heartbeat-cases (λ t. (t.connection ≡ s.connection) ⊎ (t.connection ≡ Closed)) now (guard now s) (λ _. guard-stays now s) (guard-stays now s)
 connection-stays (Sends unit now) s quiet = inl (send-connection unit now s)
 connection-stays (LeavesNow reason detail now) s quiet = inr refl
 

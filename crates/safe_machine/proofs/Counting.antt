@@ -1,32 +1,32 @@
 -- How many PDUs an end makes, and how many units are unconfirmed.
 use Rattle.std.proofs.Common.{◌≡◌, ℕ, ◌+◌, ◌-◌, ◌<◌, ◌≤◌, List, [], ◌∷◌, ◌++◌, length, take, drop, true, refl, sym, ap, ◌∙◌, arith, append_assoc, length-append}
-use Rattle.std.specs.Prelude.{if◌then◌else◌, ◌&&◌, nat_lt, nat_le}
 use Rattle.std.proofs.lemmas.List.{append-nil, drop-append-le, take-append-drop, drop-drop}
 use Rattle.std.proofs.lemmas.Bool.{ltb-true, false≢true}
 use Rattle.safe_pdu.specs.declared.Kind.{Kind}
 use Rattle.safe_pdu.specs.declared.Kind.TheVariants.{ConnReq, ConnResp, RetrReq, RetrResp, DiscReq, Heartbeat, Data, RetrData}
 use Rattle.safe_machine.specs.declared.ConnectionState.{ConnectionState}
-use Rattle.safe_machine.specs.declared.ConnectionState.TheVariants.{Closed, Down, Start, Up, RetrReq as Requesting, RetrRun}
+use Rattle.safe_machine.specs.declared.ConnectionState.TheVariants.{Closed, Down, Start, Up, RetrRun}
 use Rattle.safe_pdu.specs.Pdu.{Pdu}
 use Rattle.safe_pdu.specs.Bodies.{window_of}
-use Rattle.safe_machine.specs.Made.{Made, after_pdu, run_after, run_of, carries, opening_body, leaving_body, last_time}
+use Rattle.safe_machine.specs.Made.{Made, after_pdu, run_after, run_of, opening_body, leaving_body}
 use Rattle.safe_machine.specs.Settings.{Settings}
 use Rattle.safe_machine.specs.State.{State, unconfirmed, next_made, make, move_to, pass, hand_up, note_request, resend, reply, ask, leave}
 use Rattle.safe_machine.specs.declared.decision.Decision.{Decision}
 use Rattle.safe_machine.specs.Decision.{cs_fits, distance, decide, cs_step}
 use Rattle.safe_machine.specs.declared.decision.Decision.TheVariants.{Nothing, Drops, Shuts, Leaves, Rejects, Accepts, Connects, Takes, Asks, Resumes, AnswersNext, AnswersEarly}
-use Rattle.safe_machine.specs.Step.{beat, tests_passed, carry_out, set_window, confirm_to, guard, respond, send, may_send, heartbeat, confirm_units}
-use Rattle.safe_machine.proofs.Cases.{if_both, leb-false, and-parts}
+use Rattle.safe_machine.specs.Step.{tests_passed, carry_out, set_window, confirm_to, guard, respond, send, heartbeat, confirm_units}
 use Rattle.safe_machine.proofs.Runs.{run_after-append}
 use Rattle.safe_machine.proofs.Invariant.{is_opening}
 use Rattle.safe_machine.proofs.Deciding.{Fits, listens-live, decide-fits}
 use Rattle.safe_machine.specs.declared.Reason.{Reason}
-use Rattle.safe_machine.specs.declared.Reason.TheVariants.{Timeout, WrongVersion, ProtocolError}
+use Rattle.safe_machine.specs.declared.Reason.TheVariants.{WrongVersion}
 use Rattle.safe_machine.specs.declared.Detail.{Detail}
-use Rattle.safe_machine.specs.declared.Detail.TheVariants.{Unspecified, Limit}
+use Rattle.safe_machine.specs.declared.Detail.TheVariants.{Unspecified}
 use Rattle.safe_machine.proofs.Resending.{resend-settings, resend-connection, resend-confirmed, resend-window}
 use Rattle.safe_machine.specs.Connections.{is_live, in_turn, is_connected}
 use Rattle.safe_machine.specs.View.{kept_of}
+use Rattle.safe_machine.proofs.StepCases.{leave-cases, guard-cases, heartbeat-cases, unit-cases, send-cases, early-cases}
+use Rattle.safe_machine.proofs.ConnectionFacts.{connected-live, turn-live}
 
 pub record BoundedOf (settings : Settings) (made : List Made) (confirmed : ℕ) (connection : ConnectionState) (window : ℕ) : Type 0 where
   pub small : settings.n_sendmax ≤ 32
@@ -107,21 +107,11 @@ bounded-closed s b =
       confirmed_made = λ live. absurd (false≢true live);
     }
 
--- a goodbye
-goodbye-live : (connection : ConnectionState) → is_live connection ≡ true → is_live connection ≡ true
-goodbye-live Start e = refl
-goodbye-live Up e = refl
-goodbye-live Requesting e = refl
-goodbye-live RetrRun e = refl
-goodbye-live Closed e = cc
-goodbye-live Down e = cc
-
 pub bounded-leave : (reason : Reason) (detail : Detail) (now : ℕ) (s : State) → Bounded s → Bounded (leave reason detail now s)
 bounded-leave reason detail now s b =
     let t = make DiscReq (leaving_body reason detail) now s in
-    if_both (λ u. Bounded (move_to Closed u)) (is_live s.connection) t s
-    (λ says.
-    let live = goodbye-live s.connection says in
+    leave-cases Bounded reason detail now s
+    (λ live.
     let few = b.few_live live in
     let made = b.confirmed_made live in
     let same : unconfirmed t ≡ unconfirmed s = unconfirmed-make DiscReq (leaving_body reason detail) now s made in
@@ -253,10 +243,7 @@ bounded-carry now p x b ready down window (Takes to) f =
     let bz : Bounded z = bounded-confirmed x p to x.window b (omega (arith, b.limit)) f.passed.cs b.window_small b.in_window
     (λ start. absurd (false≢true (sym (ap is_connected start) ∙ f.connected))) in
     let u = hand_up p z in
-    if_both Bounded (carries p.kind) (beat now u) z
-    (λ _. if_both Bounded (nat_le x.settings.mwa (x.since + 1)) (make Heartbeat [] now u) u
-    (λ _. bounded-plain Heartbeat [] now u bz (omega (arith, b.limit)) (confirmed-made x p f.passed.cs) (λ run. refl)) (λ _. bz))
-    (λ _. bz)
+    unit-cases Bounded p now z (λ _. bounded-plain Heartbeat [] now u bz (omega (arith, b.limit)) (confirmed-made x p f.passed.cs) (λ run. refl)) (λ _ _. bz) (λ _. bz)
 bounded-carry now p x b ready down window Asks f =
     let live = listens-live x.connection x.settings.client f.table.listens_now in
     let few = ready live in
@@ -277,62 +264,35 @@ bounded-carry now p x b ready down window AnswersEarly f =
     let t = reply now z in
     let bt = bounded-replied z t bz (replied now z (confirmed-made x p f.cs)) (omega (arith, b.limit)) (confirmed-made x p f.cs) in
     let asked = bounded-plain RetrReq [] now t bt.0 bt.1 bt.2 (λ run. refl) in
-    if_both Bounded (in_turn x.connection) (ask now t) t
+    early-cases Bounded p now x
     (λ _. bounded-low (ask now t) bt.0.small bt.0.limit (omega (arith, length-make RetrReq [] now t, bt.1)) bt.0.window_small asked.in_window (λ start. cc)
     (λ _. omega (arith, length-make RetrReq [] now t, bt.2)))
-    (λ _. bt.0)
+    bt.0
 
 pub bounded-respond : (now : ℕ) (p : Pdu) (x : State) → Bounded x → Ready x → (x.connection ≡ Down → x.made ≡ []) → (1 ≤ is_opening p.kind → window_of p.body ≤ 32) → Bounded (respond p now x)
 bounded-respond now p x b ready down window = bounded-carry now p x b ready down window (decide (kept_of x) p now) (decide-fits x p now)
 
-pub connected-live : (connection : ConnectionState) → is_connected connection ≡ true → is_live connection ≡ true
-connected-live Up e = refl
-connected-live Requesting e = refl
-connected-live RetrRun e = refl
-connected-live Closed e = cc
-connected-live Down e = cc
-connected-live Start e = cc
-
-pub turn-live : (connection : ConnectionState) → in_turn connection ≡ true → is_live connection ≡ true
-turn-live Up e = refl
-turn-live RetrRun e = refl
-turn-live Requesting e = cc
-turn-live Closed e = cc
-turn-live Down e = cc
-turn-live Start e = cc
-
 -- the guard
 pub bounded-guard : (now : ℕ) (x : State) → Bounded x → Bounded (guard now x) × Ready (guard now x)
 bounded-guard now x b =
-    let P : State → Type 0 = λ s. Bounded s × Ready s in
-    let left : (reason : Reason) (detail : Detail) → P (leave reason detail now x) = λ reason detail. (bounded-leave reason detail now x b, λ live. absurd (false≢true live)) in
-    let inner : State = if nat_le x.settings.pdu_limit (length x.made) then leave ProtocolError Limit now x else x in
-    if_both P (is_live x.connection) (if nat_le (x.confirmed_at + x.settings.t_max) now then leave Timeout Unspecified now x else inner) x
-    (λ live.
-    if_both P (nat_le (x.confirmed_at + x.settings.t_max) now) (leave Timeout Unspecified now x) inner (λ _. left Timeout Unspecified)
-    (λ _.
-    if_both P (nat_le x.settings.pdu_limit (length x.made)) (leave ProtocolError Limit now x) x (λ _. left ProtocolError Limit)
-    (λ no. (b, λ _. leb-false x.settings.pdu_limit (length x.made) no))))
-    (λ dead. (b, λ live. absurd (false≢true (sym dead ∙ live))))
+    guard-cases (λ s. Bounded s × Ready s) now x (λ reason detail. (bounded-leave reason detail now x b, λ live. absurd (false≢true live))) (λ holds. (b, λ live. (holds live).1))
 
 -- a heartbeat by time
 pub bounded-heartbeat : (now : ℕ) (x : State) → Bounded x → Ready x → Bounded (heartbeat now x)
 bounded-heartbeat now x b ready =
-    if_both Bounded (is_connected x.connection && nat_le (last_time x.made 0 + x.settings.t_h) now) (make Heartbeat [] now x) x
-    (λ both.
-    let live = connected-live x.connection (and-parts (is_connected x.connection) (nat_le (last_time x.made 0 + x.settings.t_h) now) both).0 in
+    heartbeat-cases Bounded now x
+    (λ connected.
+    let live = connected-live x.connection connected in
     bounded-plain Heartbeat [] now x b (omega (arith, ready live, b.limit)) (b.confirmed_made live) (λ run. refl))
-    (λ _. b)
+    b
 
 -- a unit is sent
 pub bounded-send : (unit : List ℕ) (now : ℕ) (x : State) → Bounded x → Bounded (send unit now x)
 bounded-send unit now x b =
-    if_both Bounded (may_send x) (make Data unit now x) x
-    (λ both.
-    let parts = and-parts (in_turn x.connection) (nat_lt (length (unconfirmed x)) x.window) both in
-    let live = turn-live x.connection parts.0 in
+    send-cases Bounded unit now x
+    (λ turn room_left.
+    let live = turn-live x.connection turn in
     let made = b.confirmed_made live in
-    let room_left = ltb-true (length (unconfirmed x)) x.window parts.1 in
     let same : unconfirmed (make Data unit now x) ≡ unconfirmed x ++ unit ∷ [] = unconfirmed-make Data unit now x made in
     let count : length (unconfirmed (make Data unit now x)) ≡ length (unconfirmed x) + 1 = ap length same ∙ length-append (unconfirmed x) (unit ∷ []) in
     let more = length-make Data unit now x in
@@ -344,7 +304,7 @@ bounded-send unit now x b =
       few_live = λ _. omega (arith, few, more);
       window_small = b.window_small;
       in_window = omega arith;
-      none_in_start = λ start. absurd (false≢true (sym (ap in_turn start) ∙ parts.0));
+      none_in_start = λ start. absurd (false≢true (sym (ap in_turn start) ∙ turn));
       confirmed_made = λ _. omega (arith, more);
     })
-    (λ _. b)
+    b

@@ -3,8 +3,6 @@ use Rattle.std.proofs.Common.{◌≡◌, ◌≢◌, ◌∙◌, ℕ, ◌+◌, ◌
 use Rattle.std.specs.Prelude.{nat_le}
 use Rattle.std.proofs.lemmas.Bool.{le-leb, leb-false, lt-leb, true≢false}
 use Rattle.safe_pdu.specs.declared.Kind.TheVariants.{Heartbeat}
-use Rattle.safe_machine.specs.declared.ConnectionState.{ConnectionState}
-use Rattle.safe_machine.specs.declared.ConnectionState.TheVariants.{Closed, Down, Start, Up, RetrReq, RetrRun}
 use Rattle.safe_machine.specs.State.{State, make, next_made}
 use Rattle.safe_machine.specs.Step.{guard, heartbeat, tick}
 use Rattle.safe_machine.specs.Ring.{ring_of}
@@ -12,14 +10,8 @@ use Rattle.safe_machine.specs.View.{beside}
 use Rattle.safe_machine.specs.Deadlines.{IsBefore, IsReachedAt, deadline_of}
 use Rattle.safe_machine.specs.Connections.{is_connected, is_live}
 use Rattle.safe_machine.specs.Made.{last_time}
-
-connected-live : (c : ConnectionState) → is_connected c ≡ true → is_live c ≡ true
-connected-live Closed h = absurd (true≢false (sym h))
-connected-live Down h = absurd (true≢false (sym h))
-connected-live Start h = refl
-connected-live Up h = refl
-connected-live RetrReq h = refl
-connected-live RetrRun h = refl
+use Rattle.safe_machine.proofs.StepCases.{guard-idle}
+use Rattle.safe_machine.proofs.ConnectionFacts.{connected-live}
 
 -- what waits for the tests of the guard and of the heartbeat
 abbrev timed_out : State → ℕ → Bool
@@ -30,9 +22,6 @@ used_up s = nat_le s.settings.pdu_limit (length s.made)
 
 abbrev beats : State → ℕ → Bool
 beats s now = nat_le (last_time s.made 0 + s.settings.t_h) now
-
-unguarded : (s : State) (now : ℕ) → is_live s.connection ≡ false → guard now s ≡ s
-unguarded s now e = rw e refl
 
 guarded : (s : State) (now : ℕ) → is_live s.connection ≡ true → timed_out s now ≡ false → used_up s ≡ false → guard now s ≡ s
 guarded s now e t u = rw (e, t, u) refl
@@ -47,7 +36,7 @@ both : (s : State) (now : ℕ) → guard now s ≡ s → heartbeat now s ≡ s �
 both s now g b = ap (λ t. heartbeat now t) g ∙ b
 
 before : (s : State) (now : ℕ) (live connected used : Bool) → is_live s.connection ≡ live → is_connected s.connection ≡ connected → used_up s ≡ used → IsBefore now (deadline_of (beside (ring_of s) s)) → tick now s ≡ s
-before s now false false used l c u h = both s now (unguarded s now l) (unbeaten s now c)
+before s now false false used l c u h = both s now (guard-idle now s l) (unbeaten s now c)
 before s now false true used l c u h = absurd (true≢false (sym (connected-live s.connection c) ∙ l))
 before s now true false true l c u h = absurd (omega (arith, rw (l, c, u) at h))
 before s now true true true l c u h = absurd (omega (arith, rw (l, c, u) at h))

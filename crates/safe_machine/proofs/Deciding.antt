@@ -1,7 +1,7 @@
 -- What each decision says of the state and of the PDU.
 use Rattle.std.proofs.Common.{◌≡◌, ℕ, ◌+◌, ◌*◌, ◌<◌, ◌≤◌, Bool, true, false, refl, ap, ◌∙◌}
 use Rattle.std.specs.Prelude.{if◌then◌else◌, ◌==◌, ◌&&◌, nat_le}
-use Rattle.std.proofs.lemmas.Bool.{leb-true, eqb-true}
+use Rattle.std.proofs.lemmas.Bool.{leb-true, eqb-true, cond_both, and_parts, leb-false}
 use Rattle.safe_pdu.specs.declared.Kind.{Kind}
 use Rattle.safe_pdu.specs.declared.Kind.TheVariants.{ConnReq, ConnResp, RetrReq, RetrResp, DiscReq, Heartbeat, Data, RetrData}
 use Rattle.safe_machine.specs.declared.ConnectionState.{ConnectionState}
@@ -16,7 +16,6 @@ use Rattle.safe_machine.specs.declared.decision.Decision.{Decision}
 use Rattle.safe_machine.specs.Decision.{is_ours, is_stranger, cs_fits, cts_fits, tested, in_down, as_client, distance, answering, by_cell, by_table, in_start, is_goodbye, by_connection, decide, by_sender, cs_step}
 use Rattle.safe_machine.specs.declared.decision.Decision.TheVariants.{Nothing, Drops, Shuts, Leaves, Rejects, Accepts, Connects, Takes, Asks, Resumes, AnswersNext, AnswersEarly}
 use Rattle.safe_machine.specs.declared.DropCause.TheVariants.{Stranger, Number, Answered, Below}
-use Rattle.safe_machine.proofs.Cases.{if_both, and-parts, leb-false}
 use Rattle.safe_machine.proofs.Invariant.{room, needs_peer}
 use Rattle.safe_machine.proofs.TableLemmas.{Allowed, cell-allowed}
 use Rattle.safe_machine.specs.declared.Reason.TheVariants.{WrongVersion, RetransmissionImpossible, ProtocolError}
@@ -95,8 +94,8 @@ listens-live Down client h = cc
 
 fits-tested : (x : State) (p : Pdu) (now : ℕ) (e : Decision) → is_live x.connection ≡ true → (Tested x p now → Fits x p now e) → Fits x p now (tested (kept_of x) p now e)
 fits-tested x p now e live f =
-    if_both (Fits x p now) (cs_fits (kept_of x) p) (if cts_fits (kept_of x) p now then e else Leaves ProtocolError ConfirmedTimestamp) (Leaves ProtocolError ConfirmedNumber)
-    (λ cs. if_both (Fits x p now) (cts_fits (kept_of x) p now) e (Leaves ProtocolError ConfirmedTimestamp) (λ cts. f (record { cs = cs; cts = cts })) (λ _. live))
+    cond_both (cs_fits (kept_of x) p) (if cts_fits (kept_of x) p now then e else Leaves ProtocolError ConfirmedTimestamp) (Leaves ProtocolError ConfirmedNumber) (Fits x p now)
+    (λ cs. cond_both (cts_fits (kept_of x) p now) e (Leaves ProtocolError ConfirmedTimestamp) (Fits x p now) (λ cts. f (record { cs = cs; cts = cts })) (λ _. live))
     (λ _. live)
 
 fits-answering : (x : State) (p : Pdu) (now : ℕ) → ByTable x p → is_live x.connection ≡ true → is_connected x.connection ≡ true → p.kind ≡ RetrReq → Fits x p now (answering (kept_of x) p now (distance (kept_of x) p))
@@ -107,19 +106,19 @@ fits-answering x p now table live connected is =
     let refused : Decision = if nat_le 0x8000_0000 (cs_step (kept_of x) p) then Drops Below else Leaves RetransmissionImpossible Unspecified in
     let fits : x.answered < x.expected + d → cs_fits (kept_of x) p ≡ true → AnswerFits x p =
     λ new cs. record { table = table; connected = connected; request = is; new = new; cs = cs } in
-    if_both P (nat_le (x.expected + d) x.answered) (Drops Answered) (if cs_fits (kept_of x) p then inner else refused)
+    cond_both (nat_le (x.expected + d) x.answered) (Drops Answered) (if cs_fits (kept_of x) p then inner else refused) P
     (λ _. tt)
     (λ no.
     let new = leb-false (x.expected + d) x.answered no in
-    if_both P (cs_fits (kept_of x) p) inner refused
+    cond_both (cs_fits (kept_of x) p) inner refused P
     (λ cs.
-    if_both P ((d == 0) && in_turn x.connection) (if cts_fits (kept_of x) p now then AnswersNext else Leaves ProtocolError ConfirmedTimestamp) AnswersEarly
+    cond_both ((d == 0) && in_turn x.connection) (if cts_fits (kept_of x) p now then AnswersNext else Leaves ProtocolError ConfirmedTimestamp) AnswersEarly P
     (λ both.
-    let parts = and-parts (d == 0) (in_turn x.connection) both in
-    if_both P (cts_fits (kept_of x) p now) AnswersNext (Leaves ProtocolError ConfirmedTimestamp)
+    let parts = and_parts (d == 0) (in_turn x.connection) both in
+    cond_both (cts_fits (kept_of x) p now) AnswersNext (Leaves ProtocolError ConfirmedTimestamp) P
     (λ cts. (fits new cs, eqb-true d 0 parts.0, parts.1, cts)) (λ _. live))
     (λ _. fits new cs))
-    (λ _. if_both P (nat_le 0x8000_0000 (cs_step (kept_of x) p)) (Drops Below) (Leaves RetransmissionImpossible Unspecified) (λ _. tt) (λ _. live)))
+    (λ _. cond_both (nat_le 0x8000_0000 (cs_step (kept_of x) p)) (Drops Below) (Leaves RetransmissionImpossible Unspecified) P (λ _. tt) (λ _. live)))
 
 fits-cell : (x : State) (p : Pdu) (now : ℕ) → ByTable x p → is_live x.connection ≡ true → (c : Cell) → Allowed x.connection (distance (kept_of x) p == 0) p.kind c → Fits x p now (by_cell (kept_of x) p now (distance (kept_of x) p) c)
 fits-cell x p now table live (Take to) (next, quiet, connected, plain, needs) =
@@ -134,14 +133,14 @@ fits-cell x p now table live Skip h = tt
 
 fits-table : (x : State) (p : Pdu) (now : ℕ) → listens x.connection x.settings.client ≡ true → Fits x p now (by_table (kept_of x) p now (distance (kept_of x) p))
 fits-table x p now l =
-    if_both (Fits x p now) (nat_le (distance (kept_of x) p) (10 * x.settings.n_sendmax)) (by_cell (kept_of x) p now (distance (kept_of x) p) (cell x.connection (distance (kept_of x) p == 0) p.kind)) (Drops Number)
+    cond_both (nat_le (distance (kept_of x) p) (10 * x.settings.n_sendmax)) (by_cell (kept_of x) p now (distance (kept_of x) p) (cell x.connection (distance (kept_of x) p == 0) p.kind)) (Drops Number) (Fits x p now)
     (λ near.
     fits-cell x p now (record { listens_now = l; near = leb-true (distance (kept_of x) p) (10 * x.settings.n_sendmax) near }) (listens-live x.connection x.settings.client l)
     (cell x.connection (distance (kept_of x) p == 0) p.kind) (cell-allowed x.connection (distance (kept_of x) p == 0) p.kind))
     (λ _. tt)
 
 fits-down : (x : State) (p : Pdu) (now : ℕ) → x.connection ≡ Down → (kind : Kind) → p.kind ≡ kind → Fits x p now (in_down p kind)
-fits-down x p now down ConnReq is = if_both (Fits x p now) (is_ours p.body) Accepts Rejects (λ _. (down, is)) (λ _. (down, is))
+fits-down x p now down ConnReq is = cond_both (is_ours p.body) Accepts Rejects (Fits x p now) (λ _. (down, is)) (λ _. (down, is))
 fits-down x p now down ConnResp is = tt
 fits-down x p now down RetrReq is = tt
 fits-down x p now down RetrResp is = tt
@@ -152,7 +151,7 @@ fits-down x p now down RetrData is = tt
 
 fits-client : (x : State) (p : Pdu) (now : ℕ) → x.connection ≡ Start → is_live x.connection ≡ true → x.settings.client ≡ true → (kind : Kind) → p.kind ≡ kind → Fits x p now (as_client (kept_of x) p now kind)
 fits-client x p now start live client ConnResp is =
-    if_both (Fits x p now) (is_ours p.body) (tested (kept_of x) p now Connects) (Leaves WrongVersion Unspecified)
+    cond_both (is_ours p.body) (tested (kept_of x) p now Connects) (Leaves WrongVersion Unspecified) (Fits x p now)
     (λ _. fits-tested x p now Connects live (λ passed. (start, client, is, passed))) (λ _. live)
 fits-client x p now start live client ConnReq is = live
 fits-client x p now start live client RetrReq is = live
@@ -164,15 +163,15 @@ fits-client x p now start live client RetrData is = live
 
 fits-listens : (x : State) (p : Pdu) (now : ℕ) → listens x.connection x.settings.client ≡ true →
     Fits x p now (if is_goodbye p.kind then Shuts else by_table (kept_of x) p now (distance (kept_of x) p))
-fits-listens x p now l = if_both (Fits x p now) (is_goodbye p.kind) Shuts (by_table (kept_of x) p now (distance (kept_of x) p)) (λ _. tt) (λ _. fits-table x p now l)
+fits-listens x p now l = cond_both (is_goodbye p.kind) Shuts (by_table (kept_of x) p now (distance (kept_of x) p)) (Fits x p now) (λ _. tt) (λ _. fits-table x p now l)
 
 fits-connection : (x : State) (p : Pdu) (now : ℕ) (connection : ConnectionState) → x.connection ≡ connection → Fits x p now (by_connection (kept_of x) p now connection)
 fits-connection x p now Closed is = tt
 fits-connection x p now Down is = fits-down x p now is p.kind refl
 fits-connection x p now Start is =
-    if_both (Fits x p now) (is_goodbye p.kind) Shuts (in_start (kept_of x) p now) (λ _. tt)
+    cond_both (is_goodbye p.kind) Shuts (in_start (kept_of x) p now) (Fits x p now) (λ _. tt)
     (λ _.
-    if_both (Fits x p now) x.settings.client (as_client (kept_of x) p now p.kind) (by_table (kept_of x) p now (distance (kept_of x) p))
+    cond_both x.settings.client (as_client (kept_of x) p now p.kind) (by_table (kept_of x) p now (distance (kept_of x) p)) (Fits x p now)
     (λ client. fits-client x p now is (ap is_live is) client p.kind refl)
     (λ server. fits-table x p now (ap (λ c. listens c x.settings.client) is ∙ ap (listens Start) server)))
 fits-connection x p now Up is = fits-listens x p now (ap (λ c. listens c x.settings.client) is)
@@ -182,5 +181,5 @@ fits-connection x p now RetrRun is = fits-listens x p now (ap (λ c. listens c x
 -- Each decision that is made says this.
 pub decide-fits : (x : State) (p : Pdu) (now : ℕ) → Fits x p now (decide (kept_of x) p now)
 decide-fits x p now =
-    if_both (Fits x p now) (is_closed x.connection) Nothing (by_sender (kept_of x) p now) (λ _. tt)
-    (λ _. if_both (Fits x p now) (is_stranger x p) (Drops Stranger) (by_connection (kept_of x) p now x.connection) (λ _. tt) (λ _. fits-connection x p now x.connection refl))
+    cond_both (is_closed x.connection) Nothing (by_sender (kept_of x) p now) (Fits x p now) (λ _. tt)
+    (λ _. cond_both (is_stranger x p) (Drops Stranger) (by_connection (kept_of x) p now x.connection) (Fits x p now) (λ _. tt) (λ _. fits-connection x p now x.connection refl))

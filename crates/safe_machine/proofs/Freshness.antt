@@ -1,41 +1,39 @@
 -- Over every list of events with clocks that never go back, what is taken is fresh.
 use Rattle.std.proofs.Common.{◌≡◌, ◌≢◌, ◌⊎◌, inl, inr, ℕ, suc, zero, ◌+◌, ◌-◌, ◌<◌, ◌≤◌, List, [], ◌∷◌, ◌++◌, length, drop, true, refl, sym, ap, subst, ◌∙◌, arith}
-use Rattle.std.specs.Prelude.{if◌then◌else◌, nat_le}
-use Rattle.std.proofs.lemmas.Bool.{false≢true}
+use Rattle.std.proofs.lemmas.Bool.{false≢true, cond_both}
 use Rattle.safe_machine.specs.World.Side.{Il, Fe}
-use Rattle.safe_pdu.specs.declared.Kind.TheVariants.{ConnReq, RetrResp, Heartbeat}
+use Rattle.safe_pdu.specs.declared.Kind.TheVariants.{ConnReq, RetrResp}
 use Rattle.safe_machine.specs.declared.ConnectionState.{ConnectionState}
 use Rattle.safe_machine.specs.declared.ConnectionState.TheVariants.{Closed, Down, Start}
 use Rattle.safe_pdu.specs.Pdu.{Pdu}
-use Rattle.safe_machine.specs.Made.{Made, carries, opening_body}
+use Rattle.safe_machine.specs.Made.{Made, opening_body}
 use Rattle.safe_machine.specs.Numbers.{sn_of}
 use Rattle.safe_machine.specs.Settings.{Settings, is_legal}
-use Rattle.safe_machine.specs.State.{State, unconfirmed, make, move_to, pass, hand_up, note_request, reply, ask, leave, opened, blank, next_made}
+use Rattle.safe_machine.specs.State.{State, unconfirmed, make, move_to, pass, note_request, reply, leave, opened, blank, next_made}
 use Rattle.safe_machine.specs.declared.decision.Decision.{Decision}
 use Rattle.safe_machine.specs.Decision.{decide, distance}
 use Rattle.safe_machine.specs.declared.decision.Decision.TheVariants.{Nothing, Drops, Shuts, Leaves, Rejects, Accepts, Connects, Takes, Asks, Resumes, AnswersNext, AnswersEarly}
-use Rattle.safe_machine.specs.Step.{guard, respond, arrive, carry_out, tick, send, tests_passed, beat, confirm_units}
+use Rattle.safe_machine.specs.Step.{guard, respond, arrive, carry_out, tick, send, tests_passed, confirm_units}
 use Rattle.safe_machine.specs.World.{World, Event, start, changed, run, event_end, event_time, at_end, Timely, happens, GenuineAt, GenuineEvent, Genuine, as_role, open_il, open_fe, with_il, with_fe}
 use Rattle.safe_machine.specs.World.Event.{Open, Send, Close, Guard, Tick, Arrive}
 use Rattle.safe_machine.specs.Law.{Fresh, FreshEvent, AllFresh, FreshLaw, FreshAtLastLaw}
 use Rattle.safe_machine.proofs.Legal.{legal as lawful}
-use Rattle.safe_machine.proofs.Cases.{if_both}
 use Rattle.safe_machine.proofs.Runs.{Every, every-at, every-weaken, every-drop_all, at-length, numbered-at}
 use Rattle.safe_machine.proofs.Invariant.{NotOpening, Solo, Half, Pair, Told}
 use Rattle.safe_machine.proofs.Deciding.{Fits, listens-live, decide-fits}
 use Rattle.safe_machine.proofs.Counting.{Bounded, bounded-guard}
 use Rattle.safe_machine.proofs.Receiving.{Incoming}
-use Rattle.safe_machine.proofs.Lone.{Lone, lone-leave, lone-guard, lone-tick, lone-send, pair-guard, arrive-by, among-dropped, down_or}
+use Rattle.safe_machine.proofs.Lone.{Lone, lone-leave, lone-guard, lone-tick, lone-send, pair-guard, arrive-by, among-dropped}
 use Rattle.safe_machine.proofs.Status.{Mute, Met, Status, Untouched, mute-leave, mute-guard, mute-tick, mute-send, mute-arrive, deaf-arrive, still-arrive}
 use Rattle.safe_machine.proofs.Status.Status.{met, il_later, fe_later}
 use Rattle.safe_machine.proofs.Times.{Timed, Steps, Stamped, timed-receiver, timed-sender}
 use Rattle.safe_machine.proofs.Timing.{Makes, makes-then, makes-leave, makes-guard, makes-heartbeat, makes-send, steps-none, steps-then, steps-carry, guard-passed, fresh-take}
 use Rattle.safe_machine.proofs.Worlds.{Inv, inv-event, inv-open_il, inv-open_fe, inv-start, nobody-among, mute-il, still-lone, on-lone}
-use Rattle.safe_machine.specs.declared.Reason.TheVariants.{Timeout, ProtocolError}
-use Rattle.safe_machine.specs.declared.Detail.TheVariants.{Unspecified, Limit}
 use Rattle.safe_machine.proofs.Resending.{resend-settings, resend-taken}
-use Rattle.safe_machine.specs.Connections.{in_turn, is_live}
+use Rattle.safe_machine.specs.Connections.{is_live}
 use Rattle.safe_machine.specs.View.{kept_of}
+use Rattle.safe_machine.proofs.StepCases.{guard-cases, unit-cases, early-cases}
+use Rattle.safe_machine.proofs.ConnectionFacts.{down_or}
 
 -- what a decision hands up, and that settings stay
 carry-taken : (p : Pdu) (now : ℕ) (s : State) (e : Decision) → ((to : ConnectionState) × (e ≡ Takes to)) ⊎ ((carry_out p now e s).taken ≡ s.taken)
@@ -54,9 +52,8 @@ carry-taken p now s AnswersNext =
     inr (resend-taken (unconfirmed z) now (make RetrResp [] now z))
 carry-taken p now s AnswersEarly =
     let z = note_request (distance (kept_of s) p) (confirm_units p s) in
-    let t = reply now z in
-    let same : t.taken ≡ s.taken = resend-taken (unconfirmed z) now (make RetrResp [] now z) in
-    inr (if_both (λ (u : State). u.taken ≡ s.taken) (in_turn s.connection) (ask now t) t (λ _. same) (λ _. same))
+    let same : (reply now z).taken ≡ s.taken = resend-taken (unconfirmed z) now (make RetrResp [] now z) in
+    inr (early-cases (λ u. u.taken ≡ s.taken) p now s (λ _. same) same)
 
 carry-settings : (p : Pdu) (now : ℕ) (s : State) (e : Decision) → (carry_out p now e s).settings ≡ s.settings
 carry-settings p now s Nothing = refl
@@ -68,9 +65,7 @@ carry-settings p now s Accepts = refl
 carry-settings p now s Connects = refl
 carry-settings p now s (Takes to) =
     let z = move_to to (pass p 0 (tests_passed p s)) in
-    let P : State → Type 0 = λ u. u.settings ≡ s.settings in
-    if_both P (carries p.kind) (beat now (hand_up p z)) z
-    (λ _. if_both P (nat_le s.settings.mwa (s.since + 1)) (make Heartbeat [] now (hand_up p z)) (hand_up p z) (λ _. refl) (λ _. refl)) (λ _. refl)
+    unit-cases (λ u. u.settings ≡ s.settings) p now z (λ _. refl) (λ _ _. refl) (λ _. refl)
 carry-settings p now s Asks = refl
 carry-settings p now s Resumes = refl
 carry-settings p now s AnswersNext =
@@ -78,23 +73,15 @@ carry-settings p now s AnswersNext =
     resend-settings (unconfirmed z) now (make RetrResp [] now z)
 carry-settings p now s AnswersEarly =
     let z = note_request (distance (kept_of s) p) (confirm_units p s) in
-    let t = reply now z in
-    let same : t.settings ≡ s.settings = resend-settings (unconfirmed z) now (make RetrResp [] now z) in
-    if_both (λ (u : State). u.settings ≡ s.settings) (in_turn s.connection) (ask now t) t (λ _. same) (λ _. same)
+    let same : (reply now z).settings ≡ s.settings = resend-settings (unconfirmed z) now (make RetrResp [] now z) in
+    early-cases (λ u. u.settings ≡ s.settings) p now s (λ _. same) same
 
 arrive-settings : (p : Pdu) (now : ℕ) (s : State) → (arrive p now s).settings ≡ s.settings
 arrive-settings p now s = let g = guard now s in carry-settings p now g (decide (kept_of g) p now) ∙ (lone-guard now s).settings
 
 -- a live end passed its guard as it was
 guard-live : (now : ℕ) (s : State) → is_live (guard now s).connection ≡ true → guard now s ≡ s
-guard-live now s =
-    let P : State → Type 0 = λ t. is_live t.connection ≡ true → t ≡ s in
-    let inner : State = if nat_le s.settings.pdu_limit (length s.made) then leave ProtocolError Limit now s else s in
-    if_both P (is_live s.connection) (if nat_le (s.confirmed_at + s.settings.t_max) now then leave Timeout Unspecified now s else inner) s
-    (λ _.
-    if_both P (nat_le (s.confirmed_at + s.settings.t_max) now) (leave Timeout Unspecified now s) inner (λ _. λ live. absurd (false≢true live))
-    (λ _. if_both P (nat_le s.settings.pdu_limit (length s.made)) (leave ProtocolError Limit now s) s (λ _. λ live. absurd (false≢true live)) (λ _. λ live. refl)))
-    (λ _. λ live. refl)
+guard-live now s = guard-cases (λ t. is_live t.connection ≡ true → t ≡ s) now s (λ _ _ live. absurd (false≢true live)) (λ _ _. refl)
 
 -- a later clock
 timed-later : (clock now : ℕ) (x y : State) → clock ≤ now → Timed clock x y → Timed now x y
@@ -390,13 +377,13 @@ makes-tick now s = makes-then now s (guard now s) (tick now s) (makes-guard now 
 t-changed : (w : World) (e : Event) (ci cf : ℕ) → TInv w ci cf → GenuineEvent w e → at_end (event_end e) ci cf ≤ event_time e →
     TInv (changed w e) (at_end (event_end e) (event_time e) ci) (at_end (event_end e) cf (event_time e)) × FreshEvent w e
 t-changed w (Open Il settings first now) ci cf h g later = (
-  if_both (λ v. TInv v now cf) (is_legal settings) (open_il settings first now w) w
+  cond_both (is_legal settings) (open_il settings first now w) w (λ v. TInv v now cf)
       (λ legal. t-open_il settings first now w ci cf later h legal)
       (λ _. record { inv = h.inv; short_il = h.short_il; short_fe = h.short_fe; times = il-later_times w.il w.fe w.dead_il w.dead_fe ci cf now later h.times }),
   tt,
 )
 t-changed w (Open Fe settings first now) ci cf h g later = (
-  if_both (λ v. TInv v ci now) (is_legal settings) (open_fe settings first now w) w
+  cond_both (is_legal settings) (open_fe settings first now w) w (λ v. TInv v ci now)
       (λ legal. t-open_fe settings first now w ci cf later h legal)
       (λ _. record { inv = h.inv; short_il = h.short_il; short_fe = h.short_fe; times = fe-later_times w.il w.fe w.dead_il w.dead_fe ci cf now later h.times }),
   tt,

@@ -6,9 +6,9 @@ use Rattle.safe_machine.specs.Made.{Made, opening_body}
 use Rattle.safe_machine.specs.Settings.{Settings}
 use Rattle.safe_machine.specs.State.{State, next_made, make, resend, unconfirmed, opened}
 use Rattle.safe_machine.specs.Moves.{Move, move, moved, AreFrom, SettingsLaw, IdentifiedLaw}
-use Rattle.safe_machine.proofs.Cases.{if_both}
 use Rattle.safe_machine.proofs.Resending.{resend-settings}
 use Rattle.safe_machine.proofs.Kept.{Kept, Anything, anything, kept-move}
+use Rattle.std.proofs.lemmas.Bool.{cond_both}
 
 pub settings_law_holds : SettingsLaw
 settings_law_holds m s =
@@ -59,7 +59,7 @@ from-moved [] s h = h
 from-moved (m ∷ ms) s h = from-moved ms (move m s) (kept-move Anything Anything IsFrom from-kept m s (anything m) h)
 
 opened-from : (settings : Settings) (first now : ℕ) → IsFrom (opened settings first now) × ((opened settings first now).settings ≡ settings)
-opened-from settings first now = if_both (λ (s : State). IsFrom s × (s.settings ≡ settings)) settings.client _ _ (λ _. (((refl, refl), tt), refl)) (λ _. (tt, refl))
+opened-from settings first now = cond_both settings.client _ _ (λ (s : State). IsFrom s × (s.settings ≡ settings)) (λ _. (((refl, refl), tt), refl)) (λ _. (tt, refl))
 
 pub identified_law_holds : IdentifiedLaw
 identified_law_holds settings first now ms =

@@ -1,28 +1,27 @@
 -- A property that every single change of a machine keeps is kept by every move.
-use Rattle.std.proofs.Common.{◌≡◌, ℕ, ◌+◌, List, [], Bool, true, false, refl}
-use Rattle.std.specs.Prelude.{length, if◌then◌else◌, ◌&&◌, nat_le}
+use Rattle.std.proofs.Common.{◌≡◌, ℕ, List, [], Bool, true, false, refl}
+use Rattle.std.specs.Prelude.{length}
 use Rattle.safe_pdu.specs.declared.Kind.{Kind}
 use Rattle.safe_pdu.specs.declared.Kind.TheVariants.{ConnResp, RetrReq, DiscReq, Heartbeat, Data}
 use Rattle.safe_pdu.specs.Pdu.{Pdu}
 use Rattle.safe_pdu.specs.Bodies.{IsBody, window_of}
 use Rattle.safe_machine.specs.declared.ConnectionState.TheVariants.{Closed, Start, Up, RetrReq as Requesting, RetrRun}
 use Rattle.safe_machine.specs.declared.Reason.{Reason}
-use Rattle.safe_machine.specs.declared.Reason.TheVariants.{Timeout, WrongVersion, ProtocolError}
+use Rattle.safe_machine.specs.declared.Reason.TheVariants.{WrongVersion}
 use Rattle.safe_machine.specs.declared.Detail.{Detail}
-use Rattle.safe_machine.specs.declared.Detail.TheVariants.{Unspecified, Limit}
-use Rattle.safe_machine.specs.Made.{opening_body, leaving_body, carries, last_time}
-use Rattle.safe_machine.specs.State.{State, make, move_to, pass, hand_up, note_request, reply, ask, leave}
+use Rattle.safe_machine.specs.declared.Detail.TheVariants.{Unspecified}
+use Rattle.safe_machine.specs.Made.{opening_body, leaving_body}
+use Rattle.safe_machine.specs.State.{State, make, move_to, pass, hand_up, note_request, reply, leave}
 use Rattle.safe_machine.specs.declared.decision.Decision.{Decision}
 use Rattle.safe_machine.specs.Decision.{decide, cs_fits, distance}
 use Rattle.safe_machine.specs.declared.decision.Decision.TheVariants.{Nothing, Drops, Shuts, Leaves, Rejects, Accepts, Connects, Takes, Asks, Resumes, AnswersNext, AnswersEarly}
-use Rattle.safe_machine.specs.Step.{set_window, confirm_to, beat, tests_passed, carry_out, guard, may_send, confirm_units, confirm_time}
+use Rattle.safe_machine.specs.Step.{set_window, confirm_to, tests_passed, carry_out, guard, confirm_units, confirm_time}
 use Rattle.safe_machine.specs.Moves.{Move, move}
 use Rattle.safe_machine.specs.Moves.Move.{Guards, Hears, Ticks, Sends, Leaves as LeavesNow}
-use Rattle.safe_machine.proofs.Cases.{if_both}
 use Rattle.safe_machine.proofs.Deciding.{Fits, decide-fits}
 use Rattle.safe_machine.proofs.Lone.{arrive-by}
-use Rattle.safe_machine.specs.Connections.{is_live, in_turn, is_connected}
 use Rattle.safe_machine.specs.View.{kept_of}
+use Rattle.safe_machine.proofs.StepCases.{leave-cases, guard-cases, heartbeat-cases, unit-cases, send-cases, early-cases}
 
 -- nothing changes that is kept of the PDUs made
 abbrev pub Silent : State → State → Type 0
@@ -67,28 +66,17 @@ module _ (A : Pdu → Type 0) (U : List ℕ → Type 0) (P : State → Type 0) (
   kept-leave : (reason : Reason) (detail : Detail) (now : ℕ) (s : State) → P s → P (leave reason detail now s)
   kept-leave reason detail now s h =
       let m = make DiscReq (leaving_body reason detail) now s in
-      if_both (λ t. P (move_to Closed t)) (is_live s.connection) m s
+      leave-cases P reason detail now s
       (λ _. k.silent m (move_to Closed m) (refl, refl, refl, refl, refl) (k.plain DiscReq (leaving_body reason detail) now s refl refl h))
       (λ _. k.silent s (move_to Closed s) (refl, refl, refl, refl, refl) h)
 
   kept-guard : (now : ℕ) (s : State) → P s → P (guard now s)
-  kept-guard now s h =
-      let late = nat_le (s.confirmed_at + s.settings.t_max) now in
-      let full = nat_le s.settings.pdu_limit (length s.made) in
-      let inner : State = if full then leave ProtocolError Limit now s else s in
-      if_both P (is_live s.connection) (if late then leave Timeout Unspecified now s else inner) s
-      (λ _. if_both P late (leave Timeout Unspecified now s) inner (λ _. kept-leave Timeout Unspecified now s h)
-      (λ _. if_both P full (leave ProtocolError Limit now s) s (λ _. kept-leave ProtocolError Limit now s h) (λ _. h)))
-      (λ _. h)
+  kept-guard now s h = guard-cases P now s (λ reason detail. kept-leave reason detail now s h) (λ _. h)
 
   kept-tests : (p : Pdu) (s : State) → cs_fits (kept_of s) p ≡ true → P s → P (tests_passed p s)
   kept-tests p s fits h =
       let u = confirm_units p s in
       k.silent u (confirm_time p u) (refl, refl, refl, refl, refl) (k.confirms p s fits h)
-
-  kept-beat : (now : ℕ) (s : State) → P s → P (beat now s)
-  kept-beat now s h =
-      if_both P (nat_le s.settings.mwa s.since) (make Heartbeat [] now s) s (λ _. k.plain Heartbeat [] now s refl refl h) (λ _. h)
 
   kept-decided : (p : Pdu) (now : ℕ) (d : Decision) (s : State) → A p → Fits s p now d → P s → P (carry_out p now d s)
   kept-decided p now Nothing s a f h = h
@@ -113,7 +101,8 @@ module _ (A : Pdu → Type 0) (U : List ℕ → Type 0) (P : State → Type 0) (
       let y = move_to to (pass p 0 t) in
       let z = hand_up p y in
       let before : P y = k.silent (pass p 0 t) y (refl, refl, refl, refl, refl) (k.passes p 0 t a (kept-tests p s f.passed.cs h)) in
-      if_both P (carries p.kind) (beat now z) y (λ _. kept-beat now z (k.silent y z (refl, refl, refl, refl, refl) before)) (λ _. before)
+      let up : P z = k.silent y z (refl, refl, refl, refl, refl) before in
+      unit-cases P p now y (λ _. k.plain Heartbeat [] now z refl refl up) (λ _ _. up) (λ _. before)
   kept-decided p now Asks s a f h =
       let m = make RetrReq [] now s in
       k.silent m (move_to Requesting m) (refl, refl, refl, refl, refl) (k.plain RetrReq [] now s refl refl h)
@@ -131,8 +120,7 @@ module _ (A : Pdu → Type 0) (U : List ℕ → Type 0) (P : State → Type 0) (
       let z = reply now y in
       let m = make RetrReq [] now z in
       let before : P z = k.replies now y (k.silent t y (refl, refl, refl, refl, refl) (k.confirms p s f.cs h)) in
-      if_both P (in_turn s.connection) (ask now z) z
-      (λ _. k.silent m (move_to Requesting m) (refl, refl, refl, refl, refl) (k.plain RetrReq [] now z refl refl before)) (λ _. before)
+      early-cases P p now s (λ _. k.silent m (move_to Requesting m) (refl, refl, refl, refl, refl) (k.plain RetrReq [] now z refl refl before)) before
 
   pub kept-move : (m : Move) (s : State) → AllowsMove A U m → P s → P (move m s)
   kept-move (Guards now) s a h = kept-guard now s h
@@ -141,7 +129,6 @@ module _ (A : Pdu → Type 0) (U : List ℕ → Type 0) (P : State → Type 0) (
       arrive-by P p now s (kept-guard now s h) (λ _ _. kept-decided p now (decide (kept_of g) p now) g a (decide-fits g p now) (kept-guard now s h))
   kept-move (Ticks now) s a h =
       let g = guard now s in
-      if_both P (is_connected g.connection && nat_le (last_time g.made 0 + g.settings.t_h) now) (make Heartbeat [] now g) g
-      (λ _. k.plain Heartbeat [] now g refl refl (kept-guard now s h)) (λ _. kept-guard now s h)
-  kept-move (Sends unit now) s a h = if_both P (may_send s) (make Data unit now s) s (λ _. k.sends unit now s a h) (λ _. h)
+      heartbeat-cases P now g (λ _. k.plain Heartbeat [] now g refl refl (kept-guard now s h)) (kept-guard now s h)
+  kept-move (Sends unit now) s a h = send-cases P unit now s (λ _ _. k.sends unit now s a h) h
   kept-move (LeavesNow reason detail now) s a h = kept-leave reason detail now s h

@@ -1,27 +1,23 @@
 -- Which moves of a machine leave Down, and that none leads back.
-use Rattle.std.proofs.Common.{◌≡◌, ◌≢◌, ℕ, ◌+◌, List, [], true, false, refl, sym, subst, ◌∙◌}
-use Rattle.std.specs.Prelude.{length, if◌then◌else◌, ◌&&◌, nat_le}
+use Rattle.std.proofs.Common.{◌≡◌, ℕ, List, [], true, false, refl, sym, subst, ◌∙◌}
 use Rattle.safe_machine.specs.declared.ConnectionState.{ConnectionState}
 use Rattle.safe_machine.specs.declared.ConnectionState.TheVariants.{Closed, Down, Start, Up, RetrReq as Requesting, RetrRun}
-use Rattle.safe_pdu.specs.declared.Kind.TheVariants.{Heartbeat, Data, RetrResp}
+use Rattle.safe_pdu.specs.declared.Kind.TheVariants.{RetrResp}
 use Rattle.safe_pdu.specs.Pdu.{Pdu}
-use Rattle.safe_machine.specs.Made.{carries, last_time}
-use Rattle.safe_machine.specs.State.{State, leave, make, move_to, reply, ask, pass, note_request, unconfirmed, hand_up}
-use Rattle.safe_machine.specs.Step.{guard, tick, send, arrive, may_send, heartbeat, carry_out, take_unit, beat, tests_passed, confirm_units}
+use Rattle.safe_machine.specs.State.{State, leave, make, move_to, reply, pass, note_request, unconfirmed}
+use Rattle.safe_machine.specs.Step.{guard, tick, send, arrive, heartbeat, carry_out, take_unit, tests_passed, confirm_units}
 use Rattle.safe_machine.specs.declared.decision.Decision.{Decision}
 use Rattle.safe_machine.specs.Decision.{decide, distance, is_stranger}
 use Rattle.safe_machine.specs.declared.decision.Decision.TheVariants.{Nothing, Drops, Shuts, Leaves, Rejects, Accepts, Connects, Takes, Asks, Resumes, AnswersNext, AnswersEarly}
 use Rattle.safe_machine.specs.World.{joins}
-use Rattle.safe_machine.proofs.Cases.{if_both}
 use Rattle.safe_machine.proofs.Deciding.{Fits, decide-fits}
 use Rattle.safe_machine.proofs.Lone.{arrive-by}
 use Rattle.safe_machine.specs.declared.Reason.{Reason}
-use Rattle.safe_machine.specs.declared.Reason.TheVariants.{Timeout, ProtocolError}
 use Rattle.safe_machine.specs.declared.Detail.{Detail}
-use Rattle.safe_machine.specs.declared.Detail.TheVariants.{Unspecified, Limit}
 use Rattle.safe_machine.proofs.Resending.{resend-connection}
-use Rattle.safe_machine.specs.Connections.{is_live, is_connected, in_turn}
 use Rattle.safe_machine.specs.View.{kept_of}
+use Rattle.safe_machine.proofs.StepCases.{guard-cases, heartbeat-cases, unit-cases, send-cases, early-cases}
+use Rattle.safe_machine.proofs.ConnectionFacts.{connected-up}
 
 abbrev pub Quiet : ConnectionState → ConnectionState → Type 0
 Quiet a b = (joins a b ≡ false) × (b ≡ Down → a ≡ Down)
@@ -59,36 +55,19 @@ pub quiet-leave : (reason : Reason) (detail : Detail) (now : ℕ) (s : State) �
 quiet-leave reason detail now s = quiet-closed s.connection
 
 pub quiet-guard : (now : ℕ) (s : State) → Quiet s.connection (guard now s).connection
-quiet-guard now s =
-    let P : State → Type 0 = λ t. Quiet s.connection t.connection in
-    let late = nat_le (s.confirmed_at + s.settings.t_max) now in
-    let full = nat_le s.settings.pdu_limit (length s.made) in
-    if_both P (is_live s.connection) (if late then leave Timeout Unspecified now s else if full then leave ProtocolError Limit now s else s) s
-    (λ _. if_both P late (leave Timeout Unspecified now s) (if full then leave ProtocolError Limit now s else s) (λ _. quiet-closed s.connection)
-    (λ _. if_both P full (leave ProtocolError Limit now s) s (λ _. quiet-closed s.connection) (λ _. quiet-same s.connection)))
-    (λ _. quiet-same s.connection)
+quiet-guard now s = guard-cases (λ t. Quiet s.connection t.connection) now s (λ _ _. quiet-closed s.connection) (λ _. quiet-same s.connection)
 
 pub heartbeat-connection : (now : ℕ) (s : State) → (heartbeat now s).connection ≡ s.connection
-heartbeat-connection now s = if_both (λ t. t.connection ≡ s.connection) (is_connected s.connection && nat_le (last_time s.made 0 + s.settings.t_h) now) (make Heartbeat [] now s) s (λ _. refl) (λ _. refl)
+heartbeat-connection now s = heartbeat-cases (λ t. t.connection ≡ s.connection) now s (λ _. refl) refl
 
 pub quiet-tick : (now : ℕ) (s : State) → Quiet s.connection (tick now s).connection
 quiet-tick now s = subst (λ c. Quiet s.connection c) (sym (heartbeat-connection now (guard now s))) (quiet-guard now s)
 
 pub quiet-send : (unit : List ℕ) (now : ℕ) (s : State) → Quiet s.connection (send unit now s).connection
-quiet-send unit now s = if_both (λ t. Quiet s.connection t.connection) (may_send s) (make Data unit now s) s (λ _. quiet-same s.connection) (λ _. quiet-same s.connection)
+quiet-send unit now s = send-cases (λ t. Quiet s.connection t.connection) unit now s (λ _ _. quiet-same s.connection) (quiet-same s.connection)
 
 take_unit-connection : (p : Pdu) (now : ℕ) (y : State) → (take_unit p now y).connection ≡ y.connection
-take_unit-connection p now y =
-    let h = hand_up p y in
-    if_both (λ t. t.connection ≡ y.connection) (carries p.kind) (beat now h) y (λ _. if_both (λ t. t.connection ≡ y.connection) (nat_le h.settings.mwa h.since) (make Heartbeat [] now h) h (λ _. refl) (λ _. refl)) (λ _. refl)
-
-connected-up : (c : ConnectionState) → is_connected c ≡ true → c ≢ Down
-connected-up Up h = λ e. cc
-connected-up Requesting h = λ e. cc
-connected-up RetrRun h = λ e. cc
-connected-up Closed h = cc
-connected-up Down h = cc
-connected-up Start h = cc
+take_unit-connection p now y = unit-cases (λ t. t.connection ≡ y.connection) p now y (λ _. refl) (λ _ _. refl) (λ _. refl)
 
 down-decided : (x : State) (p : Pdu) (now : ℕ) (d : Decision) → Fits x p now d → (carry_out p now d x).connection ≡ Down → x.connection ≡ Down
 down-decided x p now Nothing f e = e
@@ -108,7 +87,7 @@ down-decided x p now AnswersEarly f e =
     let u = note_request (distance (kept_of x) p) (confirm_units p x) in
     let t = reply now u in
     let is : t.connection ≡ x.connection = resend-connection (unconfirmed u) now (make RetrResp [] now u) in
-    if_both (λ (v : State). v.connection ≡ Down → x.connection ≡ Down) (in_turn x.connection) (ask now t) t (λ _ no. cc) (λ _ down. sym is ∙ down) e
+    early-cases (λ (v : State). v.connection ≡ Down → x.connection ≡ Down) p now x (λ _ no. cc) (λ down. sym is ∙ down) e
 
 pub arrive-down : (p : Pdu) (now : ℕ) (s : State) → (arrive p now s).connection ≡ Down → s.connection ≡ Down
 arrive-down p now s =

@@ -1,4 +1,5 @@
-pub mod Cases
+pub mod ConnectionFacts
+pub mod StepCases
 pub mod Resending
 pub mod Legal
 pub mod Inner

@@ -1,33 +1,32 @@
 -- The steps in which an end takes nothing: it sends, leaves, tests its guard, or ticks.
 use Rattle.std.proofs.Common.{◌≡◌, ◌≢◌, ◌⊎◌, inl, inr, ℕ, suc, ◌+◌, ◌<◌, ◌≤◌, List, [], ◌∷◌, ◌++◌, length, drop, Bool, true, false, refl, sym, ap, subst, ◌∙◌, arith, append_assoc, length-append}
-use Rattle.std.specs.Prelude.{if◌then◌else◌, ◌&&◌, ◌==◌, nat_lt, nat_le}
+use Rattle.std.specs.Prelude.{if◌then◌else◌, ◌&&◌, ◌==◌}
 use Rattle.std.proofs.lemmas.List.{append-nil, drop-drop}
-use Rattle.std.proofs.lemmas.Bool.{false≢true}
+use Rattle.std.proofs.lemmas.Bool.{false≢true, cond_both}
 use Rattle.safe_pdu.specs.declared.Kind.{Kind}
 use Rattle.safe_pdu.specs.declared.Kind.TheVariants.{DiscReq, Heartbeat, Data}
 use Rattle.safe_machine.specs.declared.ConnectionState.{ConnectionState}
-use Rattle.safe_machine.specs.declared.ConnectionState.TheVariants.{Closed, Down, Start, Up, RetrReq as Requesting, RetrRun}
+use Rattle.safe_machine.specs.declared.ConnectionState.TheVariants.{Closed, Down}
 use Rattle.safe_pdu.specs.Pdu.{Pdu}
-use Rattle.safe_machine.specs.Made.{Made, units, first_sent, after_pdu, leaving_body, last_time}
+use Rattle.safe_machine.specs.Made.{Made, units, first_sent, after_pdu, leaving_body}
 use Rattle.safe_machine.specs.Settings.{Settings}
 use Rattle.safe_machine.specs.State.{State, unconfirmed, next_made, make, move_to, leave}
 use Rattle.safe_machine.specs.Decision.{is_stranger, by_connection, by_sender}
 use Rattle.safe_machine.specs.declared.decision.Decision.TheVariants.{Drops, Nothing}
 use Rattle.safe_machine.specs.declared.DropCause.TheVariants.{Stranger}
-use Rattle.safe_machine.specs.Step.{guard, respond, arrive, carry_out, heartbeat, tick, may_send, send}
+use Rattle.safe_machine.specs.Step.{guard, respond, arrive, carry_out, heartbeat, tick, send}
 use Rattle.safe_machine.specs.World.{IsBeginningOf, Among, GenuineAt}
-use Rattle.safe_machine.proofs.Cases.{if_both, and-parts}
 use Rattle.safe_machine.proofs.Runs.{units-append, Every, every-at, every-drop_push}
 use Rattle.safe_machine.proofs.Invariant.{is_opening, NotOpening, Sound, Started, Solo, Pair}
 use Rattle.safe_machine.proofs.Moves.{pair-leave, pair-beat, pair-sent}
 use Rattle.safe_machine.proofs.Receiving.{Incoming, pair-respond}
-use Rattle.safe_machine.proofs.Counting.{Bounded, bounded-guard, bounded-respond, bounded-heartbeat, connected-live, turn-live, unconfirmed-make}
+use Rattle.safe_machine.proofs.Counting.{Bounded, bounded-guard, bounded-respond, bounded-heartbeat, unconfirmed-make}
 use Rattle.safe_machine.specs.declared.Reason.{Reason}
-use Rattle.safe_machine.specs.declared.Reason.TheVariants.{Timeout, ProtocolError}
 use Rattle.safe_machine.specs.declared.Detail.{Detail}
-use Rattle.safe_machine.specs.declared.Detail.TheVariants.{Unspecified, Limit}
-use Rattle.safe_machine.specs.Connections.{is_live, in_turn, is_closed, is_connected}
+use Rattle.safe_machine.specs.Connections.{is_live, is_closed}
 use Rattle.safe_machine.specs.View.{kept_of}
+use Rattle.safe_machine.proofs.StepCases.{leave-cases, guard-cases, heartbeat-cases, send-cases}
+use Rattle.safe_machine.proofs.ConnectionFacts.{connected-live, turn-connected, turn-live, closed_or}
 
 -- from s to t nothing was taken
 pub record Lone (s t : State) : Type 0 where
@@ -91,7 +90,7 @@ lone-leave reason detail now s =
     let body = leaving_body reason detail in
     let m = next_made s DiscReq body now in
     let sent : units (s.made ++ m ∷ []) ≡ units s.made = units-append s.made (m ∷ []) ∙ append-nil (units s.made) in
-    if_both (λ u. Lone s (move_to Closed u)) (is_live s.connection) (make DiscReq body now s) s
+    leave-cases (Lone s) reason detail now s
     (λ says.
     record {
       taken = refl;
@@ -120,58 +119,33 @@ lone-leave reason detail now s =
     })
 
 pub lone-guard : (now : ℕ) (s : State) → Lone s (guard now s)
-lone-guard now s =
-    let inner : State = if nat_le s.settings.pdu_limit (length s.made) then leave ProtocolError Limit now s else s in
-    if_both (Lone s) (is_live s.connection) (if nat_le (s.confirmed_at + s.settings.t_max) now then leave Timeout Unspecified now s else inner) s
-    (λ _.
-    if_both (Lone s) (nat_le (s.confirmed_at + s.settings.t_max) now) (leave Timeout Unspecified now s) inner (λ _. lone-leave Timeout Unspecified now s)
-    (λ _. if_both (Lone s) (nat_le s.settings.pdu_limit (length s.made)) (leave ProtocolError Limit now s) s (λ _. lone-leave ProtocolError Limit now s) (λ _. lone-refl s)))
-    (λ _. lone-refl s)
+lone-guard now s = guard-cases (Lone s) now s (λ reason detail. lone-leave reason detail now s) (λ _. lone-refl s)
 
 pub lone-heartbeat : (now : ℕ) (s : State) → Bounded s → Lone s (heartbeat now s)
 lone-heartbeat now s b =
-    if_both (Lone s) (is_connected s.connection && nat_le (last_time s.made 0 + s.settings.t_h) now) (make Heartbeat [] now s) s
-    (λ both.
-    let live = connected-live s.connection (and-parts (is_connected s.connection) (nat_le (last_time s.made 0 + s.settings.t_h) now) both).0 in
+    heartbeat-cases (Lone s) now s
+    (λ connected.
+    let live = connected-live s.connection connected in
     lone-made Heartbeat [] now s live (b.confirmed_made live) refl (omega arith))
-    (λ _. lone-refl s)
+    (lone-refl s)
 
 pub lone-send : (unit : List ℕ) (now : ℕ) (s : State) → Bounded s → Lone s (send unit now s)
 lone-send unit now s b =
-    if_both (Lone s) (may_send s) (make Data unit now s) s
-    (λ both.
-    let live = turn-live s.connection (and-parts (in_turn s.connection) (nat_lt (length (unconfirmed s)) s.window) both).0 in
+    send-cases (Lone s) unit now s
+    (λ turn _.
+    let live = turn-live s.connection turn in
     lone-made Data unit now s live (b.confirmed_made live) refl (length-append (unconfirmed s) (unit ∷ [])))
-    (λ _. lone-refl s)
+    (lone-refl s)
 
 -- The same steps keep the invariant of a pair.
 pub pair-guard : (now : ℕ) (x y : State) → Pair x y → Pair (guard now x) y
-pair-guard now x y h =
-    let P : State → Type 0 = λ s. Pair s y in
-    let inner : State = if nat_le x.settings.pdu_limit (length x.made) then leave ProtocolError Limit now x else x in
-    if_both P (is_live x.connection) (if nat_le (x.confirmed_at + x.settings.t_max) now then leave Timeout Unspecified now x else inner) x
-    (λ _.
-    if_both P (nat_le (x.confirmed_at + x.settings.t_max) now) (leave Timeout Unspecified now x) inner (λ _. pair-leave Timeout Unspecified now x y h)
-    (λ _. if_both P (nat_le x.settings.pdu_limit (length x.made)) (leave ProtocolError Limit now x) x (λ _. pair-leave ProtocolError Limit now x y h) (λ _. h)))
-    (λ _. h)
+pair-guard now x y h = guard-cases (λ s. Pair s y) now x (λ reason detail. pair-leave reason detail now x y h) (λ _. h)
 
 pub pair-heartbeat : (now : ℕ) (x y : State) → Pair x y → Pair (heartbeat now x) y
-pair-heartbeat now x y h =
-    if_both (λ s. Pair s y) (is_connected x.connection && nat_le (last_time x.made 0 + x.settings.t_h) now) (make Heartbeat [] now x) x
-    (λ both. pair-beat now [] x y (and-parts (is_connected x.connection) (nat_le (last_time x.made 0 + x.settings.t_h) now) both).0 h) (λ _. h)
-
-turn-connected : (connection : ConnectionState) → in_turn connection ≡ true → is_connected connection ≡ true
-turn-connected Up e = refl
-turn-connected RetrRun e = refl
-turn-connected Requesting e = cc
-turn-connected Closed e = cc
-turn-connected Down e = cc
-turn-connected Start e = cc
+pair-heartbeat now x y h = heartbeat-cases (λ s. Pair s y) now x (λ connected. pair-beat now [] x y connected h) h
 
 pub pair-send : (unit : List ℕ) (now : ℕ) (x y : State) → Pair x y → Pair (send unit now x) y
-pair-send unit now x y h =
-    if_both (λ s. Pair s y) (may_send x) (make Data unit now x) x
-    (λ both. pair-sent unit now x y (turn-connected x.connection (and-parts (in_turn x.connection) (nat_lt (length (unconfirmed x)) x.window) both).0) h) (λ _. h)
+pair-send unit now x y h = send-cases (λ s. Pair s y) unit now x (λ turn _. pair-sent unit now x y (turn-connected x.connection turn) h) h
 
 -- An arrival: the guard, and for an end that is not closed and is meant, the step by decision.
 pub respond-closed : (p : Pdu) (now : ℕ) (s : State) → s.connection ≡ Closed → (P : State → Type 0) → P s → P (respond p now s)
@@ -179,30 +153,8 @@ respond-closed p now s e P h = subst (λ (b : Bool). P (carry_out p now (if b th
 
 respond-stranger : (p : Pdu) (now : ℕ) (s : State) → is_stranger s p ≡ true → (P : State → Type 0) → P s → P (respond p now s)
 respond-stranger p now s e P h =
-    if_both (λ d. P (carry_out p now d s)) (is_closed s.connection) Nothing (by_sender (kept_of s) p now) (λ _. h)
+    cond_both (is_closed s.connection) Nothing (by_sender (kept_of s) p now) (λ d. P (carry_out p now d s)) (λ _. h)
     (λ _. subst (λ (b : Bool). P (carry_out p now (if b then Drops Stranger else by_connection (kept_of s) p now s.connection) s)) (sym e) h)
-
--- an end that is not live passes its guard as it is
-pub guard-idle : (now : ℕ) (s : State) → is_live s.connection ≡ false → guard now s ≡ s
-guard-idle now s e =
-    let inner : State = if nat_le s.settings.pdu_limit (length s.made) then leave ProtocolError Limit now s else s in
-    ap (λ (b : Bool). if b then (if nat_le (s.confirmed_at + s.settings.t_max) now then leave Timeout Unspecified now s else inner) else s) e
-
-pub closed_or : (connection : ConnectionState) → (connection ≡ Closed) ⊎ (connection ≢ Closed)
-closed_or Closed = inl refl
-closed_or Down = inr (λ e. cc)
-closed_or Start = inr (λ e. cc)
-closed_or Up = inr (λ e. cc)
-closed_or Requesting = inr (λ e. cc)
-closed_or RetrRun = inr (λ e. cc)
-
-pub down_or : (connection : ConnectionState) → (connection ≡ Down) ⊎ (connection ≢ Down)
-down_or Down = inl refl
-down_or Closed = inr (λ e. cc)
-down_or Start = inr (λ e. cc)
-down_or Up = inr (λ e. cc)
-down_or Requesting = inr (λ e. cc)
-down_or RetrRun = inr (λ e. cc)
 
 bool_or : (b : Bool) → (b ≡ true) ⊎ (b ≡ false)
 bool_or true = inl refl

@@ -1,27 +1,26 @@
 -- What one machine's moves do to its lists.
-use Rattle.std.proofs.Common.{◌≡◌, ◌⊎◌, inl, inr, ℕ, ◌+◌, List, [], ◌∷◌, ◌++◌, true, false, refl, sym, ap, subst, ◌∙◌, append-nil}
-use Rattle.std.specs.Prelude.{length, if◌then◌else◌, ◌&&◌, nat_le}
+use Rattle.std.proofs.Common.{◌≡◌, ◌⊎◌, inl, inr, ℕ, List, [], ◌∷◌, ◌++◌, true, refl, sym, ap, subst, ◌∙◌, append-nil}
+use Rattle.std.specs.Prelude.{if◌then◌else◌}
 use Rattle.safe_pdu.specs.declared.Kind.{Kind}
-use Rattle.safe_machine.specs.declared.ConnectionState.{ConnectionState}
-use Rattle.safe_machine.specs.declared.ConnectionState.TheVariants.{Closed, Down, Start, Up, RetrReq as Requesting, RetrRun}
+use Rattle.safe_machine.specs.declared.ConnectionState.TheVariants.{Closed}
 use Rattle.safe_pdu.specs.declared.Kind.TheVariants.{Heartbeat, Data, RetrResp, RetrData, DiscReq, ConnResp, RetrReq}
 use Rattle.safe_pdu.specs.Pdu.{Pdu}
 use Rattle.safe_pdu.specs.Bodies.{window_of}
-use Rattle.safe_machine.specs.Made.{carries, units, first_sent, opening_body, leaving_body, last_time}
+use Rattle.safe_machine.specs.Made.{units, first_sent, opening_body, leaving_body}
 use Rattle.safe_machine.specs.State.{State, next_made, leave, make, move_to, reply, resend, ask, pass, note_request, unconfirmed, hand_up}
-use Rattle.safe_machine.specs.Step.{guard, respond, tick, send, arrive, may_send, carry_out, beat, tests_passed, set_window, confirm_units}
+use Rattle.safe_machine.specs.Step.{guard, respond, tick, send, arrive, may_send, carry_out, tests_passed, set_window, confirm_units}
 use Rattle.safe_machine.specs.declared.decision.Decision.{Decision}
 use Rattle.safe_machine.specs.Decision.{decide, distance, by_sender}
 use Rattle.safe_machine.specs.declared.decision.Decision.TheVariants.{Nothing, Drops, Shuts, Leaves, Rejects, Accepts, Connects, Takes, Asks, Resumes, AnswersNext, AnswersEarly}
-use Rattle.safe_machine.proofs.Cases.{if_both}
 use Rattle.safe_machine.proofs.Runs.{units-append}
-use Rattle.safe_machine.proofs.Lone.{guard-idle}
 use Rattle.safe_machine.specs.declared.Reason.{Reason}
-use Rattle.safe_machine.specs.declared.Reason.TheVariants.{Timeout, WrongVersion, ProtocolError}
+use Rattle.safe_machine.specs.declared.Reason.TheVariants.{WrongVersion}
 use Rattle.safe_machine.specs.declared.Detail.{Detail}
-use Rattle.safe_machine.specs.declared.Detail.TheVariants.{Unspecified, Limit}
-use Rattle.safe_machine.specs.Connections.{is_live, is_connected, in_turn, is_closed}
+use Rattle.safe_machine.specs.declared.Detail.TheVariants.{Unspecified}
+use Rattle.safe_machine.specs.Connections.{is_closed}
 use Rattle.safe_machine.specs.View.{kept_of}
+use Rattle.safe_machine.proofs.StepCases.{leave-cases, guard-cases, guard-idle, heartbeat-cases, unit-cases, send-cases, early-cases}
+use Rattle.safe_machine.proofs.ConnectionFacts.{closed-idle}
 
 -- no unit is sent or taken
 pub record Plain (s t : State) : Type 0 where
@@ -53,30 +52,24 @@ sent-data unit now s may =
     subst (λ b. units (if b then make Data unit now s else s).made ≡ units s.made ++ unit ∷ []) (sym may) (units-append s.made (next_made s Data unit now ∷ []))
 
 pub send-taken : (unit : List ℕ) (now : ℕ) (s : State) → (send unit now s).taken ≡ s.taken
-send-taken unit now s = if_both (λ t. t.taken ≡ s.taken) (may_send s) (make Data unit now s) s (λ _. refl) (λ _. refl)
+send-taken unit now s = send-cases (λ t. t.taken ≡ s.taken) unit now s (λ _ _. refl) refl
 
 pub send-connection : (unit : List ℕ) (now : ℕ) (s : State) → (send unit now s).connection ≡ s.connection
-send-connection unit now s = if_both (λ t. t.connection ≡ s.connection) (may_send s) (make Data unit now s) s (λ _. refl) (λ _. refl)
+send-connection unit now s = send-cases (λ t. t.connection ≡ s.connection) unit now s (λ _ _. refl) refl
 
 pub plain-leave : (reason : Reason) (detail : Detail) (now : ℕ) (s : State) → Plain s (leave reason detail now s)
 plain-leave reason detail now s =
-    if_both (λ t. Plain s (move_to Closed t)) (is_live s.connection) (make DiscReq (leaving_body reason detail) now s) s
+    leave-cases (Plain s) reason detail now s
     (λ _. let h = plain-make DiscReq (leaving_body reason detail) now s refl in record { taken = h.taken; sent = h.sent }) (λ _. record { taken = refl; sent = refl })
 
 pub plain-guard : (now : ℕ) (s : State) → Plain s (guard now s)
-plain-guard now s =
-    let late = nat_le (s.confirmed_at + s.settings.t_max) now in
-    let full = nat_le s.settings.pdu_limit (length s.made) in
-    if_both (Plain s) (is_live s.connection) (if late then leave Timeout Unspecified now s else if full then leave ProtocolError Limit now s else s) s
-    (λ _. if_both (Plain s) late (leave Timeout Unspecified now s) (if full then leave ProtocolError Limit now s else s) (λ _. plain-leave Timeout Unspecified now s)
-    (λ _. if_both (Plain s) full (leave ProtocolError Limit now s) s (λ _. plain-leave ProtocolError Limit now s) (λ _. plain-refl s)))
-    (λ _. plain-refl s)
+plain-guard now s = guard-cases (Plain s) now s (λ reason detail. plain-leave reason detail now s) (λ _. plain-refl s)
 
 pub plain-tick : (now : ℕ) (s : State) → Plain s (tick now s)
 plain-tick now s =
     let g = guard now s in
     plain-then s g (tick now s) (plain-guard now s)
-    (if_both (Plain g) (is_connected g.connection && nat_le (last_time g.made 0 + g.settings.t_h) now) (make Heartbeat [] now g) g (λ _. plain-make Heartbeat [] now g refl) (λ _. plain-refl g))
+    (heartbeat-cases (Plain g) now g (λ _. plain-make Heartbeat [] now g refl) (plain-refl g))
 
 plain-resend : (us : List (List ℕ)) (now : ℕ) (s : State) → Plain s (resend us now s)
 plain-resend [] now s = plain-refl s
@@ -104,11 +97,9 @@ takes-carried p now Connects s =
     let h = plain-make Heartbeat [] now (set_window (window_of p.body) (pass p 0 (tests_passed p s))) refl in takes-none p s (carry_out p now Connects s) (record { taken = h.taken; sent = h.sent })
 takes-carried p now (Takes to) s =
     let y = move_to to (pass p 0 (tests_passed p s)) in
-    let z = hand_up p y in
-    let h = plain-make Heartbeat [] now z refl in
-    if_both (Takes1 p s) (carries p.kind) (beat now z) y
-    (λ _. if_both (Takes1 p s) (nat_le z.settings.mwa z.since) (make Heartbeat [] now z) z
-    (λ _. record { more = p.body ∷ []; one = inr refl; taken = refl; sent = h.sent }) (λ _. record { more = p.body ∷ []; one = inr refl; taken = refl; sent = refl }))
+    let h = plain-make Heartbeat [] now (hand_up p y) refl in
+    unit-cases (Takes1 p s) p now y
+    (λ _. record { more = p.body ∷ []; one = inr refl; taken = refl; sent = h.sent }) (λ _ _. record { more = p.body ∷ []; one = inr refl; taken = refl; sent = refl })
     (λ _. takes-none p s y (record { taken = refl; sent = refl }))
 takes-carried p now Asks s = let h = plain-make RetrReq [] now s refl in takes-none p s (ask now s) (record { taken = h.taken; sent = h.sent })
 takes-carried p now Resumes s = takes-none p s (carry_out p now Resumes s) (record { taken = refl; sent = refl })
@@ -119,8 +110,8 @@ takes-carried p now AnswersEarly s =
     let t = reply now u in
     let h = plain-reply now u in
     let k = plain-make RetrReq [] now t refl in
-    if_both (Takes1 p s) (in_turn s.connection) (ask now t) t
-    (λ _. takes-none p s (ask now t) (record { taken = k.taken ∙ h.taken; sent = k.sent ∙ h.sent })) (λ _. takes-none p s t (record { taken = h.taken; sent = h.sent }))
+    early-cases (Takes1 p s) p now s
+    (λ _. takes-none p s (ask now t) (record { taken = k.taken ∙ h.taken; sent = k.sent ∙ h.sent })) (takes-none p s t (record { taken = h.taken; sent = h.sent }))
 
 pub takes-arrive : (p : Pdu) (now : ℕ) (s : State) → Takes1 p s (arrive p now s)
 takes-arrive p now s =
@@ -128,14 +119,6 @@ takes-arrive p now s =
     let h = plain-guard now s in
     let k = takes-carried p now (decide (kept_of g) p now) g in
     record { more = k.more; one = k.one; taken = k.taken ∙ ap (λ us. us ++ k.more) h.taken; sent = k.sent ∙ h.sent }
-
-closed-idle : (c : ConnectionState) → c ≡ Closed → is_live c ≡ false
-closed-idle Closed e = refl
-closed-idle Down e = refl
-closed-idle Start e = cc
-closed-idle Up e = cc
-closed-idle Requesting e = cc
-closed-idle RetrRun e = cc
 
 pub closed-guard : (now : ℕ) (s : State) → s.connection ≡ Closed → guard now s ≡ s
 closed-guard now s e = guard-idle now s (closed-idle s.connection e)

@@ -12,13 +12,13 @@ use Rattle.safe_machine.specs.World.Event.{Open, Send, Close, Guard, Tick, Arriv
 use Rattle.safe_machine.specs.Settings.{is_legal}
 use Rattle.safe_machine.specs.Moves.{Move, move, HearsOwn}
 use Rattle.safe_machine.specs.Moves.Move.{Guards, Hears, Ticks, Sends, Leaves}
-use Rattle.safe_machine.proofs.Cases.{if_both}
 use Rattle.safe_machine.proofs.Leaving.{joins-down}
 use Rattle.safe_machine.proofs.MovesLaw.{moves_law_holds}
 use Rattle.safe_machine.specs.Law.{JoinedBelow, next_bound, JoinsFall, IsJoined, is_number, taken_from_il, taken_count, UnitLaw, LossLaw, JoinedLaw}
 use Rattle.safe_machine.specs.Law as Public
 use Rattle.safe_machine.proofs.Inner.{incarnation, TakesBeginnings, AllTakeBeginnings, OnlyJoinedTake, taken_from_fe}
 use Rattle.safe_machine.proofs.Worlds.{Inv, inv-run, inv-start}
+use Rattle.std.proofs.lemmas.Bool.{cond_both}
 
 -- a list without its last entry
 length-front : {A : Type 0} (x : A) (xs : List A) → length (take (length xs) (x ∷ xs)) ≡ length xs
@@ -169,7 +169,7 @@ fe-moved m w s g =
       il = s.il;
       fe = last w.fe_before s.fe;
       late = (
-        if_both Late (joins w.fe.connection t.connection) (Some (length w.il_before)) w.joined (λ e. starts-late m w s g e) (λ _. s.late.0),
+        cond_both (joins w.fe.connection t.connection) (Some (length w.il_before)) w.joined Late (λ e. starts-late m w s g e) (λ _. s.late.0),
         s.late.1,
       );
     }
@@ -187,9 +187,9 @@ il-step m w s = record { il = il-moved m w.il w.il_before s.il; fe = s.fe; late 
 
 shaped-changed : (w : World) (e : Event) → Shaped w → GenuineEvent w e → Shaped (changed w e)
 shaped-changed w (Open Il settings first now) s g =
-    if_both Shaped (is_legal settings) (open_il settings first now w) w (λ _. record { il = s.il; fe = s.fe; late = s.late }) (λ _. s)
+    cond_both (is_legal settings) (open_il settings first now w) w Shaped (λ _. record { il = s.il; fe = s.fe; late = s.late }) (λ _. s)
 shaped-changed w (Open Fe settings first now) s g =
-    if_both Shaped (is_legal settings) (open_fe settings first now w) w (λ _. record { il = s.il; fe = s.fe; late = (tt, s.late) }) (λ _. s)
+    cond_both (is_legal settings) (open_fe settings first now w) w Shaped (λ _. record { il = s.il; fe = s.fe; late = (tt, s.late) }) (λ _. s)
 shaped-changed w (Send Il unit now) s g = il-step (Sends unit now) w s
 shaped-changed w (Send Fe unit now) s g = fe-moved (Sends unit now) w s tt
 shaped-changed w (Close Il reason detail now) s g = il-step (Leaves reason detail now) w s

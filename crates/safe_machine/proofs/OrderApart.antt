@@ -10,11 +10,12 @@ use Rattle.safe_machine.specs.World.{Served, GenuineAt}
 use Rattle.safe_machine.specs.InOrder.{NextArrival}
 use Rattle.safe_machine.proofs.Runs.{Every, every-at}
 use Rattle.safe_machine.proofs.Invariant.{is_opening, NotOpening}
-use Rattle.safe_machine.proofs.Lone.{Lone, closed_or, among-dropped}
+use Rattle.safe_machine.proofs.Lone.{Lone, among-dropped}
 use Rattle.safe_machine.proofs.Status.{Mute}
 use Rattle.safe_machine.proofs.Timing.{Makes}
 use Rattle.safe_machine.proofs.Worlds.{still-lone, closed-arrive}
 use Rattle.safe_machine.proofs.Freshness.{no_index}
+use Rattle.safe_machine.proofs.ConnectionFacts.{closed_or}
 
 -- n PDUs came to the interlocking, and k to the field element
 pub record Apart (n k : ℕ) (il fe : State) (fe_before : List Served) (dead_il : ℕ) : Type 0 where

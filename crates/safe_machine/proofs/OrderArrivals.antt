@@ -1,19 +1,17 @@
 -- The next PDU of the peer comes in.
 use Rattle.std.proofs.Common.{◌≡◌, ◌≢◌, inl, inr, ℕ, suc, zero, ◌+◌, ◌-◌, ◌<◌, ◌≤◌, List, [], ◌∷◌, length, drop, Bool, true, false, refl, sym, ap, subst, ◌∙◌, arith, length-append}
-use Rattle.std.specs.Prelude.{nat_le}
 use Rattle.std.proofs.lemmas.Bool.{false≢true}
 use Rattle.safe_pdu.specs.declared.Kind.TheVariants.{ConnReq, ConnResp, Heartbeat}
 use Rattle.safe_pdu.specs.Bodies.{window_of}
 use Rattle.safe_machine.specs.declared.ConnectionState.{ConnectionState}
 use Rattle.safe_machine.specs.declared.ConnectionState.TheVariants.{Closed, Down, Start, Up}
-use Rattle.safe_machine.specs.Made.{Made, opening_body, carries}
-use Rattle.safe_machine.specs.State.{State, next_made, make, move_to, pass, hand_up}
+use Rattle.safe_machine.specs.Made.{Made, opening_body}
+use Rattle.safe_machine.specs.State.{State, next_made, move_to, pass, hand_up}
 use Rattle.safe_machine.specs.declared.decision.Decision.{Decision}
 use Rattle.safe_machine.specs.Decision.{decide, is_stranger, cs_fits, cts_fits}
 use Rattle.safe_machine.specs.declared.decision.Decision.TheVariants.{Accepts, Connects, Takes}
-use Rattle.safe_machine.specs.Step.{beat, tests_passed, set_window, carry_out, respond}
+use Rattle.safe_machine.specs.Step.{tests_passed, set_window, carry_out, respond}
 use Rattle.safe_machine.specs.InOrder.{client_state, server_state}
-use Rattle.safe_machine.proofs.Cases.{if_both}
 use Rattle.safe_machine.proofs.Runs.{every-at, every-from}
 use Rattle.safe_machine.proofs.Invariant.{needs_peer, Started, Solo, Pair, Few}
 use Rattle.safe_machine.proofs.Arrivals.{Arrival}
@@ -26,6 +24,7 @@ use Rattle.safe_machine.proofs.OrderEnds.{state_of, Beyond, End, Ends, end-make,
 use Rattle.safe_machine.proofs.OrderDecide.{Passes, ShutsOrTakes, decide-up, decide-granted, decide-connects, decide-accepts}
 use Rattle.safe_machine.specs.Connections.{is_live}
 use Rattle.safe_machine.specs.View.{kept_of}
+use Rattle.safe_machine.proofs.StepCases.{unit-cases}
 
 -- what is known where the next PDU of y comes in at x, which is not closed
 pub record NextIn (client : Bool) (n k clock now : ℕ) (m : Made) (rest : List Made) (x y : State) : Type 0 where
@@ -84,13 +83,9 @@ next-takes client n k clock now m rest x y h one some grown needs live state =
     end-take client n Up x.window m rest x y a h.ends.own h.timed.behind_rises h.on needs cs state (h.ends.own.window_is h.on one) in
     let taken : Ends client (n + 1) k z y = record { own = own; peer = h.ends.peer; grown = λ c up. grown c; grown_peer = h.ends.grown_peer } in
     let up : Ends client (n + 1) k u y = record { own = own; peer = h.ends.peer; grown = λ c up. grown c; grown_peer = h.ends.grown_peer } in
-    let P : State → Type 0 = λ t. Ends client (n + 1) k t y in
-    if_both P (carries m.pdu.kind) (beat now u) z
-    (λ _.
-    if_both P (nat_le x.settings.mwa (x.since + 1)) (make Heartbeat [] now u) u
+    unit-cases (λ t. Ends client (n + 1) k t y) m.pdu now z
     (λ _. ends-make client (n + 1) k Heartbeat [] now u y (next-behind client n k clock now m rest x y h) (good-bare client x.settings.n_sendmax (length x.made) (next_made u Heartbeat [] now) some refl) up)
-    (λ _. up))
-    (λ _. taken)
+    (λ _ _. up) (λ _. taken)
 
 next-shuts-or-takes : (client : Bool) (n k clock now : ℕ) (m : Made) (rest : List Made) (x y : State) → NextIn client n k clock now m rest x y → 1 ≤ n → 1 ≤ length x.made →
     (client ≡ true → 2 ≤ length x.made) → is_live x.connection ≡ true → Up ≡ state_of client (n + 1) → (d : Decision) → ShutsOrTakes x m.pdu d →

@@ -1,7 +1,7 @@
 -- Over every list of events in which each end hears the peer's PDUs one by one in the order of their making, nothing is
 -- asked for again and everything is taken.
 use Rattle.std.proofs.Common.{◌≡◌, ◌≢◌, inl, inr, ℕ, suc, zero, ◌+◌, ◌≤◌, List, [], ◌∷◌, ◌++◌, length, take, drop, Bool, true, false, refl, sym, ap, subst, ◌∙◌, arith}
-use Rattle.std.proofs.lemmas.Bool.{false≢true}
+use Rattle.std.proofs.lemmas.Bool.{false≢true, cond_both}
 use Rattle.safe_machine.specs.World.Side.{Il, Fe}
 use Rattle.safe_pdu.specs.declared.Kind.TheVariants.{ConnReq}
 use Rattle.safe_machine.specs.declared.ConnectionState.{ConnectionState}
@@ -13,10 +13,9 @@ use Rattle.safe_machine.specs.Step.{guard, arrive, tick, send}
 use Rattle.safe_machine.specs.World.{World, Served, Event, start, run, event_end, event_time, at_end, changed, happens, GenuineEvent, Genuine, Timely, as_role, open_il, open_fe}
 use Rattle.safe_machine.specs.World.Event.{Open, Send, Close, Guard, Tick, Arrive}
 use Rattle.safe_machine.specs.InOrder.{AsksNothing, client_state, server_state, KeepsOrder, InOrderEvent, InOrder, heard_by_il, heard_by_fe, all_heard_by_il, all_heard_by_fe, OrderLaw}
-use Rattle.safe_machine.proofs.Cases.{if_both}
 use Rattle.safe_machine.proofs.Runs.{Every, every-from, every-drop_all}
 use Rattle.safe_machine.proofs.Invariant.{needs_peer, is_opening, NotOpening, Started}
-use Rattle.safe_machine.proofs.Lone.{lone-leave, lone-guard, lone-tick, lone-send, down_or}
+use Rattle.safe_machine.proofs.Lone.{lone-leave, lone-guard, lone-tick, lone-send}
 use Rattle.safe_machine.proofs.Status.{Quiet, Untouched, mute-leave, mute-guard, mute-tick, mute-send}
 use Rattle.safe_machine.proofs.Timing.{makes-leave, makes-guard, makes-send}
 use Rattle.safe_machine.proofs.Worlds.{met-opened, solo-il, solo-untouched, mute-il}
@@ -25,6 +24,7 @@ use Rattle.safe_machine.proofs.OrderKinds.{kinds-none, kinds-push, kinds-ordinar
 use Rattle.safe_machine.proofs.OrderEnds.{opposite, Beyond, End, Ends}
 use Rattle.safe_machine.proofs.OrderPairs.{Two, two-swap, two-later, two-send, two-leave, two-guard, two-tick, two-arrive, two-all_there}
 use Rattle.safe_machine.proofs.OrderApart.{Apart, apart-il, apart-fe, apart-silent, apart-arrive}
+use Rattle.safe_machine.proofs.ConnectionFacts.{down_or}
 
 -- The two have met, or they have not.
 pub data Standing (n k : ℕ) (il : State) (il_before : List State) (fe : State) (fe_before : List Served) (dead_il il_clock fe_clock : ℕ) : Type 0 where
@@ -139,11 +139,11 @@ stands-open_fe n k settings first now w ci cf first_time (apart h) =
 pub stands-event : (n k : ℕ) (w : World) (e : Event) (ci cf : ℕ) → TInv w ci cf → GenuineEvent w e → at_end (event_end e) ci cf ≤ event_time e → InOrderEvent n k w e → StandsAt n k w ci cf →
     StandsAt (heard_by_il e n) (heard_by_fe e k) (changed w e) (at_end (event_end e) (event_time e) ci) (at_end (event_end e) cf (event_time e))
 stands-event n k w (Open Il settings first now) ci cf t g later o h =
-    if_both (λ v. StandsAt n k v now cf) (is_legal settings) (open_il settings first now w) w
+    cond_both (is_legal settings) (open_il settings first now w) w (λ v. StandsAt n k v now cf)
     (λ legal. stands-open_il n k settings first now w ci cf t legal o h)
     (λ _. il-stands n n k w ci cf now w.il (two-later true n k ci cf now w.il w.fe later) (λ a. a) h)
 stands-event n k w (Open Fe settings first now) ci cf t g later o h =
-    if_both (λ v. StandsAt n k v ci now) (is_legal settings) (open_fe settings first now w) w
+    cond_both (is_legal settings) (open_fe settings first now w) w (λ v. StandsAt n k v ci now)
     (λ legal. stands-open_fe n k settings first now w ci cf o h)
     (λ _. fe-stands n k k w ci cf now w.fe (two-later false k n cf ci now w.fe w.il later) (λ a. a) h)
 stands-event n k w (Send Il unit now) ci cf t g later o h =

@@ -1,19 +1,18 @@
 -- In order, no PDU but a DiscReq closes an end that is not closed, and none has it make a DiscReq.
-use Rattle.std.proofs.Common.{◌≡◌, ◌≢◌, ℕ, suc, zero, ◌+◌, List, [], Bool, true, false, refl, sym, ap, subst, ◌∙◌, arith}
-use Rattle.std.specs.Prelude.{if◌then◌else◌, nat_le}
+use Rattle.std.proofs.Common.{◌≡◌, ◌≢◌, ℕ, suc, zero, List, [], Bool, true, false, refl, sym, ap, subst, ◌∙◌, arith}
+use Rattle.std.specs.Prelude.{if◌then◌else◌}
 use Rattle.safe_pdu.specs.declared.Kind.{Kind}
 use Rattle.safe_pdu.specs.declared.Kind.TheVariants.{ConnReq, ConnResp, RetrReq, RetrResp, DiscReq, Heartbeat, Data, RetrData}
 use Rattle.safe_pdu.specs.Pdu.{Pdu}
 use Rattle.safe_pdu.specs.Bodies.{window_of}
 use Rattle.safe_machine.specs.declared.ConnectionState.TheVariants.{Closed, Down, Start, Up}
-use Rattle.safe_machine.specs.Made.{Made, carries, opening_body}
+use Rattle.safe_machine.specs.Made.{Made, opening_body}
 use Rattle.safe_machine.specs.State.{State, next_made, make, move_to, pass, hand_up}
 use Rattle.safe_machine.specs.Table.{cell}
 use Rattle.safe_machine.specs.declared.table.Cell.TheVariants.{Take}
 use Rattle.safe_machine.specs.Decision.{is_stranger, is_goodbye, by_table, decide, distance, as_client}
 use Rattle.safe_machine.specs.declared.decision.Decision.TheVariants.{Shuts, Takes, Connects, Accepts}
-use Rattle.safe_machine.specs.Step.{carry_out, respond, beat, set_window, tests_passed}
-use Rattle.safe_machine.proofs.Cases.{if_both}
+use Rattle.safe_machine.specs.Step.{carry_out, respond, set_window, tests_passed}
 use Rattle.safe_machine.proofs.Runs.{Every, every-push}
 use Rattle.safe_machine.proofs.Invariant.{needs_peer}
 use Rattle.safe_machine.proofs.OrderKinds.{GoodAt, is_plain, is_bare, bare-plain}
@@ -21,6 +20,7 @@ use Rattle.safe_machine.proofs.OrderDecide.{Passes, decided, table-takes, decide
 use Rattle.safe_machine.proofs.OrderArrivals.{NextIn, next-tests, next-passes}
 use Rattle.safe_machine.specs.Connections.{is_live}
 use Rattle.safe_machine.specs.View.{kept_of}
+use Rattle.safe_machine.proofs.StepCases.{unit-cases}
 
 -- it is no DiscReq
 abbrev pub Remains : Made → Type 0
@@ -42,10 +42,7 @@ start≢closed e = cc
 takes-open : (p : Pdu) (now : ℕ) (x : State) → IsOpen x → IsOpen (carry_out p now (Takes Up) x)
 takes-open p now x h =
     let z = move_to Up (pass p 0 (tests_passed p x)) in
-    let u = hand_up p z in
-    if_both IsOpen (carries p.kind) (beat now u) z
-    (λ _. if_both IsOpen (nat_le x.settings.mwa (x.since + 1)) (make Heartbeat [] now u) u (λ _. open-make Heartbeat [] now u refl (up≢closed, h.1)) (λ _. (up≢closed, h.1)))
-    (λ _. (up≢closed, h.1))
+    unit-cases IsOpen p now z (λ _. open-make Heartbeat [] now (hand_up p z) refl (up≢closed, h.1)) (λ _ _. (up≢closed, h.1)) (λ _. (up≢closed, h.1))
 
 plain-needs : (kind : Kind) → is_plain kind ≡ true → is_goodbye kind ≡ false → needs_peer kind ≡ 1
 plain-needs Heartbeat plain e = refl

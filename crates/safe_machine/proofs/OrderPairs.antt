@@ -1,6 +1,6 @@
 -- Each step of an end keeps what holds of it and its peer while everything comes in order.
 use Rattle.std.proofs.Common.{◌≡◌, ◌≢◌, inl, inr, ℕ, suc, zero, ◌+◌, ◌<◌, ◌≤◌, List, [], length, drop, Bool, true, false, refl, sym, ap, subst, ◌∙◌, arith}
-use Rattle.std.specs.Prelude.{◌&&◌, nat_lt, nat_le}
+use Rattle.std.specs.Prelude.{◌&&◌, nat_lt}
 use Rattle.std.proofs.lemmas.Bool.{ltb-false}
 use Rattle.safe_pdu.specs.declared.Kind.TheVariants.{DiscReq, Heartbeat, Data}
 use Rattle.safe_pdu.specs.Pdu.{Pdu}
@@ -8,17 +8,16 @@ use Rattle.safe_machine.specs.declared.ConnectionState.{ConnectionState}
 use Rattle.safe_machine.specs.declared.ConnectionState.TheVariants.{Closed, Down, Start, Up, RetrReq as Requesting, RetrRun}
 use Rattle.safe_machine.specs.declared.Reason.{Reason}
 use Rattle.safe_machine.specs.declared.Detail.{Detail}
-use Rattle.safe_machine.specs.Made.{Made, leaving_body, last_time}
-use Rattle.safe_machine.specs.State.{State, unconfirmed, next_made, make, move_to, leave}
+use Rattle.safe_machine.specs.Made.{Made, leaving_body}
+use Rattle.safe_machine.specs.State.{State, unconfirmed, next_made, make, leave}
 use Rattle.safe_machine.specs.Decision.{is_stranger}
 use Rattle.safe_machine.specs.Step.{guard, respond, arrive, heartbeat, tick, may_send, send}
 use Rattle.safe_machine.specs.World.{GenuineAt}
 use Rattle.safe_machine.specs.InOrder.{GuardHolds, NextArrival, AllThere}
-use Rattle.safe_machine.proofs.Cases.{if_both, and-parts}
 use Rattle.safe_machine.proofs.Invariant.{Started, Solo, Pair}
 use Rattle.safe_machine.proofs.Moves.{pair-leave, started-parts}
 use Rattle.safe_machine.proofs.Counting.{Bounded}
-use Rattle.safe_machine.proofs.Lone.{pair-guard, pair-send, pair-tick, pair-arrive, closed_or}
+use Rattle.safe_machine.proofs.Lone.{pair-guard, pair-send, pair-tick, pair-arrive}
 use Rattle.safe_machine.proofs.Timing.{Makes, makes-none, makes-leave, makes-guard, makes-send, guard-passed}
 use Rattle.safe_machine.proofs.Worlds.{closed-arrive}
 use Rattle.safe_machine.proofs.Freshness.{Both, both-makes, met-arrive, makes-tick}
@@ -26,7 +25,9 @@ use Rattle.safe_machine.proofs.InOrder.{all-taken}
 use Rattle.safe_machine.proofs.OrderKinds.{good-bare, good-plain}
 use Rattle.safe_machine.proofs.OrderEnds.{state_of, opposite, Ends, ends-make, ends-close, ends-closed}
 use Rattle.safe_machine.proofs.OrderArrivals.{NextIn, next-ends}
-use Rattle.safe_machine.specs.Connections.{is_live, in_turn, is_connected}
+use Rattle.safe_machine.specs.Connections.{is_live, in_turn}
+use Rattle.safe_machine.proofs.StepCases.{leave-cases, heartbeat-cases, send-cases}
+use Rattle.safe_machine.proofs.ConnectionFacts.{closed_or}
 
 -- an end and its peer, with the times of their last events
 pub record Two (client : Bool) (n k clock other : ℕ) (x y : State) : Type 0 where
@@ -78,15 +79,14 @@ turn-up false (suc (suc n)) turn = refl
 
 ends-send : (client : Bool) (n k : ℕ) (unit : List ℕ) (now : ℕ) (x y : State) → Pair x y → Ends client n k x y → Ends client n k (send unit now x) y
 ends-send client n k unit now x y pair h =
-    if_both (λ t. Ends client n k t y) (may_send x) (make Data unit now x) x
-    (λ both.
-    let turn : in_turn x.connection ≡ true = (and-parts (in_turn x.connection) (nat_lt (length (unconfirmed x)) x.window) both).0 in
+    send-cases (λ t. Ends client n k t y) unit now x
+    (λ turn _.
     let is : x.connection ≡ state_of client n = h.own.state (turn-open x.connection turn) in
     let up : x.connection ≡ Up = is ∙ turn-up client n (ap in_turn (sym is) ∙ turn) in
     let s = subst (λ (c : ConnectionState). Started c x.settings.client x.expected x.made) up pair.0.started in
     ends-make client n k Data unit now x y pair.2.confirmed_behind
     (good-plain client x.settings.n_sendmax (length x.made) (next_made x Data unit now) s.1 (λ c. h.grown c up) refl) h)
-    (λ _. h)
+    h
 
 -- an end that says goodbye has made something
 goodbye-started : (connection : ConnectionState) (client : Bool) (expected : ℕ) (made : List Made) → is_live connection ≡ true → Started connection client expected made → 1 ≤ length made
@@ -101,7 +101,7 @@ ends-leave : (client : Bool) (n k : ℕ) (reason : Reason) (detail : Detail) (no
 ends-leave client n k reason detail now x y pair h =
     let body = leaving_body reason detail in
     let said = make DiscReq body now x in
-    if_both (λ t. Ends client n k (move_to Closed t) y) (is_live x.connection) said x
+    leave-cases (λ t. Ends client n k t y) reason detail now x
     (λ says.
     let some = goodbye-started x.connection x.settings.client x.expected x.made says pair.0.started in
     ends-close client n n k said y
@@ -110,13 +110,11 @@ ends-leave client n k reason detail now x y pair h =
 
 ends-heartbeat : (client : Bool) (n k now : ℕ) (x y : State) → Pair x y → Ends client n k x y → Ends client n k (heartbeat now x) y
 ends-heartbeat client n k now x y pair h =
-    let due = nat_le (last_time x.made 0 + x.settings.t_h) now in
-    if_both (λ t. Ends client n k t y) (is_connected x.connection && due) (make Heartbeat [] now x) x
-    (λ both.
-    let connected = (and-parts (is_connected x.connection) due both).0 in
+    heartbeat-cases (λ t. Ends client n k t y) now x
+    (λ connected.
     let some = (started-parts x.connection x.settings.client x.expected x.made connected pair.0.started).1 in
     ends-make client n k Heartbeat [] now x y pair.2.confirmed_behind (good-bare client x.settings.n_sendmax (length x.made) (next_made x Heartbeat [] now) some refl) h)
-    (λ _. h)
+    h
 
 -- The steps.
 pub two-send : (client : Bool) (n k clock other : ℕ) (unit : List ℕ) (now : ℕ) (x y : State) → clock ≤ now → Two client n k clock other x y → Two client n k now other (send unit now x) y

@@ -1,19 +1,18 @@
 -- Over every list of events in order without a closing by a caller, no end that was opened closes.
 use Rattle.std.proofs.Common.{◌≡◌, ◌≢◌, ℕ, ◌+◌, ◌<◌, ◌≤◌, List, [], ◌∷◌, Bool, true, false, refl, sym, subst, arith}
-use Rattle.std.specs.Prelude.{◌&&◌, nat_le, if◌then◌else◌}
-use Rattle.std.proofs.lemmas.Bool.{false≢true}
+use Rattle.std.specs.Prelude.{if◌then◌else◌}
+use Rattle.std.proofs.lemmas.Bool.{false≢true, cond_both}
 use Rattle.safe_pdu.specs.declared.Kind.TheVariants.{Heartbeat, Data}
 use Rattle.safe_pdu.specs.Pdu.{Pdu}
 use Rattle.safe_machine.specs.World.Side.{Il, Fe}
 use Rattle.safe_machine.specs.declared.ConnectionState.TheVariants.{Closed, Down, Start}
 use Rattle.safe_machine.specs.Settings.{Settings, is_legal}
-use Rattle.safe_machine.specs.State.{State, make, opened}
+use Rattle.safe_machine.specs.State.{State, opened}
 use Rattle.safe_machine.specs.Decision.{is_stranger}
-use Rattle.safe_machine.specs.Step.{guard, respond, arrive, heartbeat, tick, may_send, send}
+use Rattle.safe_machine.specs.Step.{guard, respond, arrive, heartbeat, tick, send}
 use Rattle.safe_machine.specs.World.{World, Event, start, run, event_end, event_time, at_end, changed, happens, GenuineEvent, Genuine, Timely, as_role, open_il, open_fe}
 use Rattle.safe_machine.specs.World.Event.{Open, Send, Close, Guard, Tick, Arrive}
 use Rattle.safe_machine.specs.InOrder.{GuardHolds, NextArrival, InOrderEvent, InOrder, heard_by_il, heard_by_fe, is_close, has_close, StaysLaw}
-use Rattle.safe_machine.proofs.Cases.{if_both}
 use Rattle.safe_machine.proofs.Runs.{every-at}
 use Rattle.safe_machine.proofs.Counting.{Bounded}
 use Rattle.safe_machine.proofs.Timing.{guard-passed}
@@ -23,8 +22,8 @@ use Rattle.safe_machine.proofs.OrderPairs.{Two, two-swap}
 use Rattle.safe_machine.proofs.OrderApart.{apart-silent, apart-deaf}
 use Rattle.safe_machine.proofs.OrderLaw.{joint, apart, StandsAt, stands-event, stands-start}
 use Rattle.safe_machine.proofs.OrderNext.{Remains, IsOpen, open-make, next-open}
-use Rattle.safe_machine.specs.Connections.{is_connected, is_live}
-use Rattle.safe_machine.specs.Made.{last_time}
+use Rattle.safe_machine.specs.Connections.{is_live}
+use Rattle.safe_machine.proofs.StepCases.{heartbeat-cases, send-cases}
 
 -- each end that was opened is open
 record OpenBoth (w : World) : Type 0 where
@@ -32,7 +31,7 @@ record OpenBoth (w : World) : Type 0 where
   fe : w.fe_before ≢ [] → IsOpen w.fe
 
 open-send : (unit : List ℕ) (now : ℕ) (s : State) → IsOpen s → IsOpen (send unit now s)
-open-send unit now s h = if_both IsOpen (may_send s) (make Data unit now s) s (λ _. open-make Data unit now s refl h) (λ _. h)
+open-send unit now s h = send-cases IsOpen unit now s (λ _ _. open-make Data unit now s refl h) h
 
 open-guard : (now : ℕ) (s : State) → GuardHolds s now → IsOpen s → IsOpen (guard now s)
 open-guard now s holds h = subst IsOpen (sym holds) h
@@ -40,7 +39,7 @@ open-guard now s holds h = subst IsOpen (sym holds) h
 open-tick : (now : ℕ) (s : State) → GuardHolds s now → IsOpen s → IsOpen (tick now s)
 open-tick now s holds h =
     subst (λ (t : State). IsOpen (heartbeat now t)) (sym holds)
-    (if_both IsOpen (is_connected s.connection && nat_le (last_time s.made 0 + s.settings.t_h) now) (make Heartbeat [] now s) s (λ _. open-make Heartbeat [] now s refl h) (λ _. h))
+    (heartbeat-cases IsOpen now s (λ _. open-make Heartbeat [] now s refl h) h)
 
 open-opened : (client : Bool) (settings : Settings) (first now : ℕ) → IsOpen (opened (as_role client settings) first now)
 open-opened true settings first now = ((λ e. start≢closed e), (refl, tt))
@@ -90,9 +89,9 @@ open-arrive_fe n k now p w ci cf t later g o (apart a) h = absurd (apart-deaf n 
 open-event : (n k : ℕ) (w : World) (e : Event) (ci cf : ℕ) → TInv w ci cf → GenuineEvent w e → at_end (event_end e) ci cf ≤ event_time e → InOrderEvent n k w e → is_close e ≡ false → StandsAt n k w ci cf → OpenBoth w →
     OpenBoth (changed w e)
 open-event n k w (Open Il settings first now) ci cf t g later o none s h =
-    if_both OpenBoth (is_legal settings) (open_il settings first now w) w (λ _. record { il = λ _. open-opened true settings first now; fe = h.fe }) (λ _. h)
+    cond_both (is_legal settings) (open_il settings first now w) w OpenBoth (λ _. record { il = λ _. open-opened true settings first now; fe = h.fe }) (λ _. h)
 open-event n k w (Open Fe settings first now) ci cf t g later o none s h =
-    if_both OpenBoth (is_legal settings) (open_fe settings first now w) w (λ _. record { il = h.il; fe = λ _. open-opened false settings first now }) (λ _. h)
+    cond_both (is_legal settings) (open_fe settings first now w) w OpenBoth (λ _. record { il = h.il; fe = λ _. open-opened false settings first now }) (λ _. h)
 open-event n k w (Send Il unit now) ci cf t g later o none s h = record { il = λ some. open-send unit now w.il (h.il some); fe = h.fe }
 open-event n k w (Send Fe unit now) ci cf t g later o none s h = record { il = h.il; fe = λ some. open-send unit now w.fe (h.fe some) }
 open-event n k w (Close Il reason detail now) ci cf t g later o none s h = absurd (false≢true (sym none))

@@ -1,27 +1,25 @@
 -- The properties of an arrival, from its step.
 use Rattle.std.proofs.Common.{◌≡◌, ◌≢◌, ℕ, ◌+◌, ◌<◌, ◌==◌, List, [], ◌∷◌, ◌++◌, length, drop, Bool, true, false, refl, sym, ap, subst, ◌∙◌, arith, append-nil, Result, Ok, Err}
-use Rattle.std.specs.Prelude.{if◌then◌else◌, ◌&&◌, nat_le}
+use Rattle.std.specs.Prelude.{if◌then◌else◌, ◌&&◌}
 use Rattle.std.specs.List.{FoldsTo}
 use Rattle.std.proofs.Math.Seq.{drop-append_seam}
 use Rattle.std.proofs.lemmas.Bool.{eq-eqb}
 use Rattle.safe_pdu.specs.declared.SafeFault.{SafeFault}
 use Rattle.safe_pdu.specs.Pdu.{Pdu}
-use Rattle.safe_pdu.specs.declared.Kind.TheVariants.{Heartbeat}
 use Rattle.safe_machine.specs.declared.ConnectionState.TheVariants.{Up}
 use Rattle.safe_machine.specs.Made.{carries}
 use Rattle.safe_machine.specs.Settings.{Settings}
-use Rattle.safe_machine.specs.State.{State, make, move_to, pass, hand_up, opened}
+use Rattle.safe_machine.specs.State.{State, move_to, pass, opened}
 use Rattle.safe_machine.specs.declared.decision.Decision.{Decision}
 use Rattle.safe_machine.specs.Decision.{decide, distance, is_goodbye, is_stranger, by_table, cts_step}
 use Rattle.safe_machine.specs.Table.{cell}
 use Rattle.safe_machine.specs.Ring.{ring_of}
 use Rattle.safe_machine.specs.declared.decision.Decision.TheVariants.{Nothing, Drops, Shuts, Leaves, Rejects, Accepts, Connects, Takes, Asks, Resumes, AnswersNext, AnswersEarly}
-use Rattle.safe_machine.specs.Step.{carry_out, respond, arrive, guard, take_unit, beat, tests_passed}
+use Rattle.safe_machine.specs.Step.{carry_out, respond, arrive, guard, take_unit, tests_passed}
 use Rattle.safe_machine.specs.Moves.{moved}
 use Rattle.safe_machine.specs.Reached.{IsReached}
 use Rattle.safe_machine.specs.View.{View, StandsFor, HandsUp, Turns, beside, kept_of}
 use Rattle.safe_machine.specs.Properties.{HandsIf, IsNextData}
-use Rattle.safe_machine.proofs.Cases.{if_both}
 use Rattle.safe_machine.proofs.Deciding.{Fits, decide-fits, listens-live}
 use Rattle.safe_machine.proofs.Lone.{lone-guard, arrive-by}
 use Rattle.safe_machine.proofs.Timing.{guard-passed, makes-guard}
@@ -29,6 +27,7 @@ use Rattle.safe_machine.proofs.Arriving.{decided-taken, arrive-goes}
 use Rattle.safe_machine.proofs.OrderDecide.{decided, table-takes}
 use Rattle.safe_machine.specs.Connections.{is_live}
 use Rattle.safe_machine.specs.Allows.{handed_by}
+use Rattle.safe_machine.proofs.StepCases.{unit-cases}
 
 -- who hands up is live behind its guard
 recent-decided : (p : Pdu) (now : ℕ) (d : Decision) (s : State) → Fits s p now d → handed_by d p ≢ [] → is_live s.connection ≡ true
@@ -73,10 +72,7 @@ reached-recent takes a b p now v r hands =
 
 -- The next Data of the peer, in Up.
 unit-connection : (p : Pdu) (now : ℕ) (s : State) → (take_unit p now s).connection ≡ s.connection
-unit-connection p now s =
-    let u = hand_up p s in
-    if_both (λ (t : State). t.connection ≡ s.connection) (carries p.kind) (beat now u) s
-    (λ _. if_both (λ (t : State). t.connection ≡ s.connection) (nat_le u.settings.mwa u.since) (make Heartbeat [] now u) u (λ _. refl) (λ _. refl)) (λ _. refl)
+unit-connection p now s = unit-cases (λ t. t.connection ≡ s.connection) p now s (λ _. refl) (λ _ _. refl) (λ _. refl)
 
 next-decided : (read : Result Pdu SafeFault) (p : Pdu) (now : ℕ) (s : State) → IsNextData read p now (beside (ring_of s) s) → decide (kept_of s) p now ≡ Takes Up
 next-decided read p now s h =

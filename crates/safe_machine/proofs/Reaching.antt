@@ -1,8 +1,8 @@
 -- What holds of every machine, since it stands for a state that moves lead to from an opening.
-use Rattle.std.proofs.Common.{◌≡◌, ◌≢◌, ℕ, zero, suc, ◌+◌, ◌<◌, ◌≤◌, List, [], ◌∷◌, ◌++◌, length, drop, Bool, true, false, refl, sym, ap, subst, ◌∙◌, arith, ◌⊎◌, inl, inr, ⊎_elim}
+use Rattle.std.proofs.Common.{◌≡◌, ℕ, zero, suc, ◌+◌, ◌<◌, ◌≤◌, List, [], ◌∷◌, ◌++◌, length, drop, Bool, true, false, refl, sym, ap, subst, ◌∙◌, arith, ◌⊎◌, inl, inr, ⊎_elim}
 use Rattle.std.specs.Prelude.{if◌then◌else◌, ◌&&◌, ◌==◌, nat_le, nat_lt}
 use Rattle.std.specs.List.{list_all}
-use Rattle.std.proofs.lemmas.Bool.{leb-true, false≢true}
+use Rattle.std.proofs.lemmas.Bool.{leb-true, false≢true, cond_both, and_parts}
 use Rattle.std.proofs.lemmas.List.{drop_all, length-drop}
 use Rattle.std.proofs.lemmas.List.Elements.{All-nil, All-cons, All-push, All-weaker}
 use Rattle.retrans.specs.Units.{Numbered, octets_of}
@@ -13,22 +13,18 @@ use Rattle.safe_pdu.specs.declared.Kind.TheVariants.{ConnReq, ConnResp, RetrReq,
 use Rattle.safe_pdu.specs.Pdu.{Pdu}
 use Rattle.safe_pdu.specs.Bodies.{IsBody, window_of, version_of, is_digit, is_zero}
 use Rattle.safe_pdu.specs.SafeText.{HasNumbers}
-use Rattle.safe_machine.specs.declared.ConnectionState.{ConnectionState}
-use Rattle.safe_machine.specs.declared.ConnectionState.TheVariants.{Closed, Down, Start, Up, RetrReq as Requesting, RetrRun}
+use Rattle.safe_machine.specs.declared.ConnectionState.TheVariants.{Down, Start}
 use Rattle.safe_machine.specs.declared.Reason.{Reason}
-use Rattle.safe_machine.specs.declared.Reason.TheVariants.{Timeout, ProtocolError}
 use Rattle.safe_machine.specs.declared.Detail.{Detail}
-use Rattle.safe_machine.specs.declared.Detail.TheVariants.{Unspecified, Limit}
-use Rattle.safe_machine.specs.Made.{Made, carries, leaving_body, opening_body, last_time}
+use Rattle.safe_machine.specs.Made.{Made, opening_body}
 use Rattle.safe_machine.specs.Settings.{Settings, is_legal}
 use Rattle.safe_machine.specs.declared.decision.Decision.{Decision}
 use Rattle.safe_machine.specs.Decision.{decide, distance}
 use Rattle.safe_machine.specs.declared.decision.Decision.TheVariants.{Nothing, Drops, Shuts, Leaves, Rejects, Accepts, Connects, Takes, Asks, Resumes, AnswersNext, AnswersEarly}
-use Rattle.safe_machine.specs.Step.{beat, take_unit, tests_passed, carry_out, guard, respond, heartbeat, send, may_send, confirm_units, has_room}
+use Rattle.safe_machine.specs.Step.{take_unit, tests_passed, carry_out, guard, respond, heartbeat, send, may_send, confirm_units, has_room}
 use Rattle.safe_machine.specs.Moves.{Move, move, moved, IsUnitSized}
 use Rattle.safe_machine.specs.Moves.Move.{Guards, Hears, Ticks, Sends, Leaves as LeavesNow}
-use Rattle.safe_machine.specs.State.{State, opened, blank, make, move_to, pass, note_request, resend, reply, unconfirmed, hand_up, leave, ask}
-use Rattle.safe_machine.proofs.Cases.{if_both, and-parts, leb-false}
+use Rattle.safe_machine.specs.State.{State, opened, blank, make, move_to, pass, note_request, resend, reply, unconfirmed, leave}
 use Rattle.safe_machine.proofs.Invariant.{is_opening}
 use Rattle.safe_machine.proofs.Deciding.{Fits, decide-fits}
 use Rattle.safe_machine.proofs.Lone.{arrive-by}
@@ -39,7 +35,9 @@ use Rattle.safe_machine.proofs.Texts.{Texts, own-legal, kept-texts, texts-make, 
 use Rattle.safe_machine.specs.Reached.{IsRead, AreRead, IsReached, Sound}
 use Rattle.safe_machine.specs.View.{View, StandsFor, Turns, AllUnits, AllBelow, kept_of}
 use Rattle.safe_machine.proofs.Resending.{resend-settings, resend-connection}
-use Rattle.safe_machine.specs.Connections.{in_turn, is_live, is_connected}
+use Rattle.safe_machine.specs.Connections.{in_turn, is_connected}
+use Rattle.safe_machine.proofs.StepCases.{leave-cases, guard-cases, heartbeat-cases, unit-cases, send-cases, early-cases}
+use Rattle.safe_machine.proofs.ConnectionFacts.{turn-connected, connected-up}
 
 moved-snoc : (ms : List Move) (m : Move) (s : State) → moved (ms ++ m ∷ []) s ≡ move m (moved ms s)
 moved-snoc [] m s = refl
@@ -72,9 +70,9 @@ pub record Sure (s : State) : Type 0 where
 
 opening-small : (body : List ℕ) → IsBody ConnReq body → window_of body ≤ 32
 opening-small body b =
-    let a = and-parts (length body == 14) (nat_le 1 (window_of body) && (nat_le (window_of body) 32 && (list_all is_digit (version_of body) && list_all is_zero (drop 6 body)))) b in
-    let d = and-parts (nat_le 1 (window_of body)) (nat_le (window_of body) 32 && (list_all is_digit (version_of body) && list_all is_zero (drop 6 body))) a.1 in
-    leb-true (window_of body) 32 (and-parts (nat_le (window_of body) 32) (list_all is_digit (version_of body) && list_all is_zero (drop 6 body)) d.1).0
+    let a = and_parts (length body == 14) (nat_le 1 (window_of body) && (nat_le (window_of body) 32 && (list_all is_digit (version_of body) && list_all is_zero (drop 6 body)))) b in
+    let d = and_parts (nat_le 1 (window_of body)) (nat_le (window_of body) 32 && (list_all is_digit (version_of body) && list_all is_zero (drop 6 body))) a.1 in
+    leb-true (window_of body) 32 (and_parts (nat_le (window_of body) 32) (list_all is_digit (version_of body) && list_all is_zero (drop 6 body)) d.1).0
 
 opening-window : (kind : Kind) (body : List ℕ) → IsBody kind body → 1 ≤ is_opening kind → window_of body ≤ 32
 opening-window ConnReq body b h = opening-small body b
@@ -90,39 +88,14 @@ abbrev Waits : State → Type 0
 Waits s = (s.connection ≡ Down → s.made ≡ []) × (s.since < s.settings.mwa)
 
 waits-leave : (reason : Reason) (detail : Detail) (now : ℕ) (s : State) → Waits s → Waits (leave reason detail now s)
-waits-leave reason detail now s h =
-    if_both (λ (t : State). Waits (move_to Closed t)) (is_live s.connection) (make DiscReq (leaving_body reason detail) now s) s
-    (λ _. (λ e. cc, omega (arith, h.1))) (λ _. (λ e. cc, h.1))
+waits-leave reason detail now s h = leave-cases Waits reason detail now s (λ _. (λ e. cc, omega (arith, h.1))) (λ _. (λ e. cc, h.1))
 
 waits-guard : (now : ℕ) (s : State) → Waits s → Waits (guard now s)
-waits-guard now s h =
-    let late = nat_le (s.confirmed_at + s.settings.t_max) now in
-    let full = nat_le s.settings.pdu_limit (length s.made) in
-    let inner : State = if full then leave ProtocolError Limit now s else s in
-    if_both Waits (is_live s.connection) (if late then leave Timeout Unspecified now s else inner) s
-    (λ _. if_both Waits late (leave Timeout Unspecified now s) inner (λ _. waits-leave Timeout Unspecified now s h)
-    (λ _. if_both Waits full (leave ProtocolError Limit now s) s (λ _. waits-leave ProtocolError Limit now s h) (λ _. h)))
-    (λ _. h)
-
-connected-not-down : (c : ConnectionState) → is_connected c ≡ true → c ≢ Down
-connected-not-down Up h = λ e. cc
-connected-not-down Requesting h = λ e. cc
-connected-not-down RetrRun h = λ e. cc
-connected-not-down Closed h = cc
-connected-not-down Down h = cc
-connected-not-down Start h = cc
-
-turn-connected : (c : ConnectionState) → in_turn c ≡ true → is_connected c ≡ true
-turn-connected Up h = refl
-turn-connected RetrRun h = refl
-turn-connected Requesting h = cc
-turn-connected Closed h = cc
-turn-connected Down h = cc
-turn-connected Start h = cc
+waits-guard now s h = guard-cases Waits now s (λ reason detail. waits-leave reason detail now s h) (λ _. h)
 
 -- a connected end that has made a PDU
 waits-made : (kind : Kind) (body : List ℕ) (now : ℕ) (s : State) → is_connected s.connection ≡ true → s.since < s.settings.mwa → Waits (make kind body now s)
-waits-made kind body now s on h = (λ e. absurd (connected-not-down s.connection on e), omega (arith, h))
+waits-made kind body now s on h = (λ e. absurd (connected-up s.connection on e), omega (arith, h))
 
 waits-reply : (now : ℕ) (s : State) → is_connected s.connection ≡ true → s.since < s.settings.mwa → Waits (reply now s)
 waits-reply now s on h =
@@ -130,16 +103,12 @@ waits-reply now s on h =
     let us = unconfirmed s in
     let same : (resend us now a).connection ≡ s.connection = resend-connection us now a in
     let kept : (resend us now a).settings.mwa ≡ s.settings.mwa = ap (λ (k : Settings). k.mwa) (resend-settings us now a) in
-    (λ e. absurd (connected-not-down s.connection on (sym same ∙ e)), omega (arith, h, kept))
+    (λ e. absurd (connected-up s.connection on (sym same ∙ e)), omega (arith, h, kept))
 
 waits-unit : (p : Pdu) (now : ℕ) (s : State) → is_connected s.connection ≡ true → s.since < s.settings.mwa → Waits (take_unit p now s)
 waits-unit p now s on h =
-    let u = hand_up p s in
-    if_both Waits (carries p.kind) (beat now u) s
-    (λ _. if_both Waits (nat_le s.settings.mwa (s.since + 1)) (make Heartbeat [] now u) u
-    (λ _. (λ e. absurd (connected-not-down s.connection on e), omega (arith, h)))
-    (λ few. (λ e. absurd (connected-not-down s.connection on e), leb-false s.settings.mwa (s.since + 1) few)))
-    (λ _. (λ e. absurd (connected-not-down s.connection on e), h))
+    unit-cases Waits p now s (λ _. (λ e. absurd (connected-up s.connection on e), omega (arith, h))) (λ _ few. (λ e. absurd (connected-up s.connection on e), few))
+    (λ _. (λ e. absurd (connected-up s.connection on e), h))
 
 waits-decided : (p : Pdu) (now : ℕ) (d : Decision) (s : State) → Fits s p now d → Waits s → Waits (carry_out p now d s)
 waits-decided p now Nothing s f h = h
@@ -157,17 +126,13 @@ waits-decided p now AnswersEarly s f h =
     let z = note_request (distance (kept_of s) p) (confirm_units p s) in
     let t = reply now z in
     let w : Waits t = waits-reply now z f.connected h.1 in
-    if_both Waits (in_turn s.connection) (ask now t) t (λ _. (λ e. cc, omega (arith, w.1))) (λ _. w)
+    early-cases Waits p now s (λ _. (λ e. cc, omega (arith, w.1))) w
 
 waits-tick : (now : ℕ) (s : State) → Waits s → Waits (heartbeat now s)
-waits-tick now s h =
-    if_both Waits (is_connected s.connection && nat_le (last_time s.made 0 + s.settings.t_h) now) (make Heartbeat [] now s) s
-    (λ both. waits-made Heartbeat [] now s (and-parts (is_connected s.connection) (nat_le (last_time s.made 0 + s.settings.t_h) now) both).0 h.1) (λ _. h)
+waits-tick now s h = heartbeat-cases Waits now s (λ connected. waits-made Heartbeat [] now s connected h.1) h
 
 waits-send : (unit : List ℕ) (now : ℕ) (s : State) → Waits s → Waits (send unit now s)
-waits-send unit now s h =
-    if_both Waits (may_send s) (make Data unit now s) s
-    (λ both. waits-made Data unit now s (turn-connected s.connection (and-parts (in_turn s.connection) (nat_lt (length (unconfirmed s)) s.window) both).0) h.1) (λ _. h)
+waits-send unit now s h = send-cases Waits unit now s (λ turn _. waits-made Data unit now s (turn-connected s.connection turn) h.1) h
 
 sure : (s : State) → Bounded s → Waits s → Sure s
 sure s b w = record { bounded = b; down = w.0; since = w.1 }
@@ -226,7 +191,7 @@ opened-sure settings first now legal =
     let r = lawful settings legal in
     let begun : State = blank settings first now Start in
     let m = make ConnReq (opening_body settings.n_sendmax) now begun in
-    if_both Sure settings.client m (blank settings first now Down)
+    cond_both settings.client m (blank settings first now Down) Sure
     (λ _. record {
       bounded = record {
         small = r.window_most;
@@ -261,13 +226,13 @@ opened-texts settings first now legal =
     let own = own-legal settings legal in
     let begun : State = blank settings first now Start in
     let before : Texts begun = record { own = own; sn = omega arith; ts = omega arith; texts = tt } in
-    if_both Texts settings.client (make ConnReq (opening_body settings.n_sendmax) now begun) (blank settings first now Down)
+    cond_both settings.client (make ConnReq (opening_body settings.n_sendmax) now begun) (blank settings first now Down) Texts
     (λ _. texts-make ConnReq (opening_body settings.n_sendmax) now begun own.window (omega arith) before)
     (λ _. record { own = own; sn = omega arith; ts = omega arith; texts = tt })
 
 opened-legal : (settings : Settings) (first now : ℕ) → is_legal settings ≡ true → is_legal (opened settings first now).settings ≡ true
 opened-legal settings first now legal =
-    if_both (λ (s : State). is_legal s.settings ≡ true) settings.client (make ConnReq (opening_body settings.n_sendmax) now (blank settings first now Start)) (blank settings first now Down)
+    cond_both settings.client (make ConnReq (opening_body settings.n_sendmax) now (blank settings first now Start)) (blank settings first now Down) (λ (s : State). is_legal s.settings ≡ true)
     (λ _. legal) (λ _. legal)
 
 -- the ring of a state

@@ -1,31 +1,28 @@
 -- The three ways in which the present incarnations can stand to each other.
-use Rattle.std.proofs.Common.{◌≡◌, ◌≢◌, ◌⊎◌, inl, inr, ℕ, ◌+◌, List, [], ◌∷◌, length, drop, Option, Some, None, Bool, true, false, refl, sym, ap, subst, ◌∙◌, arith}
-use Rattle.std.specs.Prelude.{if◌then◌else◌, ◌&&◌, nat_lt, nat_le}
+use Rattle.std.proofs.Common.{◌≡◌, ◌≢◌, ◌⊎◌, inl, inr, ℕ, ◌+◌, List, [], ◌∷◌, drop, Option, Some, None, Bool, true, false, refl, sym, ap, subst, ◌∙◌, arith}
 use Rattle.std.proofs.lemmas.Bool.{false≢true}
-use Rattle.safe_pdu.specs.declared.Kind.TheVariants.{DiscReq, Heartbeat, Data}
+use Rattle.safe_pdu.specs.declared.Kind.TheVariants.{DiscReq}
 use Rattle.safe_machine.specs.declared.ConnectionState.{ConnectionState}
 use Rattle.safe_machine.specs.declared.ConnectionState.TheVariants.{Closed, Down, Start, Up, RetrReq as Requesting, RetrRun}
 use Rattle.safe_pdu.specs.Pdu.{Pdu}
-use Rattle.safe_machine.specs.Made.{Made, units, leaving_body, last_time}
-use Rattle.safe_machine.specs.State.{State, next_made, make, move_to, leave, unconfirmed}
+use Rattle.safe_machine.specs.Made.{Made, units, leaving_body}
+use Rattle.safe_machine.specs.State.{State, next_made, move_to, leave}
 use Rattle.safe_machine.specs.declared.decision.Decision.{Decision}
 use Rattle.safe_machine.specs.Decision.{decide}
 use Rattle.safe_machine.specs.declared.decision.Decision.TheVariants.{Nothing, Drops, Shuts, Leaves, Rejects, Accepts, Connects, Takes, Asks, Resumes, AnswersNext, AnswersEarly}
-use Rattle.safe_machine.specs.Step.{guard, respond, arrive, carry_out, tick, may_send, send}
+use Rattle.safe_machine.specs.Step.{guard, respond, arrive, carry_out, tick, send}
 use Rattle.safe_machine.specs.World.{Served, GenuineAt}
 use Rattle.safe_machine.specs.Law.{JoinsFall}
-use Rattle.safe_machine.proofs.Cases.{if_both, and-parts}
 use Rattle.safe_machine.proofs.Runs.{Every, every-at, every-push}
 use Rattle.safe_machine.proofs.Invariant.{is_opening, needs_peer, NotOpening, Solo, Half}
 use Rattle.safe_machine.proofs.Deciding.{Fits, listens, decide-fits}
 use Rattle.safe_machine.proofs.Counting.{Bounded, bounded-guard, bounded-leave, bounded-closed}
-use Rattle.safe_machine.proofs.Lone.{Lone, lone-refl, lone-trans, lone-leave, lone-guard, lone-closed, guard-idle, arrive-by, among-dropped}
+use Rattle.safe_machine.proofs.Lone.{Lone, lone-refl, lone-trans, lone-leave, lone-guard, lone-closed, arrive-by, among-dropped}
 use Rattle.safe_machine.specs.declared.Reason.{Reason}
-use Rattle.safe_machine.specs.declared.Reason.TheVariants.{Timeout, ProtocolError}
 use Rattle.safe_machine.specs.declared.Detail.{Detail}
-use Rattle.safe_machine.specs.declared.Detail.TheVariants.{Unspecified, Limit}
 use Rattle.safe_machine.specs.Connections.{is_live, in_turn, is_connected}
 use Rattle.safe_machine.specs.View.{kept_of}
+use Rattle.safe_machine.proofs.StepCases.{leave-cases, guard-cases, guard-idle, heartbeat-cases, send-cases}
 
 -- a field element that has not joined
 abbrev pub Settled : State → Type 0
@@ -109,33 +106,21 @@ mute-not_connected RetrRun (inr h) = cc
 
 pub mute-leave : (reason : Reason) (detail : Detail) (now : ℕ) (s : State) → Mute s → Mute (leave reason detail now s)
 mute-leave reason detail now s h =
-    let body = leaving_body reason detail in
-    if_both (λ u. Mute (move_to Closed u)) (is_live s.connection) (make DiscReq body now s) s
-    (λ _. record { client = h.client; connection = inr refl; taken = h.taken; quiet = every-push Quiet s.made (next_made s DiscReq body now) h.quiet refl })
+    leave-cases Mute reason detail now s
+    (λ _. record { client = h.client; connection = inr refl; taken = h.taken; quiet = every-push Quiet s.made (next_made s DiscReq (leaving_body reason detail) now) h.quiet refl })
     (λ _. record { client = h.client; connection = inr refl; taken = h.taken; quiet = h.quiet })
 
 pub mute-guard : (now : ℕ) (s : State) → Mute s → Mute (guard now s)
-mute-guard now s h =
-    let inner : State = if nat_le s.settings.pdu_limit (length s.made) then leave ProtocolError Limit now s else s in
-    if_both Mute (is_live s.connection) (if nat_le (s.confirmed_at + s.settings.t_max) now then leave Timeout Unspecified now s else inner) s
-    (λ _.
-    if_both Mute (nat_le (s.confirmed_at + s.settings.t_max) now) (leave Timeout Unspecified now s) inner (λ _. mute-leave Timeout Unspecified now s h)
-    (λ _. if_both Mute (nat_le s.settings.pdu_limit (length s.made)) (leave ProtocolError Limit now s) s (λ _. mute-leave ProtocolError Limit now s h) (λ _. h)))
-    (λ _. h)
+mute-guard now s h = guard-cases Mute now s (λ reason detail. mute-leave reason detail now s h) (λ _. h)
 
 pub mute-tick : (now : ℕ) (s : State) → Mute s → Mute (tick now s)
 mute-tick now s h =
     let t = guard now s in
     let m = mute-guard now s h in
-    let no = (mute-not_connected t.connection m.connection).0 in
-    if_both Mute (is_connected t.connection && nat_le (last_time t.made 0 + t.settings.t_h) now) (make Heartbeat [] now t) t
-    (λ both. absurd (false≢true (sym no ∙ (and-parts (is_connected t.connection) (nat_le (last_time t.made 0 + t.settings.t_h) now) both).0))) (λ _. m)
+    heartbeat-cases Mute now t (λ connected. absurd (false≢true (sym (mute-not_connected t.connection m.connection).0 ∙ connected))) m
 
 pub mute-send : (unit : List ℕ) (now : ℕ) (s : State) → Mute s → Mute (send unit now s)
-mute-send unit now s h =
-    let no = (mute-not_connected s.connection h.connection).1 in
-    if_both Mute (may_send s) (make Data unit now s) s
-    (λ both. absurd (false≢true (sym no ∙ (and-parts (in_turn s.connection) (nat_lt (length (unconfirmed s)) s.window) both).0))) (λ _. h)
+mute-send unit now s h = send-cases Mute unit now s (λ turn _. absurd (false≢true (sym (mute-not_connected s.connection h.connection).1 ∙ turn))) h
 
 -- what comes in at a mute interlocking is no ConnResp
 pub mute-arrive : (now n : ℕ) (p : Pdu) (il : State) (made : List Made) → Mute il → Bounded il → Every NotOpening (drop n made) → GenuineAt il p (drop n made) →

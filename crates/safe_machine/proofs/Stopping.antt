@@ -1,6 +1,5 @@
 -- Which units an arrival confirms.
 use Rattle.std.proofs.Common.{◌≡◌, ◌⊎◌, inl, inr, ℕ, ◌+◌, ◌-◌, ◌<◌, List, [], ◌∷◌, ◌++◌, length, drop, true, refl, sym, ap, subst, ◌∙◌, arith, length-append}
-use Rattle.std.specs.Prelude.{if◌then◌else◌, nat_le}
 use Rattle.std.proofs.lemmas.Bool.{ltb-true}
 use Rattle.std.proofs.lemmas.List.{length-drop}
 use Rattle.retrans.specs.Units.{above, octets_of, renumbered}
@@ -9,69 +8,47 @@ use Rattle.safe_pdu.specs.Bodies.{window_of}
 use Rattle.safe_pdu.specs.declared.Kind.TheVariants.{ConnResp, RetrResp, RetrReq, Heartbeat, DiscReq}
 use Rattle.safe_machine.specs.declared.ConnectionState.TheVariants.{Closed, Down}
 use Rattle.safe_machine.specs.declared.Reason.{Reason}
-use Rattle.safe_machine.specs.declared.Reason.TheVariants.{Timeout, WrongVersion, ProtocolError}
+use Rattle.safe_machine.specs.declared.Reason.TheVariants.{WrongVersion}
 use Rattle.safe_machine.specs.declared.Detail.{Detail}
-use Rattle.safe_machine.specs.declared.Detail.TheVariants.{Unspecified, Limit}
+use Rattle.safe_machine.specs.declared.Detail.TheVariants.{Unspecified}
 use Rattle.safe_machine.specs.Numbers.{sn_of, ahead}
-use Rattle.safe_machine.specs.Made.{Made, carries, leaving_body, opening_body}
+use Rattle.safe_machine.specs.Made.{Made, leaving_body, opening_body}
 use Rattle.safe_machine.specs.State.{State, next_made, make, move_to, pass, note_request, resend, reply, unconfirmed, hand_up, leave, ask, opened}
 use Rattle.safe_machine.specs.declared.decision.Decision.{Decision}
 use Rattle.safe_machine.specs.Decision.{decide, distance, cs_fits, cs_step}
 use Rattle.safe_machine.specs.declared.decision.Decision.TheVariants.{Nothing, Drops, Shuts, Leaves, Rejects, Accepts, Connects, Takes, Asks, Resumes, AnswersNext, AnswersEarly}
-use Rattle.safe_machine.specs.Step.{carry_out, arrive, guard, take_unit, beat, tests_passed, set_window, confirm_units}
+use Rattle.safe_machine.specs.Step.{carry_out, arrive, guard, take_unit, tests_passed, set_window, confirm_units}
 use Rattle.safe_machine.specs.Ring.{carried_at, ring_of}
 use Rattle.safe_machine.specs.Moves.{moved}
 use Rattle.safe_machine.specs.Reached.{IsReached}
 use Rattle.safe_machine.specs.View.{View, Turns, beside, kept_of}
 use Rattle.safe_machine.specs.Properties.{StopsOnly}
-use Rattle.safe_machine.proofs.Cases.{if_both}
 use Rattle.safe_machine.proofs.Deciding.{Fits, decide-fits}
 use Rattle.safe_machine.proofs.Lone.{lone-guard, arrive-by}
 use Rattle.safe_machine.proofs.Ring.{ring_of-units, ring-resend}
 use Rattle.retrans.proofs.UnitLemmas.{octets-renumbered}
 use Rattle.safe_machine.proofs.Views.{plain-ring, ring-step, answer-ring}
 use Rattle.safe_machine.proofs.Reaching.{reached-sound}
-use Rattle.safe_machine.specs.Connections.{is_live, in_turn}
+use Rattle.safe_machine.proofs.StepCases.{leave-cases, guard-cases, unit-cases, early-cases}
 
 abbrev Stops : Pdu → State → State → Type 0
 Stops p s t = (octets_of (ring_of t) ≡ octets_of (ring_of s)) ⊎ (octets_of (ring_of t) ≡ octets_of (above (s.confirmed + cs_step (kept_of s) p) (ring_of s)))
 
 ring-leave : (reason : Reason) (detail : Detail) (now : ℕ) (s : State) → ring_of (leave reason detail now s) ≡ ring_of s
 ring-leave reason detail now s =
-    if_both (λ (t : State). ring_of t ≡ ring_of s) (is_live s.connection) (make DiscReq (leaving_body reason detail) now s) s
-    (λ _. plain-ring DiscReq (leaving_body reason detail) now s refl) (λ _. refl)
+    leave-cases (λ t. ring_of t ≡ ring_of s) reason detail now s (λ _. plain-ring DiscReq (leaving_body reason detail) now s refl) (λ _. refl)
 
 ring-guard : (now : ℕ) (s : State) → ring_of (guard now s) ≡ ring_of s
-ring-guard now s =
-    let P : State → Type 0 = λ t. ring_of t ≡ ring_of s in
-    let late = nat_le (s.confirmed_at + s.settings.t_max) now in
-    let full = nat_le s.settings.pdu_limit (length s.made) in
-    let inner : State = if full then leave ProtocolError Limit now s else s in
-    if_both P (is_live s.connection) (if late then leave Timeout Unspecified now s else inner) s
-    (λ _. if_both P late (leave Timeout Unspecified now s) inner (λ _. ring-leave Timeout Unspecified now s)
-    (λ _. if_both P full (leave ProtocolError Limit now s) s (λ _. ring-leave ProtocolError Limit now s) (λ _. refl)))
-    (λ _. refl)
+ring-guard now s = guard-cases (λ t. ring_of t ≡ ring_of s) now s (λ reason detail. ring-leave reason detail now s) (λ _. refl)
 
 first-leave : (reason : Reason) (detail : Detail) (now : ℕ) (s : State) → (leave reason detail now s).first ≡ s.first
-first-leave reason detail now s =
-    if_both (λ (t : State). t.first ≡ s.first) (is_live s.connection) (make DiscReq (leaving_body reason detail) now s) s (λ _. refl) (λ _. refl)
+first-leave reason detail now s = leave-cases (λ t. t.first ≡ s.first) reason detail now s (λ _. refl) (λ _. refl)
 
 first-guard : (now : ℕ) (s : State) → (guard now s).first ≡ s.first
-first-guard now s =
-    let P : State → Type 0 = λ t. t.first ≡ s.first in
-    let late = nat_le (s.confirmed_at + s.settings.t_max) now in
-    let full = nat_le s.settings.pdu_limit (length s.made) in
-    let inner : State = if full then leave ProtocolError Limit now s else s in
-    if_both P (is_live s.connection) (if late then leave Timeout Unspecified now s else inner) s
-    (λ _. if_both P late (leave Timeout Unspecified now s) inner (λ _. first-leave Timeout Unspecified now s)
-    (λ _. if_both P full (leave ProtocolError Limit now s) s (λ _. first-leave ProtocolError Limit now s) (λ _. refl)))
-    (λ _. refl)
+first-guard now s = guard-cases (λ t. t.first ≡ s.first) now s (λ reason detail. first-leave reason detail now s) (λ _. refl)
 
 ring-unit : (p : Pdu) (now : ℕ) (s : State) → ring_of (take_unit p now s) ≡ ring_of s
-ring-unit p now s =
-    let u = hand_up p s in
-    if_both (λ (t : State). ring_of t ≡ ring_of s) (carries p.kind) (beat now u) s
-    (λ _. if_both (λ (t : State). ring_of t ≡ ring_of s) (nat_le u.settings.mwa u.since) (make Heartbeat [] now u) u (λ _. plain-ring Heartbeat [] now u refl) (λ _. refl)) (λ _. refl)
+ring-unit p now s = unit-cases (λ t. ring_of t ≡ ring_of s) p now s (λ _. plain-ring Heartbeat [] now (hand_up p s) refl) (λ _ _. refl) (λ _. refl)
 
 -- an answer keeps the units
 ring-reply : (now : ℕ) (y : State) → y.confirmed < length y.made → octets_of (ring_of (reply now y)) ≡ octets_of (ring_of y)
@@ -123,8 +100,7 @@ stops-decided p now AnswersEarly s down f =
     let y = note_request (distance (kept_of s) p) (confirm_units p s) in
     let t = reply now y in
     let same = ring-reply now y (omega (arith, fits-within p s f.cs)) in
-    if_both (Stops p s) (in_turn s.connection) (ask now t) t
-    (λ _. confirmed-stops p s (ask now t) f.cs (ap octets_of (plain-ring RetrReq [] now t refl) ∙ same)) (λ _. confirmed-stops p s t f.cs same)
+    early-cases (Stops p s) p now s (λ _. confirmed-stops p s (ask now t) f.cs (ap octets_of (plain-ring RetrReq [] now t refl) ∙ same)) (confirmed-stops p s t f.cs same)
 
 closed-down : Closed ≡ Down → ⊥
 closed-down e = cc

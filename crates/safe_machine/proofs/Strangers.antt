@@ -1,5 +1,5 @@
 -- A PDU of a stranger changes nothing, and before the connection is up nothing is taken.
-use Rattle.std.proofs.Common.{◌≡◌, ◌⊎◌, inl, inr, ◌==◌, ◌+◌, ◌*◌, ℕ, length, Bool, true, false, refl, sym, ap, subst, ◌∙◌}
+use Rattle.std.proofs.Common.{◌≡◌, ◌⊎◌, inl, inr, ◌==◌, ◌*◌, ℕ, Bool, true, false, refl, sym, ap, subst, ◌∙◌}
 use Rattle.std.specs.Prelude.{if◌then◌else◌, ◌&&◌, nat_le}
 use Rattle.safe_pdu.specs.declared.Kind.{Kind}
 use Rattle.safe_pdu.specs.declared.Kind.TheVariants.{ConnReq, ConnResp, RetrReq, RetrResp, DiscReq, Heartbeat, Data, RetrData}
@@ -7,9 +7,9 @@ use Rattle.safe_pdu.specs.Pdu.{Pdu}
 use Rattle.safe_machine.specs.declared.ConnectionState.TheVariants.{Closed, Down, Start, Up}
 use Rattle.safe_machine.specs.declared.DropCause.TheVariants.{Stranger, Number}
 use Rattle.safe_machine.specs.declared.Reason.{Reason}
-use Rattle.safe_machine.specs.declared.Reason.TheVariants.{Timeout, WrongVersion, UnexpectedPdu, SequenceError, ProtocolError}
+use Rattle.safe_machine.specs.declared.Reason.TheVariants.{WrongVersion, UnexpectedPdu, SequenceError, ProtocolError}
 use Rattle.safe_machine.specs.declared.Detail.{Detail}
-use Rattle.safe_machine.specs.declared.Detail.TheVariants.{Unspecified, ConfirmedNumber, ConfirmedTimestamp, Limit}
+use Rattle.safe_machine.specs.declared.Detail.TheVariants.{Unspecified, ConfirmedNumber, ConfirmedTimestamp}
 use Rattle.safe_machine.specs.Made.{carries}
 use Rattle.safe_machine.specs.Settings.{Settings}
 use Rattle.safe_machine.specs.State.{State, move_to, pass, hand_up}
@@ -20,18 +20,18 @@ use Rattle.safe_machine.specs.declared.decision.Decision.TheVariants.{Nothing, D
 use Rattle.safe_machine.specs.Step.{carry_out, guard, respond, beat, tests_passed}
 use Rattle.safe_machine.specs.Moves.{StrangersLaw, WaitsLaw}
 use Rattle.safe_machine.specs.Moves.Move.{Guards, Hears, Ticks, Sends, Leaves as LeavesNow}
-use Rattle.safe_machine.specs.State.{leave}
 use Rattle.octets.specs.declared.limits.TheConstants.{REACH}
-use Rattle.safe_machine.proofs.Cases.{if_both}
 use Rattle.safe_machine.proofs.OneMachine.{plain-guard, plain-tick, plain-leave, send-taken}
 use Rattle.safe_machine.proofs.Identified.{settings_law_holds}
-use Rattle.safe_machine.specs.Connections.{is_closed, is_live}
+use Rattle.safe_machine.specs.Connections.{is_closed}
 use Rattle.safe_machine.specs.View.{kept_of}
+use Rattle.safe_machine.proofs.StepCases.{guard-cases}
+use Rattle.std.proofs.lemmas.Bool.{cond_both}
 
 strange-drops : (p : Pdu) (now : ℕ) (s : State) → is_stranger s p ≡ true → respond p now s ≡ s
 strange-drops p now s strange =
-    if_both (λ d. carry_out p now d s ≡ s) (is_closed s.connection) Nothing (by_sender (kept_of s) p now) (λ _. refl)
-    (λ _. if_both (λ d. carry_out p now d s ≡ s) (is_stranger s p) (Drops Stranger) (by_connection (kept_of s) p now s.connection) (λ _. refl) (λ meant. let no : true ≡ false = sym strange ∙ meant in cc))
+    cond_both (is_closed s.connection) Nothing (by_sender (kept_of s) p now) (λ d. carry_out p now d s ≡ s) (λ _. refl)
+    (λ _. cond_both (is_stranger s p) (Drops Stranger) (by_connection (kept_of s) p now s.connection) (λ d. carry_out p now d s ≡ s) (λ _. refl) (λ meant. let no : true ≡ false = sym strange ∙ meant in cc))
 
 pub strangers_law_holds : StrangersLaw
 strangers_law_holds p now s strange =
@@ -47,12 +47,12 @@ module _ (p : Pdu) (now : ℕ) (s : State) where
 
   tested-quiet : (d : Decision) → Q d → Q (tested (kept_of s) p now d)
   tested-quiet d h =
-      if_both Q (cs_fits (kept_of s) p) (if cts_fits (kept_of s) p now then d else Leaves ProtocolError ConfirmedTimestamp) (Leaves ProtocolError ConfirmedNumber)
-      (λ _. if_both Q (cts_fits (kept_of s) p now) d (Leaves ProtocolError ConfirmedTimestamp) (λ _. h) (λ _. leaves-quiet ProtocolError ConfirmedTimestamp))
+      cond_both (cs_fits (kept_of s) p) (if cts_fits (kept_of s) p now then d else Leaves ProtocolError ConfirmedTimestamp) (Leaves ProtocolError ConfirmedNumber) Q
+      (λ _. cond_both (cts_fits (kept_of s) p now) d (Leaves ProtocolError ConfirmedTimestamp) Q (λ _. h) (λ _. leaves-quiet ProtocolError ConfirmedTimestamp))
       (λ _. leaves-quiet ProtocolError ConfirmedNumber)
 
   down-quiet : (kind : Kind) → Q (in_down p kind)
-  down-quiet ConnReq = if_both Q (is_ours p.body) Accepts Rejects (λ _. refl) (λ _. refl)
+  down-quiet ConnReq = cond_both (is_ours p.body) Accepts Rejects Q (λ _. refl) (λ _. refl)
   down-quiet ConnResp = refl
   down-quiet RetrReq = refl
   down-quiet RetrResp = refl
@@ -62,7 +62,7 @@ module _ (p : Pdu) (now : ℕ) (s : State) where
   down-quiet RetrData = refl
 
   client-quiet : (kind : Kind) → Q (as_client (kept_of s) p now kind)
-  client-quiet ConnResp = if_both Q (is_ours p.body) (tested (kept_of s) p now Connects) (Leaves WrongVersion Unspecified) (λ _. tested-quiet Connects refl) (λ _. leaves-quiet WrongVersion Unspecified)
+  client-quiet ConnResp = cond_both (is_ours p.body) (tested (kept_of s) p now Connects) (Leaves WrongVersion Unspecified) Q (λ _. tested-quiet Connects refl) (λ _. leaves-quiet WrongVersion Unspecified)
   client-quiet ConnReq = leaves-quiet UnexpectedPdu Unspecified
   client-quiet RetrReq = leaves-quiet UnexpectedPdu Unspecified
   client-quiet RetrResp = leaves-quiet UnexpectedPdu Unspecified
@@ -96,13 +96,13 @@ module _ (p : Pdu) (now : ℕ) (s : State) where
 
   table-quiet : s.connection ≡ Start → (d : ℕ) → Q (by_table (kept_of s) p now d)
   table-quiet start d =
-      if_both Q (nat_le d (REACH * s.settings.n_sendmax)) (by_cell (kept_of s) p now d (cell s.connection (d == 0) p.kind)) (Drops Number)
+      cond_both (nat_le d (REACH * s.settings.n_sendmax)) (by_cell (kept_of s) p now d (cell s.connection (d == 0) p.kind)) (Drops Number) Q
       (λ _. subst (λ c. Q (by_cell (kept_of s) p now d (cell c (d == 0) p.kind))) (sym start) (row-quiet (d == 0) p.kind d refl)) (λ _. refl)
 
   start-quiet : s.connection ≡ Start → Q (by_connection (kept_of s) p now Start)
   start-quiet start =
-      if_both Q (is_goodbye p.kind) Shuts (in_start (kept_of s) p now) (λ _. refl)
-      (λ _. if_both Q s.settings.client (as_client (kept_of s) p now p.kind) (by_table (kept_of s) p now (distance (kept_of s) p)) (λ _. client-quiet p.kind) (λ _. table-quiet start (distance (kept_of s) p)))
+      cond_both (is_goodbye p.kind) Shuts (in_start (kept_of s) p now) Q (λ _. refl)
+      (λ _. cond_both s.settings.client (as_client (kept_of s) p now p.kind) (by_table (kept_of s) p now (distance (kept_of s) p)) Q (λ _. client-quiet p.kind) (λ _. table-quiet start (distance (kept_of s) p)))
 
   meant-quiet : (s.connection ≡ Down) ⊎ (s.connection ≡ Start) → Q (by_connection (kept_of s) p now s.connection)
   meant-quiet (inl down) = subst (λ c. Q (by_connection (kept_of s) p now c)) (sym down) (down-quiet p.kind)
@@ -110,20 +110,12 @@ module _ (p : Pdu) (now : ℕ) (s : State) where
 
   respond-quiet : (s.connection ≡ Down) ⊎ (s.connection ≡ Start) → (respond p now s).taken ≡ s.taken
   respond-quiet before =
-      if_both Q (is_closed s.connection) Nothing (by_sender (kept_of s) p now) (λ _. refl)
-      (λ _. if_both Q (is_stranger s p) (Drops Stranger) (by_connection (kept_of s) p now s.connection) (λ _. refl) (λ _. meant-quiet before))
+      cond_both (is_closed s.connection) Nothing (by_sender (kept_of s) p now) Q (λ _. refl)
+      (λ _. cond_both (is_stranger s p) (Drops Stranger) (by_connection (kept_of s) p now s.connection) Q (λ _. refl) (λ _. meant-quiet before))
 
 -- the guard leaves it as it is, or closed
 pub guarded : (now : ℕ) (s : State) → ((guard now s).connection ≡ Closed) ⊎ (guard now s ≡ s)
-guarded now s =
-    let late = nat_le (s.confirmed_at + s.settings.t_max) now in
-    let full = nat_le s.settings.pdu_limit (length s.made) in
-    let P : State → Type 0 = λ t. (t.connection ≡ Closed) ⊎ (t ≡ s) in
-    let inner : State = if full then leave ProtocolError Limit now s else s in
-    if_both P (is_live s.connection) (if late then leave Timeout Unspecified now s else inner) s
-    (λ _. if_both P late (leave Timeout Unspecified now s) inner (λ _. inl refl)
-    (λ _. if_both P full (leave ProtocolError Limit now s) s (λ _. inl refl) (λ _. inr refl)))
-    (λ _. inr refl)
+guarded now s = guard-cases (λ t. (t.connection ≡ Closed) ⊎ (t ≡ s)) now s (λ _ _. inl refl) (λ _. inr refl)
 
 pub waits_law_holds : WaitsLaw
 waits_law_holds (Guards now) s before = (plain-guard now s).taken

@@ -1,7 +1,7 @@
 -- Each PDU that a machine makes has a text.
 use Rattle.std.proofs.Common.{◌≡◌, ◌≤◌, ◌<◌, ◌+◌, ◌^◌, ℕ, zero, suc, List, [], ◌∷◌, ◌++◌, Bool, true, refl, sym, ap, subst, ◌∙◌, arith, length, drop}
 use Rattle.std.specs.Prelude.{◌&&◌, nat_le}
-use Rattle.std.proofs.lemmas.Bool.{le-leb, leb-true, eqb-true}
+use Rattle.std.proofs.lemmas.Bool.{le-leb, leb-true, eqb-true, cond_both, and_parts}
 use Rattle.octets.specs.declared.limits.TheConstants.{LEAVING_BODY, UNIT_MIN, UNIT_MAX}
 use Rattle.safe_pdu.specs.declared.Kind.{Kind}
 use Rattle.safe_pdu.specs.declared.Kind.TheVariants.{ConnReq, ConnResp, RetrReq, RetrResp, DiscReq, Heartbeat, Data, RetrData}
@@ -18,7 +18,6 @@ use Rattle.safe_machine.specs.Moves.{Move, moved, move, HasText, HaveTexts, IsUn
 use Rattle.safe_machine.specs.Moves.Move.{Guards, Hears, Ticks, Sends, Leaves}
 use Rattle.safe_machine.specs.declared.ConnectionState.TheVariants.{Start, Down}
 use Rattle.safe_machine.proofs.Legal.{legal}
-use Rattle.safe_machine.proofs.Cases.{if_both, and-parts}
 use Rattle.safe_machine.proofs.Receiving.{opening_window}
 use Rattle.safe_machine.proofs.Kept.{Kept, AllowsMove, kept-move, is_plain}
 
@@ -114,7 +113,7 @@ texts-drop (suc n) [] h = tt
 texts-drop (suc n) (m ∷ ms) h = texts-drop n ms h.1
 
 unit-small : (u : List ℕ) → IsBody Data u → length u ≤ UNIT_MAX
-unit-small u h = leb-true (length u) UNIT_MAX (and-parts (nat_le UNIT_MIN (length u)) (nat_le (length u) UNIT_MAX) h).1
+unit-small u h = leb-true (length u) UNIT_MAX (and_parts (nat_le UNIT_MIN (length u)) (nat_le (length u) UNIT_MAX) h).1
 
 texts-resend : (us : List (List ℕ)) (now : ℕ) (s : State) → AllSized us → Texts s → Texts (resend us now s)
 texts-resend [] now s k h = h
@@ -176,6 +175,6 @@ texts_law_holds settings first now ms lawful sound =
     let begun : State = blank settings first now Start in
     let before : Texts begun = record { own = own; sn = omega arith; ts = omega arith; texts = tt } in
     (texts-moved ms (opened settings first now) sound
-    (if_both Texts settings.client (make ConnReq (opening_body settings.n_sendmax) now begun) (blank settings first now Down)
+    (cond_both settings.client (make ConnReq (opening_body settings.n_sendmax) now begun) (blank settings first now Down) Texts
     (λ _. texts-make ConnReq (opening_body settings.n_sendmax) now begun own.window (omega arith) before)
     (λ _. record { own = own; sn = omega arith; ts = omega arith; texts = tt }))).texts

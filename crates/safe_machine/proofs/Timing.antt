@@ -1,6 +1,5 @@
 -- Each step of an end keeps the times of the pair.
 use Rattle.std.proofs.Common.{◌≡◌, ℕ, suc, zero, ◌+◌, ◌-◌, ◌%◌, ◌<◌, ◌≤◌, List, [], ◌∷◌, ◌++◌, length, drop, true, refl, sym, ap, subst, ◌∙◌, arith, append_assoc}
-use Rattle.std.specs.Prelude.{if◌then◌else◌, ◌&&◌, nat_le}
 use Rattle.std.proofs.lemmas.List.{append-nil}
 use Rattle.std.proofs.lemmas.Bool.{false≢true}
 use Rattle.safe_machine.specs.Numbers.{wrap, ahead}
@@ -9,13 +8,12 @@ use Rattle.safe_pdu.specs.declared.Kind.TheVariants.{ConnResp, RetrReq, RetrResp
 use Rattle.safe_machine.specs.declared.ConnectionState.{ConnectionState}
 use Rattle.safe_machine.specs.declared.ConnectionState.TheVariants.{Closed, Start, Up, RetrReq as Requesting, RetrRun}
 use Rattle.safe_pdu.specs.Bodies.{window_of}
-use Rattle.safe_machine.specs.Made.{Made, opening_body, leaving_body, carries, last_time}
+use Rattle.safe_machine.specs.Made.{Made, opening_body, leaving_body}
 use Rattle.safe_machine.specs.State.{State, unconfirmed, next_made, make, move_to, pass, hand_up, note_request, resend, reply, ask, leave}
 use Rattle.safe_machine.specs.declared.decision.Decision.{Decision}
 use Rattle.safe_machine.specs.Decision.{distance, cts_step}
 use Rattle.safe_machine.specs.declared.decision.Decision.TheVariants.{Nothing, Drops, Shuts, Leaves, Rejects, Accepts, Connects, Takes, Asks, Resumes, AnswersNext, AnswersEarly}
-use Rattle.safe_machine.specs.Step.{beat, tests_passed, carry_out, set_window, confirm_to, guard, heartbeat, may_send, send, confirm_units}
-use Rattle.safe_machine.proofs.Cases.{if_both, leb-false}
+use Rattle.safe_machine.specs.Step.{tests_passed, carry_out, set_window, confirm_to, guard, heartbeat, send, confirm_units}
 use Rattle.safe_machine.proofs.Runs.{Every, every-at, every-weaken, at-length}
 use Rattle.safe_machine.proofs.Invariant.{Told, Sound, needs_peer, is_opening, Started}
 use Rattle.safe_machine.proofs.Deciding.{Fits, listens-live}
@@ -23,11 +21,12 @@ use Rattle.safe_machine.proofs.Arrivals.{Arrival}
 use Rattle.safe_machine.proofs.Receiving.{Incoming, incoming-arrival, incoming-next, first-arrival}
 use Rattle.safe_machine.proofs.Times.{Timed, Steps, MadeNow, Stamped, ahead-time}
 use Rattle.safe_machine.specs.declared.Reason.{Reason}
-use Rattle.safe_machine.specs.declared.Reason.TheVariants.{Timeout, WrongVersion, ProtocolError}
+use Rattle.safe_machine.specs.declared.Reason.TheVariants.{WrongVersion}
 use Rattle.safe_machine.specs.declared.Detail.{Detail}
-use Rattle.safe_machine.specs.declared.Detail.TheVariants.{Unspecified, Limit}
-use Rattle.safe_machine.specs.Connections.{is_live, in_turn, is_connected}
+use Rattle.safe_machine.specs.declared.Detail.TheVariants.{Unspecified}
+use Rattle.safe_machine.specs.Connections.{is_live}
 use Rattle.safe_machine.specs.View.{kept_of}
+use Rattle.safe_machine.proofs.StepCases.{leave-cases, guard-cases, heartbeat-cases, unit-cases, send-cases, early-cases}
 
 -- PDUs are made and nothing else that the times speak of
 pub record Makes (now : ℕ) (s t : State) : Type 0 where
@@ -83,7 +82,7 @@ makes-moved now connection s t a =
 
 pub makes-leave : (reason : Reason) (detail : Detail) (now : ℕ) (s : State) → Makes now s (leave reason detail now s)
 makes-leave reason detail now s =
-    if_both (λ t. Makes now s (move_to Closed t)) (is_live s.connection) (make DiscReq (leaving_body reason detail) now s) s
+    leave-cases (Makes now s) reason detail now s
     (λ _. makes-moved now Closed s (make DiscReq (leaving_body reason detail) now s) (makes-one DiscReq (leaving_body reason detail) now s))
     (λ _. makes-moved now Closed s s (makes-none now s))
 
@@ -103,20 +102,13 @@ makes-ask : (now : ℕ) (s : State) → Makes now s (ask now s)
 makes-ask now s = makes-moved now Requesting s (make RetrReq [] now s) (makes-one RetrReq [] now s)
 
 pub makes-guard : (now : ℕ) (s : State) → Makes now s (guard now s)
-makes-guard now s =
-    let inner : State = if nat_le s.settings.pdu_limit (length s.made) then leave ProtocolError Limit now s else s in
-    if_both (Makes now s) (is_live s.connection) (if nat_le (s.confirmed_at + s.settings.t_max) now then leave Timeout Unspecified now s else inner) s
-    (λ _.
-    if_both (Makes now s) (nat_le (s.confirmed_at + s.settings.t_max) now) (leave Timeout Unspecified now s) inner (λ _. makes-leave Timeout Unspecified now s)
-    (λ _. if_both (Makes now s) (nat_le s.settings.pdu_limit (length s.made)) (leave ProtocolError Limit now s) s (λ _. makes-leave ProtocolError Limit now s) (λ _. makes-none now s)))
-    (λ _. makes-none now s)
+makes-guard now s = guard-cases (Makes now s) now s (λ reason detail. makes-leave reason detail now s) (λ _. makes-none now s)
 
 pub makes-heartbeat : (now : ℕ) (s : State) → Makes now s (heartbeat now s)
-makes-heartbeat now s =
-    if_both (Makes now s) (is_connected s.connection && nat_le (last_time s.made 0 + s.settings.t_h) now) (make Heartbeat [] now s) s (λ _. makes-one Heartbeat [] now s) (λ _. makes-none now s)
+makes-heartbeat now s = heartbeat-cases (Makes now s) now s (λ _. makes-one Heartbeat [] now s) (makes-none now s)
 
 pub makes-send : (unit : List ℕ) (now : ℕ) (s : State) → Makes now s (send unit now s)
-makes-send unit now s = if_both (Makes now s) (may_send s) (make Data unit now s) s (λ _. makes-one Data unit now s) (λ _. makes-none now s)
+makes-send unit now s = send-cases (Makes now s) unit now s (λ _ _. makes-one Data unit now s) (makes-none now s)
 
 -- a step that takes nothing, and what is made behind any step
 pub steps-none : (clock other now : ℕ) (x y : State) → clock ≤ now → Timed clock x y → Timed other y x → Steps now x x y
@@ -282,12 +274,9 @@ steps-carry clock other now i m rest x y later guarded a h g (Takes to) f =
     let k : Steps now x z y =
     steps-passed clock other now (x.expected + 0) m rest x z y later (guarded (listens-live x.connection x.settings.client f.table.listens_now)) h g (arrival-coming 0 m rest x y r f.needs) refl refl refl refl in
     let u = hand_up m.pdu z in
-    if_both (λ t. Steps now x t y) (carries m.pdu.kind) (beat now u) z
-    (λ _.
-    if_both (λ t. Steps now x t y) (nat_le x.settings.mwa (x.since + 1)) (make Heartbeat [] now u) u
+    unit-cases (λ t. Steps now x t y) m.pdu now z
     (λ _. steps-then now x z (make Heartbeat [] now u) y k (makes-then now z u (make Heartbeat [] now u) (makes-same now z u refl refl refl refl) (makes-one Heartbeat [] now u)))
-    (λ _. steps-then now x z u y k (makes-same now z u refl refl refl refl)))
-    (λ _. k)
+    (λ _ _. steps-then now x z u y k (makes-same now z u refl refl refl refl)) (λ _. k)
 steps-carry clock other now i m rest x y later guarded a h g Asks f = steps-then now x x (ask now x) y (steps-none clock other now x y later h g) (makes-ask now x)
 steps-carry clock other now i m rest x y later guarded a h g Resumes f =
     let d = distance (kept_of x) m.pdu in
@@ -304,22 +293,13 @@ steps-carry clock other now i m rest x y later guarded a h g AnswersEarly f =
     let z = note_request (distance (kept_of x) m.pdu) (confirm_units m.pdu x) in
     let k = steps-then now x x z y (steps-none clock other now x y later h g) (makes-same now x z refl refl refl refl) in
     let t = reply now z in
-    if_both (λ u. Steps now x u y) (in_turn x.connection) (ask now t) t
-    (λ _. steps-then now x z (ask now t) y k (makes-then now z t (ask now t) (makes-reply now z) (makes-ask now t)))
-    (λ _. steps-then now x z t y k (makes-reply now z))
+    early-cases (λ u. Steps now x u y) m.pdu now x (λ _. steps-then now x z (ask now t) y k (makes-then now z t (ask now t) (makes-reply now z) (makes-ask now t)))
+    (steps-then now x z t y k (makes-reply now z))
 
 -- what a live end passes the guard with
 pub guard-passed : (now : ℕ) (s : State) → is_live (guard now s).connection ≡ true → now < (guard now s).confirmed_at + (guard now s).settings.t_max
 guard-passed now s =
-    let P : State → Type 0 = λ t. is_live t.connection ≡ true → now < t.confirmed_at + t.settings.t_max in
-    let inner : State = if nat_le s.settings.pdu_limit (length s.made) then leave ProtocolError Limit now s else s in
-    if_both P (is_live s.connection) (if nat_le (s.confirmed_at + s.settings.t_max) now then leave Timeout Unspecified now s else inner) s
-    (λ _.
-    if_both P (nat_le (s.confirmed_at + s.settings.t_max) now) (leave Timeout Unspecified now s) inner (λ _. λ live. absurd (false≢true live))
-    (λ early.
-    let before = leb-false (s.confirmed_at + s.settings.t_max) now early in
-    if_both P (nat_le s.settings.pdu_limit (length s.made)) (leave ProtocolError Limit now s) s (λ _. λ live. absurd (false≢true live)) (λ _. λ live. before)))
-    (λ dead. λ live. absurd (false≢true (sym dead ∙ live)))
+    guard-cases (λ t. is_live t.connection ≡ true → now < t.confirmed_at + t.settings.t_max) now s (λ _ _ live. absurd (false≢true live)) (λ holds live. (holds live).0)
 
 -- A unit that is taken was carried by a PDU whose basis this end made less than t_max before.
 pub fresh-take : (clock now i : ℕ) (m : Made) (rest : List Made) (x y : State) (to : ConnectionState) → clock ≤ now → now < x.confirmed_at + x.settings.t_max → x.settings.t_max ≤ 60000 →

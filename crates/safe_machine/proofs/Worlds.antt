@@ -1,32 +1,31 @@
 -- Every event keeps the law.
 use Rattle.std.proofs.Common.{◌≡◌, ◌≢◌, ◌⊎◌, inl, inr, ℕ, zero, suc, ◌+◌, ◌<◌, ◌≤◌, List, [], ◌∷◌, ◌++◌, length, drop, Option, Some, None, Bool, true, false, refl, sym, ap, subst, ◌∙◌, arith}
-use Rattle.std.specs.Prelude.{if◌then◌else◌, nat_le}
-use Rattle.std.proofs.lemmas.Bool.{false≢true}
+use Rattle.std.specs.Prelude.{if◌then◌else◌}
+use Rattle.std.proofs.lemmas.Bool.{false≢true, cond_both}
 use Rattle.safe_machine.specs.World.Side.{Il, Fe}
-use Rattle.safe_pdu.specs.declared.Kind.TheVariants.{RetrResp, DiscReq, Heartbeat}
+use Rattle.safe_pdu.specs.declared.Kind.TheVariants.{RetrResp, DiscReq}
 use Rattle.safe_machine.specs.declared.ConnectionState.{ConnectionState}
 use Rattle.safe_machine.specs.declared.ConnectionState.TheVariants.{Closed, Down, Start, Up, RetrReq as Requesting, RetrRun}
 use Rattle.safe_pdu.specs.Pdu.{Pdu}
-use Rattle.safe_machine.specs.Made.{Made, units, run_of, leaving_body, carries, is_request}
+use Rattle.safe_machine.specs.Made.{Made, units, run_of, leaving_body, is_request}
 use Rattle.safe_machine.specs.Settings.{Settings, is_legal}
-use Rattle.safe_machine.specs.State.{State, next_made, make, move_to, pass, hand_up, note_request, reply, ask, leave, unconfirmed, opened}
+use Rattle.safe_machine.specs.State.{State, next_made, make, move_to, pass, note_request, reply, leave, unconfirmed, opened}
 use Rattle.safe_machine.specs.declared.decision.Decision.{Decision}
 use Rattle.safe_machine.specs.Decision.{decide, distance}
 use Rattle.safe_machine.specs.declared.decision.Decision.TheVariants.{Nothing, Drops, Shuts, Leaves, Rejects, Accepts, Connects, Takes, Asks, Resumes, AnswersNext, AnswersEarly}
-use Rattle.safe_machine.specs.Step.{guard, respond, arrive, carry_out, tick, send, tests_passed, beat, confirm_units}
+use Rattle.safe_machine.specs.Step.{guard, respond, arrive, carry_out, tick, send, tests_passed, confirm_units}
 use Rattle.safe_machine.specs.World.{World, Served, Event, unopened, start, happens, run, Among, GenuineAt, GenuineEvent, Genuine, joins, IsBeginningOf, as_role, open_il, open_fe, with_il, with_fe}
 use Rattle.safe_machine.specs.World.Event.{Open, Send, Close, Guard, Tick, Arrive}
 use Rattle.safe_machine.specs.Law.{next_bound, JoinsFall, taken_from_il}
 use Rattle.safe_machine.proofs.Inner.{TakesBeginnings, AllTakeBeginnings, OnlyJoinedTake, LawOf, taken_from_fe, LosesNothingOf}
 use Rattle.safe_machine.proofs.Legal.{legal}
-use Rattle.safe_machine.proofs.Cases.{if_both}
 use Rattle.safe_machine.proofs.Runs.{requests, answers, count-drop_nil, Every, every-drop_all, no_requests, Numbered, at-length}
 use Rattle.safe_machine.proofs.Invariant.{NotOpening, Sound, Told, Started, Solo, Half, Pair}
 use Rattle.safe_machine.proofs.Moves.{pair-leave}
 use Rattle.safe_machine.proofs.Receiving.{opening_window}
 use Rattle.safe_machine.proofs.Deciding.{Fits, listens, decide-fits}
 use Rattle.safe_machine.proofs.Counting.{Bounded, bounded-guard, bounded-leave, bounded-send}
-use Rattle.safe_machine.proofs.Lone.{Lone, lone-leave, lone-guard, lone-tick, lone-send, guard-idle, pair-guard, pair-send, pair-tick, pair-arrive, bounded-tick, arrive-by, among-dropped, down_or, respond-closed}
+use Rattle.safe_machine.proofs.Lone.{Lone, lone-leave, lone-guard, lone-tick, lone-send, pair-guard, pair-send, pair-tick, pair-arrive, bounded-tick, arrive-by, among-dropped, respond-closed}
 use Rattle.safe_machine.proofs.Incarnations.{linked-latest, takes-other, takes-pushed, takes-il_lone, takes-fe_lone, fall-more, all-takes, only-weaken}
 use Rattle.safe_machine.proofs.Status.{Settled, JoinedTo, Met, Mute, IlLater, FeLater, Status, Untouched, mute-leave, mute-guard, mute-tick, mute-send, mute-arrive, deaf-arrive, still-arrive}
 use Rattle.safe_machine.proofs.Lost.{met-loses_nothing, mute-loses_nothing, taken-other, taken-pushed, lone-owes}
@@ -34,8 +33,10 @@ use Rattle.safe_machine.proofs.Status.Status.{met, il_later, fe_later}
 use Rattle.safe_machine.specs.declared.Reason.TheVariants.{WrongVersion}
 use Rattle.safe_machine.specs.declared.Detail.TheVariants.{Unspecified}
 use Rattle.safe_machine.proofs.Resending.{resend-connection}
-use Rattle.safe_machine.specs.Connections.{in_turn, is_live, is_connected}
+use Rattle.safe_machine.specs.Connections.{is_live}
 use Rattle.safe_machine.specs.View.{kept_of}
+use Rattle.safe_machine.proofs.StepCases.{guard-idle, unit-cases, early-cases}
+use Rattle.safe_machine.proofs.ConnectionFacts.{connected-up, down_or}
 
 abbrev pub Idle : State → Option ℕ → Type 0
 Idle fe joined = fe.connection ≡ Down → Untouched fe × (joined ≡ None)
@@ -304,9 +305,6 @@ fe-step w t h l b pair =
     go (fe_later s) = let k = still-lone w.fe t l s.connection in fe-fe_later w t h s k.0 k.1 l b
 
 -- Arrivals at the field element.
-connected≢down : (connection : ConnectionState) → is_connected connection ≡ true → connection ≢ Down
-connected≢down connection c e = false≢true (sym (ap is_connected e) ∙ c)
-
 reply-connection : (now : ℕ) (s : State) → (reply now s).connection ≡ s.connection
 reply-connection now s = resend-connection (unconfirmed s) now (make RetrResp [] now s)
 
@@ -321,10 +319,8 @@ on-carry p now s on Accepts f = λ e. on f.0
 on-carry p now s on Connects f = λ e. cc
 on-carry p now s on (Takes to) f =
     let z = move_to to (pass p 0 (tests_passed p s)) in
-    let not_down = connected≢down to f.connected in
-    if_both (λ (t : State). t.connection ≢ Down) (carries p.kind) (beat now (hand_up p z)) z
-    (λ _. if_both (λ (t : State). t.connection ≢ Down) (nat_le s.settings.mwa (s.since + 1)) (make Heartbeat [] now (hand_up p z)) (hand_up p z) (λ _. not_down) (λ _. not_down))
-    (λ _. not_down)
+    let not_down = connected-up to f.connected in
+    unit-cases (λ t. t.connection ≢ Down) p now z (λ _. not_down) (λ _ _. not_down) (λ _. not_down)
 on-carry p now s on Asks f = λ e. cc
 on-carry p now s on Resumes f = λ e. cc
 on-carry p now s on AnswersNext f =
@@ -332,8 +328,7 @@ on-carry p now s on AnswersNext f =
     λ e. on (sym (reply-connection now z) ∙ e)
 on-carry p now s on AnswersEarly f =
     let z = note_request (distance (kept_of s) p) (confirm_units p s) in
-    let t = reply now z in
-    if_both (λ (u : State). u.connection ≢ Down) (in_turn s.connection) (ask now t) t (λ _. λ e. cc) (λ _. λ e. on (sym (reply-connection now z) ∙ e))
+    early-cases (λ u. u.connection ≢ Down) p now s (λ _ e. cc) (λ e. on (sym (reply-connection now z) ∙ e))
 
 on-arrive : (p : Pdu) (now : ℕ) (s : State) → s.connection ≢ Down → (arrive p now s).connection ≢ Down
 on-arrive p now s on =
@@ -620,9 +615,9 @@ inv-start =
 -- Every event keeps the invariant.
 pub inv-event : (w : World) (e : Event) → Inv w → GenuineEvent w e → Inv (happens w e)
 inv-event w (Open Il settings first now) h g =
-    if_both Inv (is_legal settings) (open_il settings first now w) w (λ legal. inv-open_il settings first now w h legal) (λ _. h)
+    cond_both (is_legal settings) (open_il settings first now w) w Inv (λ legal. inv-open_il settings first now w h legal) (λ _. h)
 inv-event w (Open Fe settings first now) h g =
-    if_both Inv (is_legal settings) (open_fe settings first now w) w (λ legal. inv-open_fe settings first now w h legal) (λ _. h)
+    cond_both (is_legal settings) (open_fe settings first now w) w Inv (λ legal. inv-open_fe settings first now w h legal) (λ _. h)
 inv-event w (Send Il unit now) h g = il-step w (send unit now w.il) h (lone-send unit now w.il h.bounded_il) (bounded-send unit now w.il h.bounded_il) (pair-send unit now w.il w.fe) (mute-send unit now w.il)
 inv-event w (Send Fe unit now) h g = fe-step w (send unit now w.fe) h (lone-send unit now w.fe h.bounded_fe) (bounded-send unit now w.fe h.bounded_fe) (pair-send unit now w.fe w.il)
 inv-event w (Close Il reason detail now) h g =
