@@ -2,7 +2,7 @@ use Rattle.safe_machine.specs.declared.Role.TheVariants.{Client}
 use Rattle.safe_machine.specs.declared.ConnectionState.TheVariants.{Start}
 use Rattle.safe_machine.specs.State.{State, blank, opened}
 use Rattle.safe_machine.specs.View.{settings_of}
-use Rattle.safe_machine.proofs.Views.{hands-out}
+use Rattle.safe_machine.proofs.code.Views.{hands-out}
 use Rattle.safe_machine.proofs.opening.begin_client.Goals as goal
 
 pub returns-clause-stands : goal.returns-clause-stands

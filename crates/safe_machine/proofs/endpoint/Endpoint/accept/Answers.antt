@@ -1,7 +1,7 @@
 use Rattle.std.proofs.Common.{ℕ, ap, ◌∙◌}
 use Rattle.safe_machine.specs.View.{View}
 use Rattle.safe_pdu.specs.Pdu.{pdu_of}
-use Rattle.safe_machine.proofs.Views.{accepts-does}
+use Rattle.safe_machine.proofs.code.Views.{accepts-does}
 use Rattle.safe_machine.proofs.endpoint.Endpoint.accept.Goals as goal
 
 pub returns : goal.returns

@@ -1,7 +1,7 @@
 use Rattle.std.proofs.Common.{sym, ap, ◌∙◌}
 use Rattle.safe_pdu.specs.Pdu.{pdu_of}
 use Rattle.safe_machine.specs.View.{View}
-use Rattle.safe_machine.proofs.Views.{early-asks}
+use Rattle.safe_machine.proofs.code.Views.{early-asks}
 use Rattle.safe_machine.proofs.endpoint.Endpoint.answer_early.Goals as goal
 use Rattle.safe_machine.specs.Connections.{in_turn}
 

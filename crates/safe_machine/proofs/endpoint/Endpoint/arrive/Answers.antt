@@ -4,8 +4,8 @@ use Rattle.safe_machine.specs.State.{leave}
 use Rattle.safe_machine.specs.Step.{arrive, respond}
 use Rattle.safe_machine.specs.Decision.{decide}
 use Rattle.safe_machine.specs.View.{HandsUp}
-use Rattle.safe_machine.proofs.Views.{does-as}
-use Rattle.safe_machine.proofs.Arriving.{arrive-left, arrive-goes, hands-up}
+use Rattle.safe_machine.proofs.code.Views.{does-as}
+use Rattle.safe_machine.proofs.code.Arriving.{arrive-left, arrive-goes, hands-up}
 use Rattle.safe_machine.proofs.endpoint.Endpoint.arrive.Goals as goal
 
 pub returns-in-Some-clause-does : goal.returns-in-Some-clause-does

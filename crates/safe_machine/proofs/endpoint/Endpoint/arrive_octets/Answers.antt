@@ -8,11 +8,11 @@ use Rattle.safe_machine.specs.Moves.Move.{Guards, Hears}
 use Rattle.safe_machine.specs.Octets.{heard}
 use Rattle.safe_machine.specs.Properties.{HandsIf, IsRecent, IsNextData, OnlyConfirms}
 use Rattle.safe_machine.specs.View.{View, HandsUp}
-use Rattle.safe_machine.proofs.Arriving.{hands-nothing, octets-does}
-use Rattle.safe_machine.proofs.Nearing.{reached-near, reached-still}
-use Rattle.safe_machine.proofs.Properties.{reached-recent, reached-passes, one-read, none-read}
-use Rattle.safe_machine.proofs.Reaching.{reached-move, reached-sound}
-use Rattle.safe_machine.proofs.Stopping.{reached-stops, reached-keeps}
+use Rattle.safe_machine.proofs.code.Arriving.{hands-nothing, octets-does}
+use Rattle.safe_machine.proofs.code.Nearing.{reached-near, reached-still}
+use Rattle.safe_machine.proofs.code.Properties.{reached-recent, reached-passes, one-read, none-read}
+use Rattle.safe_machine.proofs.code.Reaching.{reached-move, reached-sound}
+use Rattle.safe_machine.proofs.code.Stopping.{reached-stops, reached-keeps}
 use Rattle.safe_machine.proofs.endpoint.Endpoint.arrive_octets.Goals as goal
 
 pub arrive-requires-clause-sound : goal.arrive-requires-clause-sound

@@ -1,5 +1,5 @@
 use Rattle.safe_pdu.specs.Pdu.{pdu_of}
-use Rattle.safe_machine.proofs.Views.{rejects-does}
+use Rattle.safe_machine.proofs.code.Views.{rejects-does}
 use Rattle.safe_machine.proofs.endpoint.Endpoint.reject.Goals as goal
 
 pub returns : goal.returns

@@ -1,8 +1,8 @@
 use Rattle.std.proofs.Common.{sym, subst, ap, ◌∙◌}
 use Rattle.safe_pdu.specs.Pdu.{pdu_of}
 use Rattle.safe_machine.specs.Decision.{decide}
-use Rattle.safe_machine.proofs.Deciding.{Fits, decide-fits}
-use Rattle.safe_machine.proofs.Arriving.{allowed, respond-does}
+use Rattle.safe_machine.proofs.one.Deciding.{Fits, decide-fits}
+use Rattle.safe_machine.proofs.code.Arriving.{allowed, respond-does}
 use Rattle.safe_machine.proofs.endpoint.Endpoint.respond.Goals as goal
 
 pub carry_out-requires-clause-allows : goal.carry_out-requires-clause-allows

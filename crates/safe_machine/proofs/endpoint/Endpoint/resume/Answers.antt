@@ -1,5 +1,5 @@
 use Rattle.safe_pdu.specs.Pdu.{pdu_of}
-use Rattle.safe_machine.proofs.Views.{resumes-turn}
+use Rattle.safe_machine.proofs.code.Views.{resumes-turn}
 use Rattle.safe_machine.proofs.endpoint.Endpoint.resume.Goals as goal
 
 pub returns : goal.returns

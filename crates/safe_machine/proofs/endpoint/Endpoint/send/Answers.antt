@@ -6,11 +6,11 @@ use Rattle.safe_machine.specs.Step.{send}
 use Rattle.safe_pdu.specs.declared.Kind.TheVariants.{Data}
 use Rattle.safe_machine.specs.Moves.Move.{Sends}
 use Rattle.safe_machine.specs.View.{View}
-use Rattle.safe_machine.proofs.Views.{does-as}
-use Rattle.safe_machine.proofs.Reaching.{reached-move, reached-sound, send-sends, send-turns}
+use Rattle.safe_machine.proofs.code.Views.{does-as}
+use Rattle.safe_machine.proofs.code.Reaching.{reached-move, reached-sound, send-sends, send-turns}
 use Rattle.safe_machine.proofs.endpoint.Endpoint.send.Goals as goal
 use Rattle.safe_machine.specs.Connections.{in_turn}
-use Rattle.safe_machine.proofs.ConnectionFacts.{turn-live}
+use Rattle.safe_machine.proofs.one.ConnectionFacts.{turn-live}
 
 pub send_unit-requires-clause-few : goal.send_unit-requires-clause-few
 send_unit-requires-clause-few g c = omega (arith, (reached-sound c.args.self.now c.requires.reached).few)

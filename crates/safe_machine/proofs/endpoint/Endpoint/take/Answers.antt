@@ -1,5 +1,5 @@
 use Rattle.safe_pdu.specs.Pdu.{pdu_of}
-use Rattle.safe_machine.proofs.Views.{takes-does}
+use Rattle.safe_machine.proofs.code.Views.{takes-does}
 use Rattle.safe_machine.proofs.endpoint.Endpoint.take.Goals as goal
 
 pub returns-clause-does : goal.returns-clause-does
