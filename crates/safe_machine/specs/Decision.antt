@@ -117,12 +117,12 @@ by_connection v p now Start = if is_goodbye p.kind then Shuts else in_start v p 
 by_connection v p now _ = if is_goodbye p.kind then Shuts else by_table v p now (distance v p)
 
 -- of a PDU that an end hears, which is one that is not closed
-abbrev pub heard : View → Pdu → ℕ → Decision
-heard v p now = if is_foreign v.settings p then Drops Stranger else by_connection v p now v.connection
+abbrev pub by_sender : View → Pdu → ℕ → Decision
+by_sender v p now = if is_foreign v.settings p then Drops Stranger else by_connection v p now v.connection
 
 -- what an end decides: closed first, then stranger, then by its state
 abbrev pub decide : View → Pdu → ℕ → Decision
-decide v p now = if is_closed v.connection then Nothing else heard v p now
+decide v p now = if is_closed v.connection then Nothing else by_sender v p now
 
 -- what a decision is told as
 abbrev pub answer_of : Decision → Answer

@@ -91,8 +91,8 @@ leave reason detail now s =
     move_to Closed (if is_live s.connection then make DiscReq (leaving_body reason detail) now s else s)
 
 -- an end as it is opened
-abbrev pub fresh : Settings → ℕ → ℕ → ConnectionState → State
-fresh settings first now connection =
+abbrev pub blank : Settings → ℕ → ℕ → ConnectionState → State
+blank settings first now connection =
     record {
       settings = settings;
       first = first;
@@ -113,5 +113,5 @@ fresh settings first now connection =
 abbrev pub opened : Settings → ℕ → ℕ → State
 opened settings first now =
     if settings.client
-    then make ConnReq (opening_body settings.n_sendmax) now (fresh settings first now Start)
-    else fresh settings first now Down
+    then make ConnReq (opening_body settings.n_sendmax) now (blank settings first now Start)
+    else blank settings first now Down

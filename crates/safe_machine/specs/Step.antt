@@ -76,12 +76,12 @@ abbrev pub guard : ℕ → State → State
 guard now s = by_guard now (kept_of s) (λ reason detail. leave reason detail now s) s
 
 -- an arrival behind the guard
-abbrev pub receive : Pdu → ℕ → State → State
-receive p now s = carry_out p now (decide (kept_of s) p now) s
+abbrev pub respond : Pdu → ℕ → State → State
+respond p now s = carry_out p now (decide (kept_of s) p now) s
 
 -- an arrival
 abbrev pub arrive : Pdu → ℕ → State → State
-arrive p now s = receive p now (guard now s)
+arrive p now s = respond p now (guard now s)
 
 -- an answer, unless the guard leaves
 abbrev pub unless_guarded : ℕ → View → Answer → Answer

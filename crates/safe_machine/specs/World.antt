@@ -6,7 +6,7 @@ use Rattle.safe_pdu.specs.declared.CodeLength.TheVariants.{Eight}
 use Rattle.safe_pdu.specs.Pdu.{Pdu}
 use Rattle.safe_machine.specs.Made.{Made}
 use Rattle.safe_machine.specs.Settings.{Settings, is_legal}
-use Rattle.safe_machine.specs.State.{State, fresh, opened, leave}
+use Rattle.safe_machine.specs.State.{State, blank, opened, leave}
 use Rattle.safe_machine.specs.Decision.{is_stranger}
 use Rattle.safe_machine.specs.Step.{guard, arrive, tick, send}
 use Rattle.safe_machine.specs.declared.Reason.{Reason}
@@ -37,7 +37,7 @@ pub record World : Type 0 where
 -- an end before its first opening
 abbrev pub unopened : State
 unopened =
-    fresh (record { client = true; own = 0; peer = 0; n_sendmax = 1; t_max = 0; t_h = 0; mwa = 1; pdu_limit = 0; rule = record { length = Eight; initial_value = [] } }) 0 0 Closed
+    blank (record { client = true; own = 0; peer = 0; n_sendmax = 1; t_max = 0; t_h = 0; mwa = 1; pdu_limit = 0; rule = record { length = Eight; initial_value = [] } }) 0 0 Closed
 
 -- nothing is opened yet
 abbrev pub start : World

@@ -1,10 +1,12 @@
 //! What an end decides on an arrival, before anything is done.
 
-ghost use Rattle.std.specs.Prelude.{◌≡◌, ◌+◌, ◌<◌, ◌^◌, ◌%◌, ℕ, Bool};
-ghost use Rattle.safe_pdu.specs.Pdu.{Pdu, pdu_of};
+ghost use Rattle.std.specs.Prelude.{◌≡◌, ◌<◌, ◌^◌};
+ghost use Rattle.safe_pdu.specs.Pdu.{pdu_of};
 ghost use Rattle.safe_pdu.specs.Bodies.{IsBody};
+ghost use Rattle.safe_machine.specs.Decision.{decide, cs_step, cts_step, distance, answering, as_client, by_cell, by_connection, by_table, by_sender, in_down, in_start, is_ours, is_foreign, tested, cs_fits, cts_fits, unconfirming};
+ghost use Rattle.safe_machine.specs.declared.decision.Decision.TheVariants.{Accepts, AnswersEarly, Asks, Connects, Rejects, Resumes, Takes};
 ghost use Rattle.safe_machine.specs.Numbers.{ahead};
-ghost use Rattle.safe_machine.specs.Decision.{answering, as_client, by_cell, by_connection, by_table, decide, distance, heard, in_down, in_start, is_ours, is_foreign, tested, cs_step, cs_fits, cts_step, cts_fits, unconfirming};
+ghost use Rattle.safe_machine.specs.declared.Role.TheVariants.{Client};
 
 use super::endpoint::{Endpoint, VERSION, low};
 use super::table::{Cell, cell_of};
@@ -42,73 +44,29 @@ pub(crate) enum Decision {
     AnswersEarly,
 }
 
-/// How far a 32-bit number lies ahead of another.
-fn steps_ahead(from: u32, to: u32) -> u32
-    ensures { result ≡ ahead from to }
-{
-    to.wrapping_sub(from)
-}
-
-/// Whether the body of a ConnReq or ConnResp has the version of this profile.
-fn is_ours(body: &[u8]) -> bool
-    requires { IsBody Kind.ConnReq body.now }
-    ensures { result ≡ is_ours body.now }
-{
-    read_opening(body).version == VERSION.as_slice()
-}
-
-/// What a server that waits for a ConnReq decides.
-fn in_down(pdu: &SafePdu<'_>) -> Decision
-    requires { IsBody pdu.now.kind pdu.now.body.now }
-    ensures { result ≡ in_down (pdu_of pdu.now) pdu.now.kind }
-{
-    match pdu.kind {
-        Kind::ConnReq => {
-            if is_ours(pdu.body) {
-                Decision::Accepts
-            } else {
-                Decision::Rejects
-            }
-        }
-        _ => Decision::Drops(DropCause::NotOpened),
-    }
-}
-
 impl<A: Allocator> Endpoint<A> {
-    /// How far a PDU lies ahead of the expected one.
-    pub(crate) fn distance(&self, pdu: &SafePdu<'_>) -> u32
-        ensures { result ≡ distance self.now (pdu_of pdu.now) }
+    /// What the end decides.
+    pub(crate) fn decide(&self, pdu: &SafePdu<'_>, now: u64) -> Decision
+        requires body { IsBody pdu.now.kind pdu.now.body.now }
+        requires reach { self.now.expected < 2 ^ 62 }
+        ensures { result ≡ decide self.now (pdu_of pdu.now) now }
     {
-        steps_ahead(self.last_sn.wrapping_add(1), pdu.sn)
+        if self.connection == ConnectionState::Closed {
+            return Decision::Nothing;
+        }
+        self.by_sender(pdu, now)
     }
 
-    /// How many PDUs it confirms beyond those that were confirmed.
-    pub(crate) fn cs_step(&self, pdu: &SafePdu<'_>) -> u32
-        ensures { result ≡ cs_step self.now (pdu_of pdu.now) }
+    /// What an end that is not closed decides.
+    fn by_sender(&self, pdu: &SafePdu<'_>, now: u64) -> Decision
+        requires body { IsBody pdu.now.kind pdu.now.body.now }
+        requires reach { self.now.expected < 2 ^ 62 }
+        ensures { result ≡ by_sender self.now (pdu_of pdu.now) now }
     {
-        let confirmed = self.first.wrapping_add(low(self.confirmed));
-        steps_ahead(confirmed, pdu.cs)
-    }
-
-    /// How far it confirms the own time beyond what was confirmed.
-    pub(crate) fn cts_step(&self, pdu: &SafePdu<'_>) -> u32
-        ensures { result ≡ cts_step self.now (pdu_of pdu.now) }
-    {
-        steps_ahead(low(self.confirmed_at), pdu.cts)
-    }
-
-    /// Whether it confirms what was made.
-    fn cs_fits(&self, pdu: &SafePdu<'_>) -> bool
-        ensures { result ≡ cs_fits self.now (pdu_of pdu.now) }
-    {
-        u64::from(self.cs_step(pdu)) < self.made.saturating_sub(self.confirmed)
-    }
-
-    /// Whether it confirms a time that is past.
-    fn cts_fits(&self, pdu: &SafePdu<'_>, now: u64) -> bool
-        ensures { result ≡ cts_fits self.now (pdu_of pdu.now) now }
-    {
-        u64::from(self.cts_step(pdu)) <= now.saturating_sub(self.confirmed_at)
+        if self.is_foreign(pdu) {
+            return Decision::Drops(DropCause::Stranger);
+        }
+        self.by_connection(pdu, now)
     }
 
     /// Whether it is not of this pair of ends.
@@ -118,17 +76,32 @@ impl<A: Allocator> Endpoint<A> {
         pdu.receiver != self.config.own || pdu.sender != self.config.peer
     }
 
-    /// A decision under the confirmation tests.
-    fn tested(&self, pdu: &SafePdu<'_>, now: u64, decision: Decision) -> Decision
-        ensures { result ≡ tested self.now (pdu_of pdu.now) now decision }
+    /// What an end decides by its state.
+    fn by_connection(&self, pdu: &SafePdu<'_>, now: u64) -> Decision
+        requires body { IsBody pdu.now.kind pdu.now.body.now }
+        requires reach { self.now.expected < 2 ^ 62 }
+        ensures { result ≡ by_connection self.now (pdu_of pdu.now) now self.now.connection }
     {
-        if !self.cs_fits(pdu) {
-            return Decision::Leaves(Reason::ProtocolError, Detail::ConfirmedNumber);
+        let is_goodbye = matches!(pdu.kind, Kind::DiscReq);
+        match self.connection {
+            ConnectionState::Closed => Decision::Nothing,
+            ConnectionState::Down => in_down(pdu),
+            _ if is_goodbye => Decision::Shuts,
+            ConnectionState::Start => self.in_start(pdu, now),
+            _ => self.by_table(pdu, now),
         }
-        if !self.cts_fits(pdu, now) {
-            return Decision::Leaves(Reason::ProtocolError, Detail::ConfirmedTimestamp);
+    }
+
+    /// What an end in Start decides of a PDU that is no DiscReq.
+    fn in_start(&self, pdu: &SafePdu<'_>, now: u64) -> Decision
+        requires body { IsBody pdu.now.kind pdu.now.body.now }
+        requires reach { self.now.expected < 2 ^ 62 }
+        ensures { result ≡ in_start self.now (pdu_of pdu.now) now }
+    {
+        match self.role {
+            Role::Client => self.as_client(pdu, now),
+            Role::Server => self.by_table(pdu, now),
         }
-        decision
     }
 
     /// What a client in Start decides.
@@ -145,6 +118,34 @@ impl<A: Allocator> Endpoint<A> {
                 }
             }
             _ => Decision::Leaves(Reason::UnexpectedPdu, Detail::Unspecified),
+        }
+    }
+
+    /// What an end with an expected number decides.
+    fn by_table(&self, pdu: &SafePdu<'_>, now: u64) -> Decision
+        requires { self.now.expected < 2 ^ 62 }
+        ensures { result ≡ by_table self.now (pdu_of pdu.now) now (distance self.now (pdu_of pdu.now)) }
+    {
+        let distance = self.distance(pdu);
+        if u64::from(distance) > REACH * u64::from(self.config.n_sendmax) {
+            return Decision::Drops(DropCause::Number);
+        }
+        let cell = cell_of(self.connection, distance == 0, pdu.kind);
+        self.by_cell(pdu, now, distance, cell)
+    }
+
+    /// What a cell of the table makes of a PDU.
+    fn by_cell(&self, pdu: &SafePdu<'_>, now: u64, distance: u32, cell: Cell) -> Decision
+        requires { self.now.expected < 2 ^ 62 }
+        ensures { result ≡ by_cell self.now (pdu_of pdu.now) now distance cell }
+    {
+        match cell {
+            Cell::Take(connection) => self.tested(pdu, now, Decision::Takes(connection)),
+            Cell::Ask => Decision::Asks,
+            Cell::Answer => self.answering(pdu, now, distance),
+            Cell::Resume => self.tested(pdu, now, Decision::Resumes),
+            Cell::Refuse(reason) => Decision::Leaves(reason, Detail::Unspecified),
+            Cell::Skip => Decision::Drops(DropCause::Request),
         }
     }
 
@@ -179,83 +180,84 @@ impl<A: Allocator> Endpoint<A> {
         }
     }
 
-    /// What a cell of the table makes of a PDU.
-    fn by_cell(&self, pdu: &SafePdu<'_>, now: u64, distance: u32, cell: Cell) -> Decision
-        requires { self.now.expected < 2 ^ 62 }
-        ensures { result ≡ by_cell self.now (pdu_of pdu.now) now distance cell }
+    /// A decision under the confirmation tests.
+    fn tested(&self, pdu: &SafePdu<'_>, now: u64, decision: Decision) -> Decision
+        ensures { result ≡ tested self.now (pdu_of pdu.now) now decision }
     {
-        match cell {
-            Cell::Take(connection) => self.tested(pdu, now, Decision::Takes(connection)),
-            Cell::Ask => Decision::Asks,
-            Cell::Answer => self.answering(pdu, now, distance),
-            Cell::Resume => self.tested(pdu, now, Decision::Resumes),
-            Cell::Refuse(reason) => Decision::Leaves(reason, Detail::Unspecified),
-            Cell::Skip => Decision::Drops(DropCause::Request),
+        if !self.cs_fits(pdu) {
+            return Decision::Leaves(Reason::ProtocolError, Detail::ConfirmedNumber);
         }
+        if !self.cts_fits(pdu, now) {
+            return Decision::Leaves(Reason::ProtocolError, Detail::ConfirmedTimestamp);
+        }
+        decision
     }
 
-    /// What an end with an expected number decides.
-    fn by_table(&self, pdu: &SafePdu<'_>, now: u64) -> Decision
-        requires { self.now.expected < 2 ^ 62 }
-        ensures { result ≡ by_table self.now (pdu_of pdu.now) now (distance self.now (pdu_of pdu.now)) }
+    /// How far a PDU lies ahead of the expected one.
+    pub(crate) fn distance(&self, pdu: &SafePdu<'_>) -> u32
+        ensures { result ≡ distance self.now (pdu_of pdu.now) }
     {
-        let distance = self.distance(pdu);
-        if u64::from(distance) > REACH * u64::from(self.config.n_sendmax) {
-            return Decision::Drops(DropCause::Number);
-        }
-        let cell = cell_of(self.connection, distance == 0, pdu.kind);
-        self.by_cell(pdu, now, distance, cell)
+        steps_ahead(self.last_sn.wrapping_add(1), pdu.sn)
     }
 
-    /// What an end in Start decides of a PDU that is no DiscReq.
-    fn in_start(&self, pdu: &SafePdu<'_>, now: u64) -> Decision
-        requires body { IsBody pdu.now.kind pdu.now.body.now }
-        requires reach { self.now.expected < 2 ^ 62 }
-        ensures { result ≡ in_start self.now (pdu_of pdu.now) now }
+    /// Whether it confirms what was made.
+    fn cs_fits(&self, pdu: &SafePdu<'_>) -> bool
+        ensures { result ≡ cs_fits self.now (pdu_of pdu.now) }
     {
-        match self.role {
-            Role::Client => self.as_client(pdu, now),
-            Role::Server => self.by_table(pdu, now),
-        }
+        u64::from(self.cs_step(pdu)) < self.made.saturating_sub(self.confirmed)
     }
 
-    /// What an end decides by its state.
-    fn by_connection(&self, pdu: &SafePdu<'_>, now: u64) -> Decision
-        requires body { IsBody pdu.now.kind pdu.now.body.now }
-        requires reach { self.now.expected < 2 ^ 62 }
-        ensures { result ≡ by_connection self.now (pdu_of pdu.now) now self.now.connection }
+    /// How many PDUs it confirms beyond those that were confirmed.
+    pub(crate) fn cs_step(&self, pdu: &SafePdu<'_>) -> u32
+        ensures { result ≡ cs_step self.now (pdu_of pdu.now) }
     {
-        let is_goodbye = matches!(pdu.kind, Kind::DiscReq);
-        match self.connection {
-            ConnectionState::Closed => Decision::Nothing,
-            ConnectionState::Down => in_down(pdu),
-            _ if is_goodbye => Decision::Shuts,
-            ConnectionState::Start => self.in_start(pdu, now),
-            _ => self.by_table(pdu, now),
-        }
+        let confirmed = self.first.wrapping_add(low(self.confirmed));
+        steps_ahead(confirmed, pdu.cs)
     }
 
-    /// What an end that is not closed decides.
-    fn heard(&self, pdu: &SafePdu<'_>, now: u64) -> Decision
-        requires body { IsBody pdu.now.kind pdu.now.body.now }
-        requires reach { self.now.expected < 2 ^ 62 }
-        ensures { result ≡ heard self.now (pdu_of pdu.now) now }
+    /// Whether it confirms a time that is past.
+    fn cts_fits(&self, pdu: &SafePdu<'_>, now: u64) -> bool
+        ensures { result ≡ cts_fits self.now (pdu_of pdu.now) now }
     {
-        if self.is_foreign(pdu) {
-            return Decision::Drops(DropCause::Stranger);
-        }
-        self.by_connection(pdu, now)
+        u64::from(self.cts_step(pdu)) <= now.saturating_sub(self.confirmed_at)
     }
 
-    /// What the end decides.
-    pub(crate) fn decide(&self, pdu: &SafePdu<'_>, now: u64) -> Decision
-        requires body { IsBody pdu.now.kind pdu.now.body.now }
-        requires reach { self.now.expected < 2 ^ 62 }
-        ensures { result ≡ decide self.now (pdu_of pdu.now) now }
+    /// How far it confirms the own time beyond what was confirmed.
+    pub(crate) fn cts_step(&self, pdu: &SafePdu<'_>) -> u32
+        ensures { result ≡ cts_step self.now (pdu_of pdu.now) }
     {
-        if self.connection == ConnectionState::Closed {
-            return Decision::Nothing;
-        }
-        self.heard(pdu, now)
+        steps_ahead(low(self.confirmed_at), pdu.cts)
     }
+}
+
+/// What a server that waits for a ConnReq decides.
+fn in_down(pdu: &SafePdu<'_>) -> Decision
+    requires { IsBody pdu.now.kind pdu.now.body.now }
+    ensures { result ≡ in_down (pdu_of pdu.now) pdu.now.kind }
+{
+    match pdu.kind {
+        Kind::ConnReq => {
+            if is_ours(pdu.body) {
+                Decision::Accepts
+            } else {
+                Decision::Rejects
+            }
+        }
+        _ => Decision::Drops(DropCause::NotOpened),
+    }
+}
+
+/// Whether the body of a ConnReq or ConnResp has the version of this profile.
+fn is_ours(body: &[u8]) -> bool
+    requires { IsBody Kind.ConnReq body.now }
+    ensures { result ≡ is_ours body.now }
+{
+    read_opening(body).version == VERSION.as_slice()
+}
+
+/// How far a 32-bit number lies ahead of another.
+fn steps_ahead(from: u32, to: u32) -> u32
+    ensures { result ≡ ahead from to }
+{
+    to.wrapping_sub(from)
 }

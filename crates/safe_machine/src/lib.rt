@@ -7,11 +7,15 @@
 ghost use Rattle.std.specs.Prelude.{◌≡◌};
 ghost use Rattle.safe_machine.specs.Leaving.{detail_number, reason_number};
 
-mod branches;
+mod arrival;
+mod clock;
 mod decision;
+mod effects;
 mod endpoint;
 mod law;
 mod machine;
+mod opening;
+mod sending;
 mod table;
 
 pub use law::unit_law;

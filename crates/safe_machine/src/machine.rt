@@ -19,7 +19,8 @@ ghost use Rattle.safe_machine.specs.Reached.{Known};
 ghost use Rattle.safe_machine.specs.View.{HandsOut, HandsUp, StandsFor, settings_of, texts};
 ghost use Rattle.safe_machine.specs.Connections.{in_turn};
 
-use super::endpoint::{Endpoint, begin};
+use super::endpoint::Endpoint;
+use super::opening::begin;
 use super::{
     ConnectionState, Detail, MachineConfig, MachineFault, Reason, Role, SendFault, Step, Unit,
 };
@@ -196,7 +197,7 @@ impl<A: Allocator> Machine<A> {
         ensures recent { HandsIf U.takes units.old units.new (IsRecent (safe_seen self.old.settings.rule octets.now) now self.old) }
         ensures ready { U.ready units.new }
     {
-        self.end.hear(octets, now, out, units)
+        self.end.arrive_octets(octets, now, out, units)
     }
 
     /// Sends a unit of 45 to 1,206 octets.

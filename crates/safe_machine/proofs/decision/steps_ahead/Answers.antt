@@ -1,5 +1,5 @@
 use Rattle.std.proofs.Common.{arith}
-use Rattle.safe_machine.proofs.Views.{ahead-bits}
+use Rattle.safe_machine.proofs.code.Views.{ahead-bits}
 use Rattle.safe_machine.proofs.decision.steps_ahead.Goals as goal
 
 pub returns : goal.returns

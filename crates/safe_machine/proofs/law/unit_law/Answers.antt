@@ -1,17 +1,17 @@
-use Rattle.safe_machine.proofs.Freshness.{fresh_law_holds, fresh_at_last_law_holds}
-use Rattle.safe_machine.proofs.OrderLaw.{order_law_holds}
-use Rattle.safe_machine.proofs.OrderStays.{stays_law_holds}
-use Rattle.safe_machine.proofs.Opened.{unit_law_holds, loss_law_holds, joined_law_holds}
-use Rattle.safe_machine.proofs.MovesLaw.{moves_law_holds}
-use Rattle.safe_machine.proofs.Identified.{settings_law_holds, identified_law_holds}
-use Rattle.safe_machine.proofs.Strangers.{strangers_law_holds, waits_law_holds}
-use Rattle.safe_machine.proofs.Connections.{connections_law_holds}
-use Rattle.safe_machine.proofs.Carriers.{reached_law_holds}
-use Rattle.safe_machine.proofs.Texts.{texts_law_holds}
-use Rattle.safe_machine.proofs.Few.{few_law_holds}
-use Rattle.safe_machine.proofs.Ring.{ring_of-units}
-use Rattle.safe_machine.proofs.Requests.{requests_law_holds}
-use Rattle.safe_machine.proofs.OneMore.{one_more_law_holds}
+use Rattle.safe_machine.proofs.two.Freshness.{fresh_law_holds, fresh_at_last_law_holds}
+use Rattle.safe_machine.proofs.order.OrderLaw.{order_law_holds}
+use Rattle.safe_machine.proofs.order.OrderStays.{stays_law_holds}
+use Rattle.safe_machine.proofs.two.Opened.{unit_law_holds, loss_law_holds, joined_law_holds}
+use Rattle.safe_machine.proofs.one.MovesLaw.{moves_law_holds}
+use Rattle.safe_machine.proofs.one.Identified.{settings_law_holds, identified_law_holds}
+use Rattle.safe_machine.proofs.one.Strangers.{strangers_law_holds, waits_law_holds}
+use Rattle.safe_machine.proofs.one.Connections.{connections_law_holds}
+use Rattle.safe_machine.proofs.one.Carriers.{reached_law_holds}
+use Rattle.safe_machine.proofs.one.Texts.{texts_law_holds}
+use Rattle.safe_machine.proofs.one.Few.{few_law_holds}
+use Rattle.safe_machine.proofs.one.Ring.{ring_of-units}
+use Rattle.safe_machine.proofs.one.Requests.{requests_law_holds}
+use Rattle.safe_machine.proofs.two.OneMore.{one_more_law_holds}
 use Rattle.safe_machine.proofs.law.unit_law.Goals as goal
 
 pub returns : goal.returns

@@ -1,8 +1,8 @@
 use Rattle.std.proofs.Common.{◌+◌, length, sym, subst, ap, ◌∙◌, arith}
 use Rattle.safe_machine.specs.View.{View, AllUnits}
-use Rattle.safe_machine.proofs.Views.{short-above, sized-above}
+use Rattle.safe_machine.proofs.code.Views.{short-above, sized-above}
 use Rattle.safe_pdu.specs.Pdu.{pdu_of}
-use Rattle.safe_machine.proofs.Views.{ahead-does}
+use Rattle.safe_machine.proofs.code.Views.{ahead-does}
 use Rattle.safe_machine.proofs.endpoint.Endpoint.answer_ahead.Goals as goal
 use Rattle.safe_machine.specs.Decision.{cs_step}
 

@@ -1,7 +1,7 @@
 use Rattle.std.proofs.Common.{◌+◌, ◌%◌, ap, ◌∙◌}
 use Rattle.safe_machine.specs.Numbers.{ahead, sn_of}
 use Rattle.safe_machine.specs.View.{View}
-use Rattle.safe_machine.proofs.Views.{next-number}
+use Rattle.safe_machine.proofs.code.Views.{next-number}
 use Rattle.safe_machine.proofs.endpoint.Endpoint.cs_step.Goals as goal
 
 pub returns : goal.returns

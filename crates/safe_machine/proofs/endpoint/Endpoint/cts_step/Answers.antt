@@ -1,7 +1,7 @@
 use Rattle.std.proofs.Common.{ap, ◌∙◌}
 use Rattle.safe_machine.specs.Numbers.{ahead}
 use Rattle.safe_machine.specs.View.{View}
-use Rattle.safe_machine.proofs.Views.{ahead-low}
+use Rattle.safe_machine.proofs.code.Views.{ahead-low}
 use Rattle.safe_machine.proofs.endpoint.Endpoint.cts_step.Goals as goal
 
 pub returns : goal.returns

@@ -1,4 +1,4 @@
-use Rattle.safe_machine.proofs.Views.{make-left}
+use Rattle.safe_machine.proofs.code.Views.{make-left}
 use Rattle.safe_machine.proofs.endpoint.Endpoint.make.Goals as goal
 
 pub returns-clause-left : goal.returns-clause-left

@@ -1,5 +1,5 @@
 use Rattle.std.proofs.Common.{◌∙◌}
-use Rattle.safe_machine.proofs.Reaching.{room-is}
+use Rattle.safe_machine.proofs.code.Reaching.{room-is}
 use Rattle.safe_machine.proofs.endpoint.Endpoint.may_send.Goals as goal
 
 pub returns-clause-stands : goal.returns-clause-stands

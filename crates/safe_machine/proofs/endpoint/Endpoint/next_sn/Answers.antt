@@ -1,7 +1,7 @@
 use Rattle.std.proofs.Common.{◌+◌, ◌%◌, ap, ◌∙◌}
 use Rattle.safe_machine.specs.Numbers.{sn_of}
 use Rattle.safe_machine.specs.View.{View}
-use Rattle.safe_machine.proofs.Views.{next-number}
+use Rattle.safe_machine.proofs.code.Views.{next-number}
 use Rattle.safe_machine.proofs.endpoint.Endpoint.next_sn.Goals as goal
 
 pub returns : goal.returns

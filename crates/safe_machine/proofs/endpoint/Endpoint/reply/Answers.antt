@@ -1,7 +1,7 @@
 use Rattle.std.proofs.Common.{ℕ, length, ap, refl, ◌∙◌, arith}
 use Rattle.retrans.specs.Units.{renumbered, octets_of}
 use Rattle.safe_machine.specs.View.{View}
-use Rattle.safe_machine.proofs.Views.{reply-does}
+use Rattle.safe_machine.proofs.code.Views.{reply-does}
 use Rattle.safe_machine.proofs.endpoint.Endpoint.reply.Goals as goal
 
 pub returns-clause-does : goal.returns-clause-does

@@ -2,7 +2,7 @@ use Rattle.std.proofs.Common.{ℕ, List, subst}
 use Rattle.safe_pdu.specs.SafeText.{safe_text}
 use Rattle.safe_pdu.specs.declared.Kind.TheVariants.{RetrData}
 use Rattle.safe_machine.specs.State.{next_made}
-use Rattle.safe_machine.proofs.Views.{unit-sized, unit-is}
+use Rattle.safe_machine.proofs.code.Views.{unit-sized, unit-is}
 use Rattle.safe_machine.proofs.endpoint.Endpoint.resend_at.Goals as goal
 
 pub hand_out-requires : goal.hand_out-requires

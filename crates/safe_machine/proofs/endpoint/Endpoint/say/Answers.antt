@@ -1,4 +1,4 @@
-use Rattle.safe_machine.proofs.Views.{say-does}
+use Rattle.safe_machine.proofs.code.Views.{say-does}
 use Rattle.safe_machine.proofs.endpoint.Endpoint.say.Goals as goal
 
 pub returns-clause-does : goal.returns-clause-does

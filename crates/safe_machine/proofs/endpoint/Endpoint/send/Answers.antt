@@ -1,17 +1,16 @@
 use Rattle.std.proofs.Common.{◌≡◌, length, true, arith}
 use Rattle.std.specs.Prelude.{nat_lt}
-use Rattle.std.proofs.lemmas.Bool.{ltb-true}
+use Rattle.std.proofs.lemmas.Bool.{ltb-true, and_parts}
 use Rattle.safe_machine.specs.State.{make}
 use Rattle.safe_machine.specs.Step.{send}
 use Rattle.safe_pdu.specs.declared.Kind.TheVariants.{Data}
 use Rattle.safe_machine.specs.Moves.Move.{Sends}
 use Rattle.safe_machine.specs.View.{View}
-use Rattle.safe_machine.proofs.Views.{does-as}
-use Rattle.safe_machine.proofs.Cases.{and-parts}
-use Rattle.safe_machine.proofs.Counting.{turn-live}
-use Rattle.safe_machine.proofs.Reaching.{reached-move, reached-sound, send-sends, send-turns}
+use Rattle.safe_machine.proofs.code.Views.{does-as}
+use Rattle.safe_machine.proofs.code.Reaching.{reached-move, reached-sound, send-sends, send-turns}
 use Rattle.safe_machine.proofs.endpoint.Endpoint.send.Goals as goal
 use Rattle.safe_machine.specs.Connections.{in_turn}
+use Rattle.safe_machine.proofs.one.ConnectionFacts.{turn-live}
 
 pub send_unit-requires-clause-few : goal.send_unit-requires-clause-few
 send_unit-requires-clause-few g c = omega (arith, (reached-sound c.args.self.now c.requires.reached).few)
@@ -20,7 +19,7 @@ pub send_unit-requires-clause-room : goal.send_unit-requires-clause-room
 send_unit-requires-clause-room g c =
     let v : View = c.args.self.now in
     let k = reached-sound v c.requires.reached in
-    let room_left : nat_lt (length v.ring) v.window ≡ true = (and-parts (in_turn v.connection) (nat_lt (length v.ring) v.window) c.requires.open).1 in
+    let room_left : nat_lt (length v.ring) v.window ≡ true = (and_parts (in_turn v.connection) (nat_lt (length v.ring) v.window) c.requires.open).1 in
     omega (arith, ltb-true (length v.ring) v.window room_left, k.window, k.room)
 
 pub send_unit-requires-clause-above : goal.send_unit-requires-clause-above
@@ -29,7 +28,7 @@ send_unit-requires-clause-above g c = (reached-sound c.args.self.now c.requires.
 pub send_unit-requires-clause-made : goal.send_unit-requires-clause-made
 send_unit-requires-clause-made g c =
     let v : View = c.args.self.now in
-    let turn : in_turn v.connection ≡ true = (and-parts (in_turn v.connection) (nat_lt (length v.ring) v.window) c.requires.open).0 in
+    let turn : in_turn v.connection ≡ true = (and_parts (in_turn v.connection) (nat_lt (length v.ring) v.window) c.requires.open).0 in
     (reached-sound v c.requires.reached).live (turn-live v.connection turn)
 
 pub returns-clause-does : goal.returns-clause-does

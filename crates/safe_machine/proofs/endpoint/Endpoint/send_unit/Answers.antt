@@ -1,6 +1,6 @@
 use Rattle.std.proofs.Common.{sym, subst, ap, ◌∙◌, ◌<◌, ◌++◌, ◌∷◌, [], length}
 use Rattle.safe_machine.specs.View.{View, AllBelow}
-use Rattle.safe_machine.proofs.Views.{send-does}
+use Rattle.safe_machine.proofs.code.Views.{send-does}
 use Rattle.safe_machine.proofs.endpoint.Endpoint.send_unit.Goals as goal
 
 pub keep-requires-clause-room : goal.keep-requires-clause-room

@@ -1,6 +1,6 @@
 use Rattle.std.proofs.Common.{sym}
 use Rattle.safe_pdu.specs.Pdu.{pdu_of}
-use Rattle.safe_machine.proofs.Views.{up-does}
+use Rattle.safe_machine.proofs.code.Views.{up-does}
 use Rattle.safe_machine.proofs.endpoint.Endpoint.take_unit.Goals as goal
 
 pub returns-then-carries-clause-does : goal.returns-then-carries-clause-does

@@ -1,6 +1,6 @@
 use Rattle.std.proofs.Common.{arith}
 use Rattle.safe_machine.specs.Moves.Move.{Leaves}
-use Rattle.safe_machine.proofs.Reaching.{reached-move, reached-sound}
+use Rattle.safe_machine.proofs.code.Reaching.{reached-move, reached-sound}
 use Rattle.safe_machine.proofs.machine.Machine.close.Goals as goal
 
 pub leave-requires : goal.leave-requires

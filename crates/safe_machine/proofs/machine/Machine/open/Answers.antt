@@ -1,7 +1,7 @@
 use Rattle.std.proofs.Common.{refl, sym, ◌∙◌, []}
 use Rattle.std.proofs.lemmas.Bool.{false≢true}
 use Rattle.safe_machine.specs.View.{settings_of}
-use Rattle.safe_machine.proofs.Texts.{own-legal}
+use Rattle.safe_machine.proofs.one.Texts.{own-legal}
 use Rattle.safe_machine.proofs.machine.Machine.open.Goals as goal
 
 pub returns-then-not-is_legal-clause-bad_config : goal.returns-then-not-is_legal-clause-bad_config

@@ -1,6 +1,6 @@
 use Rattle.std.proofs.Common.{arith}
 use Rattle.safe_machine.specs.Moves.Move.{Ticks}
-use Rattle.safe_machine.proofs.Reaching.{reached-move, reached-sound}
+use Rattle.safe_machine.proofs.code.Reaching.{reached-move, reached-sound}
 use Rattle.safe_machine.proofs.machine.Machine.tick.Goals as goal
 
 pub tick-requires : goal.tick-requires

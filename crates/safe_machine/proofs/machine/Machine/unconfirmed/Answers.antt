@@ -1,7 +1,7 @@
 use Rattle.std.proofs.Common.{◌≤◌, length, ap, arith, subst, ◌∙◌}
 use Rattle.octets.specs.declared.limits.TheConstants.{WINDOW_MAX}
 use Rattle.safe_machine.specs.View.{View}
-use Rattle.safe_machine.proofs.Reaching.{reached-sound, reached-window, units-count}
+use Rattle.safe_machine.proofs.code.Reaching.{reached-sound, reached-window, units-count}
 use Rattle.safe_machine.proofs.machine.Machine.unconfirmed.Goals as goal
 
 pub returns-clause-counts : goal.returns-clause-counts

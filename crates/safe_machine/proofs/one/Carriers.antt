@@ -1,0 +1,384 @@
+-- The run of unconfirmed units is the list of those whose carrier lies behind the last PDU confirmed.
+use Rattle.std.proofs.Common.{◌≡◌, ◌⊎◌, inl, inr, ℕ, suc, ◌+◌, ◌-◌, ◌<◌, ◌≤◌, List, [], ◌∷◌, ◌++◌, length, take, drop, Bool, true, false, refl, sym, ap, subst, ◌∙◌, arith, append_assoc, append-nil, length-append}
+use Rattle.std.specs.Prelude.{if◌then◌else◌, nat_lt}
+use Rattle.std.proofs.lemmas.List.{drop-append-le, length-drop}
+use Rattle.std.proofs.Math.Seq.{take-append_seam, drop-append_seam}
+use Rattle.std.proofs.lemmas.Bool.{lt-ltb, ltb-true, cond_both}
+use Rattle.std.proofs.lemmas.Bool.Decides.{nat_tests}
+use Rattle.safe_pdu.specs.declared.Kind.{Kind}
+use Rattle.safe_pdu.specs.declared.Kind.TheVariants.{ConnReq, ConnResp, RetrReq, RetrResp, DiscReq, Heartbeat, Data, RetrData}
+use Rattle.safe_machine.specs.declared.ConnectionState.TheVariants.{Start, Down}
+use Rattle.safe_machine.specs.Made.{Made, units, first_sent, opening_body}
+use Rattle.safe_machine.specs.Settings.{Settings}
+use Rattle.safe_machine.specs.State.{State, next_made, make, resend, reply, unconfirmed, opened, blank}
+use Rattle.retrans.specs.Units.{Numbered, above, renumbered, octets_of}
+use Rattle.safe_machine.specs.Ring.{after_at, carried_at, is_resent, resent, carried_again, after_carrier, carriers_from, carriers}
+use Rattle.safe_machine.specs.Moves.{Move, moved, move, ReachedState, ReachedLaw}
+use Rattle.safe_machine.proofs.one.Runs.{units-append}
+use Rattle.safe_machine.proofs.one.OneMachine.{plain-reply}
+use Rattle.safe_machine.proofs.one.Ring.{octets_of-append, octets_of-length, carried_at-append, above-append, carried_at-above, ring_of-units, ring-confirm, ring-resend}
+use Rattle.safe_machine.proofs.one.Kept.{Kept, Anything, anything, kept-move, is_plain}
+use Rattle.safe_machine.proofs.one.Resending.{resend-confirmed}
+use Rattle.retrans.proofs.UnitLemmas.{octets-renumbered}
+use Rattle.safe_machine.specs.Decision.{cs_step}
+use Rattle.safe_machine.specs.View.{kept_of}
+
+-- Carriers of a list that grows. A RetrData at its front would be counted with a RetrResp before it.
+abbrev Begins : List Made → Type 0
+Begins [] = Unit {0}
+Begins (m ∷ ms) = is_resent m.pdu.kind ≡ false
+
+resent-append : (a b : List Made) → Begins b → resent (a ++ b) ≡ resent a
+resent-append [] [] h = refl
+resent-append [] (m ∷ ms) h = ap (λ (t : Bool). if t then suc (resent ms) else 0) h
+resent-append (m ∷ a) b h = ap (λ (n : ℕ). if is_resent m.pdu.kind then suc n else 0) (resent-append a b h)
+
+carriers-append : (index : ℕ) (cs : List Numbered) (a b : List Made) → Begins b →
+    carriers_from index cs (a ++ b) ≡ carriers_from (index + length a) (carriers_from index cs a) b
+carriers-append index cs [] b h = ap (λ (n : ℕ). carriers_from n cs b) (omega arith)
+carriers-append index cs (m ∷ a) b h =
+    let next : ℕ → List Numbered = λ n. after_carrier m.pdu.kind m.pdu.body index n cs in
+    ap (λ (n : ℕ). carriers_from (index + 1) (next n) (a ++ b)) (resent-append a b h)
+    ∙ (carriers-append (index + 1) (next (resent a)) a b h
+    ∙ ap (λ (n : ℕ). carriers_from n (carriers_from (index + 1) (next (resent a)) a) b) (omega arith))
+
+abbrev Ring : ℕ → List Made → List Numbered
+Ring confirmed made = carried_at (confirmed + 1) [] (drop (confirmed + 1) made)
+
+-- Indices rise from the first bound on and stay below the second.
+abbrev Rises : ℕ → ℕ → List Numbered → Type 0
+Rises low high [] = low ≤ high
+Rises low high (c ∷ cs) = (low ≤ c.number) × Rises (c.number + 1) high cs
+
+rises-bounds : (low high : ℕ) (cs : List Numbered) → Rises low high cs → low ≤ high
+rises-bounds low high [] h = h
+rises-bounds low high (c ∷ cs) h = omega (arith, h.0, rises-bounds (c.number + 1) high cs h.1)
+
+rises-weaken : (low high : ℕ) (cs : List Numbered) → Rises low high cs → Rises low (high + 1) cs
+rises-weaken low high [] h = omega (arith, h)
+rises-weaken low high (c ∷ cs) h = (h.0, rises-weaken (c.number + 1) high cs h.1)
+
+rises-push : (low high : ℕ) (unit : List ℕ) (cs : List Numbered) → Rises low high cs → Rises low (high + 1) (cs ++ record { number = high; octets = unit } ∷ [])
+rises-push low high unit [] h = (h, omega arith)
+rises-push low high unit (c ∷ cs) h = (h.0, rises-push (c.number + 1) high unit cs h.1)
+
+rises-after : (low high : ℕ) (kind : Kind) (body : List ℕ) (cs : List Numbered) → Rises low high cs → Rises low (high + 1) (after_at kind body high cs)
+rises-after low high Data body cs h = rises-push low high body cs h
+rises-after low high RetrData body cs h = rises-push low high body cs h
+rises-after low high RetrResp body cs h = omega (arith, rises-bounds low high cs h)
+rises-after low high ConnReq body cs h = rises-weaken low high cs h
+rises-after low high ConnResp body cs h = rises-weaken low high cs h
+rises-after low high RetrReq body cs h = rises-weaken low high cs h
+rises-after low high DiscReq body cs h = rises-weaken low high cs h
+rises-after low high Heartbeat body cs h = rises-weaken low high cs h
+
+rises-carried : (low high : ℕ) (cs : List Numbered) (ms : List Made) → Rises low high cs → Rises low (high + length ms) (carried_at high cs ms)
+rises-carried low high cs [] h = subst (λ (n : ℕ). Rises low n cs) (omega arith) h
+rises-carried low high cs (m ∷ ms) h =
+    let next = after_at m.pdu.kind m.pdu.body high cs in
+    subst (λ (n : ℕ). Rises low n (carried_at (high + 1) next ms)) (omega arith) (rises-carried low (high + 1) next ms (rises-after low high m.pdu.kind m.pdu.body cs h))
+
+all-above : (b low high : ℕ) (cs : List Numbered) → Rises low high cs → b < low → above b cs ≡ cs
+all-above b low high [] h less = refl
+all-above b low high (c ∷ cs) h less =
+    ap (λ (t : Bool). if t then c ∷ above b cs else above b cs) (lt-ltb b c.number (omega (arith, h.0)))
+    ∙ ap (λ xs. c ∷ xs) (all-above b (c.number + 1) high cs h.1 (omega (arith, h.0)))
+
+-- What is above an index stands behind what is not.
+record Split (b : ℕ) (cs : List Numbered) : Type 0 where
+  low : List Numbered
+  is : cs ≡ low ++ above b cs
+  none : above b low ≡ []
+
+split-at : (b low high : ℕ) (cs : List Numbered) → Rises low high cs → Split b cs
+split-at b low high [] h = record { low = []; is = refl; none = refl }
+split-at b low high (c ∷ cs) h = go (nat_lt b c.number) refl (split-at b (c.number + 1) high cs h.1)
+  where
+    go : (t : Bool) → nat_lt b c.number ≡ t → Split b cs → Split b (c ∷ cs)
+    go true e s =
+        let less : b < c.number = ltb-true b c.number e in
+        let all : above b (c ∷ cs) ≡ c ∷ cs = all-above b c.number high (c ∷ cs) (omega arith, h.1) less in
+        record { low = []; is = sym all; none = refl }
+    go false e s =
+        let one : above b (c ∷ cs) ≡ above b cs = ap (λ (t : Bool). if t then c ∷ above b cs else above b cs) e in
+        record {
+          low = c ∷ s.low;
+          is = ap (λ xs. c ∷ xs) s.is ∙ ap (λ xs. c ∷ s.low ++ xs) (sym one);
+          none = ap (λ (t : Bool). if t then c ∷ above b s.low else above b s.low) e ∙ s.none;
+        }
+
+-- what is not above an index is not above a greater one
+above-less : (a b : ℕ) (cs : List Numbered) → a ≤ b → above a cs ≡ [] → above b cs ≡ []
+above-less a b [] h e = refl
+above-less a b (c ∷ cs) h e = go (nat_lt a c.number) refl e (λ none. above-less a b cs h none)
+  where
+    go : (t : Bool) → nat_lt a c.number ≡ t → (if t then c ∷ above a cs else above a cs) ≡ [] → (above a cs ≡ [] → above b cs ≡ []) → above b (c ∷ cs) ≡ []
+    go true is e f = cc
+    go false is e f = ap (λ (t : Bool). if t then c ∷ above b cs else above b cs) not_above ∙ f e
+      where
+        not_above : nat_lt b c.number ≡ false
+        not_above = grind (arith, nat_tests)
+
+-- What is known of the carriers: those of the confirmed units, then the ring.
+record CarriersOf (made : List Made) (confirmed : ℕ) : Type 0 where
+  front : List Numbered
+  is : carriers made ≡ front ++ Ring confirmed made
+  none : above confirmed front ≡ []
+  placed : (confirmed < length made) ⊎ ((made ≡ []) × (confirmed ≡ 0))
+  all : octets_of (carriers made) ≡ units made
+
+abbrev Carriers : State → Type 0
+Carriers s = CarriersOf s.made s.confirmed
+
+-- neither an answer nor a unit again
+abbrev is_new : Kind → Bool
+is_new RetrResp = false
+is_new RetrData = false
+is_new _ = true
+
+new-begins : (kind : Kind) → is_new kind ≡ true → is_resent kind ≡ false
+new-begins RetrData h = cc
+new-begins RetrResp h = refl
+new-begins ConnReq h = refl
+new-begins ConnResp h = refl
+new-begins RetrReq h = refl
+new-begins DiscReq h = refl
+new-begins Heartbeat h = refl
+new-begins Data h = refl
+
+-- what a new PDU carries
+new-carrier : (kind : Kind) (body : List ℕ) (index n : ℕ) (cs : List Numbered) → is_new kind ≡ true → after_carrier kind body index n cs ≡ cs ++ after_at kind body index []
+new-carrier RetrData body index n cs h = cc
+new-carrier RetrResp body index n cs h = cc
+new-carrier Data body index n cs h = refl
+new-carrier ConnReq body index n cs h = sym (append-nil cs)
+new-carrier ConnResp body index n cs h = sym (append-nil cs)
+new-carrier RetrReq body index n cs h = sym (append-nil cs)
+new-carrier DiscReq body index n cs h = sym (append-nil cs)
+new-carrier Heartbeat body index n cs h = sym (append-nil cs)
+
+new-ring : (kind : Kind) (body : List ℕ) (index : ℕ) (cs : List Numbered) → is_new kind ≡ true → after_at kind body index cs ≡ cs ++ after_at kind body index []
+new-ring RetrData body index cs h = cc
+new-ring RetrResp body index cs h = cc
+new-ring Data body index cs h = refl
+new-ring ConnReq body index cs h = sym (append-nil cs)
+new-ring ConnResp body index cs h = sym (append-nil cs)
+new-ring RetrReq body index cs h = sym (append-nil cs)
+new-ring DiscReq body index cs h = sym (append-nil cs)
+new-ring Heartbeat body index cs h = sym (append-nil cs)
+
+new-units : (kind : Kind) (body : List ℕ) (index : ℕ) → is_new kind ≡ true → octets_of (after_at kind body index []) ≡ first_sent kind body
+new-units RetrData body index h = cc
+new-units RetrResp body index h = cc
+new-units Data body index h = refl
+new-units ConnReq body index h = refl
+new-units ConnResp body index h = refl
+new-units RetrReq body index h = refl
+new-units DiscReq body index h = refl
+new-units Heartbeat body index h = refl
+
+new-first : (kind : Kind) (body : List ℕ) → above 0 (after_at kind body 0 []) ≡ []
+new-first RetrData body = refl
+new-first RetrResp body = refl
+new-first Data body = refl
+new-first ConnReq body = refl
+new-first ConnResp body = refl
+new-first RetrReq body = refl
+new-first DiscReq body = refl
+new-first Heartbeat body = refl
+
+-- the ring after one PDU more
+ring-push : (confirmed : ℕ) (made : List Made) (m : Made) → confirmed < length made → Ring confirmed (made ++ m ∷ []) ≡ after_at m.pdu.kind m.pdu.body (length made) (Ring confirmed made)
+ring-push confirmed made m h =
+    let behind = drop (confirmed + 1) made in
+    let size : length behind ≡ length made - (confirmed + 1) = length-drop (confirmed + 1) made in
+    ap (carried_at (confirmed + 1) []) (drop-append-le (confirmed + 1) made (m ∷ []) (omega arith))
+    ∙ (carried_at-append (confirmed + 1) [] behind (m ∷ [])
+    ∙ ap (λ (n : ℕ). after_at m.pdu.kind m.pdu.body n (Ring confirmed made)) (omega arith))
+
+carriers-push : (made : List Made) (m : Made) → is_new m.pdu.kind ≡ true → carriers (made ++ m ∷ []) ≡ carriers made ++ after_at m.pdu.kind m.pdu.body (length made) []
+carriers-push made m new =
+    carriers-append 0 [] made (m ∷ []) (new-begins m.pdu.kind new)
+    ∙ (new-carrier m.pdu.kind m.pdu.body (0 + length made) 0 (carriers made) new
+    ∙ ap (λ (n : ℕ). carriers made ++ after_at m.pdu.kind m.pdu.body n []) (omega arith))
+
+push : (made : List Made) (confirmed : ℕ) (m : Made) → is_new m.pdu.kind ≡ true → CarriersOf made confirmed → CarriersOf (made ++ m ∷ []) confirmed
+push made confirmed m new h =
+    let add = after_at m.pdu.kind m.pdu.body (length made) [] in
+    let all : octets_of (carriers (made ++ m ∷ [])) ≡ units (made ++ m ∷ []) =
+    ap octets_of (carriers-push made m new)
+    ∙ (octets_of-append (carriers made) add
+    ∙ (ap (λ us. us ++ octets_of add) h.all
+    ∙ (ap (λ us. units made ++ us) (new-units m.pdu.kind m.pdu.body (length made) new ∙ sym (append-nil (first_sent m.pdu.kind m.pdu.body)))
+    ∙ sym (units-append made (m ∷ []))))) in
+    elim h.placed [
+      | inl less ↦
+          record {
+            front = h.front;
+            is = carriers-push made m new
+                ∙ (ap (λ cs. cs ++ add) h.is
+                ∙ (append_assoc h.front (Ring confirmed made) add
+                ∙ ap (λ cs. h.front ++ cs) (sym (ring-push confirmed made m less ∙ new-ring m.pdu.kind m.pdu.body (length made) (Ring confirmed made) new))));
+            none = h.none;
+            placed = inl (omega (arith, length-append made (m ∷ [])));
+            all = all;
+          }
+      | inr empty ↦
+          subst (λ ms. CarriersOf (ms ++ m ∷ []) confirmed) (sym empty.0)
+          (subst (λ (n : ℕ). CarriersOf (m ∷ []) n) (sym empty.1)
+          (record {
+            front = after_at m.pdu.kind m.pdu.body 0 [];
+            is = carriers-push [] m new ∙ sym (append-nil (after_at m.pdu.kind m.pdu.body 0 []));
+            none = new-first m.pdu.kind m.pdu.body;
+            placed = inl (omega arith);
+            all = subst (λ ms. octets_of (carriers (ms ++ m ∷ [])) ≡ units (ms ++ m ∷ [])) empty.0 all;
+          }))
+    ]
+
+-- more is confirmed: what is not above it any more joins the confirmed ones
+confirm : (made : List Made) (a b : ℕ) → a ≤ b → b < length made → CarriersOf made a → CarriersOf made b
+confirm made a b more less h =
+    let ring = Ring a made in
+    let s = split-at b (a + 1) (a + 1 + length (drop (a + 1) made)) ring (rises-carried (a + 1) (a + 1) [] (drop (a + 1) made) (omega arith)) in
+    let kept : above b ring ≡ Ring b made = ring-confirm a b made more less in
+    record {
+      front = h.front ++ s.low;
+      is = h.is ∙ (ap (λ cs. h.front ++ cs) (s.is ∙ ap (λ cs. s.low ++ cs) kept) ∙ sym (append_assoc h.front s.low (Ring b made)));
+      none = above-append b h.front s.low ∙ (ap (λ cs. cs ++ above b s.low) (above-less a b h.front more h.none) ∙ s.none);
+      placed = inl less;
+      all = h.all;
+    }
+
+-- An answer: the RetrData, and what stands behind them.
+datas : List (List ℕ) → ℕ → State → List Made
+datas [] now s = []
+datas (u ∷ us) now s = next_made s RetrData u now ∷ datas us now (make RetrData u now s)
+
+resend-made : (us : List (List ℕ)) (now : ℕ) (s : State) → (resend us now s).made ≡ s.made ++ datas us now s
+unfolding datas
+resend-made [] now s = sym (append-nil s.made)
+resend-made (u ∷ us) now s =
+    resend-made us now (make RetrData u now s) ∙ append_assoc s.made (next_made s RetrData u now ∷ []) (datas us now (make RetrData u now s))
+
+resent-datas : (us : List (List ℕ)) (now : ℕ) (s : State) (m : Made) → is_resent m.pdu.kind ≡ false → resent (datas us now s ++ m ∷ []) ≡ length us
+unfolding datas
+resent-datas [] now s m h = ap (λ (t : Bool). if t then 1 else 0) h
+resent-datas (u ∷ us) now s m h = ap suc (resent-datas us now (make RetrData u now s) m h)
+
+carriers-datas : (us : List (List ℕ)) (now index : ℕ) (s : State) (cs : List Numbered) (m : Made) → m.pdu.kind ≡ Heartbeat → carriers_from index cs (datas us now s ++ m ∷ []) ≡ cs
+unfolding datas
+carriers-datas [] now index s cs m h = ap (λ kind. after_carrier kind m.pdu.body index 0 cs) h
+carriers-datas (u ∷ us) now index s cs m h = carriers-datas us now (index + 1) (make RetrData u now s) cs m h
+
+-- the last units, carried again
+again : (front ring : List Numbered) (us : List (List ℕ)) (index : ℕ) → octets_of ring ≡ us → carried_again (length us) index (front ++ ring) ≡ front ++ renumbered index us
+again front ring us index e =
+    let size : length us ≡ length ring = sym (ap length e) ∙ octets_of-length ring in
+    let at : length (front ++ ring) - length us ≡ length front = omega (arith, length-append front ring) in
+    ap (λ (n : ℕ). take n (front ++ ring) ++ renumbered index (octets_of (drop n (front ++ ring)))) at
+    ∙ (ap (λ cs. cs ++ renumbered index (octets_of (drop (length front) (front ++ ring)))) (take-append_seam front ring)
+    ∙ ap (λ cs. front ++ renumbered index cs) (ap octets_of (drop-append_seam front ring) ∙ e))
+
+ring-answer : (confirmed : ℕ) (made : List Made) (m : Made) → m.pdu.kind ≡ RetrResp → (confirmed < length made) ⊎ ((made ≡ []) × (confirmed ≡ 0)) → Ring confirmed (made ++ m ∷ []) ≡ []
+ring-answer confirmed made m is (inl less) = ring-push confirmed made m less ∙ ap (λ kind. after_at kind m.pdu.body (length made) (Ring confirmed made)) is
+ring-answer confirmed made m is (inr empty) = ap (λ ms. carried_at (confirmed + 1) [] (drop (confirmed + 1) (ms ++ m ∷ []))) empty.0 ∙ ap (λ (n : ℕ). Ring n (m ∷ [])) empty.1
+
+-- the units made end in the unconfirmed ones
+ended : (s : State) (h : Carriers s) → octets_of h.front ++ unconfirmed s ≡ units s.made
+ended s h =
+    ap (λ us. octets_of h.front ++ us) (sym (ring_of-units s))
+    ∙ (sym (octets_of-append h.front (Ring s.confirmed s.made)) ∙ (sym (ap octets_of h.is) ∙ h.all))
+
+plain-new : (kind : Kind) → is_plain kind ≡ true → is_new kind ≡ true
+plain-new Heartbeat h = refl
+plain-new RetrReq h = refl
+plain-new DiscReq h = refl
+plain-new ConnReq h = cc
+plain-new ConnResp h = cc
+plain-new RetrResp h = cc
+plain-new Data h = cc
+plain-new RetrData h = cc
+
+replied : (now : ℕ) (s : State) → Carriers s → Carriers (reply now s)
+replied now s h =
+    let us = unconfirmed s in
+    let answer = next_made s RetrResp [] now in
+    let a = make RetrResp [] now s in
+    let b = resend us now a in
+    let last = next_made b Heartbeat [] now in
+    let block = datas us now a ++ last ∷ [] in
+    let size : length a.made ≡ length s.made + 1 = length-append s.made (answer ∷ []) in
+    let in_place : s.confirmed < length a.made = elim h.placed [ inl less ↦ omega (arith, less) | inr empty ↦ omega (arith, empty.1) ] in
+    let whole : (reply now s).made ≡ s.made ++ answer ∷ block =
+    ap (λ ms. ms ++ last ∷ []) (resend-made us now a ∙ append_assoc s.made (answer ∷ []) (datas us now a))
+    ∙ append_assoc s.made (answer ∷ datas us now a) (last ∷ []) in
+    let first_again : 0 + length s.made + 1 ≡ length s.made + 1 = omega arith in
+    let n : resent block ≡ length us = resent-datas us now a last refl in
+    let new : carriers (reply now s).made ≡ h.front ++ renumbered (length s.made + 1) us =
+    ap carriers whole
+    ∙ (carriers-append 0 [] s.made (answer ∷ block) refl
+    ∙ (carriers-datas us now (0 + length s.made + 1) a (carried_again (resent block) (0 + length s.made + 1) (carriers s.made)) last refl
+    ∙ (ap (λ (k : ℕ). carried_again (resent block) k (carriers s.made)) first_again
+    ∙ (ap (λ (k : ℕ). carried_again k (length s.made + 1) (carriers s.made)) n
+    ∙ (ap (carried_again (length us) (length s.made + 1)) h.is ∙ again h.front (Ring s.confirmed s.made) us (length s.made + 1) (ring_of-units s)))))) in
+    let grown : length b.made ≡ length a.made + length (datas us now a) = ap length (resend-made us now a) ∙ length-append a.made (datas us now a) in
+    let still : b.confirmed ≡ s.confirmed = resend-confirmed us now a in
+    let ring : Ring b.confirmed (reply now s).made ≡ renumbered (length s.made + 1) us =
+    ring-push b.confirmed b.made last (omega (arith, still, grown, in_place))
+    ∙ (ring-resend us now a in_place
+    ∙ (ap (λ cs. cs ++ renumbered (length a.made) us) (ring-answer s.confirmed s.made answer refl h.placed)
+    ∙ ap (λ (k : ℕ). renumbered k us) size)) in
+    record {
+      front = h.front;
+      is = new ∙ ap (λ cs. h.front ++ cs) (sym ring);
+      none = subst (λ (k : ℕ). above k h.front ≡ []) (sym still) h.none;
+      placed = inl (omega (arith, still, grown, in_place, length-append b.made (last ∷ [])));
+      all =
+          ap octets_of new
+          ∙ (octets_of-append h.front (renumbered (length s.made + 1) us)
+          ∙ (ap (λ xs. octets_of h.front ++ xs) (octets-renumbered (length s.made + 1) us)
+          ∙ (ended s h ∙ sym (plain-reply now s).sent)));
+    }
+
+kept-carriers : Kept Anything Anything Carriers
+kept-carriers =
+    record {
+      silent = λ s t same h. subst (λ ms. CarriersOf ms t.confirmed) (sym same.1) (subst (λ (k : ℕ). CarriersOf s.made k) (sym same.2) h);
+      plain = λ kind body now s is fits h. push s.made s.confirmed (next_made s kind body now) (plain-new kind is) h;
+      passes = λ p d s a h. h;
+      confirms = λ p s fits h.
+          confirm s.made s.confirmed (s.confirmed + cs_step (kept_of s) p) (omega arith) (omega (arith, ltb-true (cs_step (kept_of s) p) (length s.made - s.confirmed) fits)) h;
+      accepts = λ now s h.
+          let m = next_made s ConnResp (opening_body s.settings.n_sendmax) now in
+          let longer : length (s.made ++ m ∷ []) ≡ length s.made + 1 = length-append s.made (m ∷ []) in
+          confirm (s.made ++ m ∷ []) s.confirmed (length s.made)
+          (elim h.placed [ inl less ↦ omega (arith, less) | inr empty ↦ omega (arith, empty.1) ]) (omega (arith, longer))
+          (push s.made s.confirmed m refl h);
+      sends = λ unit now s a h. push s.made s.confirmed (next_made s Data unit now) refl h;
+      replies = λ now s h. replied now s h;
+    }
+
+carriers-moved : (ms : List Move) (s : State) → Carriers s → Carriers (moved ms s)
+carriers-moved [] s h = h
+carriers-moved (m ∷ ms) s h = carriers-moved ms (move m s) (kept-move Anything Anything Carriers kept-carriers m s (anything m) h)
+
+carriers-opened : (settings : Settings) (first now : ℕ) → Carriers (opened settings first now)
+carriers-opened settings first now =
+    let none : CarriersOf [] 0 = record { front = []; is = refl; none = refl; placed = inr (refl, refl); all = refl } in
+    cond_both settings.client (make ConnReq (opening_body settings.n_sendmax) now (blank settings first now Start)) (blank settings first now Down) Carriers
+    (λ _. push [] 0 (next_made (blank settings first now Start) ConnReq (opening_body settings.n_sendmax) now) refl none) (λ _. none)
+
+reached : (s : State) → Carriers s → ReachedState s
+reached s h =
+    let ring = Ring s.confirmed s.made in
+    let all_there : above s.confirmed ring ≡ ring = carried_at-above s.confirmed (s.confirmed + 1) [] (drop (s.confirmed + 1) s.made) (omega arith) in
+    record {
+      by_carriers =
+          sym (ap octets_of (ap (above s.confirmed) h.is ∙ (above-append s.confirmed h.front ring ∙ (ap (λ cs. cs ++ above s.confirmed ring) h.none ∙ all_there)))
+          ∙ ring_of-units s);
+      confirmed_before = octets_of h.front;
+      ends = ended s h;
+    }
+
+pub reached_law_holds : ReachedLaw
+reached_law_holds settings first now ms = reached (moved ms (opened settings first now)) (carriers-moved ms (opened settings first now) (carriers-opened settings first now))

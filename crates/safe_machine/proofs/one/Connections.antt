@@ -1,0 +1,218 @@
+-- How the state of a connection goes on.
+use Rattle.std.proofs.Common.{◌≡◌, ◌⊎◌, inl, inr, ◌==◌, ◌+◌, ◌*◌, ℕ, [], Bool, true, false, refl, sym, ap, subst, ◌∙◌}
+use Rattle.std.specs.Prelude.{if◌then◌else◌, ◌&&◌, nat_le}
+use Rattle.octets.specs.declared.limits.TheConstants.{REACH}
+use Rattle.safe_pdu.specs.declared.Kind.{Kind}
+use Rattle.safe_pdu.specs.declared.Kind.TheVariants.{ConnReq, ConnResp, RetrReq, RetrResp, DiscReq, Heartbeat, Data, RetrData}
+use Rattle.safe_pdu.specs.Pdu.{Pdu}
+use Rattle.safe_machine.specs.declared.ConnectionState.{ConnectionState}
+use Rattle.safe_machine.specs.declared.ConnectionState.TheVariants.{Closed, Down, Start, Up, RetrReq as Requesting, RetrRun}
+use Rattle.safe_machine.specs.declared.DropCause.TheVariants.{Stranger, Number, Answered, Below}
+use Rattle.safe_machine.specs.declared.Reason.{Reason}
+use Rattle.safe_machine.specs.declared.Reason.TheVariants.{WrongVersion, UnexpectedPdu, SequenceError, ProtocolError, RetransmissionImpossible}
+use Rattle.safe_machine.specs.declared.Detail.{Detail}
+use Rattle.safe_machine.specs.declared.Detail.TheVariants.{Unspecified, ConfirmedNumber, ConfirmedTimestamp}
+use Rattle.safe_machine.specs.State.{State, make, move_to, pass, note_request, reply, unconfirmed}
+use Rattle.safe_machine.specs.declared.table.Cell.{Cell}
+use Rattle.safe_machine.specs.Table.{cell, start_row, up_row, run_row, request_row}
+use Rattle.safe_machine.specs.declared.table.Cell.TheVariants.{Take, Ask, Answer as Reply, Resume, Refuse, Skip}
+use Rattle.safe_machine.specs.declared.decision.Decision.{Decision}
+use Rattle.safe_machine.specs.Decision.{is_stranger, is_goodbye, is_ours, cs_fits, cts_fits, tested, in_down, as_client, in_start, by_cell, by_table, by_connection, by_sender, distance, cs_step}
+use Rattle.safe_machine.specs.declared.decision.Decision.TheVariants.{Nothing, Drops, Shuts, Leaves, Rejects, Accepts, Connects, Takes, Resumes, AnswersNext, AnswersEarly}
+use Rattle.safe_machine.specs.Step.{carry_out, guard, respond, tests_passed, confirm_units}
+use Rattle.safe_machine.specs.Moves.{Move, move, GoesOn, HearsNothing, ConnectionsLaw}
+use Rattle.safe_machine.specs.Moves.Move.{Guards, Hears, Ticks, Sends, Leaves as LeavesNow}
+use Rattle.safe_machine.proofs.one.Resending.{resend-connection}
+use Rattle.safe_machine.proofs.one.OneMachine.{send-connection}
+use Rattle.safe_machine.proofs.one.Strangers.{guarded}
+use Rattle.safe_machine.specs.Connections.{is_closed, in_turn, is_connected}
+use Rattle.safe_machine.specs.View.{kept_of}
+use Rattle.safe_machine.proofs.one.StepCases.{heartbeat-cases, unit-cases, early-cases}
+use Rattle.std.proofs.lemmas.Bool.{cond_both}
+
+-- a cell by which an end goes on connected
+abbrev IsGoodCell : Cell → Type 0
+IsGoodCell (Take connection) = is_connected connection ≡ true
+IsGoodCell _ = Unit {0}
+
+up-good : (next : Bool) (kind : Kind) → IsGoodCell (up_row next kind)
+up-good true ConnReq = tt
+up-good true ConnResp = tt
+up-good true RetrReq = tt
+up-good true RetrResp = tt
+up-good true DiscReq = tt
+up-good true Heartbeat = refl
+up-good true Data = refl
+up-good true RetrData = tt
+up-good false ConnReq = tt
+up-good false ConnResp = tt
+up-good false RetrReq = tt
+up-good false RetrResp = tt
+up-good false DiscReq = tt
+up-good false Heartbeat = tt
+up-good false Data = tt
+up-good false RetrData = tt
+
+run-good : (next : Bool) (kind : Kind) → IsGoodCell (run_row next kind)
+run-good true ConnReq = tt
+run-good true ConnResp = tt
+run-good true RetrReq = tt
+run-good true RetrResp = tt
+run-good true DiscReq = tt
+run-good true Heartbeat = refl
+run-good true Data = refl
+run-good true RetrData = refl
+run-good false ConnReq = tt
+run-good false ConnResp = tt
+run-good false RetrReq = tt
+run-good false RetrResp = tt
+run-good false DiscReq = tt
+run-good false Heartbeat = tt
+run-good false Data = tt
+run-good false RetrData = tt
+
+request-good : (kind : Kind) → IsGoodCell (request_row kind)
+request-good ConnReq = tt
+request-good ConnResp = tt
+request-good RetrReq = tt
+request-good RetrResp = tt
+request-good DiscReq = tt
+request-good Heartbeat = tt
+request-good Data = tt
+request-good RetrData = tt
+
+cell-good : (connection : ConnectionState) (next : Bool) (kind : Kind) → is_connected connection ≡ true → IsGoodCell (cell connection next kind)
+cell-good Up next kind on = up-good next kind
+cell-good RetrRun next kind on = run-good next kind
+cell-good Requesting next kind on = request-good kind
+cell-good Closed next kind on = tt
+cell-good Down next kind on = tt
+cell-good Start next kind on = cc
+
+module _ (p : Pdu) (now : ℕ) (s : State) where
+  abbrev Q : Decision → Type 0
+  Q d = GoesOn s.connection (carry_out p now d s).connection
+
+  leaves-goes : (reason : Reason) (detail : Detail) → Q (Leaves reason detail)
+  leaves-goes reason detail = inr (inl refl)
+
+  tested-goes : (d : Decision) → Q d → Q (tested (kept_of s) p now d)
+  tested-goes d h =
+      cond_both (cs_fits (kept_of s) p) (if cts_fits (kept_of s) p now then d else Leaves ProtocolError ConfirmedTimestamp) (Leaves ProtocolError ConfirmedNumber) Q
+      (λ _. cond_both (cts_fits (kept_of s) p now) d (Leaves ProtocolError ConfirmedTimestamp) Q (λ _. h) (λ _. inr (inl refl)))
+      (λ _. inr (inl refl))
+
+  takes-is : (connection : ConnectionState) → (carry_out p now (Takes connection) s).connection ≡ connection
+  takes-is connection =
+      unit-cases (λ t. t.connection ≡ connection) p now (move_to connection (pass p 0 (tests_passed p s))) (λ _. refl) (λ _ _. refl) (λ _. refl)
+
+  reply-is : (t : State) → (reply now t).connection ≡ t.connection
+  reply-is t = resend-connection (unconfirmed t) now (make RetrResp [] now t)
+
+  down-goes : s.connection ≡ Down → (kind : Kind) → Q (in_down p kind)
+  down-goes down ConnReq = cond_both (is_ours p.body) Accepts Rejects Q (λ _. inr (inr (inl (down, refl)))) (λ _. inr (inl refl))
+  down-goes down ConnResp = inl refl
+  down-goes down RetrReq = inl refl
+  down-goes down RetrResp = inl refl
+  down-goes down DiscReq = inl refl
+  down-goes down Heartbeat = inl refl
+  down-goes down Data = inl refl
+  down-goes down RetrData = inl refl
+
+  client-goes : s.connection ≡ Start → (kind : Kind) → Q (as_client (kept_of s) p now kind)
+  client-goes start ConnResp =
+      cond_both (is_ours p.body) (tested (kept_of s) p now Connects) (Leaves WrongVersion Unspecified) Q (λ _. tested-goes Connects (inr (inr (inr (inl (start, refl)))))) (λ _. inr (inl refl))
+  client-goes start ConnReq = leaves-goes UnexpectedPdu Unspecified
+  client-goes start RetrReq = leaves-goes UnexpectedPdu Unspecified
+  client-goes start RetrResp = leaves-goes UnexpectedPdu Unspecified
+  client-goes start DiscReq = leaves-goes UnexpectedPdu Unspecified
+  client-goes start Heartbeat = leaves-goes UnexpectedPdu Unspecified
+  client-goes start Data = leaves-goes UnexpectedPdu Unspecified
+  client-goes start RetrData = leaves-goes UnexpectedPdu Unspecified
+
+  start-goes : s.connection ≡ Start → (next : Bool) (kind : Kind) (d : ℕ) → Q (by_cell (kept_of s) p now d (start_row next kind))
+  start-goes start true ConnReq d = leaves-goes UnexpectedPdu Unspecified
+  start-goes start true ConnResp d = leaves-goes UnexpectedPdu Unspecified
+  start-goes start true RetrReq d = leaves-goes UnexpectedPdu Unspecified
+  start-goes start true RetrResp d = leaves-goes UnexpectedPdu Unspecified
+  start-goes start true DiscReq d = leaves-goes UnexpectedPdu Unspecified
+  start-goes start true Heartbeat d = tested-goes (Takes Up) (inr (inr (inr (inl (start, takes-is Up)))))
+  start-goes start true Data d = leaves-goes UnexpectedPdu Unspecified
+  start-goes start true RetrData d = leaves-goes UnexpectedPdu Unspecified
+  start-goes start false ConnReq d = leaves-goes UnexpectedPdu Unspecified
+  start-goes start false ConnResp d = leaves-goes UnexpectedPdu Unspecified
+  start-goes start false RetrReq d = leaves-goes UnexpectedPdu Unspecified
+  start-goes start false RetrResp d = leaves-goes UnexpectedPdu Unspecified
+  start-goes start false DiscReq d = leaves-goes UnexpectedPdu Unspecified
+  start-goes start false Heartbeat d = leaves-goes SequenceError Unspecified
+  start-goes start false Data d = leaves-goes SequenceError Unspecified
+  start-goes start false RetrData d = leaves-goes UnexpectedPdu Unspecified
+
+  connected-goes : is_connected s.connection ≡ true → (d : ℕ) (c : Cell) → IsGoodCell c → Q (by_cell (kept_of s) p now d c)
+  connected-goes on d (Take connection) good = tested-goes (Takes connection) (inr (inr (inr (inr (on, ap is_connected (takes-is connection) ∙ good)))))
+  connected-goes on d Ask good = inr (inr (inr (inr (on, refl))))
+  connected-goes on d Reply good =
+      let early : Q AnswersEarly =
+      early-cases (λ u. GoesOn s.connection u.connection) p now s (λ _. inr (inr (inr (inr (on, refl))))) (inl (reply-is (note_request (distance (kept_of s) p) (confirm_units p s))))
+      in
+      let next : Q AnswersNext = inl (reply-is (pass p 0 (note_request 0 (tests_passed p s)))) in
+      cond_both (nat_le (s.expected + d) s.answered) (Drops Answered) _ Q (λ _. inl refl)
+      (λ _. cond_both (cs_fits (kept_of s) p) _ _ Q
+      (λ _. cond_both ((d == 0) && in_turn s.connection) _ AnswersEarly Q (λ _. cond_both (cts_fits (kept_of s) p now) AnswersNext (Leaves ProtocolError ConfirmedTimestamp) Q (λ _. next) (λ _. inr (inl refl))) (λ _. early))
+      (λ _. cond_both (nat_le 0x8000_0000 (cs_step (kept_of s) p)) (Drops Below) (Leaves RetransmissionImpossible Unspecified) Q (λ _. inl refl) (λ _. inr (inl refl))))
+  connected-goes on d Resume good = tested-goes Resumes (inr (inr (inr (inr (on, refl)))))
+  connected-goes on d (Refuse reason) good = inr (inl refl)
+  connected-goes on d Skip good = inl refl
+
+  table-goes : ((d : ℕ) → Q (by_cell (kept_of s) p now d (cell s.connection (d == 0) p.kind))) → (d : ℕ) → Q (by_table (kept_of s) p now d)
+  table-goes h d = cond_both (nat_le d (REACH * s.settings.n_sendmax)) (by_cell (kept_of s) p now d (cell s.connection (d == 0) p.kind)) (Drops Number) Q (λ _. h d) (λ _. inl refl)
+
+  on-goes : is_connected s.connection ≡ true → Q (if is_goodbye p.kind then Shuts else by_table (kept_of s) p now (distance (kept_of s) p))
+  on-goes on =
+      cond_both (is_goodbye p.kind) Shuts (by_table (kept_of s) p now (distance (kept_of s) p)) Q (λ _. inr (inl refl))
+      (λ _. table-goes (λ d. connected-goes on d (cell s.connection (d == 0) p.kind) (cell-good s.connection (d == 0) p.kind on)) (distance (kept_of s) p))
+
+  by-goes : (connection : ConnectionState) → s.connection ≡ connection → Q (by_connection (kept_of s) p now connection)
+  by-goes Closed e = inl refl
+  by-goes Down e = down-goes e p.kind
+  by-goes Start e =
+      cond_both (is_goodbye p.kind) Shuts (in_start (kept_of s) p now) Q (λ _. inr (inl refl))
+      (λ _. cond_both s.settings.client (as_client (kept_of s) p now p.kind) (by_table (kept_of s) p now (distance (kept_of s) p)) Q (λ _. client-goes e p.kind)
+      (λ _. table-goes (λ d. subst (λ c. Q (by_cell (kept_of s) p now d (cell c (d == 0) p.kind))) (sym e) (start-goes e (d == 0) p.kind d)) (distance (kept_of s) p)))
+  by-goes Up e = on-goes (ap is_connected e)
+  by-goes Requesting e = on-goes (ap is_connected e)
+  by-goes RetrRun e = on-goes (ap is_connected e)
+
+  respond-goes : GoesOn s.connection (respond p now s).connection
+  respond-goes =
+      cond_both (is_closed s.connection) Nothing (by_sender (kept_of s) p now) Q (λ _. inl refl)
+      (λ _. cond_both (is_stranger s p) (Drops Stranger) (by_connection (kept_of s) p now s.connection) Q (λ _. inl refl) (λ _. by-goes s.connection refl))
+
+guard-goes : (now : ℕ) (s : State) → GoesOn s.connection (guard now s).connection
+guard-goes now s = elim (guarded now s) [ inl closed ↦ inr (inl closed) | inr same ↦ inl (ap (λ (t : State). t.connection) same) ]
+
+connection-goes : (m : Move) (s : State) → GoesOn s.connection (move m s).connection
+connection-goes (Guards now) s = guard-goes now s
+connection-goes (Hears p now) s =
+    elim (guarded now s) [
+      | inl closed ↦ inr (inl (ap (λ c. (carry_out p now (if is_closed c then Nothing else by_sender (kept_of (guard now s)) p now) (guard now s)).connection) closed ∙ closed))
+      | inr same ↦ subst (λ (t : State). GoesOn s.connection (respond p now t).connection) (sym same) (respond-goes p now s)
+    ]
+connection-goes (Ticks now) s =
+    heartbeat-cases (λ t. GoesOn s.connection t.connection) now (guard now s) (λ _. guard-goes now s) (guard-goes now s)
+connection-goes (Sends unit now) s = inl (send-connection unit now s)
+connection-goes (LeavesNow reason detail now) s = inr (inl refl)
+
+guard-stays : (now : ℕ) (s : State) → ((guard now s).connection ≡ s.connection) ⊎ ((guard now s).connection ≡ Closed)
+guard-stays now s = elim (guarded now s) [ inl closed ↦ inr closed | inr same ↦ inl (ap (λ (t : State). t.connection) same) ]
+
+connection-stays : (m : Move) (s : State) → HearsNothing m → ((move m s).connection ≡ s.connection) ⊎ ((move m s).connection ≡ Closed)
+connection-stays (Guards now) s quiet = guard-stays now s
+connection-stays (Hears p now) s quiet = absurd quiet
+connection-stays (Ticks now) s quiet =
+    heartbeat-cases (λ t. (t.connection ≡ s.connection) ⊎ (t.connection ≡ Closed)) now (guard now s) (λ _. guard-stays now s) (guard-stays now s)
+connection-stays (Sends unit now) s quiet = inl (send-connection unit now s)
+connection-stays (LeavesNow reason detail now) s quiet = inr refl
+
+pub connections_law_holds : ConnectionsLaw
+connections_law_holds = (connection-goes, connection-stays)

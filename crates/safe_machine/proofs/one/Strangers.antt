@@ -1,0 +1,132 @@
+-- A PDU of a stranger changes nothing, and before the connection is up nothing is taken.
+use Rattle.std.proofs.Common.{◌≡◌, ◌⊎◌, inl, inr, ◌==◌, ◌*◌, ℕ, Bool, true, false, refl, sym, ap, subst, ◌∙◌}
+use Rattle.std.specs.Prelude.{if◌then◌else◌, ◌&&◌, nat_le}
+use Rattle.safe_pdu.specs.declared.Kind.{Kind}
+use Rattle.safe_pdu.specs.declared.Kind.TheVariants.{ConnReq, ConnResp, RetrReq, RetrResp, DiscReq, Heartbeat, Data, RetrData}
+use Rattle.safe_pdu.specs.Pdu.{Pdu}
+use Rattle.safe_machine.specs.declared.ConnectionState.TheVariants.{Closed, Down, Start, Up}
+use Rattle.safe_machine.specs.declared.DropCause.TheVariants.{Stranger, Number}
+use Rattle.safe_machine.specs.declared.Reason.{Reason}
+use Rattle.safe_machine.specs.declared.Reason.TheVariants.{WrongVersion, UnexpectedPdu, SequenceError, ProtocolError}
+use Rattle.safe_machine.specs.declared.Detail.{Detail}
+use Rattle.safe_machine.specs.declared.Detail.TheVariants.{Unspecified, ConfirmedNumber, ConfirmedTimestamp}
+use Rattle.safe_machine.specs.Made.{carries}
+use Rattle.safe_machine.specs.Settings.{Settings}
+use Rattle.safe_machine.specs.State.{State, move_to, pass, hand_up}
+use Rattle.safe_machine.specs.Table.{cell, start_row}
+use Rattle.safe_machine.specs.declared.decision.Decision.{Decision}
+use Rattle.safe_machine.specs.Decision.{is_stranger, is_goodbye, is_ours, cs_fits, cts_fits, tested, in_down, as_client, in_start, by_cell, by_table, by_connection, by_sender, distance}
+use Rattle.safe_machine.specs.declared.decision.Decision.TheVariants.{Nothing, Drops, Shuts, Leaves, Rejects, Accepts, Connects, Takes}
+use Rattle.safe_machine.specs.Step.{carry_out, guard, respond, beat, tests_passed}
+use Rattle.safe_machine.specs.Moves.{StrangersLaw, WaitsLaw}
+use Rattle.safe_machine.specs.Moves.Move.{Guards, Hears, Ticks, Sends, Leaves as LeavesNow}
+use Rattle.octets.specs.declared.limits.TheConstants.{REACH}
+use Rattle.safe_machine.proofs.one.OneMachine.{plain-guard, plain-tick, plain-leave, send-taken}
+use Rattle.safe_machine.proofs.one.Identified.{settings_law_holds}
+use Rattle.safe_machine.specs.Connections.{is_closed}
+use Rattle.safe_machine.specs.View.{kept_of}
+use Rattle.safe_machine.proofs.one.StepCases.{guard-cases}
+use Rattle.std.proofs.lemmas.Bool.{cond_both}
+
+strange-drops : (p : Pdu) (now : ℕ) (s : State) → is_stranger s p ≡ true → respond p now s ≡ s
+strange-drops p now s strange =
+    cond_both (is_closed s.connection) Nothing (by_sender (kept_of s) p now) (λ d. carry_out p now d s ≡ s) (λ _. refl)
+    (λ _. cond_both (is_stranger s p) (Drops Stranger) (by_connection (kept_of s) p now s.connection) (λ d. carry_out p now d s ≡ s) (λ _. refl) (λ meant. let no : true ≡ false = sym strange ∙ meant in cc))
+
+pub strangers_law_holds : StrangersLaw
+strangers_law_holds p now s strange =
+    strange-drops p now (guard now s) (ap (λ (c : Settings). if (p.receiver == c.own) && (p.sender == c.peer) then false else true) (settings_law_holds (Guards now) s) ∙ strange)
+
+module _ (p : Pdu) (now : ℕ) (s : State) where
+  -- what it decides takes nothing
+  abbrev Q : Decision → Type 0
+  Q d = (carry_out p now d s).taken ≡ s.taken
+
+  leaves-quiet : (reason : Reason) (detail : Detail) → Q (Leaves reason detail)
+  leaves-quiet reason detail = (plain-leave reason detail now s).taken
+
+  tested-quiet : (d : Decision) → Q d → Q (tested (kept_of s) p now d)
+  tested-quiet d h =
+      cond_both (cs_fits (kept_of s) p) (if cts_fits (kept_of s) p now then d else Leaves ProtocolError ConfirmedTimestamp) (Leaves ProtocolError ConfirmedNumber) Q
+      (λ _. cond_both (cts_fits (kept_of s) p now) d (Leaves ProtocolError ConfirmedTimestamp) Q (λ _. h) (λ _. leaves-quiet ProtocolError ConfirmedTimestamp))
+      (λ _. leaves-quiet ProtocolError ConfirmedNumber)
+
+  down-quiet : (kind : Kind) → Q (in_down p kind)
+  down-quiet ConnReq = cond_both (is_ours p.body) Accepts Rejects Q (λ _. refl) (λ _. refl)
+  down-quiet ConnResp = refl
+  down-quiet RetrReq = refl
+  down-quiet RetrResp = refl
+  down-quiet DiscReq = refl
+  down-quiet Heartbeat = refl
+  down-quiet Data = refl
+  down-quiet RetrData = refl
+
+  client-quiet : (kind : Kind) → Q (as_client (kept_of s) p now kind)
+  client-quiet ConnResp = cond_both (is_ours p.body) (tested (kept_of s) p now Connects) (Leaves WrongVersion Unspecified) Q (λ _. tested-quiet Connects refl) (λ _. leaves-quiet WrongVersion Unspecified)
+  client-quiet ConnReq = leaves-quiet UnexpectedPdu Unspecified
+  client-quiet RetrReq = leaves-quiet UnexpectedPdu Unspecified
+  client-quiet RetrResp = leaves-quiet UnexpectedPdu Unspecified
+  client-quiet DiscReq = leaves-quiet UnexpectedPdu Unspecified
+  client-quiet Heartbeat = leaves-quiet UnexpectedPdu Unspecified
+  client-quiet Data = leaves-quiet UnexpectedPdu Unspecified
+  client-quiet RetrData = leaves-quiet UnexpectedPdu Unspecified
+
+  heartbeat-quiet : p.kind ≡ Heartbeat → Q (Takes Up)
+  heartbeat-quiet is =
+      let z = move_to Up (pass p 0 (tests_passed p s)) in
+      ap (λ k. (if carries k then beat now (hand_up p z) else z).taken) is
+
+  row-quiet : (next : Bool) (kind : Kind) (d : ℕ) → p.kind ≡ kind → Q (by_cell (kept_of s) p now d (start_row next kind))
+  row-quiet true Heartbeat d is = tested-quiet (Takes Up) (heartbeat-quiet is)
+  row-quiet false Heartbeat d is = leaves-quiet SequenceError Unspecified
+  row-quiet true Data d is = leaves-quiet UnexpectedPdu Unspecified
+  row-quiet false Data d is = leaves-quiet SequenceError Unspecified
+  row-quiet true ConnReq d is = leaves-quiet UnexpectedPdu Unspecified
+  row-quiet false ConnReq d is = leaves-quiet UnexpectedPdu Unspecified
+  row-quiet true ConnResp d is = leaves-quiet UnexpectedPdu Unspecified
+  row-quiet false ConnResp d is = leaves-quiet UnexpectedPdu Unspecified
+  row-quiet true RetrReq d is = leaves-quiet UnexpectedPdu Unspecified
+  row-quiet false RetrReq d is = leaves-quiet UnexpectedPdu Unspecified
+  row-quiet true RetrResp d is = leaves-quiet UnexpectedPdu Unspecified
+  row-quiet false RetrResp d is = leaves-quiet UnexpectedPdu Unspecified
+  row-quiet true DiscReq d is = leaves-quiet UnexpectedPdu Unspecified
+  row-quiet false DiscReq d is = leaves-quiet UnexpectedPdu Unspecified
+  row-quiet true RetrData d is = leaves-quiet UnexpectedPdu Unspecified
+  row-quiet false RetrData d is = leaves-quiet UnexpectedPdu Unspecified
+
+  table-quiet : s.connection ≡ Start → (d : ℕ) → Q (by_table (kept_of s) p now d)
+  table-quiet start d =
+      cond_both (nat_le d (REACH * s.settings.n_sendmax)) (by_cell (kept_of s) p now d (cell s.connection (d == 0) p.kind)) (Drops Number) Q
+      (λ _. subst (λ c. Q (by_cell (kept_of s) p now d (cell c (d == 0) p.kind))) (sym start) (row-quiet (d == 0) p.kind d refl)) (λ _. refl)
+
+  start-quiet : s.connection ≡ Start → Q (by_connection (kept_of s) p now Start)
+  start-quiet start =
+      cond_both (is_goodbye p.kind) Shuts (in_start (kept_of s) p now) Q (λ _. refl)
+      (λ _. cond_both s.settings.client (as_client (kept_of s) p now p.kind) (by_table (kept_of s) p now (distance (kept_of s) p)) Q (λ _. client-quiet p.kind) (λ _. table-quiet start (distance (kept_of s) p)))
+
+  meant-quiet : (s.connection ≡ Down) ⊎ (s.connection ≡ Start) → Q (by_connection (kept_of s) p now s.connection)
+  meant-quiet (inl down) = subst (λ c. Q (by_connection (kept_of s) p now c)) (sym down) (down-quiet p.kind)
+  meant-quiet (inr start) = subst (λ c. Q (by_connection (kept_of s) p now c)) (sym start) (start-quiet start)
+
+  respond-quiet : (s.connection ≡ Down) ⊎ (s.connection ≡ Start) → (respond p now s).taken ≡ s.taken
+  respond-quiet before =
+      cond_both (is_closed s.connection) Nothing (by_sender (kept_of s) p now) Q (λ _. refl)
+      (λ _. cond_both (is_stranger s p) (Drops Stranger) (by_connection (kept_of s) p now s.connection) Q (λ _. refl) (λ _. meant-quiet before))
+
+-- the guard leaves it as it is, or closed
+pub guarded : (now : ℕ) (s : State) → ((guard now s).connection ≡ Closed) ⊎ (guard now s ≡ s)
+guarded now s = guard-cases (λ t. (t.connection ≡ Closed) ⊎ (t ≡ s)) now s (λ _ _. inl refl) (λ _. inr refl)
+
+pub waits_law_holds : WaitsLaw
+waits_law_holds (Guards now) s before = (plain-guard now s).taken
+waits_law_holds (Hears p now) s before =
+    elim (guarded now s) [
+      | inl closed ↦ ap (λ (t : State). t.taken) (closed-respond p now (guard now s) closed) ∙ (plain-guard now s).taken
+      | inr same ↦ ap (λ (t : State). (respond p now t).taken) same ∙ respond-quiet p now s before
+    ]
+  where
+    closed-respond : (p : Pdu) (now : ℕ) (s : State) → s.connection ≡ Closed → respond p now s ≡ s
+    closed-respond p now s closed = ap (λ c. carry_out p now (if is_closed c then Nothing else by_sender (kept_of s) p now) s) closed
+waits_law_holds (Ticks now) s before = (plain-tick now s).taken
+waits_law_holds (Sends unit now) s before = send-taken unit now s
+waits_law_holds (LeavesNow reason detail now) s before = (plain-leave reason detail now s).taken

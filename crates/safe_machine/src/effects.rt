@@ -1,0 +1,347 @@
+//! What an end does by its decision, each decision apart.
+
+ghost use Rattle.std.specs.Prelude.{◌≡◌, ◌+◌, ◌-◌, ◌<◌, ◌≤◌, ◌^◌, List, [], length, Some, slice_get, IfSome};
+ghost use Rattle.octets.specs.declared.limits.TheConstants.{WINDOW_MAX};
+ghost use Rattle.retrans.specs.Units.{Numbered, above, octets_of, renumbered};
+ghost use Rattle.std.specs.List.{FoldsTo};
+ghost use Rattle.safe_pdu.specs.Pdu.{pdu_of};
+ghost use Rattle.safe_pdu.specs.SafeText.{safe_text};
+ghost use Rattle.safe_pdu.specs.Bodies.{IsBody, window_of};
+ghost use Rattle.safe_machine.specs.Made.{carries, opening_body};
+ghost use Rattle.safe_machine.specs.State.{State, ask, next_made, reply, resend};
+ghost use Rattle.safe_machine.specs.Decision.{cs_step, cts_step, distance};
+ghost use Rattle.safe_machine.specs.declared.decision.Decision.TheVariants.{Accepts, AnswersEarly, AnswersNext, Connects, Rejects, Resumes, Takes};
+ghost use Rattle.safe_machine.specs.Step.{beat, carry_out, take_unit, answered_ahead};
+ghost use Rattle.safe_machine.specs.View.{AllUnits, Does, Hands, Turns, beside};
+ghost use Rattle.safe_machine.specs.Allows.{carried};
+
+use super::endpoint::Endpoint;
+use super::{ConnectionState, Detail, PduOut, Reason, UnitIn};
+use safe_pdu::{Kind, SafePdu, read_opening};
+use std::alloc::Allocator;
+
+impl<A: Allocator> Endpoint<A> {
+    /// Refuses a ConnReq for its version.
+    pub(crate) fn reject<O: PduOut>(&mut self, pdu: &SafePdu<'_>, now: u64, out: &mut O)
+        requires few { self.old.made < 2 ^ 39 }
+        requires reach { self.old.expected < 2 ^ 62 }
+        ensures does { Does O.makes (carry_out (pdu_of pdu.now) now Rejects) self.old out.old self.new out.new }
+    {
+        self.pass(pdu, 0);
+        self.goodbye(Reason::WrongVersion, Detail::Unspecified, now, out);
+        self.move_to(ConnectionState::Closed);
+    }
+
+    /// Grants a ConnReq.
+    pub(crate) fn accept<O: PduOut>(&mut self, pdu: &SafePdu<'_>, now: u64, out: &mut O)
+        requires few { self.old.made < 2 ^ 38 }
+        requires reach { self.old.expected < 2 ^ 62 }
+        requires body { IsBody Kind.ConnReq pdu.now.body.now }
+        requires opening { IsBody Kind.ConnResp (opening_body self.old.settings.n_sendmax) }
+        requires empty { self.old.ring ≡ [] }
+        ensures does { Does O.makes (carry_out (pdu_of pdu.now) now Accepts) self.old out.old self.new out.new }
+    {
+        let index = self.made;
+        self.pass(pdu, 0);
+        self.set_window(pdu);
+        self.say_opening(Kind::ConnResp, now, out);
+        self.confirm_to(index, now);
+        self.move_to(ConnectionState::Start);
+    }
+
+    /// Has got its ConnResp.
+    pub(crate) fn connect<O: PduOut>(&mut self, pdu: &SafePdu<'_>, now: u64, out: &mut O)
+        requires body { IsBody Kind.ConnReq pdu.now.body.now }
+        requires few { self.old.made < 2 ^ 39 }
+        requires reach { self.old.expected < 2 ^ 62 }
+        requires number { cs_step self.old (pdu_of pdu.now) < self.old.made - self.old.confirmed }
+        requires time { cts_step self.old (pdu_of pdu.now) ≤ now - self.old.confirmed_at }
+        ensures does { Does O.makes (carry_out (pdu_of pdu.now) now Connects) self.old out.old self.new out.new }
+    {
+        self.confirm_both(pdu, now);
+        self.pass(pdu, 0);
+        self.set_window(pdu);
+        self.beat(now, out);
+        self.move_to(ConnectionState::Up);
+    }
+
+    /// Takes a PDU, and is then in that state.
+    pub(crate) fn take<O: PduOut, U: UnitIn>(
+        &mut self,
+        pdu: &SafePdu<'_>,
+        now: u64,
+        connection: ConnectionState,
+        out: &mut O,
+        units: &mut U,
+    )
+        requires few { self.old.made < 2 ^ 39 }
+        requires since { self.old.since < 2 ^ 40 }
+        requires reach { self.old.expected < 2 ^ 62 }
+        requires number { cs_step self.old (pdu_of pdu.now) < self.old.made - self.old.confirmed }
+        requires time { cts_step self.old (pdu_of pdu.now) ≤ now - self.old.confirmed_at }
+        requires ready { U.ready units.old }
+        ensures does { Does O.makes (carry_out (pdu_of pdu.now) now (Takes connection)) self.old out.old self.new out.new }
+        ensures taken { FoldsTo U.takes units.old (carried (pdu_of pdu.now)) units.new }
+        ensures ready { U.ready units.new }
+    {
+        self.confirm_both(pdu, now);
+        self.pass(pdu, 0);
+        self.move_to(connection);
+        self.take_unit(pdu, now, out, units);
+    }
+
+    /// Asks for a retransmission.
+    pub(crate) fn ask<O: PduOut>(&mut self, now: u64, out: &mut O)
+        requires few { self.old.made < 2 ^ 40 }
+        ensures does { Does O.makes (ask now) self.old out.old self.new out.new }
+    {
+        self.say(Kind::RetrReq, &[], now, out);
+        self.move_to(ConnectionState::RetrReq);
+    }
+
+    /// Has got the answer to its request.
+    pub(crate) fn resume(&mut self, pdu: &SafePdu<'_>, now: u64)
+        requires few { self.old.made < 2 ^ 39 }
+        requires reach { self.old.expected < 2 ^ 62 }
+        requires number { cs_step self.old (pdu_of pdu.now) < self.old.made - self.old.confirmed }
+        requires time { cts_step self.old (pdu_of pdu.now) ≤ now - self.old.confirmed_at }
+        ensures turns { Turns (carry_out (pdu_of pdu.now) now Resumes) self.old self.new }
+    {
+        let distance = self.distance(pdu);
+        self.confirm_both(pdu, now);
+        self.pass(pdu, distance);
+        self.move_to(ConnectionState::RetrRun);
+    }
+
+    /// Answers a RetrReq that is the next PDU.
+    pub(crate) fn answer_next<O: PduOut>(&mut self, pdu: &SafePdu<'_>, now: u64, out: &mut O)
+        requires few { self.old.made < 2 ^ 38 }
+        requires reach { self.old.expected < 2 ^ 62 }
+        requires short { length self.old.ring ≤ WINDOW_MAX }
+        requires sized { AllUnits self.old.ring }
+        requires number { cs_step self.old (pdu_of pdu.now) < self.old.made - self.old.confirmed }
+        requires time { cts_step self.old (pdu_of pdu.now) ≤ now - self.old.confirmed_at }
+        ensures does { Does O.makes (carry_out (pdu_of pdu.now) now AnswersNext) self.old out.old self.new out.new }
+    {
+        self.confirm_both(pdu, now);
+        self.note_request(0);
+        self.pass(pdu, 0);
+        self.reply(now, out);
+    }
+
+    /// Answers any other RetrReq, and asks for what is missing itself.
+    pub(crate) fn answer_early<O: PduOut>(&mut self, pdu: &SafePdu<'_>, now: u64, out: &mut O)
+        requires few { self.old.made < 2 ^ 38 }
+        requires reach { self.old.expected < 2 ^ 62 }
+        requires short { length self.old.ring ≤ WINDOW_MAX }
+        requires sized { AllUnits self.old.ring }
+        requires number { cs_step self.old (pdu_of pdu.now) < self.old.made - self.old.confirmed }
+        ensures does { Does O.makes (carry_out (pdu_of pdu.now) now AnswersEarly) self.old out.old self.new out.new }
+    {
+        let misses = self.connection.in_turn();
+        self.answer_ahead(pdu, now, out);
+        if misses {
+            self.ask(now, out);
+        }
+    }
+
+    /// Confirms and answers a RetrReq that is not to be passed, and is not the next one.
+    fn answer_ahead<O: PduOut>(&mut self, pdu: &SafePdu<'_>, now: u64, out: &mut O)
+        requires few { self.old.made < 2 ^ 38 }
+        requires reach { self.old.expected < 2 ^ 62 }
+        requires short { length self.old.ring ≤ WINDOW_MAX }
+        requires sized { AllUnits self.old.ring }
+        requires number { cs_step self.old (pdu_of pdu.now) < self.old.made - self.old.confirmed }
+        ensures does { Does O.makes (answered_ahead (pdu_of pdu.now) now) self.old out.old self.new out.new }
+        ensures few { self.new.made < 2 ^ 40 }
+    {
+        let distance = self.distance(pdu);
+        self.confirm_units(pdu);
+        self.note_request(distance);
+        self.reply(now, out);
+    }
+
+    /// Answers a request: RetrResp, each unconfirmed unit again, heartbeat.
+    fn reply<O: PduOut>(&mut self, now: u64, out: &mut O)
+        requires few { self.old.made < 2 ^ 38 }
+        requires short { length self.old.ring ≤ WINDOW_MAX }
+        requires sized { AllUnits self.old.ring }
+        requires made { self.old.confirmed < self.old.made }
+        ensures does { Does O.makes (reply now) self.old out.old self.new out.new }
+        ensures few { self.new.made < 2 ^ 40 }
+    {
+        self.make(Kind::RetrResp, &[], now, out);
+        let first = self.made;
+        self.resend_all(now, out);
+        self.renumber(first);
+        self.beat(now, out);
+    }
+
+    /// Makes each unit again, in order.
+    fn resend_all<O: PduOut>(&mut self, now: u64, out: &mut O)
+        requires few { self.old.made < 2 ^ 39 }
+        requires short { length self.old.ring ≤ WINDOW_MAX }
+        requires sized { AllUnits self.old.ring }
+        ensures resent { (ring : List Numbered) (s : State) → self.old ≡ beside ring s
+            → (self.new ≡ beside ring (resend (octets_of ring) now s)) × Hands O.makes out.old s (resend (octets_of ring) now s) out.new }
+        ensures few { self.new.made ≤ self.old.made + WINDOW_MAX }
+        ensures ring { self.new.ring ≡ self.old.ring }
+    {
+        for place in 0..self.ring.len() {
+            self.resend_at(place, now, out);
+        }
+    }
+
+    /// Makes the unit at a place again.
+    fn resend_at<O: PduOut>(&mut self, place: usize, now: u64, out: &mut O)
+        requires few { self.old.made < 2 ^ 40 }
+        requires inside { place < length self.old.ring }
+        requires sized { IfSome (slice_get self.old.ring place) (λ u. IsBody Kind.RetrData u.octets) }
+        ensures counted { self.new ≡ record self.old { made = self.old.made + 1; last_made = now; since = 0 } }
+        ensures made { (u : Numbered) → slice_get self.old.ring place ≡ Some u → (ring : List Numbered) (s : State) → self.old ≡ beside ring s
+            → O.makes out.old (safe_text s.settings.rule (next_made s Kind.RetrData u.octets now).pdu) out.new }
+    {
+        let unit = self.unit_at(place);
+        self.hand_out(Kind::RetrData, unit, now, out);
+        self.count(now);
+    }
+
+    /// The unit at a place.
+    fn unit_at(&self, place: usize) -> &[u8]
+        requires { place < length self.now.ring }
+        ensures { IfSome (slice_get self.now.ring place) (λ u. result.now ≡ u.octets) }
+    {
+        self.ring.get(place).unwrap().1.as_slice()
+    }
+
+    /// Numbers the units anew.
+    fn renumber(&mut self, first: u64)
+        requires { first + length self.old.ring ≤ 2 ^ 40 }
+        ensures { self.new ≡ record self.old { ring = renumbered first (octets_of self.old.ring) } }
+    {
+        self.ring.renumber(first);
+    }
+
+    /// Notes that a RetrReq at a distance was handled.
+    fn note_request(&mut self, distance: u32)
+        requires { self.old.expected < 2 ^ 62 }
+        ensures left { self.new ≡ record self.old { answered = self.old.expected + distance } }
+    {
+        self.answered = self.expected + u64::from(distance);
+    }
+
+    /// Has a PDU at a distance behind it.
+    fn pass(&mut self, pdu: &SafePdu<'_>, distance: u32)
+        requires { self.old.expected < 2 ^ 62 }
+        ensures left { self.new ≡ record self.old {
+          expected = self.old.expected + distance + 1;
+          last_sn = pdu.now.sn;
+          last_ts = pdu.now.ts;
+        } }
+    {
+        self.expected += u64::from(distance) + 1;
+        self.last_sn = pdu.sn;
+        self.last_ts = pdu.ts;
+    }
+
+    /// Keeps the window that a ConnReq or ConnResp tells.
+    fn set_window(&mut self, pdu: &SafePdu<'_>)
+        requires { IsBody Kind.ConnReq pdu.now.body.now }
+        ensures left { self.new ≡ record self.old { window = window_of pdu.now.body.now } }
+    {
+        self.window = u64::from(read_opening(pdu.body).n_sendmax);
+    }
+
+    /// Keeps what was confirmed by the opening.
+    fn confirm_to(&mut self, index: u64, now: u64)
+        ensures { self.new ≡ record self.old { confirmed = index; confirmed_at = now } }
+    {
+        self.confirmed = index;
+        self.confirmed_at = now;
+    }
+
+    /// Counts what a PDU that passed both tests confirms.
+    fn confirm_both(&mut self, pdu: &SafePdu<'_>, now: u64)
+        requires few { self.old.made < 2 ^ 40 }
+        requires number { cs_step self.old (pdu_of pdu.now) < self.old.made - self.old.confirmed }
+        requires time { cts_step self.old (pdu_of pdu.now) ≤ now - self.old.confirmed_at }
+        ensures left { self.new ≡ record self.old {
+          confirmed = self.old.confirmed + cs_step self.old (pdu_of pdu.now);
+          ring = above (self.old.confirmed + cs_step self.old (pdu_of pdu.now)) self.old.ring;
+          confirmed_at = self.old.confirmed_at + cts_step self.old (pdu_of pdu.now);
+        } }
+    {
+        self.confirm_units(pdu);
+        self.confirm_time(pdu, now);
+    }
+
+    /// Counts as confirmed what a PDU confirms.
+    fn confirm_units(&mut self, pdu: &SafePdu<'_>)
+        requires few { self.old.made < 2 ^ 40 }
+        requires fits { cs_step self.old (pdu_of pdu.now) < self.old.made - self.old.confirmed }
+        ensures left { self.new ≡ record self.old {
+          confirmed = self.old.confirmed + cs_step self.old (pdu_of pdu.now);
+          ring = above (self.old.confirmed + cs_step self.old (pdu_of pdu.now)) self.old.ring;
+        } }
+    {
+        let step = self.cs_step(pdu);
+        self.confirmed += u64::from(step);
+        self.ring.confirm(self.confirmed);
+    }
+
+    /// Moves on the own time last confirmed.
+    fn confirm_time(&mut self, pdu: &SafePdu<'_>, now: u64)
+        requires fits { cts_step self.old (pdu_of pdu.now) ≤ now - self.old.confirmed_at }
+        ensures left { self.new ≡ record self.old { confirmed_at = self.old.confirmed_at + cts_step self.old (pdu_of pdu.now) } }
+    {
+        let step = self.cts_step(pdu);
+        self.confirmed_at += u64::from(step);
+    }
+
+    /// Hands up the unit of a PDU that was taken, if it carries one.
+    fn take_unit<O: PduOut, U: UnitIn>(
+        &mut self,
+        pdu: &SafePdu<'_>,
+        now: u64,
+        out: &mut O,
+        units: &mut U,
+    )
+        requires few { self.old.made < 2 ^ 40 }
+        requires since { self.old.since < 2 ^ 40 }
+        requires ready { U.ready units.old }
+        ensures does { Does O.makes (take_unit (pdu_of pdu.now) now) self.old out.old self.new out.new }
+        ensures taken { FoldsTo U.takes units.old (carried (pdu_of pdu.now)) units.new }
+        ensures ready { U.ready units.new }
+    {
+        if carries(pdu.kind) {
+            units.unit(pdu.body);
+            self.count_unit();
+            self.beat_by_units(now, out);
+        }
+    }
+
+    /// Counts a unit that was handed up.
+    fn count_unit(&mut self)
+        requires { self.old.since < 2 ^ 40 }
+        ensures left { self.new ≡ record self.old { since = self.old.since + 1 } }
+    {
+        self.since += 1;
+    }
+
+    /// Makes a heartbeat where `mwa` units were taken since the last sending.
+    fn beat_by_units<O: PduOut>(&mut self, now: u64, out: &mut O)
+        requires few { self.old.made < 2 ^ 40 }
+        ensures does { Does O.makes (beat now) self.old out.old self.new out.new }
+    {
+        if self.since >= self.config.mwa {
+            self.beat(now, out);
+        }
+    }
+}
+
+/// Whether a PDU of this type carries a unit.
+fn carries(kind: Kind) -> bool
+    ensures { result ≡ carries kind }
+{
+    matches!(kind, Kind::Data | Kind::RetrData)
+}
