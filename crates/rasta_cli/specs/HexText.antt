@@ -1,27 +1,8 @@
--- Texts of hex digits on the command line.
-use Rattle.std.specs.Prelude.{ℕ, List, [], ◌∷◌, Option, Some, None, drop, codes, if◌then◌else◌}
-use Rattle.std.specs.Option.{option_map}
-use Rattle.std.specs.Result.{result_ok}
+-- The word of `md4` that names a message.
+use Rattle.std.specs.Prelude.{ℕ, List, [], Option, Some, codes, if◌then◌else◌}
 use Rattle.std.specs.Str.{bytes_eq}
-use Rattle.byteorder.specs.Endian.{little_number}
-use Rattle.hex.specs.Hex.{decode_of, decode_sized}
-use Rattle.md4.specs.declared.TheConstants.{INITIAL_VALUE}
+use Rattle.pdu_text.specs.HexText.{octets_of}
 
--- the octets that a text of hex digits spells; no digits are no hex text
-abbrev pub octets_of : List ℕ → Option (List ℕ)
-octets_of [] = None
-octets_of (c ∷ cs) = result_ok (decode_of (c ∷ cs))
-
--- the same, where the word `empty` stands for no octets
+-- the octets that a text of hex digits spells, where the word `empty` stands for no octets
 abbrev pub message_of : List ℕ → Option (List ℕ)
 message_of text = if bytes_eq text (codes "empty") then Some [] else octets_of text
-
--- the four words of an initial value in the order of its octets
-abbrev pub words_of : List ℕ → List ℕ
-words_of octets =
-    little_number 4 octets ∷ little_number 4 (drop 4 octets) ∷ little_number 4 (drop 8 octets) ∷ little_number 4 (drop 12 octets) ∷ []
-
--- the initial value that a text of 32 hex digits names, and that of RFC 1320 where no text is given
-abbrev pub initial_value_of : Option (List ℕ) → Option (List ℕ)
-initial_value_of None = Some INITIAL_VALUE
-initial_value_of (Some text) = option_map words_of (result_ok (decode_sized text 16))

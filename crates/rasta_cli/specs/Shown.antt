@@ -11,8 +11,9 @@ use Rattle.clap.specs.Words.{Text}
 use Rattle.rasta_words.specs.CommandLine.{Asks}
 use Rattle.rasta_words.specs.declared.command_line.Request.{Request}
 use Rattle.rasta_words.specs.declared.command_line.Request.TheVariants.{Digest, Show, Sim, Net}
-use Rattle.rasta_cli.specs.HexText.{octets_of, message_of, initial_value_of}
-use Rattle.rasta_cli.specs.ShowText.{show_text, is_clean}
+use Rattle.rasta_cli.specs.HexText.{message_of}
+use Rattle.pdu_text.specs.HexText.{octets_of, initial_value_of}
+use Rattle.pdu_text.specs.ShowText.{show_text, is_clean}
 
 abbrev pub rule_of : CodeLength → List ℕ → CodeRule
 rule_of code words = record { length = code; initial_value = words }

@@ -1,5 +1,5 @@
-use crate::show::show;
 use crate::sim_tests::plays;
+use pdu_text::show;
 use rasta_words::Status;
 use safe_pdu::{CodeLength, CodeRule};
 use std::process::Abort;

@@ -1,12 +1,8 @@
 //! The program `rasta`.
 #![tactic(auto)]
 
-mod hex_text;
-mod lines;
-mod messages;
 mod program;
 mod runs;
-mod show;
 mod sim;
 
 use program::run_words;

@@ -3,15 +3,14 @@
 ghost use Rattle.std.specs.Prelude.{◌≡◌, ◌≢◌, ◌⊎◌, true, false, None, Some, Err, IfOk, IfErr, IsErr, OnOk};
 ghost use Rattle.std.specs.Io.KnownBytes.{Appends};
 ghost use Rattle.std.specs.Option.{option_copied};
-ghost use Rattle.rasta_cli.specs.HexText.{initial_value_of, message_of, octets_of};
+ghost use Rattle.pdu_text.specs.HexText.{initial_value_of, octets_of};
+ghost use Rattle.rasta_cli.specs.HexText.{message_of};
 ghost use Rattle.rasta_cli.specs.Shown.{HasDigested, HasShown, digest_line};
 ghost use Rattle.rasta_words.specs.Status.{status_of};
 
-use crate::hex_text::{hex_octets, initial_value};
-use crate::show::show;
+use pdu_text::{HexFault, hex_octets, initial_value, show, write_hex};
 use rasta_words::{Fault, Status, report};
 use safe_pdu::{CodeLength, CodeRule};
-use sim_lines::write_hex;
 use std::alloc::Global;
 use std::io;
 use std::io::Write;
@@ -85,7 +84,7 @@ fn message_octets(alloc: Global, text: &str) -> Result<Vec<u8>, Fault>
     if text == "empty" {
         return Ok(Vec::new(alloc));
     }
-    hex_octets(alloc, text)
+    spelled_octets(alloc, text)
 }
 
 /// Writes the line of the digest of a message.
@@ -114,7 +113,7 @@ fn shown<O: Write>(
     let Some(words) = initial_value(iv) else {
         return Err(Fault::Hex);
     };
-    let octets = match hex_octets(alloc, hex) {
+    let octets = match spelled_octets(alloc, hex) {
         Ok(octets) => octets,
         Err(fault) => return Err(fault),
     };
@@ -125,5 +124,19 @@ fn shown<O: Write>(
     match show(octets.as_slice(), &rule, out) {
         Ok(clean) => Ok(clean),
         Err(_) => Err(Fault::Output),
+    }
+}
+
+/// The octets that a text of hex digits spells, or the fault that the program names.
+fn spelled_octets(alloc: Global, text: &str) -> Result<Vec<u8>, Fault>
+    ensures ok { IfOk result (λ octets. octets_of text.now ≡ Some octets.items) }
+    ensures none { octets_of text.now ≡ None → (result ≡ Err Fault.Hex) ⊎ (result ≡ Err Fault.Memory) }
+    ensures kinds { IsErr result → (result ≡ Err Fault.Hex) ⊎ (result ≡ Err Fault.Memory) }
+    ensures hex { result ≡ Err Fault.Hex → octets_of text.now ≡ None }
+{
+    match hex_octets(alloc, text) {
+        Ok(octets) => Ok(octets),
+        Err(HexFault::Hex) => Err(Fault::Hex),
+        Err(HexFault::Memory) => Err(Fault::Memory),
     }
 }

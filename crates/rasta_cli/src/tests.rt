@@ -1,10 +1,7 @@
 use crate::runs::{run_md4, run_show};
-use crate::show::show;
 use rasta_words::{Request, Status, WordsFault, command};
-use safe_pdu::{CodeLength, CodeRule};
+use safe_pdu::CodeLength;
 use settings_file::Word;
-use std::io;
-use std::io::{ErrorKind, Write};
 use std::test::Fail;
 
 const HEARTBEAT: &str = "24000000000000001c004c18020000000100000065000000f40100000a00000005000000";
@@ -63,67 +60,6 @@ fn shows_the_worked_cases(rt: HostRuntime) -> Result<(), Fail> {
         assert_eq!(rt; ended, status, "at {hex}");
         assert_eq!(rt; out.as_slice(), text.as_bytes(), "at {hex}");
         assert_eq!(rt; err.as_slice(), fault.as_bytes(), "at {hex}");
-    }
-    Ok(())
-}
-
-const CONNECTION_REQUEST: &str =
-    "32000000000000002a0038180200000001000000640000000000000000000000000000003033303314000000000000000000";
-
-const THREE_MESSAGES: &str =
-    "c000000003000000b8006018020000000100000066000000f401000000000000000000002c00012400494c315f5f5f5f5f5f5f5f5f5f5f5f5f5f5f5f5f5731325f5f5f5f5f5f5f5f5f5f5f5f5f5f5f5f5f032b00012100415f5f5f5f5f5f5f5f5f5f5f5f5f5f5f5f5f5f5f4142434445464748494a4b4c4d4e4f50515253543f0001bc0a494c315f5f5f5f5f5f5f5f5f5f5f5f5f5f5f5f5f5731325f5f5f5f5f5f5f5f5f5f5f5f5f5f5f5f5f000102030405060708090a0b0c0d0e0f10111213";
-
-const NO_TELEGRAM_SECOND: &str =
-    "ad00000003000000a5006118020000000100000066000000f401000000000000000000002c00012400494c315f5f5f5f5f5f5f5f5f5f5f5f5f5f5f5f5f5731325f5f5f5f5f5f5f5f5f5f5f5f5f5f5f5f5f032b00012400000000000000000000000000000000000000000000000000000000000000000000000000000000002c00010001494c315f5f5f5f5f5f5f5f5f5f5f5f5f5f5f5f5f5731325f5f5f5f5f5f5f5f5f5f5f5f5f5f5f5f5f0a";
-
-// Bodies, units and their messages.
-#[test]
-fn shows_bodies_and_messages(rt: HostRuntime) -> Result<(), Fail> {
-    let cases = [
-        (
-            CONNECTION_REQUEST,
-            Status::Done,
-            "red length 50 seq 0\nConnReq receiver 2 sender 1 sn 100 cs 0 ts 0 cts 0 version 0303 nsendmax 20\n",
-        ),
-        (
-            "52000000030000004a006018020000000100000066000000f401000000000000000000002c00012400494c315f5f5f5f5f5f5f5f5f5f5f5f5f5f5f5f5f5731325f5f5f5f5f5f5f5f5f5f5f5f5f5f5f5f5f03",
-            Status::Done,
-            "red length 82 seq 3\nData receiver 2 sender 1 sn 102 cs 500 ts 0 cts 0\nmessage 1 protocol 01 type 0024 from IL1 to W12 payload 03\n",
-        ),
-        (
-            "52000000030000004a006018020000000100000066000000f401000000000000000000002c00012400494c315f5f5f5f5f5f5f5f5f5f5f5f5f5f5f5f415731325f5f5f5f5f5f5f5f5f5f5f5f5f5f5f5f5f03",
-            Status::Refused,
-            "red length 82 seq 3\nData receiver 2 sender 1 sn 102 cs 500 ts 0 cts 0\nmessage 1 fault 3 Name\n",
-        ),
-        (
-            "510000000300000049006018020000000100000066000000f401000000000000000000002c00012400494c315f5f5f5f5f5f5f5f5f5f5f5f5f5f5f5f5f5731325f5f5f5f5f5f5f5f5f5f5f5f5f5f5f5f5f",
-            Status::Refused,
-            "red length 81 seq 3\nData receiver 2 sender 1 sn 102 cs 500 ts 0 cts 0\nunit fault 2 Length\n",
-        ),
-        (
-            "ac00000003000000a40060180200000001000000640000000000000000000000000000002b00012400494c315f5f5f5f5f5f5f5f5f5f5f5f5f5f5f5f5f5731325f5f5f5f5f5f5f5f5f5f5f5f5f5f5f5f5f2b00012400494c315f5f5f5f5f5f5f5f5f5f5f5f5f5f5f5f5f5731325f5f5f5f5f5f5f5f5f5f5f5f5f5f5f5f5f2b00012400494c315f5f5f5f5f5f5f5f5f5f5f5f5f5f5f5f5f5731325f5f5f5f5f5f5f5f5f5f5f5f5f5f5f5f5f2b",
-            Status::Refused,
-            "red length 172 seq 3\nData receiver 2 sender 1 sn 100 cs 0 ts 0 cts 0\nunit fault 3 TooMany\n",
-        ),
-        (
-            THREE_MESSAGES,
-            Status::Done,
-            "red length 192 seq 3\nData receiver 2 sender 1 sn 102 cs 500 ts 0 cts 0\nmessage 1 protocol 01 type 0024 from IL1 to W12 payload 03\nmessage 2 protocol 01 type 0021 from A to ABCDEFGHIJKLMNOPQRST payload -\nmessage 3 protocol 01 type 0abc from IL1 to W12 payload 000102030405060708090a0b0c0d0e0f10111213\n",
-        ),
-        // A message that is no telegram does not hide the next.
-        (
-            NO_TELEGRAM_SECOND,
-            Status::Refused,
-            "red length 173 seq 3\nRetrData receiver 2 sender 1 sn 102 cs 500 ts 0 cts 0\nmessage 1 protocol 01 type 0024 from IL1 to W12 payload 03\nmessage 2 fault 3 Name\nmessage 3 protocol 01 type 0100 from IL1 to W12 payload 0a\n",
-        ),
-    ];
-    for (hex, status, text) in cases {
-        let mut out = Vec::new(rt.alloc());
-        let mut err = Vec::new(rt.alloc());
-        let ended = run_show(rt.alloc(), CodeLength::Zero, None, hex, &mut out, &mut err);
-        assert_eq!(rt; ended, status, "at {hex}");
-        assert_eq!(rt; out.as_slice(), text.as_bytes(), "at {hex}");
-        assert_eq!(rt; err.as_slice(), b"".as_slice(), "at {hex}");
     }
     Ok(())
 }
@@ -189,49 +125,6 @@ fn tests_the_code(rt: HostRuntime) -> Result<(), Fail> {
         let ended = run_show(rt.alloc(), code, iv, hex, &mut out, &mut err);
         assert_eq!(rt; ended, status, "at {hex}");
         assert_eq!(rt; out.as_slice(), text.as_bytes(), "at {hex}");
-    }
-    Ok(())
-}
-
-// A ConnReq of 50 octets, cut to each shorter size: as it stands, and with the length field set to
-// that size.
-#[test]
-fn shows_what_is_cut(rt: HostRuntime) -> Result<(), Fail> {
-    let rule = CodeRule {
-        length: CodeLength::Zero,
-        initial_value: md4::INITIAL_VALUE,
-    };
-    let mut octets = hex::decode(rt.alloc(), CONNECTION_REQUEST)?;
-    assert_eq!(rt; octets.len(), 50);
-    for size in 0..50usize {
-        let mut out = Vec::new(rt.alloc());
-        assert_eq!(rt;
-            show(&octets.as_slice()[..size], &rule, &mut out)?,
-            false,
-            "cut to {size}"
-        );
-        let text = if size < 8 {
-            "red fault 1 Short\n"
-        } else {
-            "red fault 2 Length\n"
-        };
-        assert_eq!(rt; out.as_slice(), text.as_bytes(), "cut to {size}");
-    }
-    for size in 8..50usize {
-        octets[0] = size as u8;
-        let mut out = Vec::new(rt.alloc());
-        assert_eq!(rt;
-            show(&octets.as_slice()[..size], &rule, &mut out)?,
-            false,
-            "cut to {size}"
-        );
-        let fault = if size < 36 {
-            "safe fault 1 Short"
-        } else {
-            "safe fault 2 Length"
-        };
-        let text = format!(in rt.alloc(); "red length {size} seq 0\n{fault}\n")?;
-        assert_eq!(rt; out.as_slice(), text.as_str().as_bytes(), "cut to {size}");
     }
     Ok(())
 }
@@ -397,67 +290,6 @@ fn prints_the_digests(rt: HostRuntime) -> Result<(), Fail> {
         assert_eq!(rt; ended, status, "at {hex}");
         assert_eq!(rt; out.as_slice(), text.as_bytes(), "at {hex}");
         assert_eq!(rt; err.as_slice(), fault.as_bytes(), "at {hex}");
-    }
-    Ok(())
-}
-
-// Takes a number of writes, keeps what they wrote, and fails from then on.
-#[derive(Drop)]
-struct Failing {
-    writes: u32,
-    kept: Vec<u8>,
-}
-
-impl Write for Failing {
-    fn write(&mut self, octets: &[u8]) -> io::Result<usize> {
-        if self.writes == 0 {
-            return Err(io::Error::from(ErrorKind::Other));
-        }
-        self.writes -= 1;
-        self.kept.extend_from_slice(octets)?;
-        Ok(octets.len())
-    }
-
-    fn flush(&mut self) -> io::Result<()> {
-        Ok(())
-    }
-}
-
-// A writer that fails at some write makes `show` answer that, and what came is a beginning of the text.
-#[test]
-fn answers_each_failed_write(rt: HostRuntime) -> Result<(), Fail> {
-    let rule = CodeRule {
-        length: CodeLength::Zero,
-        initial_value: md4::INITIAL_VALUE,
-    };
-    for hex in [
-        HEARTBEAT,
-        CONNECTION_REQUEST,
-        NO_TELEGRAM_SECOND,
-        "24000000000000",
-    ] {
-        let octets = hex::decode(rt.alloc(), hex)?;
-        let mut whole = Vec::new(rt.alloc());
-        let _clean = show(octets.as_slice(), &rule, &mut whole)?;
-        let mut last_failed = true;
-        for writes in 0..128 {
-            let mut writer = Failing {
-                writes,
-                kept: Vec::new(rt.alloc()),
-            };
-            let ended = show(octets.as_slice(), &rule, &mut writer);
-            assert!(rt;
-                whole.as_slice().starts_with(writer.kept.as_slice()),
-                "after {writes} writes"
-            );
-            assert_eq!(rt;
-                ended.is_err(),
-                writer.kept.len() < whole.len(),
-                "after {writes} writes"
-            );
-            last_failed = ended.is_err();
-        }
-        assert!(rt; !last_failed, "128 writes are enough for {hex}");
     }
     Ok(())
 }

@@ -1,6 +1,7 @@
 //! Ends over sockets: the words il, fe and pair.
 
-ghost use Rattle.std.specs.Prelude.{◌≡◌, ◌≢◌, ◌≤◌, ◌^◌, IfOk};
+ghost use Rattle.std.specs.Prelude.{◌≡◌, ◌≢◌, ◌≤◌, ◌<◌, ◌^◌, false, is_ok, length, IfOk};
+ghost use Rattle.settings_file.specs.Whole.{ends_of};
 ghost use Rattle.stack_end.specs.Deadlines.{earliest};
 ghost use Rattle.rasta_net.specs.Waiting.{pause_of};
 
@@ -13,9 +14,15 @@ use settings_file::{Ends, Settings, SettingsFault, Word, settings};
 use stack_end::{End, OpenFault};
 use std::alloc::Global;
 use std::cmp::min;
+use std::fmt::Display;
 use std::io::Write;
 use std::net::Net;
 use std::time::{Clock, Duration};
+use thiserror::Error;
+
+/// The most octets of a settings file. Some 60,000 short telegrams to put have room, and whatever the file says, it is read within
+/// 200 MB and a second.
+const SETTINGS_MAX: usize = 1_048_576;
 
 /// The longest wait of a turn that found nothing, in milliseconds; the system may wait one longer.
 const WAIT_MAX: u64 = 4;
@@ -23,7 +30,8 @@ const WAIT_MAX: u64 = 4;
 /// Runs `il`, `fe` or `pair` for `turns` turns over the sockets that the text of a settings file names, prints each telegram that
 /// an end takes, and at last how each end stands.
 ///
-/// A text that is no settings is `fault: settings`, and behind it stands the key and what is wrong with it.
+/// A text that is no settings is `fault: settings`, and behind it stands the key and what is wrong with it; a text of more than
+/// 1,048,576 octets is none.
 pub fn run_net<R: Net + Clock, O: Write, E: Write>(
     rt: &R,
     alloc: Global,
@@ -33,16 +41,18 @@ pub fn run_net<R: Net + Clock, O: Write, E: Write>(
     out: &mut O,
     err: &mut E,
 ) -> Status
+    // A text that is too long, or that says no settings, is refused.
+    ensures long { SETTINGS_MAX < length text.now → result ≡ Status.Refused }
+    ensures unread { is_ok (ends_of word text.now) ≡ false → result ≡ Status.Refused }
     ensures words { result ≢ Status.WrongWords }
 {
+    if text.len() > SETTINGS_MAX {
+        return refuse(&TooLong(text.len()), err);
+    }
     let ends = match settings(alloc, word, text) {
         Ok(ends) => ends,
         Err(SettingsFault::Memory(_)) => return report(err, Fault::Memory),
-        Err(fault) => {
-            let status = report(err, Fault::Settings);
-            let _ = writeln!(err, "settings: {fault}");
-            return status;
-        }
+        Err(fault) => return refuse(&fault, err),
     };
     let done = match &ends {
         Ends::Il(il) => run_one(rt, alloc, Side::Interlocking, il, turns, out),
@@ -51,17 +61,29 @@ pub fn run_net<R: Net + Clock, O: Write, E: Write>(
     };
     match done {
         Ok(()) => Status::Done,
-        Err(Fault::Settings) => {
-            let status = report(err, Fault::Settings);
-            let _ = writeln!(
-                err,
-                "settings: local, remote: an address and a port expected, another text found"
-            );
-            status
-        }
+        Err(Fault::Settings) => refuse(&NoAddress, err),
         Err(fault) => report(err, fault),
     }
 }
+
+/// Names the fault of settings on standard error, and behind it what is wrong with them.
+fn refuse<D: Display, E: Write>(what: &D, err: &mut E) -> Status
+    ensures { result ≡ Status.Refused }
+{
+    let status = report(err, Fault::Settings);
+    let _ = writeln!(err, "settings: {what}");
+    status
+}
+
+/// A settings file of this many octets is too long.
+#[derive(Clone, Copy, Debug, Error)]
+#[error("at most 1048576 octets expected, {0} found")]
+struct TooLong(usize);
+
+/// A text of `local` or `remote` is no address.
+#[derive(Clone, Copy, Debug, Error)]
+#[error("local, remote: an address and a port expected, another text found")]
+struct NoAddress;
 
 fn run_one<R: Net + Clock, O: Write>(
     rt: &R,

@@ -96,3 +96,37 @@ fn refuses_other_settings(rt: HostRuntime) -> Result<(), Fail> {
     }
     Ok(())
 }
+
+// A file of 1,048,576 octets is read, and says no identifiers; one of an octet more is refused by its length, whatever it says.
+#[test]
+fn refuses_long_settings(rt: HostRuntime) -> Result<(), Fail> {
+    let mut text = String::new(rt.alloc());
+    for _ in 0..1_048_576 {
+        text.push('\n')?;
+    }
+    for (end, want) in [
+        (
+            "",
+            "fault: settings\nsettings: id: 0 to 4294967295 expected, nothing found\n",
+        ),
+        (
+            "#",
+            "fault: settings\nsettings: at most 1048576 octets expected, 1048577 found\n",
+        ),
+    ] {
+        text.push_str(end)?;
+        let (mut out, mut err) = (Vec::new(rt.alloc()), Vec::new(rt.alloc()));
+        let ended = run_net(
+            &rt,
+            rt.alloc(),
+            Word::Fe,
+            text.as_str(),
+            3,
+            &mut out,
+            &mut err,
+        );
+        assert_eq!(rt; ended, Status::Refused);
+        assert_eq!(rt; err.as_slice(), want.as_bytes());
+    }
+    Ok(())
+}

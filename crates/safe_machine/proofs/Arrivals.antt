@@ -6,17 +6,19 @@ use Rattle.safe_pdu.specs.declared.Kind.TheVariants.{RetrReq, RetrResp, Heartbea
 use Rattle.safe_machine.specs.declared.ConnectionState.{ConnectionState}
 use Rattle.safe_machine.specs.declared.ConnectionState.TheVariants.{RetrRun}
 use Rattle.safe_machine.specs.Made.{Made, after_pdu, carries, is_request, is_answer}
-use Rattle.safe_machine.specs.State.{State, make, move_to, pass, confirm_units, hand_up, note_request, reply, ask, cs_step, unconfirmed}
-use Rattle.safe_machine.specs.Decision.{cs_fits, distance, in_turn}
-use Rattle.safe_machine.specs.Decision.Decision.{Takes, Resumes, AnswersNext, AnswersEarly}
-use Rattle.safe_machine.specs.Step.{is_connected, beat, tests_passed, carry_out}
+use Rattle.safe_machine.specs.State.{State, make, move_to, pass, hand_up, note_request, reply, ask, unconfirmed}
+use Rattle.safe_machine.specs.Decision.{cs_fits, distance, cs_step}
+use Rattle.safe_machine.specs.declared.decision.Decision.TheVariants.{Takes, Resumes, AnswersNext, AnswersEarly}
+use Rattle.safe_machine.specs.Step.{beat, tests_passed, carry_out, confirm_units}
 use Rattle.safe_machine.proofs.Cases.{if_both}
 use Rattle.safe_machine.proofs.Runs.{requests, answers, count-at, every-at, no_requests, RequestAt}
 use Rattle.safe_machine.proofs.Invariant.{room, needs_peer, Told, Sound, Started, SoloOf, Solo, Half, Pair, Few}
 use Rattle.safe_machine.proofs.Moves.{room-le, pair-beat, pair-ask, pair-reply, started-from}
 use Rattle.safe_machine.proofs.Passing.{half-take, half-resume, half-confirm, confirm-index}
-use Rattle.safe_machine.proofs.Table.{carries-unit, carries-none, in_turn-room}
+use Rattle.safe_machine.proofs.TableLemmas.{carries-unit, carries-none, in_turn-room}
 use Rattle.safe_machine.proofs.Resending.{resend-connection}
+use Rattle.safe_machine.specs.Connections.{in_turn, is_connected}
+use Rattle.safe_machine.specs.View.{kept_of}
 
 -- what is known where a PDU of the peer comes in
 pub record Arrival (d : ℕ) (m : Made) (rest : List Made) (x y : State) : Type 0 where
@@ -29,15 +31,15 @@ solo-at : (connection : ConnectionState) (expected : ℕ) (x : State) → Solo x
 solo-at connection expected x h s = record { numbered = h.numbered; opening = h.opening; sound = h.sound; started = s }
 
 -- the index confirmed, where the PDU needs a peer
-pub arrival-index : (d : ℕ) (m : Made) (rest : List Made) (x y : State) → Arrival d m rest x y → needs_peer m.pdu.kind ≡ 1 → cs_fits x m.pdu ≡ true →
-    (x.confirmed + cs_step x m.pdu ≡ m.behind - 1) × (1 ≤ m.behind) × (m.behind ≤ y.expected)
+pub arrival-index : (d : ℕ) (m : Made) (rest : List Made) (x y : State) → Arrival d m rest x y → needs_peer m.pdu.kind ≡ 1 → cs_fits (kept_of x) m.pdu ≡ true →
+    (x.confirmed + cs_step (kept_of x) m.pdu ≡ m.behind - 1) × (1 ≤ m.behind) × (m.behind ≤ y.expected)
 arrival-index d m rest x y a needs fits =
     let sound = every-at Sound 0 (x.expected + d) y.made m rest a.peer.sound (omega arith) a.at in
     let told = every-at (Told x.first y.expected) 0 (x.expected + d) y.made m rest a.pair.1.told (omega arith) a.at in
     let late : 1 ≤ m.behind = sound.late (omega arith) in
     (confirm-index (x.expected + d) m rest x y a.pair.1 a.few a.at late fits, late, told.behind)
 
-pub arrival-confirm : (d : ℕ) (m : Made) (rest : List Made) (x y : State) → Arrival d m rest x y → needs_peer m.pdu.kind ≡ 1 → cs_fits x m.pdu ≡ true →
+pub arrival-confirm : (d : ℕ) (m : Made) (rest : List Made) (x y : State) → Arrival d m rest x y → needs_peer m.pdu.kind ≡ 1 → cs_fits (kept_of x) m.pdu ≡ true →
     Half (confirm_units m.pdu x) y
 arrival-confirm d m rest x y a needs fits =
     let p = arrival-index d m rest x y a needs fits in
@@ -45,7 +47,7 @@ arrival-confirm d m rest x y a needs fits =
 
 -- Taking the next PDU.
 pub arrival-take : (now : ℕ) (to : ConnectionState) (m : Made) (rest : List Made) (x y : State) → Arrival 0 m rest x y →
-    room x.connection ≡ 0 → is_connected to ≡ true → is_answer m.pdu.kind ≡ 0 → needs_peer m.pdu.kind ≡ 1 → cs_fits x m.pdu ≡ true →
+    room x.connection ≡ 0 → is_connected to ≡ true → is_answer m.pdu.kind ≡ 0 → needs_peer m.pdu.kind ≡ 1 → cs_fits (kept_of x) m.pdu ≡ true →
     1 ≤ length x.made →
     Pair (carry_out m.pdu now (Takes to) x) y
 arrival-take now to m rest x y a closed connected plain needs fits some =
@@ -65,11 +67,11 @@ arrival-take now to m rest x y a closed connected plain needs fits some =
     if_both (λ s. Pair s y) (carries p.kind) (beat now (hand_up p z)) z unit none
 
 -- The answer to the own request.
-pub arrival-resume : (now : ℕ) (m : Made) (rest : List Made) (x y : State) → Arrival (distance x m.pdu) m rest x y →
-    room x.connection ≤ 1 → is_answer m.pdu.kind ≡ 1 → needs_peer m.pdu.kind ≡ 1 → cs_fits x m.pdu ≡ true → 1 ≤ length x.made →
+pub arrival-resume : (now : ℕ) (m : Made) (rest : List Made) (x y : State) → Arrival (distance (kept_of x) m.pdu) m rest x y →
+    room x.connection ≤ 1 → is_answer m.pdu.kind ≡ 1 → needs_peer m.pdu.kind ≡ 1 → cs_fits (kept_of x) m.pdu ≡ true → 1 ≤ length x.made →
     Pair (carry_out m.pdu now Resumes x) y
 arrival-resume now m rest x y a small is needs fits some =
-    let d = distance x m.pdu in (
+    let d = distance (kept_of x) m.pdu in (
       solo-at RetrRun (x.expected + d + 1) x a.pair.0 (omega arith, some),
       arrival-confirm d m rest x y a needs fits,
       half-resume d RetrRun m rest x y a.peer a.pair.2 small a.at is,
@@ -79,10 +81,10 @@ arrival-resume now m rest x y a small is needs fits some =
 pub record Asked (d : ℕ) (m : Made) (x y : State) : Type 0 where
   pub none : requests (drop (x.expected + d + 1) y.made) + answers (drop y.expected x.made) ≡ 0
   pub one : room y.connection ≡ 1
-  pub all : x.confirmed + cs_step x m.pdu + 1 ≡ y.expected
+  pub all : x.confirmed + cs_step (kept_of x) m.pdu + 1 ≡ y.expected
 
 asked : (d : ℕ) (m : Made) (rest : List Made) (x y : State) → Arrival d m rest x y → is_request m.pdu.kind ≡ 1 → needs_peer m.pdu.kind ≡ 1 →
-    x.answered < x.expected + d → cs_fits x m.pdu ≡ true → Asked d m x y
+    x.answered < x.expected + d → cs_fits (kept_of x) m.pdu ≡ true → Asked d m x y
 asked d m rest x y a is needs new fits =
     let p = arrival-index d m rest x y a needs fits in
     let behind : m.behind ≡ y.expected = every-at (RequestAt y.expected) (x.answered + 1) (x.expected + d) y.made m rest a.pair.1.requests_at (omega arith) a.at (omega arith) in
@@ -107,7 +109,7 @@ half-noted d m x y h k =
     }
 
 pub arrival-next_request : (now : ℕ) (m : Made) (rest : List Made) (x y : State) → Arrival 0 m rest x y → m.pdu.kind ≡ RetrReq →
-    x.answered < x.expected + 0 → in_turn x.connection ≡ true → cs_fits x m.pdu ≡ true → 1 ≤ length x.made →
+    x.answered < x.expected + 0 → in_turn x.connection ≡ true → cs_fits (kept_of x) m.pdu ≡ true → 1 ≤ length x.made →
     Pair (carry_out m.pdu now AnswersNext x) y
 arrival-next_request now m rest x y a is new turn fits some =
     let k = asked 0 m rest x y a (ap is_request is) (ap needs_peer is) new fits in
@@ -120,11 +122,11 @@ arrival-next_request now m rest x y a is new turn fits some =
     ) in
     pair-reply now z y r.1 before k.none k.one k.all
 
-pub arrival-early_request : (now : ℕ) (m : Made) (rest : List Made) (x y : State) → Arrival (distance x m.pdu) m rest x y → m.pdu.kind ≡ RetrReq →
-    x.answered < x.expected + distance x m.pdu → is_connected x.connection ≡ true → cs_fits x m.pdu ≡ true →
+pub arrival-early_request : (now : ℕ) (m : Made) (rest : List Made) (x y : State) → Arrival (distance (kept_of x) m.pdu) m rest x y → m.pdu.kind ≡ RetrReq →
+    x.answered < x.expected + distance (kept_of x) m.pdu → is_connected x.connection ≡ true → cs_fits (kept_of x) m.pdu ≡ true →
     Pair (carry_out m.pdu now AnswersEarly x) y
 arrival-early_request now m rest x y a is new connected fits =
-    let d = distance x m.pdu in
+    let d = distance (kept_of x) m.pdu in
     let k = asked d m rest x y a (ap is_request is) (ap needs_peer is) new fits in
     let z = note_request d (confirm_units m.pdu x) in
     let before : Pair z y = (a.pair.0, half-noted d m x y a.pair.1 k, a.pair.2) in

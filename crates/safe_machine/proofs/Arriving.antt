@@ -1,5 +1,5 @@
 -- What a decision allows its branch to rely on, and what an arrival hands up.
-use Rattle.std.proofs.Common.{◌≡◌, ℕ, ◌-◌, ◌<◌, List, [], ◌∷◌, ◌++◌, length, drop, Bool, true, false, refl, sym, ap, subst, ◌∙◌, append-nil}
+use Rattle.std.proofs.Common.{◌≡◌, ℕ, ◌-◌, ◌<◌, List, [], ◌∷◌, ◌++◌, length, drop, Bool, true, false, refl, sym, ap, subst, ◌∙◌, append-nil, Result}
 use Rattle.std.specs.Prelude.{if◌then◌else◌, nat_le, Some, None}
 use Rattle.std.specs.List.{FoldsTo}
 use Rattle.std.proofs.lemmas.Bool.{ltb-true, leb-true}
@@ -7,21 +7,28 @@ use Rattle.std.proofs.Math.Seq.{drop-append_seam}
 use Rattle.safe_pdu.specs.declared.Kind.TheVariants.{DiscReq, RetrResp, Heartbeat}
 use Rattle.safe_pdu.specs.Pdu.{Pdu}
 use Rattle.safe_pdu.specs.Bodies.{IsBody}
+use Rattle.safe_pdu.specs.Places.{safe_seen}
+use Rattle.safe_pdu.specs.declared.SafeFault.{SafeFault}
+use Rattle.safe_machine.specs.Moves.{move}
+use Rattle.safe_machine.specs.Octets.{arrive_octets, heard}
 use Rattle.safe_machine.specs.declared.ConnectionState.TheVariants.{Down}
 use Rattle.safe_machine.specs.declared.Reason.{Reason}
 use Rattle.safe_machine.specs.declared.Detail.{Detail}
 use Rattle.safe_machine.specs.Made.{carries, leaving_body}
-use Rattle.safe_machine.specs.State.{State, make, move_to, pass, confirm_units, note_request, reply, unconfirmed, hand_up, leave, says_goodbye, ask}
-use Rattle.safe_machine.specs.Decision.{Decision, decide, in_turn, distance}
-use Rattle.safe_machine.specs.Decision.Decision.{Nothing, Drops, Shuts, Leaves, Rejects, Accepts, Connects, Takes, Asks, Resumes, AnswersNext, AnswersEarly}
-use Rattle.safe_machine.specs.Step.{carry_out, receive, arrive, guard, beat, tests_passed}
-use Rattle.safe_machine.specs.Course.{Allows, Passes, cs_ahead, handed_by}
-use Rattle.safe_machine.specs.View.{View, StandsFor, HandsUp, overdue}
+use Rattle.safe_machine.specs.State.{State, make, move_to, pass, note_request, reply, unconfirmed, hand_up, leave, ask}
+use Rattle.safe_machine.specs.declared.decision.Decision.{Decision}
+use Rattle.safe_machine.specs.Decision.{decide, distance, cs_step}
+use Rattle.safe_machine.specs.declared.decision.Decision.TheVariants.{Nothing, Drops, Shuts, Leaves, Rejects, Accepts, Connects, Takes, Asks, Resumes, AnswersNext, AnswersEarly}
+use Rattle.safe_machine.specs.Step.{carry_out, receive, arrive, guard, beat, tests_passed, confirm_units}
+use Rattle.safe_machine.specs.View.{View, StandsFor, Does, HandsUp, kept_of}
 use Rattle.safe_machine.proofs.Cases.{if_both}
 use Rattle.safe_machine.proofs.OneMachine.{plain-guard}
 use Rattle.safe_machine.proofs.Deciding.{Fits, Tested}
-use Rattle.safe_machine.proofs.Views.{guard-is, left_by}
+use Rattle.safe_machine.proofs.Views.{guard-is, left_by, does-as}
 use Rattle.safe_machine.proofs.Resending.{resend-taken}
+use Rattle.safe_machine.specs.Connections.{is_live, in_turn}
+use Rattle.safe_machine.specs.Allows.{Allows, Passes, handed_by}
+use Rattle.safe_machine.specs.Deadlines.{overdue}
 
 passes-from : (v : View) (s : State) (p : Pdu) (now : ℕ) → StandsFor v s → Tested s p now → Passes v p now
 passes-from v s p now h t =
@@ -41,14 +48,14 @@ allowed v s p now Asks h body down f = tt
 allowed v s p now Resumes h body down f = passes-from v s p now h f.passed
 allowed v s p now AnswersNext h body down (f, none, turn, cts) = passes-from v s p now h (record { cs = f.cs; cts = cts })
 allowed v s p now AnswersEarly h body down f =
-    subst (λ (w : View). cs_ahead w p.cs < w.made - w.confirmed) (sym h) (ltb-true _ (length s.made - s.confirmed) f.cs)
+    subst (λ (w : View). cs_step w p < w.made - w.confirmed) (sym h) (ltb-true _ (length s.made - s.confirmed) f.cs)
 
 -- what is handed up
 same-taken : (s t : State) → t.taken ≡ s.taken → t.taken ≡ s.taken ++ []
 same-taken s t e = e ∙ sym (append-nil s.taken)
 
 leave-taken : (reason : Reason) (detail : Detail) (now : ℕ) (s : State) → (leave reason detail now s).taken ≡ s.taken
-leave-taken reason detail now s = if_both (λ (t : State). t.taken ≡ s.taken) (says_goodbye s.connection) (make DiscReq (leaving_body reason detail) now s) s (λ _. refl) (λ _. refl)
+leave-taken reason detail now s = if_both (λ (t : State). t.taken ≡ s.taken) (is_live s.connection) (make DiscReq (leaving_body reason detail) now s) s (λ _. refl) (λ _. refl)
 
 beat-taken : (now : ℕ) (s : State) → (beat now s).taken ≡ s.taken
 beat-taken now s = if_both (λ (t : State). t.taken ≡ s.taken) (nat_le s.settings.mwa s.since) (make Heartbeat [] now s) s (λ _. refl) (λ _. refl)
@@ -72,17 +79,24 @@ decided-taken p now AnswersNext s =
     let z = pass p 0 (note_request 0 (tests_passed p s)) in
     same-taken s (reply now z) (resend-taken (unconfirmed z) now (make RetrResp [] now z))
 decided-taken p now AnswersEarly s =
-    let z = note_request (distance s p) (confirm_units p s) in
+    let z = note_request (distance (kept_of s) p) (confirm_units p s) in
     let t = reply now z in
     let e : t.taken ≡ s.taken = resend-taken (unconfirmed z) now (make RetrResp [] now z) in
     if_both (λ (u : State). u.taken ≡ s.taken ++ []) (in_turn s.connection) (ask now t) t (λ _. same-taken s (ask now t) e) (λ _. same-taken s t e)
 
-pub hands-up : {U : Type 0} (takes : U → List ℕ → U → Type 0) (a b : U) (p : Pdu) (now : ℕ) (d : Decision) (s : State) → decide s p now ≡ d → FoldsTo takes a (handed_by d p) b →
+pub hands-up : {U : Type 0} (takes : U → List ℕ → U → Type 0) (a b : U) (p : Pdu) (now : ℕ) (d : Decision) (s : State) → decide (kept_of s) p now ≡ d → FoldsTo takes a (handed_by d p) b →
     HandsUp takes a s (receive p now s) b
 hands-up takes a b p now d s is h =
     let more : drop (length s.taken) (receive p now s).taken ≡ handed_by d p =
     ap (λ e. drop (length s.taken) (carry_out p now e s).taken) is ∙ (ap (drop (length s.taken)) (decided-taken p now d s) ∙ drop-append_seam s.taken (handed_by d p)) in
     subst (λ us. FoldsTo takes a us b) (sym more) h
+
+-- what was decided from what is kept is done
+pub receive-does : {O : Type 0} (makes : O → List ℕ → O → Type 0) (p : Pdu) (now : ℕ) (d : Decision) (m n : View) (a b : O) → d ≡ decide m p now → Does makes (carry_out p now d) m a n b →
+    Does makes (receive p now) m a n b
+receive-does makes p now d m n a b is h =
+    does-as makes (carry_out p now d) (receive p now) m n a b
+    (λ s stands. ap (λ v. carry_out p now (decide v p now) s) (sym stands) ∙ ap (λ e. carry_out p now e s) (sym is)) h
 
 -- the guard leaves, or it does nothing
 pub arrive-left : (p : Pdu) (now : ℕ) (m : View) (s : State) (reason : Reason) (detail : Detail) → StandsFor m s → overdue now m ≡ Some (reason, detail) → arrive p now s ≡ leave reason detail now s
@@ -97,3 +111,10 @@ hands-nothing takes a now s =
     let none : drop (length s.taken) (guard now s).taken ≡ [] =
     ap (drop (length s.taken)) ((plain-guard now s).taken ∙ sym (append-nil s.taken)) ∙ drop-append_seam s.taken [] in
     subst (λ us. FoldsTo takes a us a) (sym none) refl
+
+-- octets arrive as what they read as
+pub octets-does : {O : Type 0} (makes : O → List ℕ → O → Type 0) (octets : List ℕ) (now : ℕ) (read : Result Pdu SafeFault) (m n : View) (a b : O) → read ≡ safe_seen m.settings.rule octets →
+    Does makes (move (heard read now)) m a n b → Does makes (arrive_octets octets now) m a n b
+octets-does makes octets now read m n a b is h =
+    does-as makes (move (heard read now)) (arrive_octets octets now) m n a b
+    (λ s stands. sym (ap (λ r. move (heard r now) s) (is ∙ ap (λ (v : View). safe_seen v.settings.rule octets) stands))) h

@@ -10,7 +10,7 @@ use Rattle.safe_pdu.specs.declared.Kind.TheVariants.{ConnReq, ConnResp, RetrReq,
 use Rattle.safe_machine.specs.declared.ConnectionState.TheVariants.{Start, Down}
 use Rattle.safe_machine.specs.Made.{Made, units, first_sent, opening_body}
 use Rattle.safe_machine.specs.Settings.{Settings}
-use Rattle.safe_machine.specs.State.{State, next_made, make, cs_step, resend, reply, unconfirmed, opened, fresh}
+use Rattle.safe_machine.specs.State.{State, next_made, make, resend, reply, unconfirmed, opened, fresh}
 use Rattle.retrans.specs.Units.{Numbered, above, renumbered, octets_of}
 use Rattle.safe_machine.specs.Ring.{after_at, carried_at, is_resent, resent, carried_again, after_carrier, carriers_from, carriers}
 use Rattle.safe_machine.specs.Moves.{Move, moved, move, ReachedState, ReachedLaw}
@@ -21,6 +21,8 @@ use Rattle.safe_machine.proofs.Ring.{octets_of-append, octets_of-length, carried
 use Rattle.safe_machine.proofs.Kept.{Kept, Anything, anything, kept-move, is_plain}
 use Rattle.safe_machine.proofs.Resending.{resend-confirmed}
 use Rattle.retrans.proofs.UnitLemmas.{octets-renumbered}
+use Rattle.safe_machine.specs.Decision.{cs_step}
+use Rattle.safe_machine.specs.View.{kept_of}
 
 -- Carriers of a list that grows. A RetrData at its front would be counted with a RetrResp before it.
 abbrev Begins : List Made → Type 0
@@ -346,7 +348,7 @@ kept-carriers =
       plain = λ kind body now s is fits h. push s.made s.confirmed (next_made s kind body now) (plain-new kind is) h;
       passes = λ p d s a h. h;
       confirms = λ p s fits h.
-          confirm s.made s.confirmed (s.confirmed + cs_step s p) (omega arith) (omega (arith, ltb-true (cs_step s p) (length s.made - s.confirmed) fits)) h;
+          confirm s.made s.confirmed (s.confirmed + cs_step (kept_of s) p) (omega arith) (omega (arith, ltb-true (cs_step (kept_of s) p) (length s.made - s.confirmed) fits)) h;
       accepts = λ now s h.
           let m = next_made s ConnResp (opening_body s.settings.n_sendmax) now in
           let longer : length (s.made ++ m ∷ []) ≡ length s.made + 1 = length-append s.made (m ∷ []) in

@@ -12,19 +12,23 @@ use Rattle.safe_machine.specs.declared.Reason.{Reason}
 use Rattle.safe_machine.specs.declared.Reason.TheVariants.{WrongVersion, UnexpectedPdu, SequenceError, ProtocolError, RetransmissionImpossible}
 use Rattle.safe_machine.specs.declared.Detail.{Detail}
 use Rattle.safe_machine.specs.declared.Detail.TheVariants.{Unspecified, ConfirmedNumber, ConfirmedTimestamp}
-use Rattle.safe_machine.specs.Made.{carries}
-use Rattle.safe_machine.specs.State.{State, make, move_to, pass, hand_up, note_request, confirm_units, reply, ask, unconfirmed, cs_step}
-use Rattle.safe_machine.specs.Table.{Cell, cell, start_row, up_row, run_row, request_row}
-use Rattle.safe_machine.specs.Table.Cell.{Take, Ask, Answer as Reply, Resume, Refuse, Skip}
-use Rattle.safe_machine.specs.Decision.{Decision, is_stranger, is_closed, is_goodbye, is_ours, in_turn, cs_fits, cts_fits, tested, in_down, as_client, in_start, by_cell, by_table, by_connection, heard, distance}
-use Rattle.safe_machine.specs.Decision.Decision.{Nothing, Drops, Shuts, Leaves, Rejects, Accepts, Connects, Takes, Resumes, AnswersNext, AnswersEarly}
-use Rattle.safe_machine.specs.Step.{carry_out, guard, receive, beat, tests_passed, is_connected, last_time}
+use Rattle.safe_machine.specs.Made.{carries, last_time}
+use Rattle.safe_machine.specs.State.{State, make, move_to, pass, hand_up, note_request, reply, ask, unconfirmed}
+use Rattle.safe_machine.specs.declared.table.Cell.{Cell}
+use Rattle.safe_machine.specs.Table.{cell, start_row, up_row, run_row, request_row}
+use Rattle.safe_machine.specs.declared.table.Cell.TheVariants.{Take, Ask, Answer as Reply, Resume, Refuse, Skip}
+use Rattle.safe_machine.specs.declared.decision.Decision.{Decision}
+use Rattle.safe_machine.specs.Decision.{is_stranger, is_goodbye, is_ours, cs_fits, cts_fits, tested, in_down, as_client, in_start, by_cell, by_table, by_connection, heard, distance, cs_step}
+use Rattle.safe_machine.specs.declared.decision.Decision.TheVariants.{Nothing, Drops, Shuts, Leaves, Rejects, Accepts, Connects, Takes, Resumes, AnswersNext, AnswersEarly}
+use Rattle.safe_machine.specs.Step.{carry_out, guard, receive, beat, tests_passed, confirm_units}
 use Rattle.safe_machine.specs.Moves.{Move, move, GoesOn, HearsNothing, ConnectionsLaw}
 use Rattle.safe_machine.specs.Moves.Move.{Guards, Hears, Ticks, Sends, Leaves as LeavesNow}
 use Rattle.safe_machine.proofs.Cases.{if_both}
 use Rattle.safe_machine.proofs.Resending.{resend-connection}
 use Rattle.safe_machine.proofs.OneMachine.{send-connection}
 use Rattle.safe_machine.proofs.Strangers.{guarded}
+use Rattle.safe_machine.specs.Connections.{is_closed, in_turn, is_connected}
+use Rattle.safe_machine.specs.View.{kept_of}
 
 -- a cell by which an end goes on connected
 abbrev IsGoodCell : Cell → Type 0
@@ -92,10 +96,10 @@ module _ (p : Pdu) (now : ℕ) (s : State) where
   leaves-goes : (reason : Reason) (detail : Detail) → Q (Leaves reason detail)
   leaves-goes reason detail = inr (inl refl)
 
-  tested-goes : (d : Decision) → Q d → Q (tested s p now d)
+  tested-goes : (d : Decision) → Q d → Q (tested (kept_of s) p now d)
   tested-goes d h =
-      if_both Q (cs_fits s p) (if cts_fits s p now then d else Leaves ProtocolError ConfirmedTimestamp) (Leaves ProtocolError ConfirmedNumber)
-      (λ _. if_both Q (cts_fits s p now) d (Leaves ProtocolError ConfirmedTimestamp) (λ _. h) (λ _. inr (inl refl)))
+      if_both Q (cs_fits (kept_of s) p) (if cts_fits (kept_of s) p now then d else Leaves ProtocolError ConfirmedTimestamp) (Leaves ProtocolError ConfirmedNumber)
+      (λ _. if_both Q (cts_fits (kept_of s) p now) d (Leaves ProtocolError ConfirmedTimestamp) (λ _. h) (λ _. inr (inl refl)))
       (λ _. inr (inl refl))
 
   takes-is : (connection : ConnectionState) → (carry_out p now (Takes connection) s).connection ≡ connection
@@ -118,9 +122,9 @@ module _ (p : Pdu) (now : ℕ) (s : State) where
   down-goes down Data = inl refl
   down-goes down RetrData = inl refl
 
-  client-goes : s.connection ≡ Start → (kind : Kind) → Q (as_client s p now kind)
+  client-goes : s.connection ≡ Start → (kind : Kind) → Q (as_client (kept_of s) p now kind)
   client-goes start ConnResp =
-      if_both Q (is_ours p.body) (tested s p now Connects) (Leaves WrongVersion Unspecified) (λ _. tested-goes Connects (inr (inr (inr (inl (start, refl)))))) (λ _. inr (inl refl))
+      if_both Q (is_ours p.body) (tested (kept_of s) p now Connects) (Leaves WrongVersion Unspecified) (λ _. tested-goes Connects (inr (inr (inr (inl (start, refl)))))) (λ _. inr (inl refl))
   client-goes start ConnReq = leaves-goes UnexpectedPdu Unspecified
   client-goes start RetrReq = leaves-goes UnexpectedPdu Unspecified
   client-goes start RetrResp = leaves-goes UnexpectedPdu Unspecified
@@ -129,7 +133,7 @@ module _ (p : Pdu) (now : ℕ) (s : State) where
   client-goes start Data = leaves-goes UnexpectedPdu Unspecified
   client-goes start RetrData = leaves-goes UnexpectedPdu Unspecified
 
-  start-goes : s.connection ≡ Start → (next : Bool) (kind : Kind) (d : ℕ) → Q (by_cell s p now d (start_row next kind))
+  start-goes : s.connection ≡ Start → (next : Bool) (kind : Kind) (d : ℕ) → Q (by_cell (kept_of s) p now d (start_row next kind))
   start-goes start true ConnReq d = leaves-goes UnexpectedPdu Unspecified
   start-goes start true ConnResp d = leaves-goes UnexpectedPdu Unspecified
   start-goes start true RetrReq d = leaves-goes UnexpectedPdu Unspecified
@@ -147,46 +151,46 @@ module _ (p : Pdu) (now : ℕ) (s : State) where
   start-goes start false Data d = leaves-goes SequenceError Unspecified
   start-goes start false RetrData d = leaves-goes UnexpectedPdu Unspecified
 
-  connected-goes : is_connected s.connection ≡ true → (d : ℕ) (c : Cell) → IsGoodCell c → Q (by_cell s p now d c)
+  connected-goes : is_connected s.connection ≡ true → (d : ℕ) (c : Cell) → IsGoodCell c → Q (by_cell (kept_of s) p now d c)
   connected-goes on d (Take connection) good = tested-goes (Takes connection) (inr (inr (inr (inr (on, ap is_connected (takes-is connection) ∙ good)))))
   connected-goes on d Ask good = inr (inr (inr (inr (on, refl))))
   connected-goes on d Reply good =
       let early : Q AnswersEarly =
-      let t = reply now (note_request (distance s p) (confirm_units p s)) in
-      if_both (λ u. GoesOn s.connection u.connection) (in_turn s.connection) (ask now t) t (λ _. inr (inr (inr (inr (on, refl))))) (λ _. inl (reply-is (note_request (distance s p) (confirm_units p s))))
+      let t = reply now (note_request (distance (kept_of s) p) (confirm_units p s)) in
+      if_both (λ u. GoesOn s.connection u.connection) (in_turn s.connection) (ask now t) t (λ _. inr (inr (inr (inr (on, refl))))) (λ _. inl (reply-is (note_request (distance (kept_of s) p) (confirm_units p s))))
       in
       let next : Q AnswersNext = inl (reply-is (pass p 0 (note_request 0 (tests_passed p s)))) in
       if_both Q (nat_le (s.expected + d) s.answered) (Drops Answered) _ (λ _. inl refl)
-      (λ _. if_both Q (cs_fits s p) _ _
-      (λ _. if_both Q ((d == 0) && in_turn s.connection) _ AnswersEarly (λ _. if_both Q (cts_fits s p now) AnswersNext (Leaves ProtocolError ConfirmedTimestamp) (λ _. next) (λ _. inr (inl refl))) (λ _. early))
-      (λ _. if_both Q (nat_le 0x8000_0000 (cs_step s p)) (Drops Below) (Leaves RetransmissionImpossible Unspecified) (λ _. inl refl) (λ _. inr (inl refl))))
+      (λ _. if_both Q (cs_fits (kept_of s) p) _ _
+      (λ _. if_both Q ((d == 0) && in_turn s.connection) _ AnswersEarly (λ _. if_both Q (cts_fits (kept_of s) p now) AnswersNext (Leaves ProtocolError ConfirmedTimestamp) (λ _. next) (λ _. inr (inl refl))) (λ _. early))
+      (λ _. if_both Q (nat_le 0x8000_0000 (cs_step (kept_of s) p)) (Drops Below) (Leaves RetransmissionImpossible Unspecified) (λ _. inl refl) (λ _. inr (inl refl))))
   connected-goes on d Resume good = tested-goes Resumes (inr (inr (inr (inr (on, refl)))))
   connected-goes on d (Refuse reason) good = inr (inl refl)
   connected-goes on d Skip good = inl refl
 
-  table-goes : ((d : ℕ) → Q (by_cell s p now d (cell s.connection (d == 0) p.kind))) → (d : ℕ) → Q (by_table s p now d)
-  table-goes h d = if_both Q (nat_le d (REACH * s.settings.n_sendmax)) (by_cell s p now d (cell s.connection (d == 0) p.kind)) (Drops Number) (λ _. h d) (λ _. inl refl)
+  table-goes : ((d : ℕ) → Q (by_cell (kept_of s) p now d (cell s.connection (d == 0) p.kind))) → (d : ℕ) → Q (by_table (kept_of s) p now d)
+  table-goes h d = if_both Q (nat_le d (REACH * s.settings.n_sendmax)) (by_cell (kept_of s) p now d (cell s.connection (d == 0) p.kind)) (Drops Number) (λ _. h d) (λ _. inl refl)
 
-  on-goes : is_connected s.connection ≡ true → Q (if is_goodbye p.kind then Shuts else by_table s p now (distance s p))
+  on-goes : is_connected s.connection ≡ true → Q (if is_goodbye p.kind then Shuts else by_table (kept_of s) p now (distance (kept_of s) p))
   on-goes on =
-      if_both Q (is_goodbye p.kind) Shuts (by_table s p now (distance s p)) (λ _. inr (inl refl))
-      (λ _. table-goes (λ d. connected-goes on d (cell s.connection (d == 0) p.kind) (cell-good s.connection (d == 0) p.kind on)) (distance s p))
+      if_both Q (is_goodbye p.kind) Shuts (by_table (kept_of s) p now (distance (kept_of s) p)) (λ _. inr (inl refl))
+      (λ _. table-goes (λ d. connected-goes on d (cell s.connection (d == 0) p.kind) (cell-good s.connection (d == 0) p.kind on)) (distance (kept_of s) p))
 
-  by-goes : (connection : ConnectionState) → s.connection ≡ connection → Q (by_connection s p now connection)
+  by-goes : (connection : ConnectionState) → s.connection ≡ connection → Q (by_connection (kept_of s) p now connection)
   by-goes Closed e = inl refl
   by-goes Down e = down-goes e p.kind
   by-goes Start e =
-      if_both Q (is_goodbye p.kind) Shuts (in_start s p now) (λ _. inr (inl refl))
-      (λ _. if_both Q s.settings.client (as_client s p now p.kind) (by_table s p now (distance s p)) (λ _. client-goes e p.kind)
-      (λ _. table-goes (λ d. subst (λ c. Q (by_cell s p now d (cell c (d == 0) p.kind))) (sym e) (start-goes e (d == 0) p.kind d)) (distance s p)))
+      if_both Q (is_goodbye p.kind) Shuts (in_start (kept_of s) p now) (λ _. inr (inl refl))
+      (λ _. if_both Q s.settings.client (as_client (kept_of s) p now p.kind) (by_table (kept_of s) p now (distance (kept_of s) p)) (λ _. client-goes e p.kind)
+      (λ _. table-goes (λ d. subst (λ c. Q (by_cell (kept_of s) p now d (cell c (d == 0) p.kind))) (sym e) (start-goes e (d == 0) p.kind d)) (distance (kept_of s) p)))
   by-goes Up e = on-goes (ap is_connected e)
   by-goes Requesting e = on-goes (ap is_connected e)
   by-goes RetrRun e = on-goes (ap is_connected e)
 
   receive-goes : GoesOn s.connection (receive p now s).connection
   receive-goes =
-      if_both Q (is_closed s.connection) Nothing (heard s p now) (λ _. inl refl)
-      (λ _. if_both Q (is_stranger s p) (Drops Stranger) (by_connection s p now s.connection) (λ _. inl refl) (λ _. by-goes s.connection refl))
+      if_both Q (is_closed s.connection) Nothing (heard (kept_of s) p now) (λ _. inl refl)
+      (λ _. if_both Q (is_stranger s p) (Drops Stranger) (by_connection (kept_of s) p now s.connection) (λ _. inl refl) (λ _. by-goes s.connection refl))
 
 guard-goes : (now : ℕ) (s : State) → GoesOn s.connection (guard now s).connection
 guard-goes now s = elim (guarded now s) [ inl closed ↦ inr (inl closed) | inr same ↦ inl (ap (λ (t : State). t.connection) same) ]
@@ -195,7 +199,7 @@ connection-goes : (m : Move) (s : State) → GoesOn s.connection (move m s).conn
 connection-goes (Guards now) s = guard-goes now s
 connection-goes (Hears p now) s =
     elim (guarded now s) [
-      | inl closed ↦ inr (inl (ap (λ c. (carry_out p now (if is_closed c then Nothing else heard (guard now s) p now) (guard now s)).connection) closed ∙ closed))
+      | inl closed ↦ inr (inl (ap (λ c. (carry_out p now (if is_closed c then Nothing else heard (kept_of (guard now s)) p now) (guard now s)).connection) closed ∙ closed))
       | inr same ↦ subst (λ (t : State). GoesOn s.connection (receive p now t).connection) (sym same) (receive-goes p now s)
     ]
 connection-goes (Ticks now) s =

@@ -9,12 +9,13 @@ use Rattle.safe_machine.specs.declared.ConnectionState.{ConnectionState}
 use Rattle.safe_machine.specs.declared.ConnectionState.TheVariants.{Closed, Down, Start, Up, RetrReq as Requesting, RetrRun}
 use Rattle.safe_pdu.specs.Pdu.{Pdu}
 use Rattle.safe_pdu.specs.Bodies.{window_of}
-use Rattle.safe_machine.specs.Made.{Made, after_pdu, run_after, run_of, carries, opening_body, leaving_body}
+use Rattle.safe_machine.specs.Made.{Made, after_pdu, run_after, run_of, carries, opening_body, leaving_body, last_time}
 use Rattle.safe_machine.specs.Settings.{Settings}
-use Rattle.safe_machine.specs.State.{State, unconfirmed, next_made, make, move_to, pass, confirm_units, hand_up, note_request, resend, reply, ask, leave, says_goodbye, cs_step}
-use Rattle.safe_machine.specs.Decision.{Decision, cs_fits, distance, in_turn, decide}
-use Rattle.safe_machine.specs.Decision.Decision.{Nothing, Drops, Shuts, Leaves, Rejects, Accepts, Connects, Takes, Asks, Resumes, AnswersNext, AnswersEarly}
-use Rattle.safe_machine.specs.Step.{is_live, is_connected, beat, tests_passed, carry_out, set_window, confirm_to, guard, receive, send, may_send, heartbeat, last_time}
+use Rattle.safe_machine.specs.State.{State, unconfirmed, next_made, make, move_to, pass, hand_up, note_request, resend, reply, ask, leave}
+use Rattle.safe_machine.specs.declared.decision.Decision.{Decision}
+use Rattle.safe_machine.specs.Decision.{cs_fits, distance, decide, cs_step}
+use Rattle.safe_machine.specs.declared.decision.Decision.TheVariants.{Nothing, Drops, Shuts, Leaves, Rejects, Accepts, Connects, Takes, Asks, Resumes, AnswersNext, AnswersEarly}
+use Rattle.safe_machine.specs.Step.{beat, tests_passed, carry_out, set_window, confirm_to, guard, receive, send, may_send, heartbeat, confirm_units}
 use Rattle.safe_machine.proofs.Cases.{if_both, leb-false, and-parts}
 use Rattle.safe_machine.proofs.Runs.{run_after-append}
 use Rattle.safe_machine.proofs.Invariant.{is_opening}
@@ -24,6 +25,8 @@ use Rattle.safe_machine.specs.declared.Reason.TheVariants.{Timeout, WrongVersion
 use Rattle.safe_machine.specs.declared.Detail.{Detail}
 use Rattle.safe_machine.specs.declared.Detail.TheVariants.{Unspecified, Limit}
 use Rattle.safe_machine.proofs.Resending.{resend-settings, resend-connection, resend-confirmed, resend-window}
+use Rattle.safe_machine.specs.Connections.{is_live, in_turn, is_connected}
+use Rattle.safe_machine.specs.View.{kept_of}
 
 pub record BoundedOf (settings : Settings) (made : List Made) (confirmed : ℕ) (connection : ConnectionState) (window : ℕ) : Type 0 where
   pub small : settings.n_sendmax ≤ 32
@@ -105,7 +108,7 @@ bounded-closed s b =
     }
 
 -- a goodbye
-goodbye-live : (connection : ConnectionState) → says_goodbye connection ≡ true → is_live connection ≡ true
+goodbye-live : (connection : ConnectionState) → is_live connection ≡ true → is_live connection ≡ true
 goodbye-live Start e = refl
 goodbye-live Up e = refl
 goodbye-live Requesting e = refl
@@ -116,7 +119,7 @@ goodbye-live Down e = cc
 pub bounded-leave : (reason : Reason) (detail : Detail) (now : ℕ) (s : State) → Bounded s → Bounded (leave reason detail now s)
 bounded-leave reason detail now s b =
     let t = make DiscReq (leaving_body reason detail) now s in
-    if_both (λ u. Bounded (move_to Closed u)) (says_goodbye s.connection) t s
+    if_both (λ u. Bounded (move_to Closed u)) (is_live s.connection) t s
     (λ says.
     let live = goodbye-live s.connection says in
     let few = b.few_live live in
@@ -187,15 +190,15 @@ bounded-replied s t b r few made =
     )
 
 -- confirming
-confirmed-made : (x : State) (p : Pdu) → cs_fits x p ≡ true → x.confirmed + cs_step x p < length x.made
-confirmed-made x p fits = omega (arith, ltb-true (cs_step x p) (length x.made - x.confirmed) fits)
+confirmed-made : (x : State) (p : Pdu) → cs_fits (kept_of x) p ≡ true → x.confirmed + cs_step (kept_of x) p < length x.made
+confirmed-made x p fits = omega (arith, ltb-true (cs_step (kept_of x) p) (length x.made - x.confirmed) fits)
 
-bounded-confirmed : (x : State) (p : Pdu) (connection : ConnectionState) (window : ℕ) → Bounded x → length x.made ≤ 4294901795 → cs_fits x p ≡ true → window ≤ 32 →
-    length (unconfirmed x) ≤ window → (connection ≡ Start → length (unconfirmed x) ≡ 0) → BoundedOf x.settings x.made (x.confirmed + cs_step x p) connection window
+bounded-confirmed : (x : State) (p : Pdu) (connection : ConnectionState) (window : ℕ) → Bounded x → length x.made ≤ 4294901795 → cs_fits (kept_of x) p ≡ true → window ≤ 32 →
+    length (unconfirmed x) ≤ window → (connection ≡ Start → length (unconfirmed x) ≡ 0) → BoundedOf x.settings x.made (x.confirmed + cs_step (kept_of x) p) connection window
 bounded-confirmed x p connection window b few fits small in_window none =
     let made = confirmed-made x p fits in
-    let shrunk : length (run_of (drop (x.confirmed + cs_step x p + 1) x.made)) ≤ length (run_of (drop (x.confirmed + 1) x.made)) =
-    run_of-shrinks (x.confirmed + 1) (x.confirmed + cs_step x p + 1) x.made (omega arith) in
+    let shrunk : length (run_of (drop (x.confirmed + cs_step (kept_of x) p + 1) x.made)) ≤ length (run_of (drop (x.confirmed + 1) x.made)) =
+    run_of-shrinks (x.confirmed + 1) (x.confirmed + cs_step (kept_of x) p + 1) x.made (omega arith) in
     record {
       small = b.small;
       limit = b.limit;
@@ -269,7 +272,7 @@ bounded-carry now p x b ready down window AnswersNext (f, none, turn, cts) =
     (bounded-replied z (reply now z) bz (replied now z (confirmed-made x p f.cs)) (omega (arith, b.limit)) (confirmed-made x p f.cs)).0
 bounded-carry now p x b ready down window AnswersEarly f =
     let few = ready (listens-live x.connection x.settings.client f.table.listens_now) in
-    let z = note_request (distance x p) (confirm_units p x) in
+    let z = note_request (distance (kept_of x) p) (confirm_units p x) in
     let bz : Bounded z = bounded-confirmed x p x.connection x.window b (omega (arith, b.limit)) f.cs b.window_small b.in_window b.none_in_start in
     let t = reply now z in
     let bt = bounded-replied z t bz (replied now z (confirmed-made x p f.cs)) (omega (arith, b.limit)) (confirmed-made x p f.cs) in
@@ -280,7 +283,7 @@ bounded-carry now p x b ready down window AnswersEarly f =
     (λ _. bt.0)
 
 pub bounded-receive : (now : ℕ) (p : Pdu) (x : State) → Bounded x → Ready x → (x.connection ≡ Down → x.made ≡ []) → (1 ≤ is_opening p.kind → window_of p.body ≤ 32) → Bounded (receive p now x)
-bounded-receive now p x b ready down window = bounded-carry now p x b ready down window (decide x p now) (decide-fits x p now)
+bounded-receive now p x b ready down window = bounded-carry now p x b ready down window (decide (kept_of x) p now) (decide-fits x p now)
 
 pub connected-live : (connection : ConnectionState) → is_connected connection ≡ true → is_live connection ≡ true
 connected-live Up e = refl

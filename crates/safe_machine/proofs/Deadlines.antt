@@ -6,10 +6,12 @@ use Rattle.safe_pdu.specs.declared.Kind.TheVariants.{Heartbeat}
 use Rattle.safe_machine.specs.declared.ConnectionState.{ConnectionState}
 use Rattle.safe_machine.specs.declared.ConnectionState.TheVariants.{Closed, Down, Start, Up, RetrReq, RetrRun}
 use Rattle.safe_machine.specs.State.{State, make, next_made}
-use Rattle.safe_machine.specs.Step.{guard, heartbeat, is_connected, is_live, last_time, tick}
+use Rattle.safe_machine.specs.Step.{guard, heartbeat, tick}
 use Rattle.safe_machine.specs.Ring.{ring_of}
 use Rattle.safe_machine.specs.View.{beside}
 use Rattle.safe_machine.specs.Deadlines.{IsBefore, IsReachedAt, deadline_of}
+use Rattle.safe_machine.specs.Connections.{is_connected, is_live}
+use Rattle.safe_machine.specs.Made.{last_time}
 
 connected-live : (c : ConnectionState) → is_connected c ≡ true → is_live c ≡ true
 connected-live Closed h = absurd (true≢false (sym h))

@@ -8,18 +8,21 @@ use Rattle.safe_machine.specs.declared.ConnectionState.{ConnectionState}
 use Rattle.safe_machine.specs.declared.ConnectionState.TheVariants.{Closed, Down, Start, Up, RetrReq as Requesting, RetrRun}
 use Rattle.safe_pdu.specs.Pdu.{Pdu}
 use Rattle.safe_machine.specs.Made.{is_answer}
-use Rattle.safe_machine.specs.State.{State, cs_step}
-use Rattle.safe_machine.specs.Table.{Cell, cell}
-use Rattle.safe_machine.specs.Table.Cell.{Take, Ask, Answer, Resume, Refuse, Skip}
-use Rattle.safe_machine.specs.Decision.{Decision, is_ours, is_stranger, cs_fits, cts_fits, tested, in_down, as_client, distance, in_turn, answering, by_cell, by_table, in_start, is_goodbye, by_connection, decide, is_closed, heard}
-use Rattle.safe_machine.specs.Decision.Decision.{Nothing, Drops, Shuts, Leaves, Rejects, Accepts, Connects, Takes, Asks, Resumes, AnswersNext, AnswersEarly}
+use Rattle.safe_machine.specs.State.{State}
+use Rattle.safe_machine.specs.declared.table.Cell.{Cell}
+use Rattle.safe_machine.specs.Table.{cell}
+use Rattle.safe_machine.specs.declared.table.Cell.TheVariants.{Take, Ask, Answer, Resume, Refuse, Skip}
+use Rattle.safe_machine.specs.declared.decision.Decision.{Decision}
+use Rattle.safe_machine.specs.Decision.{is_ours, is_stranger, cs_fits, cts_fits, tested, in_down, as_client, distance, answering, by_cell, by_table, in_start, is_goodbye, by_connection, decide, heard, cs_step}
+use Rattle.safe_machine.specs.declared.decision.Decision.TheVariants.{Nothing, Drops, Shuts, Leaves, Rejects, Accepts, Connects, Takes, Asks, Resumes, AnswersNext, AnswersEarly}
 use Rattle.safe_machine.specs.declared.DropCause.TheVariants.{Stranger, Number, Answered, Below}
-use Rattle.safe_machine.specs.Step.{is_live, is_connected}
 use Rattle.safe_machine.proofs.Cases.{if_both, and-parts, leb-false}
 use Rattle.safe_machine.proofs.Invariant.{room, needs_peer}
-use Rattle.safe_machine.proofs.Table.{Allowed, cell-allowed}
+use Rattle.safe_machine.proofs.TableLemmas.{Allowed, cell-allowed}
 use Rattle.safe_machine.specs.declared.Reason.TheVariants.{WrongVersion, RetransmissionImpossible, ProtocolError}
 use Rattle.safe_machine.specs.declared.Detail.TheVariants.{Unspecified, ConfirmedNumber, ConfirmedTimestamp}
+use Rattle.safe_machine.specs.Connections.{in_turn, is_closed, is_live, is_connected}
+use Rattle.safe_machine.specs.View.{kept_of}
 
 -- the states that the table decides
 abbrev pub listens : ConnectionState → Bool → Bool
@@ -33,17 +36,17 @@ listens Down client = false
 
 -- both confirmation tests passed
 pub record Tested (x : State) (p : Pdu) (now : ℕ) : Type 0 where
-  pub cs : cs_fits x p ≡ true
-  pub cts : cts_fits x p now ≡ true
+  pub cs : cs_fits (kept_of x) p ≡ true
+  pub cts : cts_fits (kept_of x) p now ≡ true
 
 -- the table decided
 pub record ByTable (x : State) (p : Pdu) : Type 0 where
   pub listens_now : listens x.connection x.settings.client ≡ true
-  pub near : distance x p ≤ 10 * x.settings.n_sendmax
+  pub near : distance (kept_of x) p ≤ 10 * x.settings.n_sendmax
 
 pub record TakeFits (x : State) (p : Pdu) (now : ℕ) (to : ConnectionState) : Type 0 where
   pub table : ByTable x p
-  pub next : distance x p ≡ 0
+  pub next : distance (kept_of x) p ≡ 0
   pub quiet : room x.connection ≡ 0
   pub connected : is_connected to ≡ true
   pub plain : is_answer p.kind ≡ 0
@@ -67,8 +70,8 @@ pub record AnswerFits (x : State) (p : Pdu) : Type 0 where
   pub table : ByTable x p
   pub connected : is_connected x.connection ≡ true
   pub request : p.kind ≡ RetrReq
-  pub new : x.answered < x.expected + distance x p
-  pub cs : cs_fits x p ≡ true
+  pub new : x.answered < x.expected + distance (kept_of x) p
+  pub cs : cs_fits (kept_of x) p ≡ true
 
 abbrev pub Fits : State → Pdu → ℕ → Decision → Type 0
 Fits x p now (Leaves reason detail) = is_live x.connection ≡ true
@@ -78,7 +81,7 @@ Fits x p now Connects = (x.connection ≡ Start) × (x.settings.client ≡ true)
 Fits x p now (Takes to) = TakeFits x p now to
 Fits x p now Asks = AskFits x p
 Fits x p now Resumes = ResumeFits x p now
-Fits x p now AnswersNext = AnswerFits x p × (distance x p ≡ 0) × (in_turn x.connection ≡ true) × (cts_fits x p now ≡ true)
+Fits x p now AnswersNext = AnswerFits x p × (distance (kept_of x) p ≡ 0) × (in_turn x.connection ≡ true) × (cts_fits (kept_of x) p now ≡ true)
 Fits x p now AnswersEarly = AnswerFits x p
 Fits x p now _ = Unit {0}
 
@@ -90,38 +93,38 @@ listens-live RetrRun client h = refl
 listens-live Closed client h = cc
 listens-live Down client h = cc
 
-fits-tested : (x : State) (p : Pdu) (now : ℕ) (e : Decision) → is_live x.connection ≡ true → (Tested x p now → Fits x p now e) → Fits x p now (tested x p now e)
+fits-tested : (x : State) (p : Pdu) (now : ℕ) (e : Decision) → is_live x.connection ≡ true → (Tested x p now → Fits x p now e) → Fits x p now (tested (kept_of x) p now e)
 fits-tested x p now e live f =
-    if_both (Fits x p now) (cs_fits x p) (if cts_fits x p now then e else Leaves ProtocolError ConfirmedTimestamp) (Leaves ProtocolError ConfirmedNumber)
-    (λ cs. if_both (Fits x p now) (cts_fits x p now) e (Leaves ProtocolError ConfirmedTimestamp) (λ cts. f (record { cs = cs; cts = cts })) (λ _. live))
+    if_both (Fits x p now) (cs_fits (kept_of x) p) (if cts_fits (kept_of x) p now then e else Leaves ProtocolError ConfirmedTimestamp) (Leaves ProtocolError ConfirmedNumber)
+    (λ cs. if_both (Fits x p now) (cts_fits (kept_of x) p now) e (Leaves ProtocolError ConfirmedTimestamp) (λ cts. f (record { cs = cs; cts = cts })) (λ _. live))
     (λ _. live)
 
-fits-answering : (x : State) (p : Pdu) (now : ℕ) → ByTable x p → is_live x.connection ≡ true → is_connected x.connection ≡ true → p.kind ≡ RetrReq → Fits x p now (answering x p now (distance x p))
+fits-answering : (x : State) (p : Pdu) (now : ℕ) → ByTable x p → is_live x.connection ≡ true → is_connected x.connection ≡ true → p.kind ≡ RetrReq → Fits x p now (answering (kept_of x) p now (distance (kept_of x) p))
 fits-answering x p now table live connected is =
-    let d = distance x p in
+    let d = distance (kept_of x) p in
     let P = Fits x p now in
-    let inner : Decision = if (d == 0) && in_turn x.connection then (if cts_fits x p now then AnswersNext else Leaves ProtocolError ConfirmedTimestamp) else AnswersEarly in
-    let refused : Decision = if nat_le 0x8000_0000 (cs_step x p) then Drops Below else Leaves RetransmissionImpossible Unspecified in
-    let fits : x.answered < x.expected + d → cs_fits x p ≡ true → AnswerFits x p =
+    let inner : Decision = if (d == 0) && in_turn x.connection then (if cts_fits (kept_of x) p now then AnswersNext else Leaves ProtocolError ConfirmedTimestamp) else AnswersEarly in
+    let refused : Decision = if nat_le 0x8000_0000 (cs_step (kept_of x) p) then Drops Below else Leaves RetransmissionImpossible Unspecified in
+    let fits : x.answered < x.expected + d → cs_fits (kept_of x) p ≡ true → AnswerFits x p =
     λ new cs. record { table = table; connected = connected; request = is; new = new; cs = cs } in
-    if_both P (nat_le (x.expected + d) x.answered) (Drops Answered) (if cs_fits x p then inner else refused)
+    if_both P (nat_le (x.expected + d) x.answered) (Drops Answered) (if cs_fits (kept_of x) p then inner else refused)
     (λ _. tt)
     (λ no.
     let new = leb-false (x.expected + d) x.answered no in
-    if_both P (cs_fits x p) inner refused
+    if_both P (cs_fits (kept_of x) p) inner refused
     (λ cs.
-    if_both P ((d == 0) && in_turn x.connection) (if cts_fits x p now then AnswersNext else Leaves ProtocolError ConfirmedTimestamp) AnswersEarly
+    if_both P ((d == 0) && in_turn x.connection) (if cts_fits (kept_of x) p now then AnswersNext else Leaves ProtocolError ConfirmedTimestamp) AnswersEarly
     (λ both.
     let parts = and-parts (d == 0) (in_turn x.connection) both in
-    if_both P (cts_fits x p now) AnswersNext (Leaves ProtocolError ConfirmedTimestamp)
+    if_both P (cts_fits (kept_of x) p now) AnswersNext (Leaves ProtocolError ConfirmedTimestamp)
     (λ cts. (fits new cs, eqb-true d 0 parts.0, parts.1, cts)) (λ _. live))
     (λ _. fits new cs))
-    (λ _. if_both P (nat_le 0x8000_0000 (cs_step x p)) (Drops Below) (Leaves RetransmissionImpossible Unspecified) (λ _. tt) (λ _. live)))
+    (λ _. if_both P (nat_le 0x8000_0000 (cs_step (kept_of x) p)) (Drops Below) (Leaves RetransmissionImpossible Unspecified) (λ _. tt) (λ _. live)))
 
-fits-cell : (x : State) (p : Pdu) (now : ℕ) → ByTable x p → is_live x.connection ≡ true → (c : Cell) → Allowed x.connection (distance x p == 0) p.kind c → Fits x p now (by_cell x p now (distance x p) c)
+fits-cell : (x : State) (p : Pdu) (now : ℕ) → ByTable x p → is_live x.connection ≡ true → (c : Cell) → Allowed x.connection (distance (kept_of x) p == 0) p.kind c → Fits x p now (by_cell (kept_of x) p now (distance (kept_of x) p) c)
 fits-cell x p now table live (Take to) (next, quiet, connected, plain, needs) =
     fits-tested x p now (Takes to) live
-    (λ passed. record { table = table; next = eqb-true (distance x p) 0 next; quiet = quiet; connected = connected; plain = plain; needs = needs; passed = passed })
+    (λ passed. record { table = table; next = eqb-true (distance (kept_of x) p) 0 next; quiet = quiet; connected = connected; plain = plain; needs = needs; passed = passed })
 fits-cell x p now table live Ask (quiet, connected, needs) = record { table = table; quiet = quiet; needs = needs; connected = connected }
 fits-cell x p now table live Answer (connected, is) = fits-answering x p now table live connected is
 fits-cell x p now table live Resume (connected, is, needs) =
@@ -129,12 +132,12 @@ fits-cell x p now table live Resume (connected, is, needs) =
 fits-cell x p now table live (Refuse reason) h = live
 fits-cell x p now table live Skip h = tt
 
-fits-table : (x : State) (p : Pdu) (now : ℕ) → listens x.connection x.settings.client ≡ true → Fits x p now (by_table x p now (distance x p))
+fits-table : (x : State) (p : Pdu) (now : ℕ) → listens x.connection x.settings.client ≡ true → Fits x p now (by_table (kept_of x) p now (distance (kept_of x) p))
 fits-table x p now l =
-    if_both (Fits x p now) (nat_le (distance x p) (10 * x.settings.n_sendmax)) (by_cell x p now (distance x p) (cell x.connection (distance x p == 0) p.kind)) (Drops Number)
+    if_both (Fits x p now) (nat_le (distance (kept_of x) p) (10 * x.settings.n_sendmax)) (by_cell (kept_of x) p now (distance (kept_of x) p) (cell x.connection (distance (kept_of x) p == 0) p.kind)) (Drops Number)
     (λ near.
-    fits-cell x p now (record { listens_now = l; near = leb-true (distance x p) (10 * x.settings.n_sendmax) near }) (listens-live x.connection x.settings.client l)
-    (cell x.connection (distance x p == 0) p.kind) (cell-allowed x.connection (distance x p == 0) p.kind))
+    fits-cell x p now (record { listens_now = l; near = leb-true (distance (kept_of x) p) (10 * x.settings.n_sendmax) near }) (listens-live x.connection x.settings.client l)
+    (cell x.connection (distance (kept_of x) p == 0) p.kind) (cell-allowed x.connection (distance (kept_of x) p == 0) p.kind))
     (λ _. tt)
 
 fits-down : (x : State) (p : Pdu) (now : ℕ) → x.connection ≡ Down → (kind : Kind) → p.kind ≡ kind → Fits x p now (in_down p kind)
@@ -147,9 +150,9 @@ fits-down x p now down Heartbeat is = tt
 fits-down x p now down Data is = tt
 fits-down x p now down RetrData is = tt
 
-fits-client : (x : State) (p : Pdu) (now : ℕ) → x.connection ≡ Start → is_live x.connection ≡ true → x.settings.client ≡ true → (kind : Kind) → p.kind ≡ kind → Fits x p now (as_client x p now kind)
+fits-client : (x : State) (p : Pdu) (now : ℕ) → x.connection ≡ Start → is_live x.connection ≡ true → x.settings.client ≡ true → (kind : Kind) → p.kind ≡ kind → Fits x p now (as_client (kept_of x) p now kind)
 fits-client x p now start live client ConnResp is =
-    if_both (Fits x p now) (is_ours p.body) (tested x p now Connects) (Leaves WrongVersion Unspecified)
+    if_both (Fits x p now) (is_ours p.body) (tested (kept_of x) p now Connects) (Leaves WrongVersion Unspecified)
     (λ _. fits-tested x p now Connects live (λ passed. (start, client, is, passed))) (λ _. live)
 fits-client x p now start live client ConnReq is = live
 fits-client x p now start live client RetrReq is = live
@@ -160,16 +163,16 @@ fits-client x p now start live client Data is = live
 fits-client x p now start live client RetrData is = live
 
 fits-listens : (x : State) (p : Pdu) (now : ℕ) → listens x.connection x.settings.client ≡ true →
-    Fits x p now (if is_goodbye p.kind then Shuts else by_table x p now (distance x p))
-fits-listens x p now l = if_both (Fits x p now) (is_goodbye p.kind) Shuts (by_table x p now (distance x p)) (λ _. tt) (λ _. fits-table x p now l)
+    Fits x p now (if is_goodbye p.kind then Shuts else by_table (kept_of x) p now (distance (kept_of x) p))
+fits-listens x p now l = if_both (Fits x p now) (is_goodbye p.kind) Shuts (by_table (kept_of x) p now (distance (kept_of x) p)) (λ _. tt) (λ _. fits-table x p now l)
 
-fits-connection : (x : State) (p : Pdu) (now : ℕ) (connection : ConnectionState) → x.connection ≡ connection → Fits x p now (by_connection x p now connection)
+fits-connection : (x : State) (p : Pdu) (now : ℕ) (connection : ConnectionState) → x.connection ≡ connection → Fits x p now (by_connection (kept_of x) p now connection)
 fits-connection x p now Closed is = tt
 fits-connection x p now Down is = fits-down x p now is p.kind refl
 fits-connection x p now Start is =
-    if_both (Fits x p now) (is_goodbye p.kind) Shuts (in_start x p now) (λ _. tt)
+    if_both (Fits x p now) (is_goodbye p.kind) Shuts (in_start (kept_of x) p now) (λ _. tt)
     (λ _.
-    if_both (Fits x p now) x.settings.client (as_client x p now p.kind) (by_table x p now (distance x p))
+    if_both (Fits x p now) x.settings.client (as_client (kept_of x) p now p.kind) (by_table (kept_of x) p now (distance (kept_of x) p))
     (λ client. fits-client x p now is (ap is_live is) client p.kind refl)
     (λ server. fits-table x p now (ap (λ c. listens c x.settings.client) is ∙ ap (listens Start) server)))
 fits-connection x p now Up is = fits-listens x p now (ap (λ c. listens c x.settings.client) is)
@@ -177,7 +180,7 @@ fits-connection x p now Requesting is = fits-listens x p now (ap (λ c. listens 
 fits-connection x p now RetrRun is = fits-listens x p now (ap (λ c. listens c x.settings.client) is)
 
 -- Each decision that is made says this.
-pub decide-fits : (x : State) (p : Pdu) (now : ℕ) → Fits x p now (decide x p now)
+pub decide-fits : (x : State) (p : Pdu) (now : ℕ) → Fits x p now (decide (kept_of x) p now)
 decide-fits x p now =
-    if_both (Fits x p now) (is_closed x.connection) Nothing (heard x p now) (λ _. tt)
-    (λ _. if_both (Fits x p now) (is_stranger x p) (Drops Stranger) (by_connection x p now x.connection) (λ _. tt) (λ _. fits-connection x p now x.connection refl))
+    if_both (Fits x p now) (is_closed x.connection) Nothing (heard (kept_of x) p now) (λ _. tt)
+    (λ _. if_both (Fits x p now) (is_stranger x p) (Drops Stranger) (by_connection (kept_of x) p now x.connection) (λ _. tt) (λ _. fits-connection x p now x.connection refl))

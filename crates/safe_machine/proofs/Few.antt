@@ -11,11 +11,12 @@ use Rattle.safe_machine.specs.declared.Reason.{Reason}
 use Rattle.safe_machine.specs.declared.Reason.TheVariants.{Timeout, WrongVersion, ProtocolError}
 use Rattle.safe_machine.specs.declared.Detail.{Detail}
 use Rattle.safe_machine.specs.declared.Detail.TheVariants.{Unspecified, Limit}
-use Rattle.safe_machine.specs.Made.{carries, leaving_body, opening_body}
-use Rattle.safe_machine.specs.State.{State, unconfirmed, make, move_to, pass, confirm_units, hand_up, note_request, resend, reply, ask, leave, says_goodbye, cs_step, opened}
-use Rattle.safe_machine.specs.Decision.{Decision, decide, distance, in_turn}
-use Rattle.safe_machine.specs.Decision.Decision.{Nothing, Drops, Shuts, Leaves, Rejects, Accepts, Connects, Takes, Asks, Resumes, AnswersNext, AnswersEarly}
-use Rattle.safe_machine.specs.Step.{is_live, is_connected, beat, tests_passed, carry_out, set_window, guard, tick, send, may_send, last_time}
+use Rattle.safe_machine.specs.Made.{carries, leaving_body, opening_body, last_time}
+use Rattle.safe_machine.specs.State.{State, unconfirmed, make, move_to, pass, hand_up, note_request, resend, reply, ask, leave, opened}
+use Rattle.safe_machine.specs.declared.decision.Decision.{Decision}
+use Rattle.safe_machine.specs.Decision.{decide, distance, cs_step}
+use Rattle.safe_machine.specs.declared.decision.Decision.TheVariants.{Nothing, Drops, Shuts, Leaves, Rejects, Accepts, Connects, Takes, Asks, Resumes, AnswersNext, AnswersEarly}
+use Rattle.safe_machine.specs.Step.{beat, tests_passed, carry_out, set_window, guard, tick, send, may_send, confirm_units}
 use Rattle.safe_machine.specs.Moves.{Move, move, moved}
 use Rattle.safe_machine.specs.Moves.Move.{Guards, Hears, Ticks, Sends, Leaves as LeavesNow}
 use Rattle.safe_machine.specs.Reached.{FewLaw}
@@ -23,11 +24,13 @@ use Rattle.safe_machine.proofs.Cases.{if_both, and-parts}
 use Rattle.safe_machine.proofs.Counting.{Bounded, bounded-guard, unconfirmed-make, length-make, run_of-shrinks}
 use Rattle.safe_machine.proofs.Lone.{arrive-by}
 use Rattle.safe_machine.proofs.Reaching.{sure-moved, opened-sure}
+use Rattle.safe_machine.specs.Connections.{is_live, in_turn, is_connected}
+use Rattle.safe_machine.specs.View.{kept_of}
 
 few-leave : (reason : Reason) (detail : Detail) (now : ℕ) (s : State) → length (leave reason detail now s).made ≤ length s.made + 1
 few-leave reason detail now s =
     let m = make DiscReq (leaving_body reason detail) now s in
-    if_both (λ (t : State). length (move_to Closed t).made ≤ length s.made + 1) (says_goodbye s.connection) m s
+    if_both (λ (t : State). length (move_to Closed t).made ≤ length s.made + 1) (is_live s.connection) m s
     (λ _. omega (arith, length-make DiscReq (leaving_body reason detail) now s)) (λ _. omega arith)
 
 few-guard : (now : ℕ) (s : State) → length (guard now s).made ≤ length s.made + 1
@@ -54,7 +57,7 @@ reply-length now s =
 
 -- a PDU that confirms leaves no more units unconfirmed
 shrinks : (p : Pdu) (s : State) → length (unconfirmed (confirm_units p s)) ≤ length (unconfirmed s)
-shrinks p s = run_of-shrinks (s.confirmed + 1) (s.confirmed + cs_step s p + 1) s.made (omega arith)
+shrinks p s = run_of-shrinks (s.confirmed + 1) (s.confirmed + cs_step (kept_of s) p + 1) s.made (omega arith)
 
 few-carry : (p : Pdu) (now : ℕ) (d : Decision) (s : State) → length (unconfirmed s) ≤ 32 → length (carry_out p now d s).made ≤ length s.made + 35
 few-carry p now Nothing s h = omega arith
@@ -79,7 +82,7 @@ few-carry p now AnswersNext s h =
     omega (arith, reply-length now y)
 few-carry p now AnswersEarly s h =
     let P : State → Type 0 = λ t. length t.made ≤ length s.made + 35 in
-    let y = note_request (distance s p) (confirm_units p s) in
+    let y = note_request (distance (kept_of s) p) (confirm_units p s) in
     let z = reply now y in
     let few : length (unconfirmed y) ≤ length (unconfirmed s) = shrinks p s in
     let more = reply-length now y in
@@ -99,7 +102,7 @@ few-move (Hears p now) s b =
     let first = few-guard now s in
     let still = (bounded-guard now s b).0 in
     let few : length (unconfirmed g) ≤ 32 = omega (arith, still.in_window, still.window_small) in
-    arrive-by (λ (t : State). length t.made ≤ length s.made + 36) p now s (omega arith) (λ _ _. omega (arith, few-carry p now (decide g p now) g few))
+    arrive-by (λ (t : State). length t.made ≤ length s.made + 36) p now s (omega arith) (λ _ _. omega (arith, few-carry p now (decide (kept_of g) p now) g few))
 few-move (Ticks now) s b = omega (arith, few-heartbeat now s)
 few-move (Sends unit now) s b =
     if_both (λ (t : State). length t.made ≤ length s.made + 36) (may_send s) (make Data unit now s) s (λ _. omega (arith, length-make Data unit now s)) (λ _. omega arith)

@@ -10,10 +10,11 @@ use Rattle.safe_pdu.specs.Pdu.{Pdu}
 use Rattle.safe_machine.specs.Made.{Made, carries, opening_body}
 use Rattle.safe_machine.specs.Numbers.{sn_of}
 use Rattle.safe_machine.specs.Settings.{Settings, is_legal}
-use Rattle.safe_machine.specs.State.{State, unconfirmed, make, move_to, pass, confirm_units, hand_up, note_request, reply, ask, leave, opened, fresh, next_made}
-use Rattle.safe_machine.specs.Decision.{Decision, decide, distance, in_turn}
-use Rattle.safe_machine.specs.Decision.Decision.{Nothing, Drops, Shuts, Leaves, Rejects, Accepts, Connects, Takes, Asks, Resumes, AnswersNext, AnswersEarly}
-use Rattle.safe_machine.specs.Step.{is_live, guard, receive, arrive, carry_out, tick, send, tests_passed, beat}
+use Rattle.safe_machine.specs.State.{State, unconfirmed, make, move_to, pass, hand_up, note_request, reply, ask, leave, opened, fresh, next_made}
+use Rattle.safe_machine.specs.declared.decision.Decision.{Decision}
+use Rattle.safe_machine.specs.Decision.{decide, distance}
+use Rattle.safe_machine.specs.declared.decision.Decision.TheVariants.{Nothing, Drops, Shuts, Leaves, Rejects, Accepts, Connects, Takes, Asks, Resumes, AnswersNext, AnswersEarly}
+use Rattle.safe_machine.specs.Step.{guard, receive, arrive, carry_out, tick, send, tests_passed, beat, confirm_units}
 use Rattle.safe_machine.specs.World.{World, Event, start, changed, run, event_end, event_time, at_end, Timely, happens, GenuineAt, GenuineEvent, Genuine, as_role, open_il, open_fe, with_il, with_fe}
 use Rattle.safe_machine.specs.World.Event.{Open, Send, Close, Guard, Tick, Arrive}
 use Rattle.safe_machine.specs.Law.{Fresh, FreshEvent, AllFresh, FreshLaw, FreshAtLastLaw}
@@ -33,6 +34,8 @@ use Rattle.safe_machine.proofs.Worlds.{Inv, inv-event, inv-open_il, inv-open_fe,
 use Rattle.safe_machine.specs.declared.Reason.TheVariants.{Timeout, ProtocolError}
 use Rattle.safe_machine.specs.declared.Detail.TheVariants.{Unspecified, Limit}
 use Rattle.safe_machine.proofs.Resending.{resend-settings, resend-taken}
+use Rattle.safe_machine.specs.Connections.{in_turn, is_live}
+use Rattle.safe_machine.specs.View.{kept_of}
 
 -- what a decision hands up, and that settings stay
 carry-taken : (p : Pdu) (now : ℕ) (s : State) (e : Decision) → ((to : ConnectionState) × (e ≡ Takes to)) ⊎ ((carry_out p now e s).taken ≡ s.taken)
@@ -50,7 +53,7 @@ carry-taken p now s AnswersNext =
     let z = pass p 0 (note_request 0 (tests_passed p s)) in
     inr (resend-taken (unconfirmed z) now (make RetrResp [] now z))
 carry-taken p now s AnswersEarly =
-    let z = note_request (distance s p) (confirm_units p s) in
+    let z = note_request (distance (kept_of s) p) (confirm_units p s) in
     let t = reply now z in
     let same : t.taken ≡ s.taken = resend-taken (unconfirmed z) now (make RetrResp [] now z) in
     inr (if_both (λ (u : State). u.taken ≡ s.taken) (in_turn s.connection) (ask now t) t (λ _. same) (λ _. same))
@@ -74,13 +77,13 @@ carry-settings p now s AnswersNext =
     let z = pass p 0 (note_request 0 (tests_passed p s)) in
     resend-settings (unconfirmed z) now (make RetrResp [] now z)
 carry-settings p now s AnswersEarly =
-    let z = note_request (distance s p) (confirm_units p s) in
+    let z = note_request (distance (kept_of s) p) (confirm_units p s) in
     let t = reply now z in
     let same : t.settings ≡ s.settings = resend-settings (unconfirmed z) now (make RetrResp [] now z) in
     if_both (λ (u : State). u.settings ≡ s.settings) (in_turn s.connection) (ask now t) t (λ _. same) (λ _. same)
 
 arrive-settings : (p : Pdu) (now : ℕ) (s : State) → (arrive p now s).settings ≡ s.settings
-arrive-settings p now s = let g = guard now s in carry-settings p now g (decide g p now) ∙ (lone-guard now s).settings
+arrive-settings p now s = let g = guard now s in carry-settings p now g (decide (kept_of g) p now) ∙ (lone-guard now s).settings
 
 -- a live end passed its guard as it was
 guard-live : (now : ℕ) (s : State) → is_live (guard now s).connection ≡ true → guard now s ≡ s
@@ -144,11 +147,11 @@ met-arrive clock other now n p x y later h peer bounded bounded_peer short both 
     record { pair = hs; peer = peer; few = omega (arith, bs.0.few); few_peer = omega (arith, bounded_peer.few); small = bs.0.small; at = r.3 } in
     let fits = decide-fits s m.pdu now in
     let steps : Steps now s (receive m.pdu now s) y =
-    steps-carry now other now r.0 m r.2 s y (omega arith) (λ live. omega (arith, guarded live)) incoming both_s.receives both_s.sends (decide s m.pdu now) fits in
+    steps-carry now other now r.0 m r.2 s y (omega arith) (λ live. omega (arith, guarded live)) incoming both_s.receives both_s.sends (decide (kept_of s) m.pdu now) fits in
     subst (λ (q : Pdu). Arrived clock other now q x (receive q now s) y) r.4
     (record {
       both = both-step now other now s (receive m.pdu now s) y (omega arith) hs.1 hs.2 both_s steps;
-      fresh = took_fresh clock now r.0 m r.2 x y incoming lone.taken short_s guarded both_s.receives (decide s m.pdu now) fits;
+      fresh = took_fresh clock now r.0 m r.2 x y incoming lone.taken short_s guarded both_s.receives (decide (kept_of s) m.pdu now) fits;
     }))
   where
     took_fresh : (clock now i : ℕ) (m : Made) (rest : List Made) (x y : State) → Incoming i m rest (guard now x) y → (guard now x).taken ≡ x.taken → (guard now x).settings.t_max ≤ 60000 →

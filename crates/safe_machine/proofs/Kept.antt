@@ -10,16 +10,19 @@ use Rattle.safe_machine.specs.declared.Reason.{Reason}
 use Rattle.safe_machine.specs.declared.Reason.TheVariants.{Timeout, WrongVersion, ProtocolError}
 use Rattle.safe_machine.specs.declared.Detail.{Detail}
 use Rattle.safe_machine.specs.declared.Detail.TheVariants.{Unspecified, Limit}
-use Rattle.safe_machine.specs.Made.{opening_body, leaving_body, carries}
-use Rattle.safe_machine.specs.State.{State, make, move_to, pass, confirm_units, confirm_time, hand_up, note_request, reply, ask, leave, says_goodbye}
-use Rattle.safe_machine.specs.Decision.{Decision, decide, cs_fits, distance, in_turn}
-use Rattle.safe_machine.specs.Decision.Decision.{Nothing, Drops, Shuts, Leaves, Rejects, Accepts, Connects, Takes, Asks, Resumes, AnswersNext, AnswersEarly}
-use Rattle.safe_machine.specs.Step.{last_time, set_window, confirm_to, beat, tests_passed, carry_out, is_live, guard, is_connected, may_send}
+use Rattle.safe_machine.specs.Made.{opening_body, leaving_body, carries, last_time}
+use Rattle.safe_machine.specs.State.{State, make, move_to, pass, hand_up, note_request, reply, ask, leave}
+use Rattle.safe_machine.specs.declared.decision.Decision.{Decision}
+use Rattle.safe_machine.specs.Decision.{decide, cs_fits, distance}
+use Rattle.safe_machine.specs.declared.decision.Decision.TheVariants.{Nothing, Drops, Shuts, Leaves, Rejects, Accepts, Connects, Takes, Asks, Resumes, AnswersNext, AnswersEarly}
+use Rattle.safe_machine.specs.Step.{set_window, confirm_to, beat, tests_passed, carry_out, guard, may_send, confirm_units, confirm_time}
 use Rattle.safe_machine.specs.Moves.{Move, move}
 use Rattle.safe_machine.specs.Moves.Move.{Guards, Hears, Ticks, Sends, Leaves as LeavesNow}
 use Rattle.safe_machine.proofs.Cases.{if_both}
 use Rattle.safe_machine.proofs.Deciding.{Fits, decide-fits}
 use Rattle.safe_machine.proofs.Lone.{arrive-by}
+use Rattle.safe_machine.specs.Connections.{is_live, in_turn, is_connected}
+use Rattle.safe_machine.specs.View.{kept_of}
 
 -- nothing changes that is kept of the PDUs made
 abbrev pub Silent : State → State → Type 0
@@ -38,7 +41,7 @@ pub record Kept (A : Pdu → Type 0) (U : List ℕ → Type 0) (P : State → Ty
   pub silent : (s t : State) → Silent s t → P s → P t
   pub plain : (kind : Kind) (body : List ℕ) (now : ℕ) (s : State) → is_plain kind ≡ true → IsBody kind body → P s → P (make kind body now s)
   pub passes : (p : Pdu) (d : ℕ) (s : State) → A p → P s → P (pass p d s)
-  pub confirms : (p : Pdu) (s : State) → cs_fits s p ≡ true → P s → P (confirm_units p s)
+  pub confirms : (p : Pdu) (s : State) → cs_fits (kept_of s) p ≡ true → P s → P (confirm_units p s)
   pub accepts : (now : ℕ) (s : State) → P s → P (confirm_to (length s.made) now (make ConnResp (opening_body s.settings.n_sendmax) now s))
   pub sends : (unit : List ℕ) (now : ℕ) (s : State) → U unit → P s → P (make Data unit now s)
   pub replies : (now : ℕ) (s : State) → P s → P (reply now s)
@@ -64,7 +67,7 @@ module _ (A : Pdu → Type 0) (U : List ℕ → Type 0) (P : State → Type 0) (
   kept-leave : (reason : Reason) (detail : Detail) (now : ℕ) (s : State) → P s → P (leave reason detail now s)
   kept-leave reason detail now s h =
       let m = make DiscReq (leaving_body reason detail) now s in
-      if_both (λ t. P (move_to Closed t)) (says_goodbye s.connection) m s
+      if_both (λ t. P (move_to Closed t)) (is_live s.connection) m s
       (λ _. k.silent m (move_to Closed m) (refl, refl, refl, refl, refl) (k.plain DiscReq (leaving_body reason detail) now s refl refl h))
       (λ _. k.silent s (move_to Closed s) (refl, refl, refl, refl, refl) h)
 
@@ -78,7 +81,7 @@ module _ (A : Pdu → Type 0) (U : List ℕ → Type 0) (P : State → Type 0) (
       (λ _. if_both P full (leave ProtocolError Limit now s) s (λ _. kept-leave ProtocolError Limit now s h) (λ _. h)))
       (λ _. h)
 
-  kept-tests : (p : Pdu) (s : State) → cs_fits s p ≡ true → P s → P (tests_passed p s)
+  kept-tests : (p : Pdu) (s : State) → cs_fits (kept_of s) p ≡ true → P s → P (tests_passed p s)
   kept-tests p s fits h =
       let u = confirm_units p s in
       k.silent u (confirm_time p u) (refl, refl, refl, refl, refl) (k.confirms p s fits h)
@@ -116,15 +119,15 @@ module _ (A : Pdu → Type 0) (U : List ℕ → Type 0) (P : State → Type 0) (
       k.silent m (move_to Requesting m) (refl, refl, refl, refl, refl) (k.plain RetrReq [] now s refl refl h)
   kept-decided p now Resumes s a f h =
       let t = tests_passed p s in
-      let y = pass p (distance s p) t in
-      k.silent y (move_to RetrRun y) (refl, refl, refl, refl, refl) (k.passes p (distance s p) t a (kept-tests p s f.passed.cs h))
+      let y = pass p (distance (kept_of s) p) t in
+      k.silent y (move_to RetrRun y) (refl, refl, refl, refl, refl) (k.passes p (distance (kept_of s) p) t a (kept-tests p s f.passed.cs h))
   kept-decided p now AnswersNext s a f h =
       let t = tests_passed p s in
       let y = note_request 0 t in
       k.replies now (pass p 0 y) (k.passes p 0 y a (k.silent t y (refl, refl, refl, refl, refl) (kept-tests p s f.0.cs h)))
   kept-decided p now AnswersEarly s a f h =
       let t = confirm_units p s in
-      let y = note_request (distance s p) t in
+      let y = note_request (distance (kept_of s) p) t in
       let z = reply now y in
       let m = make RetrReq [] now z in
       let before : P z = k.replies now y (k.silent t y (refl, refl, refl, refl, refl) (k.confirms p s f.cs h)) in
@@ -135,7 +138,7 @@ module _ (A : Pdu → Type 0) (U : List ℕ → Type 0) (P : State → Type 0) (
   kept-move (Guards now) s a h = kept-guard now s h
   kept-move (Hears p now) s a h =
       let g = guard now s in
-      arrive-by P p now s (kept-guard now s h) (λ _ _. kept-decided p now (decide g p now) g a (decide-fits g p now) (kept-guard now s h))
+      arrive-by P p now s (kept-guard now s h) (λ _ _. kept-decided p now (decide (kept_of g) p now) g a (decide-fits g p now) (kept-guard now s h))
   kept-move (Ticks now) s a h =
       let g = guard now s in
       if_both P (is_connected g.connection && nat_le (last_time g.made 0 + g.settings.t_h) now) (make Heartbeat [] now g) g

@@ -5,11 +5,12 @@ use Rattle.safe_machine.specs.declared.ConnectionState.{ConnectionState}
 use Rattle.safe_machine.specs.declared.ConnectionState.TheVariants.{Closed, Down, Start, Up, RetrReq as Requesting, RetrRun}
 use Rattle.safe_pdu.specs.declared.Kind.TheVariants.{Heartbeat, Data, RetrResp}
 use Rattle.safe_pdu.specs.Pdu.{Pdu}
-use Rattle.safe_machine.specs.Made.{carries}
-use Rattle.safe_machine.specs.State.{State, leave, make, move_to, reply, ask, pass, note_request, confirm_units, unconfirmed, hand_up}
-use Rattle.safe_machine.specs.Step.{guard, tick, send, arrive, may_send, is_live, heartbeat, carry_out, take_unit, beat, tests_passed, is_connected, last_time}
-use Rattle.safe_machine.specs.Decision.{Decision, decide, distance, in_turn, is_stranger}
-use Rattle.safe_machine.specs.Decision.Decision.{Nothing, Drops, Shuts, Leaves, Rejects, Accepts, Connects, Takes, Asks, Resumes, AnswersNext, AnswersEarly}
+use Rattle.safe_machine.specs.Made.{carries, last_time}
+use Rattle.safe_machine.specs.State.{State, leave, make, move_to, reply, ask, pass, note_request, unconfirmed, hand_up}
+use Rattle.safe_machine.specs.Step.{guard, tick, send, arrive, may_send, heartbeat, carry_out, take_unit, beat, tests_passed, confirm_units}
+use Rattle.safe_machine.specs.declared.decision.Decision.{Decision}
+use Rattle.safe_machine.specs.Decision.{decide, distance, is_stranger}
+use Rattle.safe_machine.specs.declared.decision.Decision.TheVariants.{Nothing, Drops, Shuts, Leaves, Rejects, Accepts, Connects, Takes, Asks, Resumes, AnswersNext, AnswersEarly}
 use Rattle.safe_machine.specs.World.{joins}
 use Rattle.safe_machine.proofs.Cases.{if_both}
 use Rattle.safe_machine.proofs.Deciding.{Fits, decide-fits}
@@ -19,6 +20,8 @@ use Rattle.safe_machine.specs.declared.Reason.TheVariants.{Timeout, ProtocolErro
 use Rattle.safe_machine.specs.declared.Detail.{Detail}
 use Rattle.safe_machine.specs.declared.Detail.TheVariants.{Unspecified, Limit}
 use Rattle.safe_machine.proofs.Resending.{resend-connection}
+use Rattle.safe_machine.specs.Connections.{is_live, is_connected, in_turn}
+use Rattle.safe_machine.specs.View.{kept_of}
 
 abbrev pub Quiet : ConnectionState → ConnectionState → Type 0
 Quiet a b = (joins a b ≡ false) × (b ≡ Down → a ≡ Down)
@@ -102,7 +105,7 @@ down-decided x p now AnswersNext f e =
     let y = make RetrResp [] now (pass p 0 (note_request 0 (tests_passed p x))) in
     sym (resend-connection (unconfirmed (pass p 0 (note_request 0 (tests_passed p x)))) now y) ∙ e
 down-decided x p now AnswersEarly f e =
-    let u = note_request (distance x p) (confirm_units p x) in
+    let u = note_request (distance (kept_of x) p) (confirm_units p x) in
     let t = reply now u in
     let is : t.connection ≡ x.connection = resend-connection (unconfirmed u) now (make RetrResp [] now u) in
     if_both (λ (v : State). v.connection ≡ Down → x.connection ≡ Down) (in_turn x.connection) (ask now t) t (λ _ no. cc) (λ _ down. sym is ∙ down) e
@@ -110,7 +113,7 @@ down-decided x p now AnswersEarly f e =
 pub arrive-down : (p : Pdu) (now : ℕ) (s : State) → (arrive p now s).connection ≡ Down → s.connection ≡ Down
 arrive-down p now s =
     arrive-by (λ t. t.connection ≡ Down → s.connection ≡ Down) p now s (quiet-guard now s).1
-    (λ _ _ e. (quiet-guard now s).1 (down-decided (guard now s) p now (decide (guard now s) p now) (decide-fits (guard now s) p now) e))
+    (λ _ _ e. (quiet-guard now s).1 (down-decided (guard now s) p now (decide (kept_of (guard now s)) p now) (decide-fits (guard now s) p now) e))
 
 -- who joins has heard its peer
 pub arrive-joins : (p : Pdu) (now : ℕ) (s : State) → joins s.connection (arrive p now s).connection ≡ true → is_stranger s p ≡ false

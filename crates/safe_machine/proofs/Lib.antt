@@ -8,7 +8,7 @@ pub mod Invariant
 pub mod Making
 pub mod Moves
 pub mod Passing
-pub mod Table
+pub mod TableLemmas
 pub mod Deciding
 pub mod Arrivals
 pub mod Receiving

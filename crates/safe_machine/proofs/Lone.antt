@@ -8,13 +8,13 @@ use Rattle.safe_pdu.specs.declared.Kind.TheVariants.{DiscReq, Heartbeat, Data}
 use Rattle.safe_machine.specs.declared.ConnectionState.{ConnectionState}
 use Rattle.safe_machine.specs.declared.ConnectionState.TheVariants.{Closed, Down, Start, Up, RetrReq as Requesting, RetrRun}
 use Rattle.safe_pdu.specs.Pdu.{Pdu}
-use Rattle.safe_machine.specs.Made.{Made, units, first_sent, after_pdu, leaving_body}
+use Rattle.safe_machine.specs.Made.{Made, units, first_sent, after_pdu, leaving_body, last_time}
 use Rattle.safe_machine.specs.Settings.{Settings}
-use Rattle.safe_machine.specs.State.{State, unconfirmed, next_made, make, move_to, leave, says_goodbye}
-use Rattle.safe_machine.specs.Decision.{is_stranger, by_connection, in_turn, is_closed, heard}
-use Rattle.safe_machine.specs.Decision.Decision.{Drops, Nothing}
+use Rattle.safe_machine.specs.State.{State, unconfirmed, next_made, make, move_to, leave}
+use Rattle.safe_machine.specs.Decision.{is_stranger, by_connection, heard}
+use Rattle.safe_machine.specs.declared.decision.Decision.TheVariants.{Drops, Nothing}
 use Rattle.safe_machine.specs.declared.DropCause.TheVariants.{Stranger}
-use Rattle.safe_machine.specs.Step.{is_live, is_connected, guard, receive, arrive, carry_out, heartbeat, tick, may_send, send, last_time}
+use Rattle.safe_machine.specs.Step.{guard, receive, arrive, carry_out, heartbeat, tick, may_send, send}
 use Rattle.safe_machine.specs.World.{IsBeginningOf, Among, GenuineAt}
 use Rattle.safe_machine.proofs.Cases.{if_both, and-parts}
 use Rattle.safe_machine.proofs.Runs.{units-append, Every, every-at, every-drop_push}
@@ -26,6 +26,8 @@ use Rattle.safe_machine.specs.declared.Reason.{Reason}
 use Rattle.safe_machine.specs.declared.Reason.TheVariants.{Timeout, ProtocolError}
 use Rattle.safe_machine.specs.declared.Detail.{Detail}
 use Rattle.safe_machine.specs.declared.Detail.TheVariants.{Unspecified, Limit}
+use Rattle.safe_machine.specs.Connections.{is_live, in_turn, is_closed, is_connected}
+use Rattle.safe_machine.specs.View.{kept_of}
 
 -- from s to t nothing was taken
 pub record Lone (s t : State) : Type 0 where
@@ -89,7 +91,7 @@ lone-leave reason detail now s =
     let body = leaving_body reason detail in
     let m = next_made s DiscReq body now in
     let sent : units (s.made ++ m ∷ []) ≡ units s.made = units-append s.made (m ∷ []) ∙ append-nil (units s.made) in
-    if_both (λ u. Lone s (move_to Closed u)) (says_goodbye s.connection) (make DiscReq body now s) s
+    if_both (λ u. Lone s (move_to Closed u)) (is_live s.connection) (make DiscReq body now s) s
     (λ says.
     record {
       taken = refl;
@@ -99,8 +101,8 @@ lone-leave reason detail now s =
       expected = refl;
       confirmed = refl;
       connection = inr refl;
-      down = λ e. absurd (false≢true (sym (ap says_goodbye e) ∙ says));
-      closed = λ e. absurd (false≢true (sym (ap says_goodbye e) ∙ says));
+      down = λ e. absurd (false≢true (sym (ap is_live e) ∙ says));
+      closed = λ e. absurd (false≢true (sym (ap is_live e) ∙ says));
       owes = λ e. absurd (e refl);
     })
     (λ _.
@@ -173,12 +175,12 @@ pair-send unit now x y h =
 
 -- An arrival: the guard, and for an end that is not closed and is meant, the step by decision.
 pub receive-closed : (p : Pdu) (now : ℕ) (s : State) → s.connection ≡ Closed → (P : State → Type 0) → P s → P (receive p now s)
-receive-closed p now s e P h = subst (λ (b : Bool). P (carry_out p now (if b then Nothing else heard s p now) s)) (sym (ap is_closed e)) h
+receive-closed p now s e P h = subst (λ (b : Bool). P (carry_out p now (if b then Nothing else heard (kept_of s) p now) s)) (sym (ap is_closed e)) h
 
 receive-stranger : (p : Pdu) (now : ℕ) (s : State) → is_stranger s p ≡ true → (P : State → Type 0) → P s → P (receive p now s)
 receive-stranger p now s e P h =
-    if_both (λ d. P (carry_out p now d s)) (is_closed s.connection) Nothing (heard s p now) (λ _. h)
-    (λ _. subst (λ (b : Bool). P (carry_out p now (if b then Drops Stranger else by_connection s p now s.connection) s)) (sym e) h)
+    if_both (λ d. P (carry_out p now d s)) (is_closed s.connection) Nothing (heard (kept_of s) p now) (λ _. h)
+    (λ _. subst (λ (b : Bool). P (carry_out p now (if b then Drops Stranger else by_connection (kept_of s) p now s.connection) s)) (sym e) h)
 
 -- an end that is not live passes its guard as it is
 pub guard-idle : (now : ℕ) (s : State) → is_live s.connection ≡ false → guard now s ≡ s

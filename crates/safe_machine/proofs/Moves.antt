@@ -6,8 +6,7 @@ use Rattle.safe_pdu.specs.declared.Kind.TheVariants.{RetrReq, RetrResp, DiscReq,
 use Rattle.safe_machine.specs.declared.ConnectionState.{ConnectionState}
 use Rattle.safe_machine.specs.declared.ConnectionState.TheVariants.{Closed, Down, Start, Up, RetrReq as Requesting, RetrRun}
 use Rattle.safe_machine.specs.Made.{Made, units, first_sent, after_pdu, run_of, is_request, is_answer, leaving_body}
-use Rattle.safe_machine.specs.State.{State, next_made, make, move_to, unconfirmed, resend, reply, ask, leave, says_goodbye}
-use Rattle.safe_machine.specs.Step.{is_connected}
+use Rattle.safe_machine.specs.State.{State, next_made, make, move_to, unconfirmed, resend, reply, ask, leave}
 use Rattle.safe_machine.proofs.Cases.{if_both}
 use Rattle.safe_machine.proofs.Runs.{requests, answers, count-drop_push, every-push, every-drop_push, RequestAt}
 use Rattle.safe_machine.proofs.Invariant.{room, needs_peer, is_opening, Told, Started, Solo, Half, PairWith, Pair}
@@ -15,6 +14,7 @@ use Rattle.safe_machine.proofs.Making.{make-sends, make-receives, make-solo}
 use Rattle.safe_machine.specs.declared.Reason.{Reason}
 use Rattle.safe_machine.specs.declared.Detail.{Detail}
 use Rattle.safe_machine.proofs.Resending.{resend-connection}
+use Rattle.safe_machine.specs.Connections.{is_live, is_connected}
 
 pub room-le : (connection : ConnectionState) → room connection ≤ 1
 room-le Closed = omega arith
@@ -59,7 +59,7 @@ pair-leave reason detail now x y h =
     let closed = pair-closed x y h in
     let said : Pair (make DiscReq (leaving_body reason detail) now (move_to Closed x)) y =
     pair-plain DiscReq (leaving_body reason detail) now [] (move_to Closed x) y closed (λ run. refl) refl refl refl refl (λ one. absurd (omega arith)) tt in
-    if_both (λ s. Pair (move_to Closed s) y) (says_goodbye x.connection) (make DiscReq (leaving_body reason detail) now x) x (λ _. said) (λ _. closed)
+    if_both (λ s. Pair (move_to Closed s) y) (is_live x.connection) (make DiscReq (leaving_body reason detail) now x) x (λ _. said) (λ _. closed)
 
 -- an end that is connected has taken something and made something
 pub started-parts : (connection : ConnectionState) (client : Bool) (expected : ℕ) (made : List Made) → is_connected connection ≡ true → Started connection client expected made → (1 ≤ expected) × (1 ≤ length made)

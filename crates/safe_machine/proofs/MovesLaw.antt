@@ -6,10 +6,9 @@ use Rattle.safe_pdu.specs.declared.Kind.{Kind}
 use Rattle.safe_pdu.specs.declared.Kind.TheVariants.{ConnResp, RetrResp, Heartbeat, Data, RetrData}
 use Rattle.safe_machine.specs.declared.ConnectionState.{ConnectionState}
 use Rattle.safe_machine.specs.declared.ConnectionState.TheVariants.{Closed, Down, Start}
-use Rattle.safe_machine.specs.Made.{Made, units, opening_body}
+use Rattle.safe_machine.specs.Made.{Made, units, opening_body, last_time}
 use Rattle.safe_machine.specs.State.{State, next_made, make, resend, unconfirmed, leave}
-use Rattle.safe_machine.specs.Decision.{in_turn}
-use Rattle.safe_machine.specs.Step.{guard, arrive, tick, send, may_send, heartbeat, is_connected, last_time}
+use Rattle.safe_machine.specs.Step.{guard, arrive, tick, send, may_send, heartbeat}
 use Rattle.safe_machine.specs.World.{joins}
 use Rattle.safe_machine.specs.Moves.{Move, move, sent_by, MovesLaw}
 use Rattle.safe_machine.specs.Moves.Move.{Guards, Hears, Ticks, Sends, Leaves}
@@ -18,6 +17,7 @@ use Rattle.safe_machine.proofs.Leaving.{quiet-guard, quiet-tick, quiet-send, qui
 use Rattle.safe_machine.proofs.OneMachine.{plain-guard, plain-tick, plain-leave, send-taken, takes-arrive, closed-guard, closed-arrive}
 use Rattle.safe_machine.proofs.Lone.{lone-leave}
 use Rattle.safe_machine.proofs.Kept.{Kept, Anything, anything, kept-move}
+use Rattle.safe_machine.specs.Connections.{in_turn, is_connected}
 
 -- the PDUs made before stand in front
 abbrev Grown : List Made → State → Type 0

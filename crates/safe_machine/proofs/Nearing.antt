@@ -6,13 +6,14 @@ use Rattle.safe_machine.specs.declared.Reason.{Reason}
 use Rattle.safe_machine.specs.declared.Detail.{Detail}
 use Rattle.safe_machine.specs.Made.{carries, leaving_body}
 use Rattle.safe_machine.specs.Settings.{Settings}
-use Rattle.safe_machine.specs.State.{State, make, move_to, pass, confirm_units, note_request, reply, unconfirmed, hand_up, leave, says_goodbye, ask, opened}
-use Rattle.safe_machine.specs.Decision.{Decision, decide, distance, in_turn}
-use Rattle.safe_machine.specs.Decision.Decision.{Nothing, Drops, Shuts, Leaves, Rejects, Accepts, Connects, Takes, Asks, Resumes, AnswersNext, AnswersEarly}
-use Rattle.safe_machine.specs.Step.{carry_out, arrive, guard, take_unit, beat, tests_passed}
+use Rattle.safe_machine.specs.State.{State, make, move_to, pass, note_request, reply, unconfirmed, hand_up, leave, ask, opened}
+use Rattle.safe_machine.specs.declared.decision.Decision.{Decision}
+use Rattle.safe_machine.specs.Decision.{decide, distance}
+use Rattle.safe_machine.specs.declared.decision.Decision.TheVariants.{Nothing, Drops, Shuts, Leaves, Rejects, Accepts, Connects, Takes, Asks, Resumes, AnswersNext, AnswersEarly}
+use Rattle.safe_machine.specs.Step.{carry_out, arrive, guard, take_unit, beat, tests_passed, confirm_units}
 use Rattle.safe_machine.specs.Moves.{moved}
 use Rattle.safe_machine.specs.Reached.{IsReached}
-use Rattle.safe_machine.specs.View.{View, Turns}
+use Rattle.safe_machine.specs.View.{View, Turns, kept_of}
 use Rattle.safe_machine.proofs.Cases.{if_both}
 use Rattle.safe_machine.proofs.Legal.{legal}
 use Rattle.safe_machine.proofs.Deciding.{Fits, decide-fits}
@@ -20,10 +21,11 @@ use Rattle.safe_machine.proofs.Lone.{lone-guard, arrive-by}
 use Rattle.safe_machine.proofs.Reaching.{legal-reached}
 use Rattle.safe_machine.proofs.Resending.{resend-expected}
 use Rattle.safe_machine.specs.Properties.{index_step}
+use Rattle.safe_machine.specs.Connections.{is_live, in_turn}
 
 leave-expected : (reason : Reason) (detail : Detail) (now : ℕ) (s : State) → (leave reason detail now s).expected ≡ s.expected
 leave-expected reason detail now s =
-    if_both (λ (t : State). t.expected ≡ s.expected) (says_goodbye s.connection) (make DiscReq (leaving_body reason detail) now s) s (λ _. refl) (λ _. refl)
+    if_both (λ (t : State). t.expected ≡ s.expected) (is_live s.connection) (make DiscReq (leaving_body reason detail) now s) s (λ _. refl) (λ _. refl)
 
 unit-expected : (p : Pdu) (now : ℕ) (s : State) → (take_unit p now s).expected ≡ s.expected
 unit-expected p now s =
@@ -46,7 +48,7 @@ near-decided p now AnswersNext s small f =
     let y = pass p 0 (note_request 0 (tests_passed p s)) in
     omega (arith, resend-expected (unconfirmed y) now (make RetrResp [] now y))
 near-decided p now AnswersEarly s small f =
-    let y = note_request (distance s p) (confirm_units p s) in
+    let y = note_request (distance (kept_of s) p) (confirm_units p s) in
     let t = reply now y in
     let still : t.expected ≡ s.expected = resend-expected (unconfirmed y) now (make RetrResp [] now y) in
     if_both (λ (u : State). u.expected ≤ s.expected + index_step) (in_turn s.connection) (ask now t) t (λ _. omega (arith, still)) (λ _. omega (arith, still))
@@ -57,7 +59,7 @@ near-arrive p now s small =
     let l = lone-guard now s in
     let still : g.settings.n_sendmax ≤ 32 = subst (λ (k : Settings). k.n_sendmax ≤ 32) (sym l.settings) small in
     arrive-by (λ (t : State). t.expected ≤ s.expected + index_step) p now s (omega (arith, l.expected))
-    (λ _ _. omega (arith, near-decided p now (decide g p now) g still (decide-fits g p now), l.expected))
+    (λ _ _. omega (arith, near-decided p now (decide (kept_of g) p now) g still (decide-fits g p now), l.expected))
 
 -- one arrival
 pub reached-near : (p : Pdu) (now : ℕ) (v w : View) → IsReached v → Turns (arrive p now) v w → w.expected ≤ v.expected + index_step

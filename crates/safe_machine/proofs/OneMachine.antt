@@ -7,11 +7,12 @@ use Rattle.safe_machine.specs.declared.ConnectionState.TheVariants.{Closed, Down
 use Rattle.safe_pdu.specs.declared.Kind.TheVariants.{Heartbeat, Data, RetrResp, RetrData, DiscReq, ConnResp, RetrReq}
 use Rattle.safe_pdu.specs.Pdu.{Pdu}
 use Rattle.safe_pdu.specs.Bodies.{window_of}
-use Rattle.safe_machine.specs.Made.{carries, units, first_sent, opening_body, leaving_body}
-use Rattle.safe_machine.specs.State.{State, next_made, leave, make, move_to, reply, resend, ask, pass, note_request, confirm_units, unconfirmed, hand_up, says_goodbye}
-use Rattle.safe_machine.specs.Step.{guard, receive, tick, send, arrive, may_send, is_live, carry_out, beat, tests_passed, is_connected, last_time, set_window}
-use Rattle.safe_machine.specs.Decision.{Decision, decide, distance, in_turn, is_closed, heard}
-use Rattle.safe_machine.specs.Decision.Decision.{Nothing, Drops, Shuts, Leaves, Rejects, Accepts, Connects, Takes, Asks, Resumes, AnswersNext, AnswersEarly}
+use Rattle.safe_machine.specs.Made.{carries, units, first_sent, opening_body, leaving_body, last_time}
+use Rattle.safe_machine.specs.State.{State, next_made, leave, make, move_to, reply, resend, ask, pass, note_request, unconfirmed, hand_up}
+use Rattle.safe_machine.specs.Step.{guard, receive, tick, send, arrive, may_send, carry_out, beat, tests_passed, set_window, confirm_units}
+use Rattle.safe_machine.specs.declared.decision.Decision.{Decision}
+use Rattle.safe_machine.specs.Decision.{decide, distance, heard}
+use Rattle.safe_machine.specs.declared.decision.Decision.TheVariants.{Nothing, Drops, Shuts, Leaves, Rejects, Accepts, Connects, Takes, Asks, Resumes, AnswersNext, AnswersEarly}
 use Rattle.safe_machine.proofs.Cases.{if_both}
 use Rattle.safe_machine.proofs.Runs.{units-append}
 use Rattle.safe_machine.proofs.Lone.{guard-idle}
@@ -19,6 +20,8 @@ use Rattle.safe_machine.specs.declared.Reason.{Reason}
 use Rattle.safe_machine.specs.declared.Reason.TheVariants.{Timeout, WrongVersion, ProtocolError}
 use Rattle.safe_machine.specs.declared.Detail.{Detail}
 use Rattle.safe_machine.specs.declared.Detail.TheVariants.{Unspecified, Limit}
+use Rattle.safe_machine.specs.Connections.{is_live, is_connected, in_turn, is_closed}
+use Rattle.safe_machine.specs.View.{kept_of}
 
 -- no unit is sent or taken
 pub record Plain (s t : State) : Type 0 where
@@ -57,7 +60,7 @@ send-connection unit now s = if_both (λ t. t.connection ≡ s.connection) (may_
 
 pub plain-leave : (reason : Reason) (detail : Detail) (now : ℕ) (s : State) → Plain s (leave reason detail now s)
 plain-leave reason detail now s =
-    if_both (λ t. Plain s (move_to Closed t)) (says_goodbye s.connection) (make DiscReq (leaving_body reason detail) now s) s
+    if_both (λ t. Plain s (move_to Closed t)) (is_live s.connection) (make DiscReq (leaving_body reason detail) now s) s
     (λ _. let h = plain-make DiscReq (leaving_body reason detail) now s refl in record { taken = h.taken; sent = h.sent }) (λ _. record { taken = refl; sent = refl })
 
 pub plain-guard : (now : ℕ) (s : State) → Plain s (guard now s)
@@ -112,7 +115,7 @@ takes-carried p now Resumes s = takes-none p s (carry_out p now Resumes s) (reco
 takes-carried p now AnswersNext s =
     let h = plain-reply now (pass p 0 (note_request 0 (tests_passed p s))) in takes-none p s (carry_out p now AnswersNext s) (record { taken = h.taken; sent = h.sent })
 takes-carried p now AnswersEarly s =
-    let u = note_request (distance s p) (confirm_units p s) in
+    let u = note_request (distance (kept_of s) p) (confirm_units p s) in
     let t = reply now u in
     let h = plain-reply now u in
     let k = plain-make RetrReq [] now t refl in
@@ -123,7 +126,7 @@ pub takes-arrive : (p : Pdu) (now : ℕ) (s : State) → Takes1 p s (arrive p no
 takes-arrive p now s =
     let g = guard now s in
     let h = plain-guard now s in
-    let k = takes-carried p now (decide g p now) g in
+    let k = takes-carried p now (decide (kept_of g) p now) g in
     record { more = k.more; one = k.one; taken = k.taken ∙ ap (λ us. us ++ k.more) h.taken; sent = k.sent ∙ h.sent }
 
 closed-idle : (c : ConnectionState) → c ≡ Closed → is_live c ≡ false
@@ -138,7 +141,7 @@ pub closed-guard : (now : ℕ) (s : State) → s.connection ≡ Closed → guard
 closed-guard now s e = guard-idle now s (closed-idle s.connection e)
 
 closed-receive : (p : Pdu) (now : ℕ) (s : State) → s.connection ≡ Closed → receive p now s ≡ s
-closed-receive p now s e = ap (λ c. carry_out p now (if is_closed c then Nothing else heard s p now) s) e
+closed-receive p now s e = ap (λ c. carry_out p now (if is_closed c then Nothing else heard (kept_of s) p now) s) e
 
 pub closed-arrive : (p : Pdu) (now : ℕ) (s : State) → s.connection ≡ Closed → arrive p now s ≡ s
 closed-arrive p now s e = ap (λ t. receive p now t) (closed-guard now s e) ∙ closed-receive p now s e

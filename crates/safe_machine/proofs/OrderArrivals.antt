@@ -8,9 +8,10 @@ use Rattle.safe_machine.specs.declared.ConnectionState.{ConnectionState}
 use Rattle.safe_machine.specs.declared.ConnectionState.TheVariants.{Closed, Down, Start, Up}
 use Rattle.safe_machine.specs.Made.{Made, opening_body, carries}
 use Rattle.safe_machine.specs.State.{State, next_made, make, move_to, pass, hand_up}
-use Rattle.safe_machine.specs.Decision.{Decision, decide, is_stranger, cs_fits, cts_fits}
-use Rattle.safe_machine.specs.Decision.Decision.{Accepts, Connects, Takes}
-use Rattle.safe_machine.specs.Step.{is_live, beat, tests_passed, set_window, carry_out, receive}
+use Rattle.safe_machine.specs.declared.decision.Decision.{Decision}
+use Rattle.safe_machine.specs.Decision.{decide, is_stranger, cs_fits, cts_fits}
+use Rattle.safe_machine.specs.declared.decision.Decision.TheVariants.{Accepts, Connects, Takes}
+use Rattle.safe_machine.specs.Step.{beat, tests_passed, set_window, carry_out, receive}
 use Rattle.safe_machine.specs.InOrder.{client_state, server_state}
 use Rattle.safe_machine.proofs.Cases.{if_both}
 use Rattle.safe_machine.proofs.Runs.{every-at, every-from}
@@ -23,6 +24,8 @@ use Rattle.safe_machine.proofs.InOrder.{next-distance, next-cs, next-cts}
 use Rattle.safe_machine.proofs.OrderKinds.{GoodAt, is_plain, is_bare, bare-plain, good-bare, kinds-push}
 use Rattle.safe_machine.proofs.OrderEnds.{state_of, Beyond, End, Ends, end-make, end-made, ends-make, ends-close, end-take}
 use Rattle.safe_machine.proofs.OrderDecide.{Passes, ShutsOrTakes, decide-up, decide-granted, decide-connects, decide-accepts}
+use Rattle.safe_machine.specs.Connections.{is_live}
+use Rattle.safe_machine.specs.View.{kept_of}
 
 -- what is known where the next PDU of y comes in at x, which is not closed
 pub record NextIn (client : Bool) (n k clock now : ℕ) (m : Made) (rest : List Made) (x y : State) : Type 0 where
@@ -45,7 +48,7 @@ next-arrival client n k clock now m rest x y h =
 
 -- It passes the confirmation tests, and stands where its number says.
 pub next-tests : (client : Bool) (n k clock now : ℕ) (m : Made) (rest : List Made) (x y : State) → NextIn client n k clock now m rest x y → is_live x.connection ≡ true → needs_peer m.pdu.kind ≡ 1 →
-    (cs_fits x m.pdu ≡ true) × (cts_fits x m.pdu now ≡ true)
+    (cs_fits (kept_of x) m.pdu ≡ true) × (cts_fits (kept_of x) m.pdu now ≡ true)
 next-tests client n k clock now m rest x y h live needs =
     let a = next-arrival client n k clock now m rest x y h in
     let c = arrival-coming 0 m rest x y a needs in
@@ -159,7 +162,7 @@ next-ends true (suc n) k clock now m rest x y h =
     let good : is_plain m.pdu.kind ≡ true = h.ends.peer.kinds (suc n) m rest h.at in
     let live = ap is_live up in
     let state : Up ≡ state_of true (suc n + 1) = let later : suc (suc n) ≡ suc n + 1 = omega arith in ap client_state later in
-    next-shuts-or-takes true (suc n) k clock now m rest x y h (omega arith) (up-started x h.pair.0 up) (λ c. h.ends.grown c up) live state (decide x m.pdu now)
+    next-shuts-or-takes true (suc n) k clock now m rest x y h (omega arith) (up-started x h.pair.0 up) (λ c. h.ends.grown c up) live state (decide (kept_of x) m.pdu now)
     (decide-up x m.pdu now up h.meant good (next-passes true (suc n) k clock now m rest x y h live (omega arith)))
 next-ends false zero k clock now m rest x y h =
     let down : x.connection ≡ Down = h.ends.own.state h.on in
@@ -171,12 +174,12 @@ next-ends false (suc zero) k clock now m rest x y h =
     let good : is_bare m.pdu.kind ≡ true = h.ends.peer.kinds 1 m rest h.at in
     let live = ap is_live start in
     let s = subst (λ (c : ConnectionState). Started c x.settings.client x.expected x.made) start h.pair.0.started in
-    next-shuts-or-takes false 1 k clock now m rest x y h (omega arith) s.2 (λ c. absurd (false≢true c)) live refl (decide x m.pdu now)
+    next-shuts-or-takes false 1 k clock now m rest x y h (omega arith) s.2 (λ c. absurd (false≢true c)) live refl (decide (kept_of x) m.pdu now)
     (decide-granted x m.pdu now start h.ends.own.role_is h.meant good (bare-plain m.pdu.kind good) (next-passes false 1 k clock now m rest x y h live (omega arith)))
 next-ends false (suc (suc n)) k clock now m rest x y h =
     let up : x.connection ≡ Up = h.ends.own.state h.on in
     let good : is_plain m.pdu.kind ≡ true = h.ends.peer.kinds (suc (suc n)) m rest h.at in
     let live = ap is_live up in
     let state : Up ≡ state_of false (suc (suc n) + 1) = let later : suc (suc (suc n)) ≡ suc (suc n) + 1 = omega arith in ap server_state later in
-    next-shuts-or-takes false (suc (suc n)) k clock now m rest x y h (omega arith) (up-started x h.pair.0 up) (λ c. absurd (false≢true c)) live state (decide x m.pdu now)
+    next-shuts-or-takes false (suc (suc n)) k clock now m rest x y h (omega arith) (up-started x h.pair.0 up) (λ c. absurd (false≢true c)) live state (decide (kept_of x) m.pdu now)
     (decide-up x m.pdu now up h.meant good (next-passes false (suc (suc n)) k clock now m rest x y h live (omega arith)))

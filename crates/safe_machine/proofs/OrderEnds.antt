@@ -5,14 +5,15 @@ use Rattle.safe_pdu.specs.declared.Kind.{Kind}
 use Rattle.safe_machine.specs.declared.ConnectionState.{ConnectionState}
 use Rattle.safe_machine.specs.declared.ConnectionState.TheVariants.{Closed, Up}
 use Rattle.safe_machine.specs.Made.{Made}
-use Rattle.safe_machine.specs.State.{State, next_made, make, move_to, cs_step}
-use Rattle.safe_machine.specs.Decision.{cs_fits}
+use Rattle.safe_machine.specs.State.{State, next_made, make, move_to}
+use Rattle.safe_machine.specs.Decision.{cs_fits, cs_step}
 use Rattle.safe_machine.specs.InOrder.{client_state, server_state}
 use Rattle.safe_machine.proofs.Runs.{Every, every-from, every-drop_push}
 use Rattle.safe_machine.proofs.Invariant.{needs_peer}
 use Rattle.safe_machine.proofs.Arrivals.{Arrival, arrival-index}
 use Rattle.safe_machine.proofs.Times.{Rises, behind_of}
 use Rattle.safe_machine.proofs.OrderKinds.{GoodAt, Kinds, kinds-push}
+use Rattle.safe_machine.specs.View.{kept_of}
 
 -- the state of an end in this role after so many arrivals
 abbrev pub state_of : Bool → ℕ → ConnectionState
@@ -131,8 +132,8 @@ beyond-later i c m rest ms rises at more =
 
 -- the end after it took the next PDU, in its new state
 pub end-take : (client : Bool) (n : ℕ) (to : ConnectionState) (window : ℕ) (m : Made) (rest : List Made) (x y : State) → Arrival 0 m rest x y → End client n x y → Rises behind_of y.made →
-    x.connection ≢ Closed → needs_peer m.pdu.kind ≡ 1 → cs_fits x m.pdu ≡ true → to ≡ state_of client (n + 1) → window ≡ y.settings.n_sendmax →
-    EndOf client (n + 1) x.settings.client x.settings.n_sendmax to x.made (x.expected + 0 + 1) (x.confirmed + cs_step x m.pdu) window y.settings.n_sendmax y.made
+    x.connection ≢ Closed → needs_peer m.pdu.kind ≡ 1 → cs_fits (kept_of x) m.pdu ≡ true → to ≡ state_of client (n + 1) → window ≡ y.settings.n_sendmax →
+    EndOf client (n + 1) x.settings.client x.settings.n_sendmax to x.made (x.expected + 0 + 1) (x.confirmed + cs_step (kept_of x) m.pdu) window y.settings.n_sendmax y.made
 end-take client n to window m rest x y a h rises on needs fits state same =
     let index = arrival-index 0 m rest x y a needs fits in
     record {
@@ -141,5 +142,5 @@ end-take client n to window m rest x y a h rises on needs fits state same =
       count = λ _. omega (arith, h.count on);
       window_is = λ _ _. same;
       kinds = h.kinds;
-      beyond = beyond-later (x.expected + 0) (x.confirmed + cs_step x m.pdu) m rest y.made rises a.at (omega (arith, index.0, index.1));
+      beyond = beyond-later (x.expected + 0) (x.confirmed + cs_step (kept_of x) m.pdu) m rest y.made rises a.at (omega (arith, index.0, index.1));
     }

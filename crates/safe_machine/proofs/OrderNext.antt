@@ -9,16 +9,18 @@ use Rattle.safe_machine.specs.declared.ConnectionState.TheVariants.{Closed, Down
 use Rattle.safe_machine.specs.Made.{Made, carries, opening_body}
 use Rattle.safe_machine.specs.State.{State, next_made, make, move_to, pass, hand_up}
 use Rattle.safe_machine.specs.Table.{cell}
-use Rattle.safe_machine.specs.Table.Cell.{Take}
+use Rattle.safe_machine.specs.declared.table.Cell.TheVariants.{Take}
 use Rattle.safe_machine.specs.Decision.{is_stranger, is_goodbye, by_table, decide, distance, as_client}
-use Rattle.safe_machine.specs.Decision.Decision.{Shuts, Takes, Connects, Accepts}
-use Rattle.safe_machine.specs.Step.{carry_out, receive, beat, set_window, tests_passed, is_live}
+use Rattle.safe_machine.specs.declared.decision.Decision.TheVariants.{Shuts, Takes, Connects, Accepts}
+use Rattle.safe_machine.specs.Step.{carry_out, receive, beat, set_window, tests_passed}
 use Rattle.safe_machine.proofs.Cases.{if_both}
 use Rattle.safe_machine.proofs.Runs.{Every, every-push}
 use Rattle.safe_machine.proofs.Invariant.{needs_peer}
 use Rattle.safe_machine.proofs.OrderKinds.{GoodAt, is_plain, is_bare, bare-plain}
 use Rattle.safe_machine.proofs.OrderDecide.{Passes, decided, table-takes, decide-connects, decide-accepts}
 use Rattle.safe_machine.proofs.OrderArrivals.{NextIn, next-tests, next-passes}
+use Rattle.safe_machine.specs.Connections.{is_live}
+use Rattle.safe_machine.specs.View.{kept_of}
 
 -- it is no DiscReq
 abbrev pub Remains : Made → Type 0
@@ -75,21 +77,21 @@ start-takes RetrReq bare e = cc
 start-takes RetrResp bare e = cc
 start-takes RetrData bare e = cc
 
-decide-takes : (s : State) (p : Pdu) (now : ℕ) → s.connection ≡ Up → is_stranger s p ≡ false → is_plain p.kind ≡ true → is_goodbye p.kind ≡ false → Passes s p now → decide s p now ≡ Takes Up
+decide-takes : (s : State) (p : Pdu) (now : ℕ) → s.connection ≡ Up → is_stranger s p ≡ false → is_plain p.kind ≡ true → is_goodbye p.kind ≡ false → Passes s p now → decide (kept_of s) p now ≡ Takes Up
 decide-takes s p now up meant plain stays h =
     decided s p now Up up meant
-    ∙ (ap (λ (b : Bool). if b then Shuts else by_table s p now (distance s p)) stays
+    ∙ (ap (λ (b : Bool). if b then Shuts else by_table (kept_of s) p now (distance (kept_of s) p)) stays
     ∙ table-takes s p now h (ap (λ c. cell c true p.kind) up ∙ up-takes p.kind plain stays))
 
-decide-starts : (s : State) (p : Pdu) (now : ℕ) → s.connection ≡ Start → s.settings.client ≡ false → is_stranger s p ≡ false → is_bare p.kind ≡ true → is_goodbye p.kind ≡ false → Passes s p now → decide s p now ≡ Takes Up
+decide-starts : (s : State) (p : Pdu) (now : ℕ) → s.connection ≡ Start → s.settings.client ≡ false → is_stranger s p ≡ false → is_bare p.kind ≡ true → is_goodbye p.kind ≡ false → Passes s p now → decide (kept_of s) p now ≡ Takes Up
 decide-starts s p now start server meant bare stays h =
-    let table = by_table s p now (distance s p) in
+    let table = by_table (kept_of s) p now (distance (kept_of s) p) in
     decided s p now Start start meant
-    ∙ (ap (λ (b : Bool). if b then Shuts else if s.settings.client then as_client s p now p.kind else table) stays
-    ∙ (ap (λ (b : Bool). if b then as_client s p now p.kind else table) server
+    ∙ (ap (λ (b : Bool). if b then Shuts else if s.settings.client then as_client (kept_of s) p now p.kind else table) stays
+    ∙ (ap (λ (b : Bool). if b then as_client (kept_of s) p now p.kind else table) server
     ∙ table-takes s p now h (ap (λ c. cell c true p.kind) start ∙ start-takes p.kind bare stays)))
 
-by-takes : (x : State) (p : Pdu) (now : ℕ) → decide x p now ≡ Takes Up → IsOpen x → IsOpen (receive p now x)
+by-takes : (x : State) (p : Pdu) (now : ℕ) → decide (kept_of x) p now ≡ Takes Up → IsOpen x → IsOpen (receive p now x)
 by-takes x p now e h = subst (λ d. IsOpen (carry_out p now d x)) (sym e) (takes-open p now x h)
 
 -- the next PDU in order, that is no DiscReq, leaves an open end open

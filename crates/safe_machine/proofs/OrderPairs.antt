@@ -8,10 +8,10 @@ use Rattle.safe_machine.specs.declared.ConnectionState.{ConnectionState}
 use Rattle.safe_machine.specs.declared.ConnectionState.TheVariants.{Closed, Down, Start, Up, RetrReq as Requesting, RetrRun}
 use Rattle.safe_machine.specs.declared.Reason.{Reason}
 use Rattle.safe_machine.specs.declared.Detail.{Detail}
-use Rattle.safe_machine.specs.Made.{Made, leaving_body}
-use Rattle.safe_machine.specs.State.{State, unconfirmed, next_made, make, move_to, leave, says_goodbye}
-use Rattle.safe_machine.specs.Decision.{in_turn, is_stranger}
-use Rattle.safe_machine.specs.Step.{is_live, is_connected, guard, receive, arrive, heartbeat, tick, may_send, send, last_time}
+use Rattle.safe_machine.specs.Made.{Made, leaving_body, last_time}
+use Rattle.safe_machine.specs.State.{State, unconfirmed, next_made, make, move_to, leave}
+use Rattle.safe_machine.specs.Decision.{is_stranger}
+use Rattle.safe_machine.specs.Step.{guard, receive, arrive, heartbeat, tick, may_send, send}
 use Rattle.safe_machine.specs.World.{GenuineAt}
 use Rattle.safe_machine.specs.InOrder.{GuardHolds, NextArrival, AllThere}
 use Rattle.safe_machine.proofs.Cases.{if_both, and-parts}
@@ -26,6 +26,7 @@ use Rattle.safe_machine.proofs.InOrder.{all-taken}
 use Rattle.safe_machine.proofs.OrderKinds.{good-bare, good-plain}
 use Rattle.safe_machine.proofs.OrderEnds.{state_of, opposite, Ends, ends-make, ends-close, ends-closed}
 use Rattle.safe_machine.proofs.OrderArrivals.{NextIn, next-ends}
+use Rattle.safe_machine.specs.Connections.{is_live, in_turn, is_connected}
 
 -- an end and its peer, with the times of their last events
 pub record Two (client : Bool) (n k clock other : ℕ) (x y : State) : Type 0 where
@@ -88,7 +89,7 @@ ends-send client n k unit now x y pair h =
     (λ _. h)
 
 -- an end that says goodbye has made something
-goodbye-started : (connection : ConnectionState) (client : Bool) (expected : ℕ) (made : List Made) → says_goodbye connection ≡ true → Started connection client expected made → 1 ≤ length made
+goodbye-started : (connection : ConnectionState) (client : Bool) (expected : ℕ) (made : List Made) → is_live connection ≡ true → Started connection client expected made → 1 ≤ length made
 goodbye-started Start client expected made says h = h.2
 goodbye-started Up client expected made says h = h.1
 goodbye-started Requesting client expected made says h = h.1
@@ -100,7 +101,7 @@ ends-leave : (client : Bool) (n k : ℕ) (reason : Reason) (detail : Detail) (no
 ends-leave client n k reason detail now x y pair h =
     let body = leaving_body reason detail in
     let said = make DiscReq body now x in
-    if_both (λ t. Ends client n k (move_to Closed t) y) (says_goodbye x.connection) said x
+    if_both (λ t. Ends client n k (move_to Closed t) y) (is_live x.connection) said x
     (λ says.
     let some = goodbye-started x.connection x.settings.client x.expected x.made says pair.0.started in
     ends-close client n n k said y

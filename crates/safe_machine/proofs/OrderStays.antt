@@ -9,7 +9,7 @@ use Rattle.safe_machine.specs.declared.ConnectionState.TheVariants.{Closed, Down
 use Rattle.safe_machine.specs.Settings.{Settings, is_legal}
 use Rattle.safe_machine.specs.State.{State, make, opened}
 use Rattle.safe_machine.specs.Decision.{is_stranger}
-use Rattle.safe_machine.specs.Step.{is_connected, is_live, guard, receive, arrive, heartbeat, tick, may_send, send, last_time}
+use Rattle.safe_machine.specs.Step.{guard, receive, arrive, heartbeat, tick, may_send, send}
 use Rattle.safe_machine.specs.World.{World, Event, start, run, event_end, event_time, at_end, changed, happens, GenuineEvent, Genuine, Timely, as_role, open_il, open_fe}
 use Rattle.safe_machine.specs.World.Event.{Open, Send, Close, Guard, Tick, Arrive}
 use Rattle.safe_machine.specs.InOrder.{GuardHolds, NextArrival, InOrderEvent, InOrder, heard_by_il, heard_by_fe, is_close, has_close, StaysLaw}
@@ -23,6 +23,8 @@ use Rattle.safe_machine.proofs.OrderPairs.{Two, two-swap}
 use Rattle.safe_machine.proofs.OrderApart.{apart-silent, apart-deaf}
 use Rattle.safe_machine.proofs.OrderLaw.{joint, apart, StandsAt, stands-event, stands-start}
 use Rattle.safe_machine.proofs.OrderNext.{Remains, IsOpen, open-make, next-open}
+use Rattle.safe_machine.specs.Connections.{is_connected, is_live}
+use Rattle.safe_machine.specs.Made.{last_time}
 
 -- each end that was opened is open
 record OpenBoth (w : World) : Type 0 where

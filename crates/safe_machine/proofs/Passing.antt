@@ -5,11 +5,13 @@ use Rattle.std.proofs.lemmas.Bool.{ltb-true}
 use Rattle.safe_machine.specs.declared.ConnectionState.{ConnectionState}
 use Rattle.safe_machine.specs.Numbers.{sn_of, ahead}
 use Rattle.safe_machine.specs.Made.{Made, units, after_pdu, run_after, run_of, is_answer}
-use Rattle.safe_machine.specs.State.{State, confirm_units, cs_step}
-use Rattle.safe_machine.specs.Decision.{cs_fits, distance}
+use Rattle.safe_machine.specs.State.{State}
+use Rattle.safe_machine.specs.Decision.{cs_fits, distance, cs_step}
 use Rattle.safe_machine.proofs.Numbers.{ahead-up, ahead-down, ahead-next}
 use Rattle.safe_machine.proofs.Runs.{requests, answers, count-at, run_after-front, run_of-resume, at-length, at-next, every-at, every-weaken, no_requests, numbered-at}
 use Rattle.safe_machine.proofs.Invariant.{room, Told, Solo, HalfOf, Half, Few}
+use Rattle.safe_machine.specs.Step.{confirm_units}
+use Rattle.safe_machine.specs.View.{kept_of}
 
 told-more : (first a b : ℕ) → a ≤ b → (m : Made) → Told first a m → Told first b m
 told-more first a b h m t = record { behind = omega (arith, t.behind); cs = t.cs }
@@ -71,22 +73,22 @@ half-resume d connection m rest x y solo h small at is =
 
 -- a index that an accepted PDU confirms is the one that its maker had behind it
 pub confirm-index : (i : ℕ) (m : Made) (rest : List Made) (x y : State) → Half x y → Few x → drop i y.made ≡ m ∷ rest → 1 ≤ m.behind →
-    cs_fits x m.pdu ≡ true → x.confirmed + cs_step x m.pdu ≡ m.behind - 1
+    cs_fits (kept_of x) m.pdu ≡ true → x.confirmed + cs_step (kept_of x) m.pdu ≡ m.behind - 1
 confirm-index i m rest x y h few at late fits =
     let told = every-at (Told x.first y.expected) 0 i y.made m rest h.told (omega arith) at in
     let behind : m.behind ≤ y.expected = told.behind in
     let within : y.expected ≤ length x.made = h.within in
     let low : x.confirmed ≤ y.expected - 1 = h.confirmed_behind in
-    let step : cs_step x m.pdu ≡ ahead (sn_of x.first x.confirmed) (sn_of x.first (m.behind - 1)) =
+    let step : cs_step (kept_of x) m.pdu ≡ ahead (sn_of x.first x.confirmed) (sn_of x.first (m.behind - 1)) =
     ap (ahead (sn_of x.first x.confirmed)) (told.cs late) in
-    let less : cs_step x m.pdu < length x.made - x.confirmed = ltb-true (cs_step x m.pdu) (length x.made - x.confirmed) fits in
-    let up : x.confirmed ≤ m.behind - 1 → x.confirmed + cs_step x m.pdu ≡ m.behind - 1 =
+    let less : cs_step (kept_of x) m.pdu < length x.made - x.confirmed = ltb-true (cs_step (kept_of x) m.pdu) (length x.made - x.confirmed) fits in
+    let up : x.confirmed ≤ m.behind - 1 → x.confirmed + cs_step (kept_of x) m.pdu ≡ m.behind - 1 =
     λ k. let s = ahead-up x.first x.confirmed (m.behind - 1) k (omega arith) in omega arith in
-    let down : m.behind - 1 < x.confirmed → x.confirmed + cs_step x m.pdu ≡ m.behind - 1 =
+    let down : m.behind - 1 < x.confirmed → x.confirmed + cs_step (kept_of x) m.pdu ≡ m.behind - 1 =
     λ k. let s = ahead-down x.first x.confirmed (m.behind - 1) k (omega arith) in omega arith in
     grind (arith, up, down)
 
-pub half-confirm : (m : Made) (x y : State) → Half x y → x.confirmed + cs_step x m.pdu ≤ y.expected - 1 → Half (confirm_units m.pdu x) y
+pub half-confirm : (m : Made) (x y : State) → Half x y → x.confirmed + cs_step (kept_of x) m.pdu ≤ y.expected - 1 → Half (confirm_units m.pdu x) y
 half-confirm m x y h e =
     record {
       carried = h.carried;
@@ -101,18 +103,18 @@ half-confirm m x y h e =
 
 -- a PDU within reach of an end that has taken something lies where its number says
 pub reach : (i : ℕ) (m : Made) (rest : List Made) (x y : State) → Solo y → Half y x → Few y → 1 ≤ x.expected → drop i y.made ≡ m ∷ rest →
-    distance x m.pdu ≤ 320 → x.expected + distance x m.pdu ≡ i
+    distance (kept_of x) m.pdu ≤ 320 → x.expected + distance (kept_of x) m.pdu ≡ i
 reach i m rest x y solo h few late at near =
     let within : x.expected ≤ length y.made = h.within in
     let index : i < length y.made = at-length i y.made m rest at in
     let sn : m.pdu.sn ≡ sn_of y.first i = numbered-at y.first 0 i y.made m rest solo.numbered at ∙ ap (sn_of y.first) (omega arith) in
     let back : x.expected - 1 + 1 ≡ x.expected = omega arith in
-    let step : distance x m.pdu ≡ ahead (sn_of y.first x.expected) (sn_of y.first i) =
+    let step : distance (kept_of x) m.pdu ≡ ahead (sn_of y.first x.expected) (sn_of y.first i) =
     ap (λ n. ahead (n + 1) m.pdu.sn) (h.last late)
     ∙ (ahead-next y.first (x.expected - 1) m.pdu.sn
     ∙ (ap (λ n. ahead (sn_of y.first n) m.pdu.sn) back ∙ ap (ahead (sn_of y.first x.expected)) sn)) in
-    let up : x.expected ≤ i → x.expected + distance x m.pdu ≡ i =
+    let up : x.expected ≤ i → x.expected + distance (kept_of x) m.pdu ≡ i =
     λ k. let s = ahead-up y.first x.expected i k (omega arith) in omega arith in
-    let down : i < x.expected → x.expected + distance x m.pdu ≡ i =
+    let down : i < x.expected → x.expected + distance (kept_of x) m.pdu ≡ i =
     λ k. let s = ahead-down y.first x.expected i k (omega arith) in omega arith in
     grind (arith, up, down)

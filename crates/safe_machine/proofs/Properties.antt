@@ -10,16 +10,16 @@ use Rattle.safe_pdu.specs.declared.Kind.TheVariants.{Heartbeat}
 use Rattle.safe_machine.specs.declared.ConnectionState.TheVariants.{Up}
 use Rattle.safe_machine.specs.Made.{carries}
 use Rattle.safe_machine.specs.Settings.{Settings}
-use Rattle.safe_machine.specs.State.{State, make, move_to, pass, hand_up, cts_step, opened}
-use Rattle.safe_machine.specs.Decision.{Decision, decide, distance, is_goodbye, is_stranger, by_table}
+use Rattle.safe_machine.specs.State.{State, make, move_to, pass, hand_up, opened}
+use Rattle.safe_machine.specs.declared.decision.Decision.{Decision}
+use Rattle.safe_machine.specs.Decision.{decide, distance, is_goodbye, is_stranger, by_table, cts_step}
 use Rattle.safe_machine.specs.Table.{cell}
 use Rattle.safe_machine.specs.Ring.{ring_of}
-use Rattle.safe_machine.specs.Decision.Decision.{Nothing, Drops, Shuts, Leaves, Rejects, Accepts, Connects, Takes, Asks, Resumes, AnswersNext, AnswersEarly}
-use Rattle.safe_machine.specs.Step.{carry_out, receive, arrive, guard, is_live, take_unit, beat, tests_passed}
+use Rattle.safe_machine.specs.declared.decision.Decision.TheVariants.{Nothing, Drops, Shuts, Leaves, Rejects, Accepts, Connects, Takes, Asks, Resumes, AnswersNext, AnswersEarly}
+use Rattle.safe_machine.specs.Step.{carry_out, receive, arrive, guard, take_unit, beat, tests_passed}
 use Rattle.safe_machine.specs.Moves.{moved}
 use Rattle.safe_machine.specs.Reached.{IsReached}
-use Rattle.safe_machine.specs.View.{View, StandsFor, HandsUp, Turns, beside}
-use Rattle.safe_machine.specs.Course.{handed_by, cts_ahead}
+use Rattle.safe_machine.specs.View.{View, StandsFor, HandsUp, Turns, beside, kept_of}
 use Rattle.safe_machine.specs.Properties.{HandsIf, IsNextData}
 use Rattle.safe_machine.proofs.Cases.{if_both}
 use Rattle.safe_machine.proofs.Deciding.{Fits, decide-fits, listens-live}
@@ -27,6 +27,8 @@ use Rattle.safe_machine.proofs.Lone.{lone-guard, arrive-by}
 use Rattle.safe_machine.proofs.Timing.{guard-passed, makes-guard}
 use Rattle.safe_machine.proofs.Arriving.{decided-taken, arrive-goes}
 use Rattle.safe_machine.proofs.OrderDecide.{decided, table-takes}
+use Rattle.safe_machine.specs.Connections.{is_live}
+use Rattle.safe_machine.specs.Allows.{handed_by}
 
 -- who hands up is live behind its guard
 recent-decided : (p : Pdu) (now : ℕ) (d : Decision) (s : State) → Fits s p now d → handed_by d p ≢ [] → is_live s.connection ≡ true
@@ -46,27 +48,27 @@ recent-decided p now AnswersEarly s f h = absurd (h refl)
 drop-same : (a b : List (List ℕ)) → b ≡ a → drop (length a) b ≡ []
 drop-same a b e = ap (drop (length a)) (e ∙ sym (append-nil a)) ∙ drop-append_seam a []
 
-recent-arrive : (p : Pdu) (now : ℕ) (s : State) → drop (length s.taken) (arrive p now s).taken ≢ [] → now < s.confirmed_at + cts_step s p + s.settings.t_max
+recent-arrive : (p : Pdu) (now : ℕ) (s : State) → drop (length s.taken) (arrive p now s).taken ≢ [] → now < s.confirmed_at + cts_step (kept_of s) p + s.settings.t_max
 recent-arrive p now s =
     let g = guard now s in
     let l = lone-guard now s in
     let at : g.confirmed_at ≡ s.confirmed_at = (makes-guard now s).confirmed_at in
     let long : g.settings.t_max ≡ s.settings.t_max = ap (λ (k : Settings). k.t_max) l.settings in
-    let d = decide g p now in
+    let d = decide (kept_of g) p now in
     let handed : drop (length s.taken) (receive p now g).taken ≡ handed_by d p =
     ap (drop (length s.taken)) (decided-taken p now d g ∙ ap (λ us. us ++ handed_by d p) l.taken) ∙ drop-append_seam s.taken (handed_by d p) in
-    arrive-by (λ t. drop (length s.taken) t.taken ≢ [] → now < s.confirmed_at + cts_step s p + s.settings.t_max) p now s
+    arrive-by (λ t. drop (length s.taken) t.taken ≢ [] → now < s.confirmed_at + cts_step (kept_of s) p + s.settings.t_max) p now s
     (λ some. absurd (some (drop-same s.taken g.taken l.taken)))
     (λ _ _ some. omega (arith, guard-passed now s (recent-decided p now d g (decide-fits g p now) (λ none. some (handed ∙ none))), at, long))
 
 -- as a machine has it
 pub reached-recent : {U : Type 0} (takes : U → List ℕ → U → Type 0) (a b : U) (p : Pdu) (now : ℕ) (v : View) → IsReached v →
-    ((s : State) → StandsFor v s → HandsUp takes a s (arrive p now s) b) → HandsIf takes a b (now < v.confirmed_at + cts_ahead v p.cts + v.settings.t_max)
+    ((s : State) → StandsFor v s → HandsUp takes a s (arrive p now s) b) → HandsIf takes a b (now < v.confirmed_at + cts_step v p + v.settings.t_max)
 reached-recent takes a b p now v r hands =
     let t = moved r.moves (opened r.settings r.first r.began) in (
       drop (length t.taken) (arrive p now t).taken,
       hands t r.stands,
-      λ some. subst (λ (x : View). now < x.confirmed_at + cts_ahead x p.cts + x.settings.t_max) (sym r.stands) (recent-arrive p now t some),
+      λ some. subst (λ (x : View). now < x.confirmed_at + cts_step x p + x.settings.t_max) (sym r.stands) (recent-arrive p now t some),
     )
 
 -- The next Data of the peer, in Up.
@@ -76,13 +78,13 @@ unit-connection p now s =
     if_both (λ (t : State). t.connection ≡ s.connection) (carries p.kind) (beat now u) s
     (λ _. if_both (λ (t : State). t.connection ≡ s.connection) (nat_le u.settings.mwa u.since) (make Heartbeat [] now u) u (λ _. refl) (λ _. refl)) (λ _. refl)
 
-next-decided : (read : Result Pdu SafeFault) (p : Pdu) (now : ℕ) (s : State) → IsNextData read p now (beside (ring_of s) s) → decide s p now ≡ Takes Up
+next-decided : (read : Result Pdu SafeFault) (p : Pdu) (now : ℕ) (s : State) → IsNextData read p now (beside (ring_of s) s) → decide (kept_of s) p now ≡ Takes Up
 next-decided read p now s h =
     let meant : is_stranger s p ≡ false =
     ap (λ (b : Bool). if b && (p.sender == s.settings.peer) then false else true) (eq-eqb p.receiver s.settings.own h.receiver)
     ∙ ap (λ (b : Bool). if b then false else true) (eq-eqb p.sender s.settings.peer h.sender) in
     decided s p now Up h.is_up meant
-    ∙ (ap (λ k. if is_goodbye k then Shuts else by_table s p now (distance s p)) h.kind
+    ∙ (ap (λ k. if is_goodbye k then Shuts else by_table (kept_of s) p now (distance (kept_of s) p)) h.kind
     ∙ table-takes s p now (record { next = h.next; cs = h.confirms; cts = h.timely }) (ap (λ c. cell c true p.kind) h.is_up ∙ ap (λ k. cell Up true k) h.kind))
 
 -- it goes up alone, and the end stays in Up

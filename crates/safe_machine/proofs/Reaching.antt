@@ -19,14 +19,15 @@ use Rattle.safe_machine.specs.declared.Reason.{Reason}
 use Rattle.safe_machine.specs.declared.Reason.TheVariants.{Timeout, ProtocolError}
 use Rattle.safe_machine.specs.declared.Detail.{Detail}
 use Rattle.safe_machine.specs.declared.Detail.TheVariants.{Unspecified, Limit}
-use Rattle.safe_machine.specs.Made.{Made, carries, leaving_body, opening_body}
+use Rattle.safe_machine.specs.Made.{Made, carries, leaving_body, opening_body, last_time}
 use Rattle.safe_machine.specs.Settings.{Settings, is_legal}
-use Rattle.safe_machine.specs.Decision.{Decision, decide, distance, in_turn}
-use Rattle.safe_machine.specs.Decision.Decision.{Nothing, Drops, Shuts, Leaves, Rejects, Accepts, Connects, Takes, Asks, Resumes, AnswersNext, AnswersEarly}
-use Rattle.safe_machine.specs.Step.{last_time, beat, take_unit, tests_passed, carry_out, is_live, guard, receive, is_connected, heartbeat, send, may_send}
+use Rattle.safe_machine.specs.declared.decision.Decision.{Decision}
+use Rattle.safe_machine.specs.Decision.{decide, distance}
+use Rattle.safe_machine.specs.declared.decision.Decision.TheVariants.{Nothing, Drops, Shuts, Leaves, Rejects, Accepts, Connects, Takes, Asks, Resumes, AnswersNext, AnswersEarly}
+use Rattle.safe_machine.specs.Step.{beat, take_unit, tests_passed, carry_out, guard, receive, heartbeat, send, may_send, confirm_units, has_room}
 use Rattle.safe_machine.specs.Moves.{Move, move, moved, IsUnitSized}
 use Rattle.safe_machine.specs.Moves.Move.{Guards, Hears, Ticks, Sends, Leaves as LeavesNow}
-use Rattle.safe_machine.specs.State.{State, opened, fresh, make, move_to, pass, confirm_units, note_request, resend, reply, unconfirmed, hand_up, leave, says_goodbye, ask}
+use Rattle.safe_machine.specs.State.{State, opened, fresh, make, move_to, pass, note_request, resend, reply, unconfirmed, hand_up, leave, ask}
 use Rattle.safe_machine.proofs.Cases.{if_both, and-parts, leb-false}
 use Rattle.safe_machine.proofs.Invariant.{is_opening}
 use Rattle.safe_machine.proofs.Deciding.{Fits, decide-fits}
@@ -36,8 +37,9 @@ use Rattle.safe_machine.proofs.Kept.{Kept, AllowsMove, Anything, anything, kept-
 use Rattle.safe_machine.proofs.Legal.{legal as lawful}
 use Rattle.safe_machine.proofs.Texts.{Texts, own-legal, kept-texts, texts-make, AllSized, sized-run, texts-drop}
 use Rattle.safe_machine.specs.Reached.{IsRead, AreRead, IsReached, Sound}
-use Rattle.safe_machine.specs.View.{View, StandsFor, Turns, AllUnits, AllBelow, has_room}
+use Rattle.safe_machine.specs.View.{View, StandsFor, Turns, AllUnits, AllBelow, kept_of}
 use Rattle.safe_machine.proofs.Resending.{resend-settings, resend-connection}
+use Rattle.safe_machine.specs.Connections.{in_turn, is_live, is_connected}
 
 moved-snoc : (ms : List Move) (m : Move) (s : State) → moved (ms ++ m ∷ []) s ≡ move m (moved ms s)
 moved-snoc [] m s = refl
@@ -89,7 +91,7 @@ Waits s = (s.connection ≡ Down → s.made ≡ []) × (s.since < s.settings.mwa
 
 waits-leave : (reason : Reason) (detail : Detail) (now : ℕ) (s : State) → Waits s → Waits (leave reason detail now s)
 waits-leave reason detail now s h =
-    if_both (λ (t : State). Waits (move_to Closed t)) (says_goodbye s.connection) (make DiscReq (leaving_body reason detail) now s) s
+    if_both (λ (t : State). Waits (move_to Closed t)) (is_live s.connection) (make DiscReq (leaving_body reason detail) now s) s
     (λ _. (λ e. cc, omega (arith, h.1))) (λ _. (λ e. cc, h.1))
 
 waits-guard : (now : ℕ) (s : State) → Waits s → Waits (guard now s)
@@ -152,7 +154,7 @@ waits-decided p now Asks s f h = (λ e. cc, omega (arith, h.1))
 waits-decided p now Resumes s f h = (λ e. cc, h.1)
 waits-decided p now AnswersNext s (f, none, turn, cts) h = waits-reply now (pass p 0 (note_request 0 (tests_passed p s))) f.connected h.1
 waits-decided p now AnswersEarly s f h =
-    let z = note_request (distance s p) (confirm_units p s) in
+    let z = note_request (distance (kept_of s) p) (confirm_units p s) in
     let t = reply now z in
     let w : Waits t = waits-reply now z f.connected h.1 in
     if_both Waits (in_turn s.connection) (ask now t) t (λ _. (λ e. cc, omega (arith, w.1))) (λ _. w)
@@ -180,7 +182,7 @@ sure-move (Hears p now) s a h =
     let b = bounded-guard now s h.bounded in
     let w = waits-guard now s (waits s h) in
     arrive-by Sure p now s (sure g b.0 w)
-    (λ _ _. sure (receive p now g) (bounded-receive now p g b.0 b.1 w.0 (opening-window p.kind p.body a.1)) (waits-decided p now (decide g p now) g (decide-fits g p now) w))
+    (λ _ _. sure (receive p now g) (bounded-receive now p g b.0 b.1 w.0 (opening-window p.kind p.body a.1)) (waits-decided p now (decide (kept_of g) p now) g (decide-fits g p now) w))
 sure-move (Ticks now) s a h =
     let g = guard now s in
     let b = bounded-guard now s h.bounded in

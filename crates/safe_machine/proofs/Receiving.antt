@@ -10,8 +10,9 @@ use Rattle.safe_pdu.specs.Pdu.{Pdu}
 use Rattle.safe_pdu.specs.Bodies.{window_of}
 use Rattle.safe_machine.specs.Made.{Made, units, after_pdu, is_answer, opening_body, leaving_body}
 use Rattle.safe_machine.specs.State.{State, make, move_to, pass, next_made}
-use Rattle.safe_machine.specs.Decision.{Decision, cs_fits, distance, decide}
-use Rattle.safe_machine.specs.Decision.Decision.{Nothing, Drops, Shuts, Leaves, Rejects, Accepts, Connects, Takes, Asks, Resumes, AnswersNext, AnswersEarly}
+use Rattle.safe_machine.specs.declared.decision.Decision.{Decision}
+use Rattle.safe_machine.specs.Decision.{cs_fits, distance, decide}
+use Rattle.safe_machine.specs.declared.decision.Decision.TheVariants.{Nothing, Drops, Shuts, Leaves, Rejects, Accepts, Connects, Takes, Asks, Resumes, AnswersNext, AnswersEarly}
 use Rattle.safe_machine.specs.Step.{tests_passed, carry_out, set_window, receive}
 use Rattle.safe_machine.proofs.Runs.{Every, every-at, every-push, numbered-push}
 use Rattle.safe_machine.proofs.Invariant.{room, needs_peer, is_opening, Sound, NotOpening, Started, Solo, Half, Pair, Few}
@@ -22,6 +23,7 @@ use Rattle.safe_machine.proofs.Deciding.{ByTable, Fits, listens, decide-fits}
 use Rattle.safe_machine.proofs.Arrivals.{Arrival, arrival-confirm, arrival-take, arrival-resume, arrival-next_request, arrival-early_request}
 use Rattle.safe_machine.specs.declared.Reason.TheVariants.{WrongVersion}
 use Rattle.safe_machine.specs.declared.Detail.TheVariants.{Unspecified}
+use Rattle.safe_machine.specs.View.{kept_of}
 
 -- a ConnReq or a ConnResp is the first PDU that its end made
 opening-first : (i : ℕ) (m : Made) (rest : List Made) (y : State) → Solo y → drop i y.made ≡ m ∷ rest → is_opening m.pdu.kind ≡ 1 → i ≡ 0
@@ -40,7 +42,7 @@ first-arrival i m rest x y h peer few at is none =
 
 -- the client takes a ConnResp
 connected : (now i : ℕ) (m : Made) (rest : List Made) (x y : State) → Pair x y → Solo y → Few x → drop i y.made ≡ m ∷ rest → m.pdu.kind ≡ ConnResp → x.expected ≡ 0 →
-    room x.connection ≡ 0 → 1 ≤ length x.made → cs_fits x m.pdu ≡ true →
+    room x.connection ≡ 0 → 1 ≤ length x.made → cs_fits (kept_of x) m.pdu ≡ true →
     Pair (carry_out m.pdu now Connects x) y
 connected now i m rest x y h peer few at is none closed some fits =
     let a = first-arrival i m rest x y h peer few at (ap is_opening is) none in
@@ -126,13 +128,13 @@ pub by_table-started : (x : State) (p : Pdu) → Solo x → ByTable x p → (1 �
 by_table-started x p h t = listens-started x.connection x.settings.client x.expected x.made t.listens_now h.started
 
 -- and the PDU lies where its number says
-pub incoming-arrival : (i : ℕ) (m : Made) (rest : List Made) (x y : State) → Incoming i m rest x y → ByTable x m.pdu → Arrival (distance x m.pdu) m rest x y
+pub incoming-arrival : (i : ℕ) (m : Made) (rest : List Made) (x y : State) → Incoming i m rest x y → ByTable x m.pdu → Arrival (distance (kept_of x) m.pdu) m rest x y
 incoming-arrival i m rest x y a t =
     let s = by_table-started x m.pdu a.pair.0 t in
-    let same : i ≡ x.expected + distance x m.pdu = sym (reach i m rest x y a.peer a.pair.2 a.few_peer s.0 a.at (omega (arith, t.near, a.small))) in
+    let same : i ≡ x.expected + distance (kept_of x) m.pdu = sym (reach i m rest x y a.peer a.pair.2 a.few_peer s.0 a.at (omega (arith, t.near, a.small))) in
     record { pair = a.pair; peer = a.peer; few = a.few; at = subst (λ (n : ℕ). drop n y.made ≡ m ∷ rest) same a.at }
 
-pub incoming-next : (i : ℕ) (m : Made) (rest : List Made) (x y : State) → Incoming i m rest x y → ByTable x m.pdu → distance x m.pdu ≡ 0 → Arrival 0 m rest x y
+pub incoming-next : (i : ℕ) (m : Made) (rest : List Made) (x y : State) → Incoming i m rest x y → ByTable x m.pdu → distance (kept_of x) m.pdu ≡ 0 → Arrival 0 m rest x y
 incoming-next i m rest x y a t none = subst (λ (n : ℕ). Arrival n m rest x y) none (incoming-arrival i m rest x y a t)
 
 -- Each decision keeps the invariant.
@@ -162,4 +164,4 @@ pair-carry now i m rest x y a AnswersEarly f =
 
 -- Whatever PDU of the peer comes, the invariant is kept.
 pub pair-receive : (now i : ℕ) (m : Made) (rest : List Made) (x y : State) → Incoming i m rest x y → Pair (receive m.pdu now x) y
-pair-receive now i m rest x y a = pair-carry now i m rest x y a (decide x m.pdu now) (decide-fits x m.pdu now)
+pair-receive now i m rest x y a = pair-carry now i m rest x y a (decide (kept_of x) m.pdu now) (decide-fits x m.pdu now)

@@ -9,10 +9,11 @@ use Rattle.safe_machine.specs.Made.{Made, opening_body}
 use Rattle.safe_machine.specs.Settings.{Settings}
 use Rattle.safe_machine.specs.State.{unconfirmed}
 use Rattle.safe_machine.specs.Decision.{decide, distance}
-use Rattle.safe_machine.specs.Decision.Decision.{AnswersEarly}
+use Rattle.safe_machine.specs.declared.decision.Decision.TheVariants.{AnswersEarly}
 use Rattle.safe_machine.specs.World.Side.{Il, Fe}
 use Rattle.safe_machine.specs.World.{World, Event, start, happens, Genuine, GenuineEvent, Timely, TimelyEvent}
 use Rattle.safe_machine.specs.World.Event.{Open, Send, Tick, Arrive}
+use Rattle.safe_machine.specs.View.{kept_of}
 
 -- an end with these identifiers, window and mwa
 abbrev row_settings : (own peer n_sendmax mwa : ℕ) → Settings
@@ -200,7 +201,7 @@ unfolding w1 w2 w3 w4 w5 w6 w7 w8 w9 w10 sn_of ahead
 both_ask = (refl, refl, refl, refl)
 
 -- Now the request comes, with the very number that the server expects: its distance is 0, and in RetrReq it is answered as an early one.
-request_next : (distance w10.fe i2 ≡ 0) × (decide w10.fe i2 420 ≡ AnswersEarly)
+request_next : (distance (kept_of w10.fe) i2 ≡ 0) × (decide (kept_of w10.fe) i2 420 ≡ AnswersEarly)
 unfolding w1 w2 w3 w4 w5 w6 w7 w8 w9 w10 sn_of ahead
 request_next = (refl, refl)
 

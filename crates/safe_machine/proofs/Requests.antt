@@ -7,12 +7,15 @@ use Rattle.safe_pdu.specs.Pdu.{Pdu}
 use Rattle.safe_machine.specs.declared.ConnectionState.TheVariants.{Down, Start}
 use Rattle.safe_machine.specs.declared.DropCause.TheVariants.{Stranger}
 use Rattle.safe_machine.specs.State.{State}
-use Rattle.safe_machine.specs.Decision.{Decision, is_stranger, is_closed, is_ours, in_down, by_connection, heard, decide}
-use Rattle.safe_machine.specs.Decision.Decision.{Nothing, Drops, Rejects, Accepts}
-use Rattle.safe_machine.specs.Step.{carry_out, guard, is_live, receive}
+use Rattle.safe_machine.specs.declared.decision.Decision.{Decision}
+use Rattle.safe_machine.specs.Decision.{is_stranger, is_ours, in_down, by_connection, heard, decide}
+use Rattle.safe_machine.specs.declared.decision.Decision.TheVariants.{Nothing, Drops, Rejects, Accepts}
+use Rattle.safe_machine.specs.Step.{carry_out, guard, receive}
 use Rattle.safe_machine.specs.Moves.{RequestsLaw}
 use Rattle.safe_machine.specs.Moves.Move.{Guards, Hears, Ticks, Sends, Leaves}
 use Rattle.safe_machine.proofs.MovesLaw.{moves_law_holds}
+use Rattle.safe_machine.specs.Connections.{is_closed, is_live}
+use Rattle.safe_machine.specs.View.{kept_of}
 
 abbrev IsRequest : Pdu → Type 0
 IsRequest p = (p.kind ≡ ConnReq) × (is_ours p.body ≡ true)
@@ -35,11 +38,11 @@ by-kind p now s Heartbeat k down = stays-down p s down
 by-kind p now s Data k down = stays-down p s down
 by-kind p now s RetrData k down = stays-down p s down
 
-decided : (p : Pdu) (now : ℕ) (s : State) → s.connection ≡ Down → Starts p now s (decide s p now)
+decided : (p : Pdu) (now : ℕ) (s : State) → s.connection ≡ Down → Starts p now s (decide (kept_of s) p now)
 decided p now s down =
-    by_cond (Starts p now s) (is_closed s.connection) Nothing (heard s p now) (λ _. stays-down p s down) (λ _.
-    by_cond (Starts p now s) (is_stranger s p) (Drops Stranger) (by_connection s p now s.connection) (λ _. stays-down p s down) (λ _.
-    subst (λ c. Starts p now s (by_connection s p now c)) (sym down) (by-kind p now s p.kind refl down)))
+    by_cond (Starts p now s) (is_closed s.connection) Nothing (heard (kept_of s) p now) (λ _. stays-down p s down) (λ _.
+    by_cond (Starts p now s) (is_stranger s p) (Drops Stranger) (by_connection (kept_of s) p now s.connection) (λ _. stays-down p s down) (λ _.
+    subst (λ c. Starts p now s (by_connection (kept_of s) p now c)) (sym down) (by-kind p now s p.kind refl down)))
 
 unguarded : (now : ℕ) (s : State) → s.connection ≡ Down → guard now s ≡ s
 unguarded now s down =

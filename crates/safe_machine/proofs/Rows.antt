@@ -14,13 +14,15 @@ use Rattle.safe_machine.specs.Numbers.{sn_of, ahead}
 use Rattle.safe_machine.specs.Made.{Made, opening_body, leaving_body}
 use Rattle.safe_machine.specs.Settings.{Settings}
 use Rattle.safe_machine.specs.State.{State, opened, leave}
-use Rattle.safe_machine.specs.Decision.{Decision, decide}
-use Rattle.safe_machine.specs.Decision.Decision.{Nothing, Drops, Shuts, Leaves, Rejects, Accepts, Connects, Takes, Asks, Resumes, AnswersNext, AnswersEarly}
+use Rattle.safe_machine.specs.declared.decision.Decision.{Decision}
+use Rattle.safe_machine.specs.Decision.{decide}
+use Rattle.safe_machine.specs.declared.decision.Decision.TheVariants.{Nothing, Drops, Shuts, Leaves, Rejects, Accepts, Connects, Takes, Asks, Resumes, AnswersNext, AnswersEarly}
 use Rattle.safe_machine.specs.Step.{arrive, arrive_answer, send, tick}
 use Rattle.safe_machine.specs.World.Side.{Il, Fe}
 use Rattle.safe_machine.specs.World.{Event, start, run, Genuine}
 use Rattle.safe_machine.specs.World.Event.{Open, Send, Arrive}
 use Rattle.safe_machine.specs.Octets.{heard_answer}
+use Rattle.safe_machine.specs.View.{kept_of}
 
 settings : Settings
 settings = record { client = false; own = 2; peer = 1; n_sendmax = 20; t_max = 1800; t_h = 300; mwa = 10; pdu_limit = 4294901760; rule = record { length = Eight; initial_value = [] } }
@@ -67,9 +69,9 @@ opening_seen = (refl, refl, refl, refl, refl)
 -- A row of the table: what is decided on HB, Data, RetrData, RetrReq, RetrResp, ConnReq, ConnResp with this number.
 row : State → ℕ → List Decision
 row s sn =
-    decide s (from_il Heartbeat sn 500 0 []) 0 ∷ decide s (from_il Data sn 500 0 (7 ∷ [])) 0 ∷ decide s (from_il RetrData sn 500 0 (7 ∷ [])) 0
-    ∷ decide s (from_il RetrReq sn 500 0 []) 0 ∷ decide s (from_il RetrResp sn 500 0 []) 0
-    ∷ decide s (from_il ConnReq sn 500 0 (opening_body 20)) 0 ∷ decide s (from_il ConnResp sn 500 0 (opening_body 20)) 0 ∷ []
+    decide (kept_of s) (from_il Heartbeat sn 500 0 []) 0 ∷ decide (kept_of s) (from_il Data sn 500 0 (7 ∷ [])) 0 ∷ decide (kept_of s) (from_il RetrData sn 500 0 (7 ∷ [])) 0
+    ∷ decide (kept_of s) (from_il RetrReq sn 500 0 []) 0 ∷ decide (kept_of s) (from_il RetrResp sn 500 0 []) 0
+    ∷ decide (kept_of s) (from_il ConnReq sn 500 0 (opening_body 20)) 0 ∷ decide (kept_of s) (from_il ConnResp sn 500 0 (opening_body 20)) 0 ∷ []
 
 unexpected : Decision
 unexpected = Leaves UnexpectedPdu Unspecified
@@ -98,9 +100,9 @@ unfolding row unexpected requesting up starting down from_il settings sn_of ahea
 request_rows = (refl, refl)
 
 -- A DiscReq closes at any distance; in Down it is dropped.
-goodbye_seen : (decide starting (from_il DiscReq 900 1 1 []) 0 ≡ Shuts) × (decide up (from_il DiscReq 900 1 1 []) 0 ≡ Shuts)
-    × (decide requesting (from_il DiscReq 900 1 1 []) 0 ≡ Shuts) × (decide running (from_il DiscReq 900 1 1 []) 0 ≡ Shuts)
-    × (decide client (from_fe DiscReq 900 1 []) 0 ≡ Shuts) × (decide down (from_il DiscReq 100 0 0 []) 0 ≡ Drops NotOpened)
+goodbye_seen : (decide (kept_of starting) (from_il DiscReq 900 1 1 []) 0 ≡ Shuts) × (decide (kept_of up) (from_il DiscReq 900 1 1 []) 0 ≡ Shuts)
+    × (decide (kept_of requesting) (from_il DiscReq 900 1 1 []) 0 ≡ Shuts) × (decide (kept_of running) (from_il DiscReq 900 1 1 []) 0 ≡ Shuts)
+    × (decide (kept_of client) (from_fe DiscReq 900 1 []) 0 ≡ Shuts) × (decide (kept_of down) (from_il DiscReq 100 0 0 []) 0 ≡ Drops NotOpened)
 unfolding starting up requesting running down client from_il from_fe settings client_settings sn_of ahead
 goodbye_seen = (refl, refl, refl, refl, refl, refl)
 
@@ -108,17 +110,17 @@ goodbye_seen = (refl, refl, refl, refl, refl, refl)
 other_version : List ℕ
 other_version = 0x30 ∷ 0x33 ∷ 0x30 ∷ 0x34 ∷ 20 ∷ 0 ∷ 0 ∷ 0 ∷ 0 ∷ 0 ∷ 0 ∷ 0 ∷ 0 ∷ 0 ∷ []
 
-version_seen : (decide down (from_il ConnReq 100 0 0 (opening_body 20)) 0 ≡ Accepts) × (decide down (from_il ConnReq 100 0 0 other_version) 0 ≡ Rejects)
-    × (decide client (from_fe ConnResp 500 100 (opening_body 20)) 0 ≡ Connects) × (decide client (from_fe ConnResp 500 100 other_version) 0 ≡ Leaves WrongVersion Unspecified)
-    × (decide client (from_fe Heartbeat 500 100 []) 0 ≡ unexpected)
+version_seen : (decide (kept_of down) (from_il ConnReq 100 0 0 (opening_body 20)) 0 ≡ Accepts) × (decide (kept_of down) (from_il ConnReq 100 0 0 other_version) 0 ≡ Rejects)
+    × (decide (kept_of client) (from_fe ConnResp 500 100 (opening_body 20)) 0 ≡ Connects) × (decide (kept_of client) (from_fe ConnResp 500 100 other_version) 0 ≡ Leaves WrongVersion Unspecified)
+    × (decide (kept_of client) (from_fe Heartbeat 500 100 []) 0 ≡ unexpected)
     × (seen (arrive (from_il ConnReq 100 0 0 other_version) 0 down).made ≡ (6216, 500, 100) ∷ [])
 unfolding seen unexpected down client other_version from_il from_fe settings client_settings sn_of ahead
 version_seen = (refl, refl, refl, refl, refl, refl)
 
 -- One arrival at a server in Up: Data 302 is the last in reach, and out of turn: RetrReq 501, CS 101; Data 303 is out of reach.
 gap_seen : (seen (drop 1 (arrive (from_il Data 302 500 0 (7 ∷ [])) 0 up).made) ≡ (6212, 501, 101) ∷ [])
-    × ((arrive (from_il Data 302 500 0 (7 ∷ [])) 0 up).connection ≡ Requesting) × (arrive_answer (from_il Data 302 500 0 (7 ∷ [])) 0 up ≡ Gap)
-    × (arrive_answer (from_il Data 303 500 0 (7 ∷ [])) 0 up ≡ Dropped Number)
+    × ((arrive (from_il Data 302 500 0 (7 ∷ [])) 0 up).connection ≡ Requesting) × (arrive_answer (from_il Data 302 500 0 (7 ∷ [])) 0 (kept_of up) ≡ Gap)
+    × (arrive_answer (from_il Data 303 500 0 (7 ∷ [])) 0 (kept_of up) ≡ Dropped Number)
 unfolding seen up starting down from_il settings sn_of ahead
 gap_seen = (refl, refl, refl, refl)
 
@@ -127,9 +129,9 @@ one_arrival : (arrive (from_il RetrData 102 500 0 (7 ∷ [])) 0 up ≡ leave Une
     × (arrive (from_il Heartbeat 102 501 0 []) 0 up ≡ leave ProtocolError ConfirmedNumber 0 up)
     × (arrive (from_il Heartbeat 102 500 1 []) 0 up ≡ leave ProtocolError ConfirmedTimestamp 0 up)
     × (arrive (from_il Heartbeat 102 500 0 []) 1800 up ≡ leave Timeout Unspecified 1800 up)
-    × (arrive_answer (from_il Heartbeat 102 500 0 []) 1800 up ≡ Left Timeout Unspecified)
-    × (arrive_answer (from_il Heartbeat 102 500 0 []) 1799 up ≡ Taken)
-    × (arrive_answer (record { kind = Heartbeat; receiver = 2; sender = 9; sn = 102; cs = 500; ts = 0; cts = 0; body = [] }) 0 up ≡ Dropped Stranger)
+    × (arrive_answer (from_il Heartbeat 102 500 0 []) 1800 (kept_of up) ≡ Left Timeout Unspecified)
+    × (arrive_answer (from_il Heartbeat 102 500 0 []) 1799 (kept_of up) ≡ Taken)
+    × (arrive_answer (record { kind = Heartbeat; receiver = 2; sender = 9; sn = 102; cs = 500; ts = 0; cts = 0; body = [] }) 0 (kept_of up) ≡ Dropped Stranger)
 unfolding up starting down from_il settings sn_of ahead
 one_arrival = (refl, refl, refl, refl, refl, refl, refl)
 
@@ -142,28 +144,28 @@ after p = arrive p 0 sending
 
 -- A request with the next number is answered with all units again; that one again is out of reach, CS 499 is below.
 answer_seen : (seen (drop 3 (after (from_il RetrReq 102 500 0 [])).made) ≡ (6213, 503, 102) ∷ (6241, 504, 102) ∷ (6241, 505, 102) ∷ (6220, 506, 102) ∷ [])
-    × (decide (after (from_il RetrReq 102 500 0 [])) (from_il RetrReq 102 500 0 []) 0 ≡ Drops Number)
-    × (decide sending (from_il RetrReq 102 499 0 []) 0 ≡ Drops Below)
+    × (decide (kept_of (after (from_il RetrReq 102 500 0 []))) (from_il RetrReq 102 500 0 []) 0 ≡ Drops Number)
+    × (decide (kept_of sending) (from_il RetrReq 102 499 0 []) 0 ≡ Drops Below)
 unfolding seen sending after up starting down from_il settings sn_of ahead
 answer_seen = (refl, refl, refl)
 
 -- CS 503 confirms what was not made: reason 6, without confirming
 beyond_seen : (seen (drop 3 (after (from_il RetrReq 102 503 0 [])).made) ≡ (6216, 503, 101) ∷ [])
-    × (decide sending (from_il RetrReq 102 503 0 []) 0 ≡ Leaves RetransmissionImpossible Unspecified)
+    × (decide (kept_of sending) (from_il RetrReq 102 503 0 []) 0 ≡ Leaves RetransmissionImpossible Unspecified)
 unfolding seen sending after up starting down from_il settings sn_of ahead
 beyond_seen = (refl, refl)
 
 -- An early request is answered with the units behind its CS, and with a request of one's own; again it is dropped.
 early_seen : (seen (drop 3 (after (from_il RetrReq 105 501 0 [])).made) ≡ (6213, 503, 101) ∷ (6241, 504, 101) ∷ (6220, 505, 101) ∷ (6212, 506, 101) ∷ [])
-    × (decide (after (from_il RetrReq 105 501 0 [])) (from_il RetrReq 105 501 0 []) 0 ≡ Drops Answered)
+    × (decide (kept_of (after (from_il RetrReq 105 501 0 []))) (from_il RetrReq 105 501 0 []) 0 ≡ Drops Answered)
     × ((after (from_il RetrReq 105 501 0 [])).connection ≡ Requesting)
 unfolding seen sending after up starting down from_il settings sn_of ahead
 early_seen = (refl, refl, refl)
 
 -- A closed end answers nothing, whoever speaks to it, and octets that read as nothing meet the guard.
-closed_seen : (decide (leave ClosedByUser Unspecified 0 up) (record { kind = Heartbeat; receiver = 2; sender = 9; sn = 102; cs = 500; ts = 0; cts = 0; body = [] }) 0 ≡ Nothing)
-    × (heard_answer (Err Short) 0 (leave ClosedByUser Unspecified 0 up) ≡ NoAnswer)
-    × (heard_answer (Err Short) 0 up ≡ Dropped (Fault Short)) × (heard_answer (Err Short) 1800 up ≡ Left Timeout Unspecified)
+closed_seen : (decide (kept_of (leave ClosedByUser Unspecified 0 up)) (record { kind = Heartbeat; receiver = 2; sender = 9; sn = 102; cs = 500; ts = 0; cts = 0; body = [] }) 0 ≡ Nothing)
+    × (heard_answer (Err Short) 0 (kept_of (leave ClosedByUser Unspecified 0 up)) ≡ NoAnswer)
+    × (heard_answer (Err Short) 0 (kept_of up) ≡ Dropped (Fault Short)) × (heard_answer (Err Short) 1800 (kept_of up) ≡ Left Timeout Unspecified)
 unfolding up starting down from_il settings sn_of ahead
 closed_seen = (refl, refl, refl, refl)
 
@@ -171,7 +173,7 @@ closed_seen = (refl, refl, refl, refl)
 short_settings : Settings
 short_settings = record { client = false; own = 2; peer = 1; n_sendmax = 20; t_max = 1800; t_h = 300; mwa = 10; pdu_limit = 1; rule = record { length = Eight; initial_value = [] } }
 
-limit_seen : arrive_answer (from_il Heartbeat 101 500 0 []) 0 (arrive (from_il ConnReq 100 0 0 (opening_body 20)) 0 (opened short_settings 500 0)) ≡ Left ProtocolError Limit
+limit_seen : arrive_answer (from_il Heartbeat 101 500 0 []) 0 (kept_of (arrive (from_il ConnReq 100 0 0 (opening_body 20)) 0 (opened short_settings 500 0))) ≡ Left ProtocolError Limit
 unfolding from_il short_settings sn_of ahead
 limit_seen = refl
 

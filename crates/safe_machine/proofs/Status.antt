@@ -6,11 +6,12 @@ use Rattle.safe_pdu.specs.declared.Kind.TheVariants.{DiscReq, Heartbeat, Data}
 use Rattle.safe_machine.specs.declared.ConnectionState.{ConnectionState}
 use Rattle.safe_machine.specs.declared.ConnectionState.TheVariants.{Closed, Down, Start, Up, RetrReq as Requesting, RetrRun}
 use Rattle.safe_pdu.specs.Pdu.{Pdu}
-use Rattle.safe_machine.specs.Made.{Made, units, leaving_body}
-use Rattle.safe_machine.specs.State.{State, next_made, make, move_to, leave, says_goodbye, unconfirmed}
-use Rattle.safe_machine.specs.Decision.{Decision, decide, in_turn}
-use Rattle.safe_machine.specs.Decision.Decision.{Nothing, Drops, Shuts, Leaves, Rejects, Accepts, Connects, Takes, Asks, Resumes, AnswersNext, AnswersEarly}
-use Rattle.safe_machine.specs.Step.{is_live, is_connected, guard, receive, arrive, carry_out, tick, may_send, send, last_time}
+use Rattle.safe_machine.specs.Made.{Made, units, leaving_body, last_time}
+use Rattle.safe_machine.specs.State.{State, next_made, make, move_to, leave, unconfirmed}
+use Rattle.safe_machine.specs.declared.decision.Decision.{Decision}
+use Rattle.safe_machine.specs.Decision.{decide}
+use Rattle.safe_machine.specs.declared.decision.Decision.TheVariants.{Nothing, Drops, Shuts, Leaves, Rejects, Accepts, Connects, Takes, Asks, Resumes, AnswersNext, AnswersEarly}
+use Rattle.safe_machine.specs.Step.{guard, receive, arrive, carry_out, tick, may_send, send}
 use Rattle.safe_machine.specs.World.{Served, GenuineAt}
 use Rattle.safe_machine.specs.Law.{JoinsFall}
 use Rattle.safe_machine.proofs.Cases.{if_both, and-parts}
@@ -23,6 +24,8 @@ use Rattle.safe_machine.specs.declared.Reason.{Reason}
 use Rattle.safe_machine.specs.declared.Reason.TheVariants.{Timeout, ProtocolError}
 use Rattle.safe_machine.specs.declared.Detail.{Detail}
 use Rattle.safe_machine.specs.declared.Detail.TheVariants.{Unspecified, Limit}
+use Rattle.safe_machine.specs.Connections.{is_live, in_turn, is_connected}
+use Rattle.safe_machine.specs.View.{kept_of}
 
 -- a field element that has not joined
 abbrev pub Settled : State → Type 0
@@ -107,7 +110,7 @@ mute-not_connected RetrRun (inr h) = cc
 pub mute-leave : (reason : Reason) (detail : Detail) (now : ℕ) (s : State) → Mute s → Mute (leave reason detail now s)
 mute-leave reason detail now s h =
     let body = leaving_body reason detail in
-    if_both (λ u. Mute (move_to Closed u)) (says_goodbye s.connection) (make DiscReq body now s) s
+    if_both (λ u. Mute (move_to Closed u)) (is_live s.connection) (make DiscReq body now s) s
     (λ _. record { client = h.client; connection = inr refl; taken = h.taken; quiet = every-push Quiet s.made (next_made s DiscReq body now) h.quiet refl })
     (λ _. record { client = h.client; connection = inr refl; taken = h.taken; quiet = h.quiet })
 
@@ -147,7 +150,7 @@ mute-arrive now n p il made h b dead genuine =
     (λ on meant.
     let r = among-dropped p n made (genuine on meant) in
     let plain : is_opening p.kind ≡ 0 = ap (λ (q : Pdu). is_opening q.kind) (sym r.4) ∙ every-at NotOpening n r.0 made r.1 r.2 dead r.5 r.3 in
-    mute-carry p now il s plain hs ls bs (decide s p now) (decide-fits s p now))
+    mute-carry p now il s plain hs ls bs (decide (kept_of s) p now) (decide-fits s p now))
   where
     mute-carry : (p : Pdu) (now : ℕ) (il s : State) → is_opening p.kind ≡ 0 → Mute s → Lone il s → Bounded s → (e : Decision) → Fits s p now e →
         Mute (carry_out p now e s) × Lone il (carry_out p now e s) × Bounded (carry_out p now e s)
@@ -179,7 +182,7 @@ deaf-arrive now n p fe made on_fe b quiet genuine =
     (λ on meant.
     let r = among-dropped p n made (genuine on meant) in
     let plain : needs_peer p.kind ≡ 0 = ap (λ (q : Pdu). needs_peer q.kind) (sym r.4) ∙ every-at Quiet 0 r.0 made r.1 r.2 quiet (omega arith) r.3 in
-    deaf-carry p now fe s plain on_s ls bs (decide s p now) (decide-fits s p now))
+    deaf-carry p now fe s plain on_s ls bs (decide (kept_of s) p now) (decide-fits s p now))
   where
     closed≢down : Closed ≡ Down → ⊥
     closed≢down e = cc
@@ -224,7 +227,7 @@ still-arrive now n p fe made still b dead genuine =
     (λ on meant.
     let r = among-dropped p n made (genuine on meant) in
     let plain : is_opening p.kind ≡ 0 = ap (λ (q : Pdu). is_opening q.kind) (sym r.4) ∙ every-at NotOpening n r.0 made r.1 r.2 dead r.5 r.3 in
-    subst (λ t. P (receive p now t)) (sym same) (still-carry p now fe plain still b (decide fe p now) (decide-fits fe p now)))
+    subst (λ t. P (receive p now t)) (sym same) (still-carry p now fe plain still b (decide (kept_of fe) p now) (decide-fits fe p now)))
   where
     still-carry : (p : Pdu) (now : ℕ) (s : State) → is_opening p.kind ≡ 0 → (s.connection ≡ Down) ⊎ (s.connection ≡ Closed) → Bounded s → (e : Decision) → Fits s p now e →
         Lone s (carry_out p now e s) × Bounded (carry_out p now e s) × (((carry_out p now e s).connection ≡ Down) ⊎ ((carry_out p now e s).connection ≡ Closed)) × ((carry_out p now e s).made ≡ s.made) × ((carry_out p now e s).confirmed_at ≡ s.confirmed_at)

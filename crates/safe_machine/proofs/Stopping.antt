@@ -14,16 +14,16 @@ use Rattle.safe_machine.specs.declared.Detail.{Detail}
 use Rattle.safe_machine.specs.declared.Detail.TheVariants.{Unspecified, Limit}
 use Rattle.safe_machine.specs.Numbers.{sn_of, ahead}
 use Rattle.safe_machine.specs.Made.{Made, carries, leaving_body, opening_body}
-use Rattle.safe_machine.specs.State.{State, next_made, make, move_to, pass, confirm_units, note_request, cs_step, resend, reply, unconfirmed, hand_up, leave, says_goodbye, ask, opened}
-use Rattle.safe_machine.specs.Decision.{Decision, decide, distance, in_turn, cs_fits}
-use Rattle.safe_machine.specs.Decision.Decision.{Nothing, Drops, Shuts, Leaves, Rejects, Accepts, Connects, Takes, Asks, Resumes, AnswersNext, AnswersEarly}
-use Rattle.safe_machine.specs.Step.{carry_out, arrive, guard, is_live, take_unit, beat, tests_passed, set_window}
+use Rattle.safe_machine.specs.State.{State, next_made, make, move_to, pass, note_request, resend, reply, unconfirmed, hand_up, leave, ask, opened}
+use Rattle.safe_machine.specs.declared.decision.Decision.{Decision}
+use Rattle.safe_machine.specs.Decision.{decide, distance, cs_fits, cs_step}
+use Rattle.safe_machine.specs.declared.decision.Decision.TheVariants.{Nothing, Drops, Shuts, Leaves, Rejects, Accepts, Connects, Takes, Asks, Resumes, AnswersNext, AnswersEarly}
+use Rattle.safe_machine.specs.Step.{carry_out, arrive, guard, take_unit, beat, tests_passed, set_window, confirm_units}
 use Rattle.safe_machine.specs.Ring.{carried_at, ring_of}
 use Rattle.safe_machine.specs.Moves.{moved}
 use Rattle.safe_machine.specs.Reached.{IsReached}
-use Rattle.safe_machine.specs.View.{View, Turns, beside}
+use Rattle.safe_machine.specs.View.{View, Turns, beside, kept_of}
 use Rattle.safe_machine.specs.Properties.{StopsOnly}
-use Rattle.safe_machine.specs.Course.{cs_ahead}
 use Rattle.safe_machine.proofs.Cases.{if_both}
 use Rattle.safe_machine.proofs.Deciding.{Fits, decide-fits}
 use Rattle.safe_machine.proofs.Lone.{lone-guard, arrive-by}
@@ -31,13 +31,14 @@ use Rattle.safe_machine.proofs.Ring.{ring_of-units, ring-resend}
 use Rattle.retrans.proofs.UnitLemmas.{octets-renumbered}
 use Rattle.safe_machine.proofs.Views.{plain-ring, ring-step, answer-ring}
 use Rattle.safe_machine.proofs.Reaching.{reached-sound}
+use Rattle.safe_machine.specs.Connections.{is_live, in_turn}
 
 abbrev Stops : Pdu → State → State → Type 0
-Stops p s t = (octets_of (ring_of t) ≡ octets_of (ring_of s)) ⊎ (octets_of (ring_of t) ≡ octets_of (above (s.confirmed + cs_step s p) (ring_of s)))
+Stops p s t = (octets_of (ring_of t) ≡ octets_of (ring_of s)) ⊎ (octets_of (ring_of t) ≡ octets_of (above (s.confirmed + cs_step (kept_of s) p) (ring_of s)))
 
 ring-leave : (reason : Reason) (detail : Detail) (now : ℕ) (s : State) → ring_of (leave reason detail now s) ≡ ring_of s
 ring-leave reason detail now s =
-    if_both (λ (t : State). ring_of t ≡ ring_of s) (says_goodbye s.connection) (make DiscReq (leaving_body reason detail) now s) s
+    if_both (λ (t : State). ring_of t ≡ ring_of s) (is_live s.connection) (make DiscReq (leaving_body reason detail) now s) s
     (λ _. plain-ring DiscReq (leaving_body reason detail) now s refl) (λ _. refl)
 
 ring-guard : (now : ℕ) (s : State) → ring_of (guard now s) ≡ ring_of s
@@ -53,7 +54,7 @@ ring-guard now s =
 
 first-leave : (reason : Reason) (detail : Detail) (now : ℕ) (s : State) → (leave reason detail now s).first ≡ s.first
 first-leave reason detail now s =
-    if_both (λ (t : State). t.first ≡ s.first) (says_goodbye s.connection) (make DiscReq (leaving_body reason detail) now s) s (λ _. refl) (λ _. refl)
+    if_both (λ (t : State). t.first ≡ s.first) (is_live s.connection) (make DiscReq (leaving_body reason detail) now s) s (λ _. refl) (λ _. refl)
 
 first-guard : (now : ℕ) (s : State) → (guard now s).first ≡ s.first
 first-guard now s =
@@ -92,10 +93,10 @@ ring-none ms m = go (drop (length ms + 1) (ms ++ m ∷ [])) (length-drop (length
     go [] e = refl
     go (a ∷ rest) e = absurd (omega (arith, e))
 
-fits-within : (p : Pdu) (s : State) → cs_fits s p ≡ true → cs_step s p < length s.made - s.confirmed
-fits-within p s e = ltb-true (cs_step s p) (length s.made - s.confirmed) e
+fits-within : (p : Pdu) (s : State) → cs_fits (kept_of s) p ≡ true → cs_step (kept_of s) p < length s.made - s.confirmed
+fits-within p s e = ltb-true (cs_step (kept_of s) p) (length s.made - s.confirmed) e
 
-confirmed-stops : (p : Pdu) (s t : State) → cs_fits s p ≡ true → octets_of (ring_of t) ≡ octets_of (ring_of (confirm_units p s)) → Stops p s t
+confirmed-stops : (p : Pdu) (s t : State) → cs_fits (kept_of s) p ≡ true → octets_of (ring_of t) ≡ octets_of (ring_of (confirm_units p s)) → Stops p s t
 confirmed-stops p s t fits e = inr (e ∙ ap octets_of (sym (ring-step p s (fits-within p s fits))))
 
 stops-decided : (p : Pdu) (now : ℕ) (d : Decision) (s : State) → (s.connection ≡ Down → ring_of s ≡ []) → Fits s p now d → Stops p s (carry_out p now d s)
@@ -119,7 +120,7 @@ stops-decided p now AnswersNext s down f =
     let y = pass p 0 (note_request 0 (tests_passed p s)) in
     confirmed-stops p s (reply now y) f.0.cs (ring-reply now y (omega (arith, fits-within p s f.0.cs)))
 stops-decided p now AnswersEarly s down f =
-    let y = note_request (distance s p) (confirm_units p s) in
+    let y = note_request (distance (kept_of s) p) (confirm_units p s) in
     let t = reply now y in
     let same = ring-reply now y (omega (arith, fits-within p s f.cs)) in
     if_both (Stops p s) (in_turn s.connection) (ask now t) t
@@ -134,24 +135,24 @@ stops-arrive p now s down =
     let l = lone-guard now s in
     let ring = ring-guard now s in
     let first : g.first ≡ s.first = (first-guard now s) in
-    let step : cs_step g p ≡ cs_step s p = ap (λ (n : ℕ). ahead (sn_of n g.confirmed) p.cs) first ∙ ap (λ (n : ℕ). ahead (sn_of s.first n) p.cs) l.confirmed in
+    let step : cs_step (kept_of g) p ≡ cs_step (kept_of s) p = ap (λ (n : ℕ). ahead (sn_of n g.confirmed) p.cs) first ∙ ap (λ (n : ℕ). ahead (sn_of s.first n) p.cs) l.confirmed in
     let down_g : g.connection ≡ Down → ring_of g ≡ [] =
     λ e. ring ∙ down (elim l.connection [ inl same ↦ sym same ∙ e | inr closed ↦ absurd (closed-down (sym closed ∙ e)) ]) in
-    let number : g.confirmed + cs_step g p ≡ s.confirmed + cs_step s p = omega (arith, step, l.confirmed) in
+    let number : g.confirmed + cs_step (kept_of g) p ≡ s.confirmed + cs_step (kept_of s) p = omega (arith, step, l.confirmed) in
     arrive-by (Stops p s) p now s (inl (ap octets_of ring))
-    (λ _ _. elim (stops-decided p now (decide g p now) g down_g (decide-fits g p now)) [
+    (λ _ _. elim (stops-decided p now (decide (kept_of g) p now) g down_g (decide-fits g p now)) [
       | inl e ↦ inl (e ∙ ap octets_of ring)
-      | inr e ↦ inr (e ∙ (ap (λ (n : ℕ). octets_of (above n (ring_of g))) number ∙ ap (λ r. octets_of (above (s.confirmed + cs_step s p) r)) ring))
+      | inr e ↦ inr (e ∙ (ap (λ (n : ℕ). octets_of (above n (ring_of g))) number ∙ ap (λ r. octets_of (above (s.confirmed + cs_step (kept_of s) p) r)) ring))
     ])
 
 -- as a machine has it
-pub reached-stops : (p : Pdu) (now : ℕ) (v w : View) → IsReached v → Turns (arrive p now) v w → StopsOnly (v.confirmed + cs_ahead v p.cs) v w
+pub reached-stops : (p : Pdu) (now : ℕ) (v w : View) → IsReached v → Turns (arrive p now) v w → StopsOnly (v.confirmed + cs_step v p) v w
 reached-stops p now v w r turns =
     let t = moved r.moves (opened r.settings r.first r.began) in
     let down : t.connection ≡ Down → ring_of t ≡ [] =
     λ e. sym (ap (λ (x : View). x.ring) r.stands) ∙ (reached-sound v r).down (ap (λ (x : View). x.connection) r.stands ∙ e) in
-    subst (λ (x : View). StopsOnly (x.confirmed + cs_ahead x p.cs) x w) (sym r.stands)
-    (subst (λ (y : View). StopsOnly (t.confirmed + cs_step t p) (beside (ring_of t) t) y) (sym (turns t r.stands)) (stops-arrive p now t down))
+    subst (λ (x : View). StopsOnly (x.confirmed + cs_step x p) x w) (sym r.stands)
+    (subst (λ (y : View). StopsOnly (t.confirmed + cs_step (kept_of t) p) (beside (ring_of t) t) y) (sym (turns t r.stands)) (stops-arrive p now t down))
 
 pub reached-keeps : (now : ℕ) (v w : View) → IsReached v → Turns (guard now) v w → octets_of w.ring ≡ octets_of v.ring
 reached-keeps now v w r turns =

@@ -14,9 +14,10 @@ use Rattle.safe_machine.specs.Made.{carries}
 use Rattle.safe_machine.specs.Settings.{Settings}
 use Rattle.safe_machine.specs.State.{State, move_to, pass, hand_up}
 use Rattle.safe_machine.specs.Table.{cell, start_row}
-use Rattle.safe_machine.specs.Decision.{Decision, is_stranger, is_closed, is_goodbye, is_ours, cs_fits, cts_fits, tested, in_down, as_client, in_start, by_cell, by_table, by_connection, heard, distance}
-use Rattle.safe_machine.specs.Decision.Decision.{Nothing, Drops, Shuts, Leaves, Rejects, Accepts, Connects, Takes}
-use Rattle.safe_machine.specs.Step.{carry_out, guard, receive, beat, tests_passed, is_live}
+use Rattle.safe_machine.specs.declared.decision.Decision.{Decision}
+use Rattle.safe_machine.specs.Decision.{is_stranger, is_goodbye, is_ours, cs_fits, cts_fits, tested, in_down, as_client, in_start, by_cell, by_table, by_connection, heard, distance}
+use Rattle.safe_machine.specs.declared.decision.Decision.TheVariants.{Nothing, Drops, Shuts, Leaves, Rejects, Accepts, Connects, Takes}
+use Rattle.safe_machine.specs.Step.{carry_out, guard, receive, beat, tests_passed}
 use Rattle.safe_machine.specs.Moves.{StrangersLaw, WaitsLaw}
 use Rattle.safe_machine.specs.Moves.Move.{Guards, Hears, Ticks, Sends, Leaves as LeavesNow}
 use Rattle.safe_machine.specs.State.{leave}
@@ -24,11 +25,13 @@ use Rattle.octets.specs.declared.limits.TheConstants.{REACH}
 use Rattle.safe_machine.proofs.Cases.{if_both}
 use Rattle.safe_machine.proofs.OneMachine.{plain-guard, plain-tick, plain-leave, send-taken}
 use Rattle.safe_machine.proofs.Identified.{settings_law_holds}
+use Rattle.safe_machine.specs.Connections.{is_closed, is_live}
+use Rattle.safe_machine.specs.View.{kept_of}
 
 strange-drops : (p : Pdu) (now : ℕ) (s : State) → is_stranger s p ≡ true → receive p now s ≡ s
 strange-drops p now s strange =
-    if_both (λ d. carry_out p now d s ≡ s) (is_closed s.connection) Nothing (heard s p now) (λ _. refl)
-    (λ _. if_both (λ d. carry_out p now d s ≡ s) (is_stranger s p) (Drops Stranger) (by_connection s p now s.connection) (λ _. refl) (λ meant. let no : true ≡ false = sym strange ∙ meant in cc))
+    if_both (λ d. carry_out p now d s ≡ s) (is_closed s.connection) Nothing (heard (kept_of s) p now) (λ _. refl)
+    (λ _. if_both (λ d. carry_out p now d s ≡ s) (is_stranger s p) (Drops Stranger) (by_connection (kept_of s) p now s.connection) (λ _. refl) (λ meant. let no : true ≡ false = sym strange ∙ meant in cc))
 
 pub strangers_law_holds : StrangersLaw
 strangers_law_holds p now s strange =
@@ -42,10 +45,10 @@ module _ (p : Pdu) (now : ℕ) (s : State) where
   leaves-quiet : (reason : Reason) (detail : Detail) → Q (Leaves reason detail)
   leaves-quiet reason detail = (plain-leave reason detail now s).taken
 
-  tested-quiet : (d : Decision) → Q d → Q (tested s p now d)
+  tested-quiet : (d : Decision) → Q d → Q (tested (kept_of s) p now d)
   tested-quiet d h =
-      if_both Q (cs_fits s p) (if cts_fits s p now then d else Leaves ProtocolError ConfirmedTimestamp) (Leaves ProtocolError ConfirmedNumber)
-      (λ _. if_both Q (cts_fits s p now) d (Leaves ProtocolError ConfirmedTimestamp) (λ _. h) (λ _. leaves-quiet ProtocolError ConfirmedTimestamp))
+      if_both Q (cs_fits (kept_of s) p) (if cts_fits (kept_of s) p now then d else Leaves ProtocolError ConfirmedTimestamp) (Leaves ProtocolError ConfirmedNumber)
+      (λ _. if_both Q (cts_fits (kept_of s) p now) d (Leaves ProtocolError ConfirmedTimestamp) (λ _. h) (λ _. leaves-quiet ProtocolError ConfirmedTimestamp))
       (λ _. leaves-quiet ProtocolError ConfirmedNumber)
 
   down-quiet : (kind : Kind) → Q (in_down p kind)
@@ -58,8 +61,8 @@ module _ (p : Pdu) (now : ℕ) (s : State) where
   down-quiet Data = refl
   down-quiet RetrData = refl
 
-  client-quiet : (kind : Kind) → Q (as_client s p now kind)
-  client-quiet ConnResp = if_both Q (is_ours p.body) (tested s p now Connects) (Leaves WrongVersion Unspecified) (λ _. tested-quiet Connects refl) (λ _. leaves-quiet WrongVersion Unspecified)
+  client-quiet : (kind : Kind) → Q (as_client (kept_of s) p now kind)
+  client-quiet ConnResp = if_both Q (is_ours p.body) (tested (kept_of s) p now Connects) (Leaves WrongVersion Unspecified) (λ _. tested-quiet Connects refl) (λ _. leaves-quiet WrongVersion Unspecified)
   client-quiet ConnReq = leaves-quiet UnexpectedPdu Unspecified
   client-quiet RetrReq = leaves-quiet UnexpectedPdu Unspecified
   client-quiet RetrResp = leaves-quiet UnexpectedPdu Unspecified
@@ -73,7 +76,7 @@ module _ (p : Pdu) (now : ℕ) (s : State) where
       let z = move_to Up (pass p 0 (tests_passed p s)) in
       ap (λ k. (if carries k then beat now (hand_up p z) else z).taken) is
 
-  row-quiet : (next : Bool) (kind : Kind) (d : ℕ) → p.kind ≡ kind → Q (by_cell s p now d (start_row next kind))
+  row-quiet : (next : Bool) (kind : Kind) (d : ℕ) → p.kind ≡ kind → Q (by_cell (kept_of s) p now d (start_row next kind))
   row-quiet true Heartbeat d is = tested-quiet (Takes Up) (heartbeat-quiet is)
   row-quiet false Heartbeat d is = leaves-quiet SequenceError Unspecified
   row-quiet true Data d is = leaves-quiet UnexpectedPdu Unspecified
@@ -91,24 +94,24 @@ module _ (p : Pdu) (now : ℕ) (s : State) where
   row-quiet true RetrData d is = leaves-quiet UnexpectedPdu Unspecified
   row-quiet false RetrData d is = leaves-quiet UnexpectedPdu Unspecified
 
-  table-quiet : s.connection ≡ Start → (d : ℕ) → Q (by_table s p now d)
+  table-quiet : s.connection ≡ Start → (d : ℕ) → Q (by_table (kept_of s) p now d)
   table-quiet start d =
-      if_both Q (nat_le d (REACH * s.settings.n_sendmax)) (by_cell s p now d (cell s.connection (d == 0) p.kind)) (Drops Number)
-      (λ _. subst (λ c. Q (by_cell s p now d (cell c (d == 0) p.kind))) (sym start) (row-quiet (d == 0) p.kind d refl)) (λ _. refl)
+      if_both Q (nat_le d (REACH * s.settings.n_sendmax)) (by_cell (kept_of s) p now d (cell s.connection (d == 0) p.kind)) (Drops Number)
+      (λ _. subst (λ c. Q (by_cell (kept_of s) p now d (cell c (d == 0) p.kind))) (sym start) (row-quiet (d == 0) p.kind d refl)) (λ _. refl)
 
-  start-quiet : s.connection ≡ Start → Q (by_connection s p now Start)
+  start-quiet : s.connection ≡ Start → Q (by_connection (kept_of s) p now Start)
   start-quiet start =
-      if_both Q (is_goodbye p.kind) Shuts (in_start s p now) (λ _. refl)
-      (λ _. if_both Q s.settings.client (as_client s p now p.kind) (by_table s p now (distance s p)) (λ _. client-quiet p.kind) (λ _. table-quiet start (distance s p)))
+      if_both Q (is_goodbye p.kind) Shuts (in_start (kept_of s) p now) (λ _. refl)
+      (λ _. if_both Q s.settings.client (as_client (kept_of s) p now p.kind) (by_table (kept_of s) p now (distance (kept_of s) p)) (λ _. client-quiet p.kind) (λ _. table-quiet start (distance (kept_of s) p)))
 
-  meant-quiet : (s.connection ≡ Down) ⊎ (s.connection ≡ Start) → Q (by_connection s p now s.connection)
-  meant-quiet (inl down) = subst (λ c. Q (by_connection s p now c)) (sym down) (down-quiet p.kind)
-  meant-quiet (inr start) = subst (λ c. Q (by_connection s p now c)) (sym start) (start-quiet start)
+  meant-quiet : (s.connection ≡ Down) ⊎ (s.connection ≡ Start) → Q (by_connection (kept_of s) p now s.connection)
+  meant-quiet (inl down) = subst (λ c. Q (by_connection (kept_of s) p now c)) (sym down) (down-quiet p.kind)
+  meant-quiet (inr start) = subst (λ c. Q (by_connection (kept_of s) p now c)) (sym start) (start-quiet start)
 
   receive-quiet : (s.connection ≡ Down) ⊎ (s.connection ≡ Start) → (receive p now s).taken ≡ s.taken
   receive-quiet before =
-      if_both Q (is_closed s.connection) Nothing (heard s p now) (λ _. refl)
-      (λ _. if_both Q (is_stranger s p) (Drops Stranger) (by_connection s p now s.connection) (λ _. refl) (λ _. meant-quiet before))
+      if_both Q (is_closed s.connection) Nothing (heard (kept_of s) p now) (λ _. refl)
+      (λ _. if_both Q (is_stranger s p) (Drops Stranger) (by_connection (kept_of s) p now s.connection) (λ _. refl) (λ _. meant-quiet before))
 
 -- the guard leaves it as it is, or closed
 pub guarded : (now : ℕ) (s : State) → ((guard now s).connection ≡ Closed) ⊎ (guard now s ≡ s)
@@ -131,7 +134,7 @@ waits_law_holds (Hears p now) s before =
     ]
   where
     closed-receive : (p : Pdu) (now : ℕ) (s : State) → s.connection ≡ Closed → receive p now s ≡ s
-    closed-receive p now s closed = ap (λ c. carry_out p now (if is_closed c then Nothing else heard s p now) s) closed
+    closed-receive p now s closed = ap (λ c. carry_out p now (if is_closed c then Nothing else heard (kept_of s) p now) s) closed
 waits_law_holds (Ticks now) s before = (plain-tick now s).taken
 waits_law_holds (Sends unit now) s before = send-taken unit now s
 waits_law_holds (LeavesNow reason detail now) s before = (plain-leave reason detail now s).taken

@@ -9,11 +9,12 @@ use Rattle.safe_pdu.specs.declared.Kind.TheVariants.{ConnResp, RetrReq, RetrResp
 use Rattle.safe_machine.specs.declared.ConnectionState.{ConnectionState}
 use Rattle.safe_machine.specs.declared.ConnectionState.TheVariants.{Closed, Start, Up, RetrReq as Requesting, RetrRun}
 use Rattle.safe_pdu.specs.Bodies.{window_of}
-use Rattle.safe_machine.specs.Made.{Made, opening_body, leaving_body, carries}
-use Rattle.safe_machine.specs.State.{State, unconfirmed, next_made, make, move_to, pass, confirm_units, hand_up, note_request, resend, reply, ask, leave, says_goodbye, cts_step}
-use Rattle.safe_machine.specs.Decision.{Decision, distance, in_turn}
-use Rattle.safe_machine.specs.Decision.Decision.{Nothing, Drops, Shuts, Leaves, Rejects, Accepts, Connects, Takes, Asks, Resumes, AnswersNext, AnswersEarly}
-use Rattle.safe_machine.specs.Step.{is_live, is_connected, beat, tests_passed, carry_out, set_window, confirm_to, guard, heartbeat, may_send, send, last_time}
+use Rattle.safe_machine.specs.Made.{Made, opening_body, leaving_body, carries, last_time}
+use Rattle.safe_machine.specs.State.{State, unconfirmed, next_made, make, move_to, pass, hand_up, note_request, resend, reply, ask, leave}
+use Rattle.safe_machine.specs.declared.decision.Decision.{Decision}
+use Rattle.safe_machine.specs.Decision.{distance, cts_step}
+use Rattle.safe_machine.specs.declared.decision.Decision.TheVariants.{Nothing, Drops, Shuts, Leaves, Rejects, Accepts, Connects, Takes, Asks, Resumes, AnswersNext, AnswersEarly}
+use Rattle.safe_machine.specs.Step.{beat, tests_passed, carry_out, set_window, confirm_to, guard, heartbeat, may_send, send, confirm_units}
 use Rattle.safe_machine.proofs.Cases.{if_both, leb-false}
 use Rattle.safe_machine.proofs.Runs.{Every, every-at, every-weaken, at-length}
 use Rattle.safe_machine.proofs.Invariant.{Told, Sound, needs_peer, is_opening, Started}
@@ -25,6 +26,8 @@ use Rattle.safe_machine.specs.declared.Reason.{Reason}
 use Rattle.safe_machine.specs.declared.Reason.TheVariants.{Timeout, WrongVersion, ProtocolError}
 use Rattle.safe_machine.specs.declared.Detail.{Detail}
 use Rattle.safe_machine.specs.declared.Detail.TheVariants.{Unspecified, Limit}
+use Rattle.safe_machine.specs.Connections.{is_live, in_turn, is_connected}
+use Rattle.safe_machine.specs.View.{kept_of}
 
 -- PDUs are made and nothing else that the times speak of
 pub record Makes (now : ℕ) (s t : State) : Type 0 where
@@ -80,7 +83,7 @@ makes-moved now connection s t a =
 
 pub makes-leave : (reason : Reason) (detail : Detail) (now : ℕ) (s : State) → Makes now s (leave reason detail now s)
 makes-leave reason detail now s =
-    if_both (λ t. Makes now s (move_to Closed t)) (says_goodbye s.connection) (make DiscReq (leaving_body reason detail) now s) s
+    if_both (λ t. Makes now s (move_to Closed t)) (is_live s.connection) (make DiscReq (leaving_body reason detail) now s) s
     (λ _. makes-moved now Closed s (make DiscReq (leaving_body reason detail) now s) (makes-one DiscReq (leaving_body reason detail) now s))
     (λ _. makes-moved now Closed s s (makes-none now s))
 
@@ -163,7 +166,7 @@ pub record Coming (i : ℕ) (m : Made) (rest : List Made) (x y : State) : Type 0
 
 -- The basis of what comes was made at the time that its CTS stands for, which is no less than the time last confirmed.
 pub basis : (clock now i : ℕ) (m : Made) (rest : List Made) (x y : State) → clock ≤ now → now < x.confirmed_at + 60000 → Timed clock x y → Coming i m rest x y →
-    (b : Made) × (rb : List Made) × (drop (m.behind - 1) x.made ≡ b ∷ rb) × (x.confirmed_at ≤ b.time) × (x.confirmed_at + cts_step x m.pdu ≡ b.time) × (b.time ≤ now)
+    (b : Made) × (rb : List Made) × (drop (m.behind - 1) x.made ≡ b ∷ rb) × (x.confirmed_at ≤ b.time) × (x.confirmed_at + cts_step (kept_of x) m.pdu ≡ b.time) × (b.time ≤ now)
 basis clock now i m rest x y later guarded h c =
     let e = exists-at (m.behind - 1) x.made (omega (arith, c.late, c.told, c.within)) in
     let b = e.0 in
@@ -171,11 +174,11 @@ basis clock now i m rest x y later guarded h c =
     let low : x.confirmed_at ≤ b.time = h.based i (m.behind - 1) m b rest e.1 c.beyond c.at e.2 index in
     let high : b.time ≤ clock = every-at (λ m. m.time ≤ clock) 0 (m.behind - 1) x.made b e.1 h.past (omega arith) e.2 in
     let cts : m.pdu.cts ≡ b.time % wrap = h.cts i (m.behind - 1) m b rest e.1 c.at e.2 index in
-    let step : cts_step x m.pdu ≡ b.time - x.confirmed_at = ap (ahead x.confirmed_at) cts ∙ ahead-time x.confirmed_at b.time low (omega arith) in
+    let step : cts_step (kept_of x) m.pdu ≡ b.time - x.confirmed_at = ap (ahead x.confirmed_at) cts ∙ ahead-time x.confirmed_at b.time low (omega arith) in
     (b, e.1, e.2, low, omega arith, omega arith)
 
 steps-passed : (clock other now i : ℕ) (m : Made) (rest : List Made) (x z y : State) → clock ≤ now → now < x.confirmed_at + 60000 → Timed clock x y → Timed other y x → Coming i m rest x y →
-    z.made ≡ x.made → z.expected ≡ i + 1 → z.last_ts ≡ m.pdu.ts → z.confirmed_at ≡ x.confirmed_at + cts_step x m.pdu → Steps now x z y
+    z.made ≡ x.made → z.expected ≡ i + 1 → z.last_ts ≡ m.pdu.ts → z.confirmed_at ≡ x.confirmed_at + cts_step (kept_of x) m.pdu → Steps now x z y
 steps-passed clock other now i m rest x z y later guarded h g c made expected ts confirmed =
     let b0 = basis clock now i m rest x y later guarded h c in
     let is : z.confirmed_at ≡ b0.0.time = confirmed ∙ b0.4 in
@@ -287,7 +290,7 @@ steps-carry clock other now i m rest x y later guarded a h g (Takes to) f =
     (λ _. k)
 steps-carry clock other now i m rest x y later guarded a h g Asks f = steps-then now x x (ask now x) y (steps-none clock other now x y later h g) (makes-ask now x)
 steps-carry clock other now i m rest x y later guarded a h g Resumes f =
-    let d = distance x m.pdu in
+    let d = distance (kept_of x) m.pdu in
     let r = incoming-arrival i m rest x y a f.table in
     let z = move_to RetrRun (pass m.pdu d (tests_passed m.pdu x)) in
     steps-passed clock other now (x.expected + d) m rest x z y later (guarded (listens-live x.connection x.settings.client f.table.listens_now)) h g (arrival-coming d m rest x y r f.needs) refl refl refl refl
@@ -298,7 +301,7 @@ steps-carry clock other now i m rest x y later guarded a h g AnswersNext (f, non
     (steps-passed clock other now (x.expected + 0) m rest x z y later (guarded (listens-live x.connection x.settings.client f.table.listens_now)) h g (arrival-coming 0 m rest x y r (ap needs_peer f.request)) refl refl refl refl)
     (makes-reply now z)
 steps-carry clock other now i m rest x y later guarded a h g AnswersEarly f =
-    let z = note_request (distance x m.pdu) (confirm_units m.pdu x) in
+    let z = note_request (distance (kept_of x) m.pdu) (confirm_units m.pdu x) in
     let k = steps-then now x x z y (steps-none clock other now x y later h g) (makes-same now x z refl refl refl refl) in
     let t = reply now z in
     if_both (λ u. Steps now x u y) (in_turn x.connection) (ask now t) t

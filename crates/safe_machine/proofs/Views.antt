@@ -13,7 +13,7 @@ use Rattle.safe_pdu.specs.Pdu.{Pdu}
 use Rattle.safe_pdu.specs.SafeText.{safe_text}
 use Rattle.retrans.specs.Units.{Numbered, above, renumbered, octets_of}
 use Rattle.safe_machine.specs.Numbers.{sn_of, ahead}
-use Rattle.safe_machine.specs.Made.{Made}
+use Rattle.safe_machine.specs.Made.{Made, last_time}
 use Rattle.safe_machine.specs.Settings.{Settings}
 use Rattle.std.specs.Prelude.{if◌then◌else◌, nat_le, nat_lt, Option, Some, None, IfSome, slice_get, get_or, take}
 use Rattle.safe_machine.specs.declared.ConnectionState.{ConnectionState}
@@ -23,15 +23,16 @@ use Rattle.safe_machine.specs.declared.Reason.TheVariants.{Timeout, ProtocolErro
 use Rattle.safe_machine.specs.declared.Detail.{Detail}
 use Rattle.safe_machine.specs.declared.Detail.TheVariants.{Unspecified, Limit}
 use Rattle.safe_machine.specs.Made.{leaving_body, opening_body, carries}
-use Rattle.safe_machine.specs.State.{State, next_made, make, move_to, leave, says_goodbye, pass, confirm_units, note_request, cs_step, resend, reply, unconfirmed, hand_up, ask}
-use Rattle.safe_machine.specs.Step.{last_time, guard, heartbeat, is_live, tests_passed, set_window, carry_out, take_unit, beat, confirm_to}
-use Rattle.safe_machine.specs.Decision.{distance, in_turn}
-use Rattle.safe_machine.specs.Decision.Decision.{Rejects, Accepts, Connects, Takes, Resumes, AnswersNext, AnswersEarly}
+use Rattle.safe_machine.specs.State.{State, next_made, make, move_to, leave, pass, note_request, resend, reply, unconfirmed, hand_up, ask}
+use Rattle.safe_machine.specs.Step.{guard, heartbeat, tests_passed, set_window, carry_out, take_unit, beat, confirm_to, confirm_units, answered_ahead}
+use Rattle.safe_machine.specs.Decision.{distance, cs_step, cts_step}
+use Rattle.safe_machine.specs.declared.decision.Decision.TheVariants.{Rejects, Accepts, Connects, Takes, Resumes, AnswersNext, AnswersEarly}
 use Rattle.safe_pdu.specs.Bodies.{window_of, IsBody}
-use Rattle.safe_machine.specs.Course.{cs_ahead, cts_ahead, sn_ahead}
 use Rattle.safe_machine.specs.Ring.{after_at, carried_at, ring_of}
-use Rattle.safe_machine.specs.View.{View, beside, StandsFor, texts, HandsOut, Hands, Does, leaves_units, overdue, beat_due, Turns, AllUnits, answered_ahead}
+use Rattle.safe_machine.specs.View.{View, beside, StandsFor, texts, HandsOut, Hands, Does, leaves_units, Turns, AllUnits, kept_of}
 use Rattle.safe_machine.proofs.Ring.{carried_at-append, ring-confirm, ring-resend, ring_of-units, octets_of-append}
+use Rattle.safe_machine.specs.Connections.{is_live, in_turn}
+use Rattle.safe_machine.specs.Deadlines.{overdue, beat_due}
 
 pub next-number : (first made : ℕ) → (first + made % 4294967296) % 4294967296 ≡ sn_of first made
 unfolding sn_of
@@ -152,11 +153,11 @@ does-move makes connection m n a e =
     does-quiet makes (move_to connection) (λ v. record v { connection = connection }) m n a e (λ s. refl) (λ s. refl) (λ s. refl)
 
 -- leaving by its cases
-pub leave-live : (reason : Reason) (detail : Detail) (now : ℕ) (s : State) → says_goodbye s.connection ≡ true →
+pub leave-live : (reason : Reason) (detail : Detail) (now : ℕ) (s : State) → is_live s.connection ≡ true →
     leave reason detail now s ≡ move_to Closed (make DiscReq (leaving_body reason detail) now s)
 leave-live reason detail now s e = ap (λ b. move_to Closed (if b then make DiscReq (leaving_body reason detail) now s else s)) e
 
-pub leave-quiet : (reason : Reason) (detail : Detail) (now : ℕ) (s : State) → says_goodbye s.connection ≡ false → leave reason detail now s ≡ move_to Closed s
+pub leave-quiet : (reason : Reason) (detail : Detail) (now : ℕ) (s : State) → is_live s.connection ≡ false → leave reason detail now s ≡ move_to Closed s
 leave-quiet reason detail now s e = ap (λ b. move_to Closed (if b then make DiscReq (leaving_body reason detail) now s else s)) e
 
 -- the guard by what is overdue
@@ -164,18 +165,18 @@ abbrev pub left_by : ℕ → Option (Reason × Detail) → State → State
 left_by now None s = s
 left_by now (Some (reason, detail)) s = leave reason detail now s
 
-two-left : (now : ℕ) (s : State) (late full live : Bool) →
-    (if live then (if late then leave Timeout Unspecified now s else if full then leave ProtocolError Limit now s else s) else s)
-    ≡ left_by now (if live then (if late then Some (Timeout, Unspecified) else if full then Some (ProtocolError, Limit) else None) else None) s
-two-left now s true full true = refl
-two-left now s false true true = refl
-two-left now s false false true = refl
-two-left now s late full false = refl
-
 pub guard-is : (now : ℕ) (m : View) (s : State) → StandsFor m s → guard now s ≡ left_by now (overdue now m) s
 guard-is now m s h =
     two-left now s (nat_le (s.confirmed_at + s.settings.t_max) now) (nat_le s.settings.pdu_limit (length s.made)) (is_live s.connection)
     ∙ ap (λ v. left_by now (overdue now v) s) (sym h)
+  where
+    two-left : (now : ℕ) (s : State) (late full live : Bool) →
+        (if live then (if late then leave Timeout Unspecified now s else if full then leave ProtocolError Limit now s else s) else s)
+        ≡ left_by now (if live then (if late then Some (Timeout, Unspecified) else if full then Some (ProtocolError, Limit) else None) else None) s
+    two-left now s true full true = refl
+    two-left now s false true true = refl
+    two-left now s false false true = refl
+    two-left now s late full false = refl
 
 pub heartbeat-is : (now : ℕ) (m : View) (s : State) → StandsFor m s → heartbeat now s ≡ (if beat_due now m then make Heartbeat [] now s else s)
 heartbeat-is now m s h = ap (λ v. if beat_due now v then make Heartbeat [] now s else s) (sym h)
@@ -213,22 +214,22 @@ send-does makes m mid n a b unit now inside left handed e s h =
     )
 
 -- what a PDU confirms
-pub ring-step : (p : Pdu) (s : State) → cs_step s p < length s.made - s.confirmed → above (s.confirmed + cs_step s p) (ring_of s) ≡ ring_of (confirm_units p s)
-ring-step p s h = ring-confirm s.confirmed (s.confirmed + cs_step s p) s.made (omega arith) (omega arith)
+pub ring-step : (p : Pdu) (s : State) → cs_step (kept_of s) p < length s.made - s.confirmed → above (s.confirmed + cs_step (kept_of s) p) (ring_of s) ≡ ring_of (confirm_units p s)
+ring-step p s h = ring-confirm s.confirmed (s.confirmed + cs_step (kept_of s) p) s.made (omega arith) (omega arith)
 
-pub tests-turn : (p : Pdu) (m n : View) → cs_ahead m p.cs < m.made - m.confirmed →
-    n ≡ record m { confirmed = m.confirmed + cs_ahead m p.cs; ring = above (m.confirmed + cs_ahead m p.cs) m.ring; confirmed_at = m.confirmed_at + cts_ahead m p.cts } →
+pub tests-turn : (p : Pdu) (m n : View) → cs_step m p < m.made - m.confirmed →
+    n ≡ record m { confirmed = m.confirmed + cs_step m p; ring = above (m.confirmed + cs_step m p) m.ring; confirmed_at = m.confirmed_at + cts_step m p } →
     Turns (tests_passed p) m n
 tests-turn p m n fits e s h =
-    let inside : cs_step s p < length s.made - s.confirmed = subst (λ (v : View). cs_ahead v p.cs < v.made - v.confirmed) h fits in
-    e ∙ (ap (λ (v : View). record v { confirmed = v.confirmed + cs_ahead v p.cs; ring = above (v.confirmed + cs_ahead v p.cs) v.ring; confirmed_at = v.confirmed_at + cts_ahead v p.cts }) h
+    let inside : cs_step (kept_of s) p < length s.made - s.confirmed = subst (λ (v : View). cs_step v p < v.made - v.confirmed) h fits in
+    e ∙ (ap (λ (v : View). record v { confirmed = v.confirmed + cs_step v p; ring = above (v.confirmed + cs_step v p) v.ring; confirmed_at = v.confirmed_at + cts_step v p }) h
     ∙ ap (λ r. beside r (tests_passed p s)) (ring-step p s inside))
 
-pub units-turn : (p : Pdu) (m n : View) → cs_ahead m p.cs < m.made - m.confirmed →
-    n ≡ record m { confirmed = m.confirmed + cs_ahead m p.cs; ring = above (m.confirmed + cs_ahead m p.cs) m.ring } → Turns (confirm_units p) m n
+pub units-turn : (p : Pdu) (m n : View) → cs_step m p < m.made - m.confirmed →
+    n ≡ record m { confirmed = m.confirmed + cs_step m p; ring = above (m.confirmed + cs_step m p) m.ring } → Turns (confirm_units p) m n
 units-turn p m n fits e s h =
-    let inside : cs_step s p < length s.made - s.confirmed = subst (λ (v : View). cs_ahead v p.cs < v.made - v.confirmed) h fits in
-    e ∙ (ap (λ (v : View). record v { confirmed = v.confirmed + cs_ahead v p.cs; ring = above (v.confirmed + cs_ahead v p.cs) v.ring }) h
+    let inside : cs_step (kept_of s) p < length s.made - s.confirmed = subst (λ (v : View). cs_step v p < v.made - v.confirmed) h fits in
+    e ∙ (ap (λ (v : View). record v { confirmed = v.confirmed + cs_step v p; ring = above (v.confirmed + cs_step v p) v.ring }) h
     ∙ ap (λ r. beside r (confirm_units p s)) (ring-step p s inside))
 
 pub pass-turn : (p : Pdu) (d : ℕ) (m n : View) → n ≡ record m { expected = m.expected + d + 1; last_sn = p.sn; last_ts = p.ts } → Turns (pass p d) m n
@@ -249,11 +250,11 @@ up-turn p m n e s h = e ∙ ap (λ (v : View). record v { since = v.since + 1 })
 pub turn-then : (f g : State → State) (l m n : View) → Turns f l m → Turns g m n → Turns (λ s. g (f s)) l n
 turn-then f g l m n h k s stands = k (f s) (h s stands)
 
-pub resumes-turn : (p : Pdu) (now d : ℕ) (m a b n : View) → d ≡ sn_ahead m p.sn → cs_ahead m p.cs < m.made - m.confirmed →
-    a ≡ record m { confirmed = m.confirmed + cs_ahead m p.cs; ring = above (m.confirmed + cs_ahead m p.cs) m.ring; confirmed_at = m.confirmed_at + cts_ahead m p.cts } →
+pub resumes-turn : (p : Pdu) (now d : ℕ) (m a b n : View) → d ≡ distance m p → cs_step m p < m.made - m.confirmed →
+    a ≡ record m { confirmed = m.confirmed + cs_step m p; ring = above (m.confirmed + cs_step m p) m.ring; confirmed_at = m.confirmed_at + cts_step m p } →
     b ≡ record a { expected = a.expected + d + 1; last_sn = p.sn; last_ts = p.ts } → n ≡ record b { connection = RetrRun } → Turns (carry_out p now Resumes) m n
 resumes-turn p now d m a b n is fits ea eb en s h =
-    let same : d ≡ sn_ahead (beside (ring_of s) s) p.sn = is ∙ ap (λ v. sn_ahead v p.sn) h in
+    let same : d ≡ distance (beside (ring_of s) s) p = is ∙ ap (λ v. distance v p) h in
     subst (λ k. StandsFor n (move_to RetrRun (pass p k (tests_passed p s)))) same
     (move-turn RetrRun b n en (pass p d (tests_passed p s)) (pass-turn p d a b eb (tests_passed p s) (tests-turn p m a fits ea s h)))
 
@@ -265,8 +266,8 @@ rejects-does makes p now m a b n o q ea d en =
     (does-none makes (pass p 0) m a o (pass-turn p 0 m a ea) (λ s. refl) (λ s. refl))
     (does-then makes (make DiscReq (leaving_body WrongVersion Unspecified) now) (move_to Closed) a b n o q q d (does-move makes Closed b n q en))
 
-pub connects-does : {O : Type 0} (makes : O → List ℕ → O → Type 0) (p : Pdu) (now : ℕ) (m a b c d n : View) (o q : O) → cs_ahead m p.cs < m.made - m.confirmed →
-    a ≡ record m { confirmed = m.confirmed + cs_ahead m p.cs; ring = above (m.confirmed + cs_ahead m p.cs) m.ring; confirmed_at = m.confirmed_at + cts_ahead m p.cts } →
+pub connects-does : {O : Type 0} (makes : O → List ℕ → O → Type 0) (p : Pdu) (now : ℕ) (m a b c d n : View) (o q : O) → cs_step m p < m.made - m.confirmed →
+    a ≡ record m { confirmed = m.confirmed + cs_step m p; ring = above (m.confirmed + cs_step m p) m.ring; confirmed_at = m.confirmed_at + cts_step m p } →
     b ≡ record a { expected = a.expected + 0 + 1; last_sn = p.sn; last_ts = p.ts } → c ≡ record b { window = window_of p.body } →
     Does makes (make Heartbeat [] now) c o d q → n ≡ record d { connection = Up } → Does makes (carry_out p now Connects) m o n q
 connects-does makes p now m a b c d n o q fits ea eb ec h en =
@@ -280,8 +281,8 @@ pub asks-does : {O : Type 0} (makes : O → List ℕ → O → Type 0) (now : �
     Does makes (ask now) m o n q
 asks-does makes now m a n o q h en = does-then makes (make RetrReq [] now) (move_to Requesting) m a n o q q h (does-move makes Requesting a n q en)
 
-pub takes-does : {O : Type 0} (makes : O → List ℕ → O → Type 0) (p : Pdu) (now : ℕ) (to : ConnectionState) (m a b c n : View) (o q : O) → cs_ahead m p.cs < m.made - m.confirmed →
-    a ≡ record m { confirmed = m.confirmed + cs_ahead m p.cs; ring = above (m.confirmed + cs_ahead m p.cs) m.ring; confirmed_at = m.confirmed_at + cts_ahead m p.cts } →
+pub takes-does : {O : Type 0} (makes : O → List ℕ → O → Type 0) (p : Pdu) (now : ℕ) (to : ConnectionState) (m a b c n : View) (o q : O) → cs_step m p < m.made - m.confirmed →
+    a ≡ record m { confirmed = m.confirmed + cs_step m p; ring = above (m.confirmed + cs_step m p) m.ring; confirmed_at = m.confirmed_at + cts_step m p } →
     b ≡ record a { expected = a.expected + 0 + 1; last_sn = p.sn; last_ts = p.ts } → c ≡ record b { connection = to } → Does makes (take_unit p now) c o n q →
     Does makes (carry_out p now (Takes to)) m o n q
 takes-does makes p now to m a b c n o q fits ea eb ec h =
@@ -378,8 +379,8 @@ reply-does makes now first m a b c n o x y z inside first-is counted left said r
     subst (λ vs. StandsFor n (make Heartbeat [] now (resend vs now t)) × Hands makes o s (make Heartbeat [] now (resend vs now t)) z) same
     (last.0, hands-then makes o x z s t (make Heartbeat [] now r) (hands-one makes o x RetrResp [] now s (said ring s h)) (hands-then makes x y z t r (make Heartbeat [] now r) again.1 last.1))
 
-pub next-does : {O : Type 0} (makes : O → List ℕ → O → Type 0) (p : Pdu) (now : ℕ) (m a b c n : View) (o q : O) → cs_ahead m p.cs < m.made - m.confirmed →
-    a ≡ record m { confirmed = m.confirmed + cs_ahead m p.cs; ring = above (m.confirmed + cs_ahead m p.cs) m.ring; confirmed_at = m.confirmed_at + cts_ahead m p.cts } →
+pub next-does : {O : Type 0} (makes : O → List ℕ → O → Type 0) (p : Pdu) (now : ℕ) (m a b c n : View) (o q : O) → cs_step m p < m.made - m.confirmed →
+    a ≡ record m { confirmed = m.confirmed + cs_step m p; ring = above (m.confirmed + cs_step m p) m.ring; confirmed_at = m.confirmed_at + cts_step m p } →
     b ≡ record a { answered = a.expected + 0 } → c ≡ record b { expected = b.expected + 0 + 1; last_sn = p.sn; last_ts = p.ts } → Does makes (reply now) c o n q →
     Does makes (carry_out p now AnswersNext) m o n q
 next-does makes p now m a b c n o q fits ea eb ec h =
@@ -387,13 +388,13 @@ next-does makes p now m a b c n o q fits ea eb ec h =
     let turned : Turns before m c = λ s k. pass-turn p 0 b c ec (note_request 0 (tests_passed p s)) (note-turn 0 a b eb (tests_passed p s) (tests-turn p m a fits ea s k)) in
     does-then makes before (reply now) m c n o o q (does-none makes before m c o turned (λ s. refl) (λ s. refl)) h
 
-pub ahead-does : {O : Type 0} (makes : O → List ℕ → O → Type 0) (p : Pdu) (now d : ℕ) (m a b n : View) (o q : O) → d ≡ sn_ahead m p.sn → cs_ahead m p.cs < m.made - m.confirmed →
-    a ≡ record m { confirmed = m.confirmed + cs_ahead m p.cs; ring = above (m.confirmed + cs_ahead m p.cs) m.ring } → b ≡ record a { answered = a.expected + d } →
+pub ahead-does : {O : Type 0} (makes : O → List ℕ → O → Type 0) (p : Pdu) (now d : ℕ) (m a b n : View) (o q : O) → d ≡ distance m p → cs_step m p < m.made - m.confirmed →
+    a ≡ record m { confirmed = m.confirmed + cs_step m p; ring = above (m.confirmed + cs_step m p) m.ring } → b ≡ record a { answered = a.expected + d } →
     Does makes (reply now) b o n q → Does makes (answered_ahead p now) m o n q
 ahead-does makes p now d m a b n o q is fits ea eb h =
-    let before : State → State = λ s. note_request (distance s p) (confirm_units p s) in
+    let before : State → State = λ s. note_request (distance (kept_of s) p) (confirm_units p s) in
     let turned : Turns before m b = λ s k.
-    subst (λ e. StandsFor b (note_request e (confirm_units p s))) (is ∙ ap (λ v. sn_ahead v p.sn) k) (note-turn d a b eb (confirm_units p s) (units-turn p m a fits ea s k)) in
+    subst (λ e. StandsFor b (note_request e (confirm_units p s))) (is ∙ ap (λ v. distance v p) k) (note-turn d a b eb (confirm_units p s) (units-turn p m a fits ea s k)) in
     does-then makes before (reply now) m b n o o q (does-none makes before m b o turned (λ s. refl) (λ s. refl)) h
 
 pub early-asks : {O : Type 0} (makes : O → List ℕ → O → Type 0) (p : Pdu) (now : ℕ) (m a n : View) (o x q : O) → in_turn m.connection ≡ true → Does makes (answered_ahead p now) m o a x →

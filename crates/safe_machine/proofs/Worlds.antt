@@ -9,10 +9,11 @@ use Rattle.safe_machine.specs.declared.ConnectionState.TheVariants.{Closed, Down
 use Rattle.safe_pdu.specs.Pdu.{Pdu}
 use Rattle.safe_machine.specs.Made.{Made, units, run_of, leaving_body, carries, is_request}
 use Rattle.safe_machine.specs.Settings.{Settings, is_legal}
-use Rattle.safe_machine.specs.State.{State, next_made, make, move_to, pass, hand_up, note_request, confirm_units, reply, ask, leave, unconfirmed, opened}
-use Rattle.safe_machine.specs.Decision.{Decision, decide, distance, in_turn}
-use Rattle.safe_machine.specs.Decision.Decision.{Nothing, Drops, Shuts, Leaves, Rejects, Accepts, Connects, Takes, Asks, Resumes, AnswersNext, AnswersEarly}
-use Rattle.safe_machine.specs.Step.{is_live, is_connected, guard, receive, arrive, carry_out, tick, send, tests_passed, beat}
+use Rattle.safe_machine.specs.State.{State, next_made, make, move_to, pass, hand_up, note_request, reply, ask, leave, unconfirmed, opened}
+use Rattle.safe_machine.specs.declared.decision.Decision.{Decision}
+use Rattle.safe_machine.specs.Decision.{decide, distance}
+use Rattle.safe_machine.specs.declared.decision.Decision.TheVariants.{Nothing, Drops, Shuts, Leaves, Rejects, Accepts, Connects, Takes, Asks, Resumes, AnswersNext, AnswersEarly}
+use Rattle.safe_machine.specs.Step.{guard, receive, arrive, carry_out, tick, send, tests_passed, beat, confirm_units}
 use Rattle.safe_machine.specs.World.{World, Served, Event, unopened, start, happens, run, Among, GenuineAt, GenuineEvent, Genuine, joins, IsBeginningOf, as_role, open_il, open_fe, with_il, with_fe}
 use Rattle.safe_machine.specs.World.Event.{Open, Send, Close, Guard, Tick, Arrive}
 use Rattle.safe_machine.specs.Law.{next_bound, JoinsFall, taken_from_il}
@@ -33,6 +34,8 @@ use Rattle.safe_machine.proofs.Status.Status.{met, il_later, fe_later}
 use Rattle.safe_machine.specs.declared.Reason.TheVariants.{WrongVersion}
 use Rattle.safe_machine.specs.declared.Detail.TheVariants.{Unspecified}
 use Rattle.safe_machine.proofs.Resending.{resend-connection}
+use Rattle.safe_machine.specs.Connections.{in_turn, is_live, is_connected}
+use Rattle.safe_machine.specs.View.{kept_of}
 
 abbrev pub Idle : State → Option ℕ → Type 0
 Idle fe joined = fe.connection ≡ Down → Untouched fe × (joined ≡ None)
@@ -328,14 +331,14 @@ on-carry p now s on AnswersNext f =
     let z = pass p 0 (note_request 0 (tests_passed p s)) in
     λ e. on (sym (reply-connection now z) ∙ e)
 on-carry p now s on AnswersEarly f =
-    let z = note_request (distance s p) (confirm_units p s) in
+    let z = note_request (distance (kept_of s) p) (confirm_units p s) in
     let t = reply now z in
     if_both (λ (u : State). u.connection ≢ Down) (in_turn s.connection) (ask now t) t (λ _. λ e. cc) (λ _. λ e. on (sym (reply-connection now z) ∙ e))
 
 on-arrive : (p : Pdu) (now : ℕ) (s : State) → s.connection ≢ Down → (arrive p now s).connection ≢ Down
 on-arrive p now s on =
     let g = guard now s in
-    on-carry p now g (on-lone s g (lone-guard now s) on) (decide g p now) (decide-fits g p now)
+    on-carry p now g (on-lone s g (lone-guard now s) on) (decide (kept_of g) p now) (decide-fits g p now)
 
 pub closed-arrive : (p : Pdu) (now : ℕ) (s : State) → s.connection ≡ Closed → arrive p now s ≡ s
 closed-arrive p now s e =
@@ -391,7 +394,7 @@ fe-arrive_met w p now h m genuine = elim (down_or w.fe.connection) [ inl down �
         let r = pair-arrive now w.dead_il p w.fe w.il (m.solo_fe, m.fe_sends, m.il_sends) m.solo_il h.bounded_fe h.bounded_il genuine in
         let k = h.idle down in
         let same : guard now w.fe ≡ w.fe = guard-idle now w.fe (ap is_live down) in
-        let c = down-carry (length w.il_before) p now w.fe down k.0 (decide w.fe p now) (decide-fits w.fe p now) in
+        let c = down-carry (length w.il_before) p now w.fe down k.0 (decide (kept_of w.fe) p now) (decide-fits w.fe p now) in
         let after : AfterDown (length w.il_before) w.fe (arrive p now w.fe) = subst (λ (s : State). AfterDown (length w.il_before) w.fe (receive p now s)) (sym same) c in
         let joined : JoinedTo (length w.il_before) (arrive p now w.fe) (joined_after w (arrive p now w.fe)) =
         subst (λ (q : Option ℕ). JoinedTo (length w.il_before) (arrive p now w.fe) (if joins w.fe.connection (arrive p now w.fe).connection then Some (length w.il_before) else q)) (sym k.1) after.0 in

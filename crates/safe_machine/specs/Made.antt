@@ -16,6 +16,11 @@ pub record Made : Type 0 where
   pub time : ℕ
   pub behind : ℕ
 
+-- the time of the last PDU made
+abbrev pub last_time : List Made → ℕ → ℕ
+last_time [] time = time
+last_time (m ∷ ms) time = last_time ms m.time
+
 -- the version of this profile: "0303"
 abbrev pub our_version : List ℕ
 our_version = 0x30 ∷ 0x33 ∷ 0x30 ∷ 0x33 ∷ []

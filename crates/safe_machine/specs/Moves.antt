@@ -13,8 +13,9 @@ use Rattle.safe_machine.specs.Made.{Made, units}
 use Rattle.safe_machine.specs.Settings.{Settings, is_legal}
 use Rattle.safe_machine.specs.State.{State, leave, opened, unconfirmed}
 use Rattle.safe_machine.specs.Decision.{is_stranger, is_ours}
-use Rattle.safe_machine.specs.Step.{guard, arrive, tick, send, may_send, is_connected}
+use Rattle.safe_machine.specs.Step.{guard, arrive, tick, send, may_send}
 use Rattle.safe_machine.specs.Ring.{by_carriers}
+use Rattle.safe_machine.specs.Connections.{is_connected}
 
 -- What may happen to a machine.
 pub data Move : Type 0 where

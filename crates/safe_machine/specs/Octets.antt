@@ -7,10 +7,11 @@ use Rattle.safe_machine.specs.declared.DropCause.TheVariants.{Fault}
 use Rattle.safe_machine.specs.declared.Step.{Step as Answer}
 use Rattle.safe_machine.specs.declared.Step.TheVariants.{Dropped, Nothing as NoAnswer}
 use Rattle.safe_machine.specs.State.{State}
-use Rattle.safe_machine.specs.Decision.{is_closed}
+use Rattle.safe_machine.specs.View.{View, kept_of}
 use Rattle.safe_machine.specs.Step.{arrive_answer, unless_guarded}
 use Rattle.safe_machine.specs.Moves.{Move, move}
 use Rattle.safe_machine.specs.Moves.Move.{Guards, Hears}
+use Rattle.safe_machine.specs.Connections.{is_closed}
 
 -- octets that read so, as a move of the machine
 abbrev pub heard : Result Pdu SafeFault → ℕ → Move
@@ -18,9 +19,9 @@ heard (Ok p) now = Hears p now
 heard (Err fault) now = Guards now
 
 -- and how it is answered: closed, guard and fault in this order
-abbrev pub heard_answer : Result Pdu SafeFault → ℕ → State → Answer
-heard_answer (Ok p) now s = arrive_answer p now s
-heard_answer (Err fault) now s = unless_guarded now s (if is_closed s.connection then NoAnswer else Dropped (Fault fault))
+abbrev pub heard_answer : Result Pdu SafeFault → ℕ → View → Answer
+heard_answer (Ok p) now v = arrive_answer p now v
+heard_answer (Err fault) now v = unless_guarded now v (if is_closed v.connection then NoAnswer else Dropped (Fault fault))
 
 -- what octets read as under the end's own rule of the code
 abbrev pub seen_by : State → List ℕ → Result Pdu SafeFault
@@ -32,4 +33,4 @@ arrive_octets octets now s = move (heard (seen_by s octets) now) s
 
 -- and are answered
 abbrev pub octets_answer : List ℕ → ℕ → State → Answer
-octets_answer octets now s = heard_answer (seen_by s octets) now s
+octets_answer octets now s = heard_answer (seen_by s octets) now (kept_of s)

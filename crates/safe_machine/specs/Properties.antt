@@ -7,8 +7,9 @@ use Rattle.safe_pdu.specs.declared.Kind.TheVariants.{Data}
 use Rattle.safe_pdu.specs.declared.SafeFault.{SafeFault}
 use Rattle.safe_pdu.specs.Pdu.{Pdu}
 use Rattle.safe_machine.specs.declared.ConnectionState.TheVariants.{Up}
-use Rattle.safe_machine.specs.Course.{cs_ahead, cs_in, cts_in, cts_ahead, sn_ahead}
-use Rattle.safe_machine.specs.View.{View, overdue}
+use Rattle.safe_machine.specs.Decision.{cs_fits, cs_step, cts_fits, cts_step, distance}
+use Rattle.safe_machine.specs.Deadlines.{overdue}
+use Rattle.safe_machine.specs.View.{View}
 
 -- how far the index of the peer's next PDU moves in one arrival at most: as far ahead as a number is judged, and one behind it
 abbrev pub index_step : ℕ
@@ -16,7 +17,7 @@ index_step = REACH * WINDOW_MAX + 1
 
 -- the confirmed timestamp of what was read, as this end reads it, is less than its T_max old
 abbrev pub IsRecent : Result Pdu SafeFault → ℕ → View → Type 0
-IsRecent (Ok p) now v = now < v.confirmed_at + cts_ahead v p.cts + v.settings.t_max
+IsRecent (Ok p) now v = now < v.confirmed_at + cts_step v p + v.settings.t_max
 IsRecent (Err fault) now v = ⊥
 
 -- what was handed up, if anything, came so
@@ -31,9 +32,9 @@ pub record IsNextData (read : Result Pdu SafeFault) (p : Pdu) (now : ℕ) (v : V
   pub kind : p.kind ≡ Data
   pub receiver : p.receiver ≡ v.settings.own
   pub sender : p.sender ≡ v.settings.peer
-  pub next : sn_ahead v p.sn ≡ 0
-  pub confirms : cs_in v p.cs ≡ true
-  pub timely : cts_in v p.cts now ≡ true
+  pub next : distance v p ≡ 0
+  pub confirms : cs_fits v p ≡ true
+  pub timely : cts_fits v p now ≡ true
 
 -- The units that stop being unconfirmed are none, or those with numbers up to this one; the others stay, in order, also where they
 -- are numbered anew.
@@ -42,5 +43,5 @@ StopsOnly number v w = (octets_of w.ring ≡ octets_of v.ring) ⊎ (octets_of w.
 
 -- up to the index that the delivered confirmed number stands for; and none, where no PDU was read
 abbrev pub OnlyConfirms : Result Pdu SafeFault → View → View → Type 0
-OnlyConfirms (Ok p) v w = StopsOnly (v.confirmed + cs_ahead v p.cs) v w
+OnlyConfirms (Ok p) v w = StopsOnly (v.confirmed + cs_step v p) v w
 OnlyConfirms (Err fault) v w = octets_of w.ring ≡ octets_of v.ring

@@ -11,7 +11,8 @@ use Rattle.octets.specs.declared.limits.TheConstants.{WINDOW_MAX}
 use Rattle.safe_pdu.specs.declared.Kind.TheVariants.{ConnReq}
 use Rattle.safe_machine.specs.declared.ConnectionState.TheVariants.{Down}
 use Rattle.safe_machine.specs.Made.{opening_body}
-use Rattle.safe_machine.specs.Step.{is_live, may_send, send}
+use Rattle.safe_machine.specs.Step.{may_send, send}
+use Rattle.safe_machine.specs.Connections.{is_live}
 
 -- what arrives has numbers of 32 bits and a body that fits its type, and what is sent has the size of a unit
 abbrev pub IsRead : Move → Type 0

@@ -1,10 +1,12 @@
 -- One end of a connection, and its single moves.
-use Rattle.std.specs.Prelude.{ℕ, ◌+◌, ◌%◌, Bool, true, false, List, [], ◌∷◌, ◌++◌, drop, length, if◌then◌else◌}
+use Rattle.std.specs.Prelude.{ℕ, ◌+◌, ◌%◌, List, [], ◌∷◌, ◌++◌, drop, length, if◌then◌else◌}
 use Rattle.safe_pdu.specs.declared.Kind.{Kind}
 use Rattle.safe_pdu.specs.declared.Kind.TheVariants.{ConnReq, RetrReq, RetrResp, DiscReq, Heartbeat, RetrData}
 use Rattle.safe_machine.specs.declared.ConnectionState.{ConnectionState}
 use Rattle.safe_machine.specs.declared.ConnectionState.TheVariants.{Closed, Down, Start, RetrReq as Requesting}
-use Rattle.safe_machine.specs.Numbers.{wrap, sn_of, ahead}
+use Rattle.safe_machine.specs.Connections.{is_live}
+pub use Rattle.safe_machine.specs.Connections.{is_live as says_goodbye}
+use Rattle.safe_machine.specs.Numbers.{wrap, sn_of}
 use Rattle.safe_pdu.specs.Pdu.{Pdu}
 use Rattle.safe_machine.specs.Made.{Made, opening_body, leaving_body, run_of}
 use Rattle.safe_machine.specs.Settings.{Settings}
@@ -62,22 +64,6 @@ move_to connection s = record s { connection = connection }
 abbrev pub pass : Pdu → ℕ → State → State
 pass p d s = record s { expected = s.expected + d + 1; last_sn = p.sn; last_ts = p.ts }
 
--- how many PDUs a PDU confirms beyond the last one confirmed
-abbrev pub cs_step : State → Pdu → ℕ
-cs_step s p = ahead (sn_of s.first s.confirmed) p.cs
-
--- how far its confirmed timestamp lies behind the time last confirmed, in milliseconds
-abbrev pub cts_step : State → Pdu → ℕ
-cts_step s p = ahead s.confirmed_at p.cts
-
--- the confirmed number moves on
-abbrev pub confirm_units : Pdu → State → State
-confirm_units p s = record s { confirmed = s.confirmed + cs_step s p }
-
--- the confirmed time moves on
-abbrev pub confirm_time : Pdu → State → State
-confirm_time p s = record s { confirmed_at = s.confirmed_at + cts_step s p }
-
 -- the unit goes up
 abbrev pub hand_up : Pdu → State → State
 hand_up p s = record s { taken = s.taken ++ p.body ∷ []; since = s.since + 1 }
@@ -99,16 +85,10 @@ reply now s = make Heartbeat [] now (resend (unconfirmed s) now (make RetrResp [
 abbrev pub ask : ℕ → State → State
 ask now s = move_to Requesting (make RetrReq [] now s)
 
--- leaving: from Down and from Closed nothing is made
-abbrev pub says_goodbye : ConnectionState → Bool
-says_goodbye Closed = false
-says_goodbye Down = false
-says_goodbye _ = true
-
--- a DiscReq, and closed
+-- a DiscReq where there is a connection to leave, and closed
 abbrev pub leave : Reason → Detail → ℕ → State → State
 leave reason detail now s =
-    move_to Closed (if says_goodbye s.connection then make DiscReq (leaving_body reason detail) now s else s)
+    move_to Closed (if is_live s.connection then make DiscReq (leaving_body reason detail) now s else s)
 
 -- an end as it is opened
 abbrev pub fresh : Settings → ℕ → ℕ → ConnectionState → State

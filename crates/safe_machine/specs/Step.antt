@@ -1,23 +1,32 @@
 -- The steps of one end.
-use Rattle.std.specs.Prelude.{ℕ, ◌+◌, ◌&&◌, nat_lt, nat_le, Bool, true, false, List, [], ◌∷◌, length, if◌then◌else◌}
+use Rattle.std.specs.Prelude.{ℕ, ◌+◌, ◌&&◌, nat_lt, nat_le, Bool, List, [], length, if◌then◌else◌}
 use Rattle.safe_pdu.specs.declared.Kind.TheVariants.{ConnResp, DiscReq, Heartbeat, Data}
 use Rattle.safe_machine.specs.declared.ConnectionState.{ConnectionState}
-use Rattle.safe_machine.specs.declared.ConnectionState.TheVariants.{Closed, Down, Start, Up, RetrReq as Requesting, RetrRun}
+use Rattle.safe_machine.specs.declared.ConnectionState.TheVariants.{Closed, Start, Up, RetrRun}
 use Rattle.safe_pdu.specs.Pdu.{Pdu}
 use Rattle.safe_pdu.specs.Bodies.{window_of}
-use Rattle.safe_machine.specs.Made.{Made, opening_body, leaving_body, carries}
-use Rattle.safe_machine.specs.State.{State, unconfirmed, make, move_to, pass, confirm_units, confirm_time, hand_up, note_request, reply, ask, leave}
+use Rattle.safe_machine.specs.Made.{opening_body, leaving_body, carries}
+use Rattle.safe_machine.specs.State.{State, unconfirmed, make, move_to, pass, hand_up, note_request, reply, ask, leave}
 use Rattle.safe_machine.specs.declared.Step.{Step as Answer}
 use Rattle.safe_machine.specs.declared.Step.TheVariants.{Left}
-use Rattle.safe_machine.specs.Decision.{Decision, answer_of, decide, distance, in_turn}
-use Rattle.safe_machine.specs.Decision.Decision.{Nothing, Drops, Shuts, Leaves, Rejects, Accepts, Connects, Takes, Asks, Resumes, AnswersNext, AnswersEarly}
-use Rattle.safe_machine.specs.declared.Reason.TheVariants.{Timeout, WrongVersion, ProtocolError}
-use Rattle.safe_machine.specs.declared.Detail.TheVariants.{Unspecified, Limit}
+use Rattle.safe_machine.specs.declared.decision.Decision.{Decision}
+use Rattle.safe_machine.specs.Connections.{in_turn}
+pub use Rattle.safe_machine.specs.Connections.{is_live, is_connected}
+use Rattle.safe_machine.specs.View.{View, kept_of}
+use Rattle.safe_machine.specs.Decision.{answer_of, cs_step, cts_step, decide, distance}
+use Rattle.safe_machine.specs.Deadlines.{beat_due, by_guard}
+pub use Rattle.safe_machine.specs.Made.{last_time}
+use Rattle.safe_machine.specs.declared.decision.Decision.TheVariants.{Nothing, Drops, Shuts, Leaves, Rejects, Accepts, Connects, Takes, Asks, Resumes, AnswersNext, AnswersEarly}
+use Rattle.safe_machine.specs.declared.Reason.TheVariants.{WrongVersion}
+use Rattle.safe_machine.specs.declared.Detail.TheVariants.{Unspecified}
 
--- the time of the last PDU made
-abbrev pub last_time : List Made → ℕ → ℕ
-last_time [] time = time
-last_time (m ∷ ms) time = last_time ms m.time
+-- the confirmed number moves on
+abbrev pub confirm_units : Pdu → State → State
+confirm_units p s = record s { confirmed = s.confirmed + cs_step (kept_of s) p }
+
+-- the confirmed time moves on
+abbrev pub confirm_time : Pdu → State → State
+confirm_time p s = record s { confirmed_at = s.confirmed_at + cts_step (kept_of s) p }
 
 -- the peer's window is known
 abbrev pub set_window : ℕ → State → State
@@ -39,6 +48,10 @@ take_unit p now s = if carries p.kind then beat now (hand_up p s) else s
 abbrev pub tests_passed : Pdu → State → State
 tests_passed p s = confirm_time p (confirm_units p s)
 
+-- what is done first with a RetrReq that is not the next PDU
+abbrev pub answered_ahead : Pdu → ℕ → State → State
+answered_ahead p now s = reply now (note_request (distance (kept_of s) p) (confirm_units p s))
+
 -- what an end does by its decision
 abbrev pub carry_out : Pdu → ℕ → Decision → State → State
 carry_out p now Nothing s = s
@@ -53,67 +66,49 @@ carry_out p now Connects s =
     move_to Up (make Heartbeat [] now (set_window (window_of p.body) (pass p 0 (tests_passed p s))))
 carry_out p now (Takes connection) s = take_unit p now (move_to connection (pass p 0 (tests_passed p s)))
 carry_out p now Asks s = ask now s
-carry_out p now Resumes s = move_to RetrRun (pass p (distance s p) (tests_passed p s))
+carry_out p now Resumes s = move_to RetrRun (pass p (distance (kept_of s) p) (tests_passed p s))
 carry_out p now AnswersNext s = reply now (pass p 0 (note_request 0 (tests_passed p s)))
 carry_out p now AnswersEarly s =
-    let t = reply now (note_request (distance s p) (confirm_units p s)) in
-    if in_turn s.connection then ask now t else t
-
--- the states with a connection, or asking for one
-abbrev pub is_live : ConnectionState → Bool
-is_live Closed = false
-is_live Down = false
-is_live _ = true
+    if in_turn s.connection then ask now (answered_ahead p now s) else answered_ahead p now s
 
 -- the deadline, then the limit
 abbrev pub guard : ℕ → State → State
-guard now s =
-    if is_live s.connection
-    then (if nat_le (s.confirmed_at + s.settings.t_max) now then leave Timeout Unspecified now s
-    else if nat_le s.settings.pdu_limit (length s.made) then leave ProtocolError Limit now s
-    else s)
-    else s
+guard now s = by_guard now (kept_of s) (λ reason detail. leave reason detail now s) s
 
 -- an arrival behind the guard
 abbrev pub receive : Pdu → ℕ → State → State
-receive p now s = carry_out p now (decide s p now) s
+receive p now s = carry_out p now (decide (kept_of s) p now) s
 
 -- an arrival
 abbrev pub arrive : Pdu → ℕ → State → State
 arrive p now s = receive p now (guard now s)
 
 -- an answer, unless the guard leaves
-abbrev pub unless_guarded : ℕ → State → Answer → Answer
-unless_guarded now s answer =
-    if is_live s.connection
-    then (if nat_le (s.confirmed_at + s.settings.t_max) now then Left Timeout Unspecified
-    else if nat_le s.settings.pdu_limit (length s.made) then Left ProtocolError Limit
-    else answer)
-    else answer
+abbrev pub unless_guarded : ℕ → View → Answer → Answer
+unless_guarded now v answer = by_guard now v Left answer
 
 -- how an arrival is answered
-abbrev pub arrive_answer : Pdu → ℕ → State → Answer
-arrive_answer p now s = unless_guarded now s (answer_of (decide s p now))
+abbrev pub arrive_answer : Pdu → ℕ → View → Answer
+arrive_answer p now v = unless_guarded now v (answer_of (decide v p now))
 
--- the states in which heartbeats are due
-abbrev pub is_connected : ConnectionState → Bool
-is_connected Up = true
-is_connected Requesting = true
-is_connected RetrRun = true
-is_connected _ = false
-
--- a heartbeat, T_h after the last sending
+-- a heartbeat where one is due by time
 abbrev pub heartbeat : ℕ → State → State
-heartbeat now s =
-    if is_connected s.connection && nat_le (last_time s.made 0 + s.settings.t_h) now then make Heartbeat [] now s else s
+heartbeat now s = if beat_due now (kept_of s) then make Heartbeat [] now s else s
 
 -- time passes
 abbrev pub tick : ℕ → State → State
 tick now s = heartbeat now (guard now s)
 
--- units go out while the peer's window is open
+-- units go out in turn while the peer's window is open, where so many await their confirmation
+abbrev pub is_open : ConnectionState → (awaiting window : ℕ) → Bool
+is_open connection awaiting window = in_turn connection && nat_lt awaiting window
+
 abbrev pub may_send : State → Bool
-may_send s = in_turn s.connection && nat_lt (length (unconfirmed s)) s.window
+may_send s = is_open s.connection (length (unconfirmed s)) s.window
+
+-- the same of what an end keeps
+abbrev pub has_room : View → Bool
+has_room v = is_open v.connection (length v.ring) v.window
 
 -- a unit goes out
 abbrev pub send : List ℕ → ℕ → State → State

@@ -4,17 +4,9 @@ use Rattle.safe_pdu.specs.declared.Kind.{Kind}
 use Rattle.safe_pdu.specs.declared.Kind.TheVariants.{RetrReq, RetrResp, Heartbeat, Data, RetrData}
 use Rattle.safe_machine.specs.declared.ConnectionState.{ConnectionState}
 use Rattle.safe_machine.specs.declared.ConnectionState.TheVariants.{Start, Up, RetrReq as Requesting, RetrRun}
-use Rattle.safe_machine.specs.declared.Reason.{Reason}
+use Rattle.safe_machine.specs.declared.table.Cell.{Cell}
+use Rattle.safe_machine.specs.declared.table.Cell.TheVariants.{Take, Ask, Answer, Resume, Refuse, Skip}
 use Rattle.safe_machine.specs.declared.Reason.TheVariants.{UnexpectedPdu, SequenceError}
-
--- What a cell of the table says.
-pub data Cell : Type 0 where
-  Take : ConnectionState → Cell  -- take it, and be in that state
-  Ask : Cell  -- ask for retransmission
-  Answer : Cell  -- answer a request for retransmission
-  Resume : Cell  -- the answer to the own request
-  Refuse : Reason → Cell  -- leave with that reason
-  Skip : Cell  -- drop it
 
 -- the rows; the flag says that the PDU is the next one
 abbrev pub start_row : Bool → Kind → Cell

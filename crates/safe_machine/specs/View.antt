@@ -1,27 +1,20 @@
 -- What a machine keeps of a state: each list as its count, and the unconfirmed units.
-use Rattle.std.specs.Prelude.{◌≡◌, ℕ, ◌+◌, ◌&&◌, nat_lt, nat_le, if◌then◌else◌, Bool, true, false, Option, Some, None, List, ◌++◌, length, drop, map, All, ◌<◌}
+use Rattle.std.specs.Prelude.{◌≡◌, ℕ, Bool, true, false, List, ◌++◌, length, drop, map, All, ◌<◌}
 use Rattle.std.specs.List.{FoldsTo}
 use Rattle.octets.specs.declared.limits.TheConstants.{WINDOW_MAX}
 use Rattle.retrans.specs.Units.{Numbered}
 use Rattle.safe_pdu.specs.declared.Kind.{Kind}
 use Rattle.safe_pdu.specs.declared.Kind.TheVariants.{RetrResp, Data, RetrData}
 use Rattle.safe_pdu.specs.declared.CodeRule.{CodeRule}
-use Rattle.safe_pdu.specs.Pdu.{Pdu}
 use Rattle.safe_pdu.specs.Bodies.{IsBody}
 use Rattle.safe_pdu.specs.SafeText.{safe_text}
 use Rattle.safe_machine.specs.declared.ConnectionState.{ConnectionState}
 use Rattle.safe_machine.specs.declared.Role.{Role}
 use Rattle.safe_machine.specs.declared.Role.TheVariants.{Client, Server}
 use Rattle.safe_machine.specs.declared.MachineConfig.{MachineConfig}
-use Rattle.safe_machine.specs.Made.{Made}
+use Rattle.safe_machine.specs.Made.{Made, last_time}
 use Rattle.safe_machine.specs.Settings.{Settings}
-use Rattle.safe_machine.specs.State.{State, reply, note_request, confirm_units}
-use Rattle.safe_machine.specs.Step.{last_time, is_live, is_connected}
-use Rattle.safe_machine.specs.Decision.{in_turn, distance}
-use Rattle.safe_machine.specs.declared.Reason.{Reason}
-use Rattle.safe_machine.specs.declared.Reason.TheVariants.{Timeout, ProtocolError}
-use Rattle.safe_machine.specs.declared.Detail.{Detail}
-use Rattle.safe_machine.specs.declared.Detail.TheVariants.{Unspecified, Limit}
+use Rattle.safe_machine.specs.State.{State}
 use Rattle.safe_machine.specs.Ring.{ring_of}
 
 -- the settings of an end in a role
@@ -82,9 +75,13 @@ beside ring s =
       room = WINDOW_MAX;
     }
 
+-- what is kept of a state
+abbrev pub kept_of : State → View
+kept_of s = beside (ring_of s) s
+
 -- The value stands for the state: each field is what the state computes to.
 abbrev pub StandsFor : View → State → Type 0
-StandsFor m s = m ≡ beside (ring_of s) s
+StandsFor m s = m ≡ kept_of s
 
 -- the texts of PDUs made
 abbrev pub texts : CodeRule → List Made → List (List ℕ)
@@ -113,23 +110,6 @@ leaves_units Data = false
 leaves_units RetrData = false
 leaves_units _ = true
 
--- why the guard leaves, if it does
-abbrev pub overdue : ℕ → View → Option (Reason × Detail)
-overdue now v =
-    if is_live v.connection
-    then (if nat_le (v.confirmed_at + v.settings.t_max) now then Some (Timeout, Unspecified)
-    else if nat_le v.settings.pdu_limit v.made then Some (ProtocolError, Limit)
-    else None)
-    else None
-
--- a heartbeat is due by time
-abbrev pub beat_due : ℕ → View → Bool
-beat_due now v = is_connected v.connection && nat_le (v.last_made + v.settings.t_h) now
-
--- a unit may be sent
-abbrev pub has_room : View → Bool
-has_room v = in_turn v.connection && nat_lt (length v.ring) v.window
-
 -- the same of a change that makes nothing
 abbrev pub Turns : (State → State) → View → View → Type 0
 Turns step m n = (s : State) → StandsFor m s → StandsFor n (step s)
@@ -141,10 +121,6 @@ AllBelow number units = All (λ (u : Numbered). u.number < number) units
 -- each with the octets of a unit
 abbrev pub AllUnits : List Numbered → Type 0
 AllUnits units = All (λ (u : Numbered). IsBody RetrData u.octets) units
-
--- what is done first with a RetrReq that is not the next PDU
-abbrev pub answered_ahead : Pdu → ℕ → State → State
-answered_ahead p now s = reply now (note_request (distance s p) (confirm_units p s))
 
 -- The units that were taken between two states were handed up, in order.
 abbrev pub HandsUp : {U : Type 0} → (U → List ℕ → U → Type 0) → U → State → State → U → Type 0

@@ -9,19 +9,19 @@ ghost use Rattle.safe_pdu.specs.SafeText.{safe_text};
 ghost use Rattle.safe_pdu.specs.Bodies.{IsBody, window_of};
 ghost use Rattle.safe_machine.specs.Made.{carries, opening_body};
 ghost use Rattle.safe_machine.specs.State.{State, ask, make, next_made, note_request, pass, reply, resend};
-ghost use Rattle.safe_machine.specs.Decision.{Decision, answer_of, decide};
+ghost use Rattle.safe_machine.specs.Decision.{answer_of, decide, cs_step, cts_step, distance};
 ghost use Rattle.safe_machine.specs.Moves.{IsUnitSized};
-ghost use Rattle.safe_machine.specs.Octets.{arrive_octets, heard_answer, octets_answer};
+ghost use Rattle.safe_machine.specs.Octets.{arrive_octets, heard_answer};
 ghost use Rattle.safe_machine.specs.Properties.{HandsIf, IsNextData, IsRecent, OnlyConfirms, index_step};
 ghost use Rattle.safe_machine.specs.Reached.{IsReached, Known, Sound};
 ghost use Rattle.safe_machine.specs.declared.ConnectionState.TheVariants.{Up};
 ghost use Rattle.safe_pdu.specs.Places.{safe_seen};
-ghost use Rattle.safe_machine.specs.Decision.Decision.{Accepts, AnswersEarly, AnswersNext, Asks, Connects, Rejects, Resumes, Takes};
-ghost use Rattle.safe_machine.specs.Step.{arrive, arrive_answer, beat, carry_out, guard, receive, send, take_unit, set_window, tests_passed};
-ghost use Rattle.safe_machine.specs.Course.{Allows, cs_ahead, handed_by, meaning, cts_ahead, carried, sn_ahead};
-ghost use Rattle.safe_machine.specs.View.{AllBelow, AllUnits, Does, Hands, HandsOut, HandsUp, StandsFor, Turns, answered_ahead, beside, has_room, leaves_units};
+ghost use Rattle.safe_machine.specs.declared.decision.Decision.TheVariants.{Accepts, AnswersEarly, AnswersNext, Asks, Connects, Rejects, Resumes, Takes};
+ghost use Rattle.safe_machine.specs.Step.{arrive, arrive_answer, beat, carry_out, guard, receive, send, take_unit, set_window, tests_passed, answered_ahead, has_room};
+ghost use Rattle.safe_machine.specs.View.{AllBelow, AllUnits, Does, Hands, HandsUp, StandsFor, Turns, beside, leaves_units};
+ghost use Rattle.safe_machine.specs.Allows.{Allows, handed_by, carried};
 
-use super::decisions::Course;
+use super::decision::Decision;
 use super::endpoint::{Endpoint, opening_octets};
 use super::{ConnectionState, Detail, DropCause, PduOut, Reason, Step, Unit, UnitIn};
 use octets::limits::UNIT_MAX;
@@ -87,10 +87,10 @@ impl<A: Allocator> Endpoint<A> {
     /// Counts as confirmed what a PDU confirms.
     fn confirm_units(&mut self, pdu: &SafePdu<'_>)
         requires few { self.old.made < 2 ^ 40 }
-        requires fits { cs_ahead self.old pdu.now.cs < self.old.made - self.old.confirmed }
+        requires fits { cs_step self.old (pdu_of pdu.now) < self.old.made - self.old.confirmed }
         ensures left { self.new ≡ record self.old {
-          confirmed = self.old.confirmed + cs_ahead self.old pdu.now.cs;
-          ring = above (self.old.confirmed + cs_ahead self.old pdu.now.cs) self.old.ring;
+          confirmed = self.old.confirmed + cs_step self.old (pdu_of pdu.now);
+          ring = above (self.old.confirmed + cs_step self.old (pdu_of pdu.now)) self.old.ring;
         } }
     {
         let step = self.cs_step(pdu);
@@ -100,8 +100,8 @@ impl<A: Allocator> Endpoint<A> {
 
     /// Moves on the own time last confirmed.
     fn confirm_time(&mut self, pdu: &SafePdu<'_>, now: u64)
-        requires fits { cts_ahead self.old pdu.now.cts ≤ now - self.old.confirmed_at }
-        ensures left { self.new ≡ record self.old { confirmed_at = self.old.confirmed_at + cts_ahead self.old pdu.now.cts } }
+        requires fits { cts_step self.old (pdu_of pdu.now) ≤ now - self.old.confirmed_at }
+        ensures left { self.new ≡ record self.old { confirmed_at = self.old.confirmed_at + cts_step self.old (pdu_of pdu.now) } }
     {
         let step = self.cts_step(pdu);
         self.confirmed_at += u64::from(step);
@@ -140,12 +140,12 @@ impl<A: Allocator> Endpoint<A> {
     /// Counts what a PDU that passed both tests confirms.
     fn tests_passed(&mut self, pdu: &SafePdu<'_>, now: u64)
         requires few { self.old.made < 2 ^ 40 }
-        requires number { cs_ahead self.old pdu.now.cs < self.old.made - self.old.confirmed }
-        requires time { cts_ahead self.old pdu.now.cts ≤ now - self.old.confirmed_at }
+        requires number { cs_step self.old (pdu_of pdu.now) < self.old.made - self.old.confirmed }
+        requires time { cts_step self.old (pdu_of pdu.now) ≤ now - self.old.confirmed_at }
         ensures left { self.new ≡ record self.old {
-          confirmed = self.old.confirmed + cs_ahead self.old pdu.now.cs;
-          ring = above (self.old.confirmed + cs_ahead self.old pdu.now.cs) self.old.ring;
-          confirmed_at = self.old.confirmed_at + cts_ahead self.old pdu.now.cts;
+          confirmed = self.old.confirmed + cs_step self.old (pdu_of pdu.now);
+          ring = above (self.old.confirmed + cs_step self.old (pdu_of pdu.now)) self.old.ring;
+          confirmed_at = self.old.confirmed_at + cts_step self.old (pdu_of pdu.now);
         } }
     {
         self.confirm_units(pdu);
@@ -168,8 +168,8 @@ impl<A: Allocator> Endpoint<A> {
         requires body { IsBody Kind.ConnReq pdu.now.body.now }
         requires few { self.old.made < 2 ^ 39 }
         requires reach { self.old.expected < 2 ^ 62 }
-        requires number { cs_ahead self.old pdu.now.cs < self.old.made - self.old.confirmed }
-        requires time { cts_ahead self.old pdu.now.cts ≤ now - self.old.confirmed_at }
+        requires number { cs_step self.old (pdu_of pdu.now) < self.old.made - self.old.confirmed }
+        requires time { cts_step self.old (pdu_of pdu.now) ≤ now - self.old.confirmed_at }
         ensures does { Does O.makes (carry_out (pdu_of pdu.now) now Connects) self.old out.old self.new out.new }
     {
         self.tests_passed(pdu, now);
@@ -192,8 +192,8 @@ impl<A: Allocator> Endpoint<A> {
     pub(crate) fn resumes(&mut self, pdu: &SafePdu<'_>, now: u64)
         requires few { self.old.made < 2 ^ 39 }
         requires reach { self.old.expected < 2 ^ 62 }
-        requires number { cs_ahead self.old pdu.now.cs < self.old.made - self.old.confirmed }
-        requires time { cts_ahead self.old pdu.now.cts ≤ now - self.old.confirmed_at }
+        requires number { cs_step self.old (pdu_of pdu.now) < self.old.made - self.old.confirmed }
+        requires time { cts_step self.old (pdu_of pdu.now) ≤ now - self.old.confirmed_at }
         ensures turns { Turns (carry_out (pdu_of pdu.now) now Resumes) self.old self.new }
     {
         let distance = self.distance(pdu);
@@ -254,8 +254,8 @@ impl<A: Allocator> Endpoint<A> {
         requires few { self.old.made < 2 ^ 39 }
         requires since { self.old.since < 2 ^ 40 }
         requires reach { self.old.expected < 2 ^ 62 }
-        requires number { cs_ahead self.old pdu.now.cs < self.old.made - self.old.confirmed }
-        requires time { cts_ahead self.old pdu.now.cts ≤ now - self.old.confirmed_at }
+        requires number { cs_step self.old (pdu_of pdu.now) < self.old.made - self.old.confirmed }
+        requires time { cts_step self.old (pdu_of pdu.now) ≤ now - self.old.confirmed_at }
         requires ready { U.ready units.old }
         ensures does { Does O.makes (carry_out (pdu_of pdu.now) now (Takes connection)) self.old out.old self.new out.new }
         ensures taken { FoldsTo U.takes units.old (carried (pdu_of pdu.now)) units.new }
@@ -334,8 +334,8 @@ impl<A: Allocator> Endpoint<A> {
         requires reach { self.old.expected < 2 ^ 62 }
         requires short { length self.old.ring ≤ WINDOW_MAX }
         requires sized { AllUnits self.old.ring }
-        requires number { cs_ahead self.old pdu.now.cs < self.old.made - self.old.confirmed }
-        requires time { cts_ahead self.old pdu.now.cts ≤ now - self.old.confirmed_at }
+        requires number { cs_step self.old (pdu_of pdu.now) < self.old.made - self.old.confirmed }
+        requires time { cts_step self.old (pdu_of pdu.now) ≤ now - self.old.confirmed_at }
         ensures does { Does O.makes (carry_out (pdu_of pdu.now) now AnswersNext) self.old out.old self.new out.new }
     {
         self.tests_passed(pdu, now);
@@ -350,7 +350,7 @@ impl<A: Allocator> Endpoint<A> {
         requires reach { self.old.expected < 2 ^ 62 }
         requires short { length self.old.ring ≤ WINDOW_MAX }
         requires sized { AllUnits self.old.ring }
-        requires number { cs_ahead self.old pdu.now.cs < self.old.made - self.old.confirmed }
+        requires number { cs_step self.old (pdu_of pdu.now) < self.old.made - self.old.confirmed }
         ensures does { Does O.makes (answered_ahead (pdu_of pdu.now) now) self.old out.old self.new out.new }
         ensures few { self.new.made < 2 ^ 40 }
     {
@@ -366,7 +366,7 @@ impl<A: Allocator> Endpoint<A> {
         requires reach { self.old.expected < 2 ^ 62 }
         requires short { length self.old.ring ≤ WINDOW_MAX }
         requires sized { AllUnits self.old.ring }
-        requires number { cs_ahead self.old pdu.now.cs < self.old.made - self.old.confirmed }
+        requires number { cs_step self.old (pdu_of pdu.now) < self.old.made - self.old.confirmed }
         ensures does { Does O.makes (carry_out (pdu_of pdu.now) now AnswersEarly) self.old out.old self.new out.new }
     {
         let misses = self.connection.in_turn();
@@ -415,7 +415,7 @@ impl<A: Allocator> Endpoint<A> {
     /// Does what was decided.
     fn carry_out<O: PduOut, U: UnitIn>(
         &mut self,
-        course: Course,
+        decision: Decision,
         pdu: &SafePdu<'_>,
         now: u64,
         out: &mut O,
@@ -423,24 +423,24 @@ impl<A: Allocator> Endpoint<A> {
     )
         requires sound { Sound self.old }
         requires reach { self.old.expected < 2 ^ 62 }
-        requires allows { Allows self.old (pdu_of pdu.now) now (meaning course) }
+        requires allows { Allows self.old (pdu_of pdu.now) now decision }
         requires ready { U.ready units.old }
-        ensures does { Does O.makes (carry_out (pdu_of pdu.now) now (meaning course)) self.old out.old self.new out.new }
-        ensures taken { FoldsTo U.takes units.old (handed_by (meaning course) (pdu_of pdu.now)) units.new }
+        ensures does { Does O.makes (carry_out (pdu_of pdu.now) now decision) self.old out.old self.new out.new }
+        ensures taken { FoldsTo U.takes units.old (handed_by decision (pdu_of pdu.now)) units.new }
         ensures ready { U.ready units.new }
     {
-        match course {
-            Course::Nothing | Course::Drops(_) => {}
-            Course::Shuts => self.move_to(ConnectionState::Closed),
-            Course::Leaves(reason, detail) => self.leave(reason, detail, now, out),
-            Course::Rejects => self.rejects(pdu, now, out),
-            Course::Accepts => self.accepts(pdu, now, out),
-            Course::Connects => self.connects(pdu, now, out),
-            Course::Takes(connection) => self.takes(pdu, now, connection, out, units),
-            Course::Asks => self.asks(now, out),
-            Course::Resumes => self.resumes(pdu, now),
-            Course::AnswersNext => self.answers_next(pdu, now, out),
-            Course::AnswersEarly => self.answers_early(pdu, now, out),
+        match decision {
+            Decision::Nothing | Decision::Drops(_) => {}
+            Decision::Shuts => self.move_to(ConnectionState::Closed),
+            Decision::Leaves(reason, detail) => self.leave(reason, detail, now, out),
+            Decision::Rejects => self.rejects(pdu, now, out),
+            Decision::Accepts => self.accepts(pdu, now, out),
+            Decision::Connects => self.connects(pdu, now, out),
+            Decision::Takes(connection) => self.takes(pdu, now, connection, out, units),
+            Decision::Asks => self.asks(now, out),
+            Decision::Resumes => self.resumes(pdu, now),
+            Decision::AnswersNext => self.answers_next(pdu, now, out),
+            Decision::AnswersEarly => self.answers_early(pdu, now, out),
         }
     }
 
@@ -458,13 +458,13 @@ impl<A: Allocator> Endpoint<A> {
         requires known { Known self.old }
         requires ready { U.ready units.old }
         ensures does { Does O.makes (receive (pdu_of pdu.now) now) self.old out.old self.new out.new }
-        ensures taken { (s : State) → StandsFor self.old s → HandsUp U.takes units.old s (receive (pdu_of pdu.now) now s) units.new }
-        ensures answer { (s : State) → StandsFor self.old s → result ≡ answer_of (decide s (pdu_of pdu.now) now) }
+        ensures taken { FoldsTo U.takes units.old (handed_by (decide self.old (pdu_of pdu.now) now) (pdu_of pdu.now)) units.new }
+        ensures answer { result ≡ answer_of (decide self.old (pdu_of pdu.now) now) }
         ensures ready { U.ready units.new }
     {
-        let course = self.decide(pdu, now);
-        self.carry_out(course, pdu, now, out, units);
-        course.answer()
+        let decision = self.decide(pdu, now);
+        self.carry_out(decision, pdu, now, out, units);
+        decision.answer()
     }
 
     /// The guard, and then what a PDU brings.
@@ -482,7 +482,7 @@ impl<A: Allocator> Endpoint<A> {
         requires ready { U.ready units.old }
         ensures does { Does O.makes (arrive (pdu_of pdu.now) now) self.old out.old self.new out.new }
         ensures taken { (s : State) → StandsFor self.old s → HandsUp U.takes units.old s (arrive (pdu_of pdu.now) now s) units.new }
-        ensures answer { (s : State) → StandsFor self.old s → result ≡ arrive_answer (pdu_of pdu.now) now s }
+        ensures answer { result ≡ arrive_answer (pdu_of pdu.now) now self.old }
         ensures ready { U.ready units.new }
     {
         if let Some((reason, detail)) = self.overdue(now) {
@@ -501,10 +501,10 @@ impl<A: Allocator> Endpoint<A> {
     ) -> Step
         requires few { self.old.made < 2 ^ 40 }
         ensures does { Does O.makes (guard now) self.old out.old self.new out.new }
-        ensures answer { (s : State) → StandsFor self.old s → result ≡ heard_answer (Err fault) now s }
+        ensures answer { result ≡ heard_answer (Err fault) now self.old }
     {
-        let course = self.overdue(now);
-        if let Some((reason, detail)) = course {
+        let leaving = self.overdue(now);
+        if let Some((reason, detail)) = leaving {
             self.leave(reason, detail, now, out);
             return Step::Left(reason, detail);
         }
@@ -525,10 +525,9 @@ impl<A: Allocator> Endpoint<A> {
         requires reached { IsReached self.old }
         requires reach { self.old.expected < 2 ^ 62 }
         requires ready { U.ready units.old }
-        ensures stands { (s : State) → StandsFor self.old s → StandsFor self.new (arrive_octets octets.now now s) }
-        ensures made { (s : State) → StandsFor self.old s → HandsOut O.makes out.old s (arrive_octets octets.now now s) out.new }
+        ensures does { Does O.makes (arrive_octets octets.now now) self.old out.old self.new out.new }
         ensures taken { (s : State) → StandsFor self.old s → HandsUp U.takes units.old s (arrive_octets octets.now now s) units.new }
-        ensures answer { (s : State) → StandsFor self.old s → result ≡ octets_answer octets.now now s }
+        ensures answer { result ≡ heard_answer (safe_seen self.old.settings.rule octets.now) now self.old }
         ensures reached { IsReached self.new }
         ensures near { self.new.expected ≤ self.old.expected + index_step }
         ensures confirms { OnlyConfirms (safe_seen self.old.settings.rule octets.now) self.old self.new }
@@ -545,17 +544,17 @@ impl<A: Allocator> Endpoint<A> {
     }
 }
 
-impl Course {
+impl Decision {
     /// What a decision is told as.
     fn answer(self) -> Step
-        ensures { result ≡ answer_of (meaning self) }
+        ensures { result ≡ answer_of self }
     {
         match self {
-            Course::Nothing | Course::Shuts => Step::Nothing,
-            Course::Drops(cause) => Step::Dropped(cause),
-            Course::Leaves(reason, detail) => Step::Left(reason, detail),
-            Course::Rejects => Step::Left(Reason::WrongVersion, Detail::Unspecified),
-            Course::Asks => Step::Gap,
+            Decision::Nothing | Decision::Shuts => Step::Nothing,
+            Decision::Drops(cause) => Step::Dropped(cause),
+            Decision::Leaves(reason, detail) => Step::Left(reason, detail),
+            Decision::Rejects => Step::Left(Reason::WrongVersion, Detail::Unspecified),
+            Decision::Asks => Step::Gap,
             _ => Step::Taken,
         }
     }

@@ -10,11 +10,11 @@ ghost use Rattle.safe_pdu.specs.Bodies.{IsBody};
 ghost use Rattle.safe_pdu.specs.SafeText.{safe_text};
 ghost use Rattle.safe_machine.specs.Numbers.{sn_of};
 ghost use Rattle.safe_machine.specs.Made.{leaving_body, opening_body};
-ghost use Rattle.safe_machine.specs.State.{State, fresh, next_made, make, leave, opened, says_goodbye};
-ghost use Rattle.safe_machine.specs.Decision.{in_turn};
-ghost use Rattle.safe_machine.specs.Step.{guard, heartbeat, is_connected, is_live, may_send, tick};
-ghost use Rattle.safe_machine.specs.Deadlines.{deadline_of, timeout_of};
-ghost use Rattle.safe_machine.specs.View.{Does, StandsFor, beat_due, beside, has_room, leaves_units, overdue, settings_of, texts};
+ghost use Rattle.safe_machine.specs.State.{State, fresh, next_made, make, leave, opened};
+ghost use Rattle.safe_machine.specs.Step.{guard, heartbeat, may_send, tick, has_room};
+ghost use Rattle.safe_machine.specs.Deadlines.{deadline_of, timeout_of, beat_due, overdue};
+ghost use Rattle.safe_machine.specs.View.{Does, StandsFor, beside, leaves_units, settings_of, texts};
+ghost use Rattle.safe_machine.specs.Connections.{is_live, in_turn, is_connected};
 
 use super::{ConnectionState, Detail, MachineConfig, PduOut, Reason, Role};
 use octets::limits::{
@@ -312,7 +312,7 @@ impl<A: Allocator> Endpoint<A> {
         self.has_room()
     }
 
-    /// Whether units are taken in turn, and the peer's window is open.
+    /// Whether units go out in turn, and the peer's window is open.
     fn has_room(&self) -> bool
         ensures { result ≡ has_room self.now }
     {
@@ -461,8 +461,7 @@ impl MachineConfig {
 impl ConnectionState {
     /// An end in this state has made something, and its deadlines run.
     pub(crate) fn is_live(self) -> bool
-        ensures live { result ≡ is_live self }
-        ensures says { result ≡ says_goodbye self }
+        ensures { result ≡ is_live self }
     {
         !matches!(self, ConnectionState::Closed | ConnectionState::Down)
     }

@@ -8,10 +8,11 @@ ghost use Rattle.std.specs.Prelude.{◌≡◌};
 ghost use Rattle.safe_machine.specs.Leaving.{detail_number, reason_number};
 
 mod branches;
-mod decisions;
+mod decision;
 mod endpoint;
 mod law;
 mod machine;
+mod table;
 
 pub use law::unit_law;
 pub use machine::{Machine, PduOut, UnitIn};

@@ -5,7 +5,6 @@ ghost use Rattle.std.specs.List.{FoldsTo};
 ghost use Rattle.octets.specs.declared.limits.TheConstants.{WINDOW_MAX};
 ghost use Rattle.safe_machine.specs.Settings.{is_legal};
 ghost use Rattle.safe_machine.specs.State.{State, leave, opened, unconfirmed};
-ghost use Rattle.safe_machine.specs.Decision.{in_turn};
 ghost use Rattle.safe_machine.specs.Step.{guard, may_send, send, tick};
 ghost use Rattle.safe_machine.specs.Octets.{arrive_octets, octets_answer};
 ghost use Rattle.safe_machine.specs.Moves.{IsUnitSized};
@@ -18,6 +17,7 @@ ghost use Rattle.safe_machine.specs.declared.ConnectionState.TheVariants.{Up};
 ghost use Rattle.safe_machine.specs.Deadlines.{IsBefore, IsReachedAt};
 ghost use Rattle.safe_machine.specs.Reached.{Known};
 ghost use Rattle.safe_machine.specs.View.{HandsOut, HandsUp, StandsFor, settings_of, texts};
+ghost use Rattle.safe_machine.specs.Connections.{in_turn};
 
 use super::endpoint::{Endpoint, begin};
 use super::{

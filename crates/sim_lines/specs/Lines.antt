@@ -1,25 +1,12 @@
 -- The lines of what ends take, refuse and are.
-use Rattle.std.specs.Prelude.{ℕ, List, [], ◌∷◌, ◌++◌, codes, Option, Some, None}
+use Rattle.std.specs.Prelude.{ℕ, List, [], ◌∷◌, codes, Option, Some, None}
 use Rattle.std.specs.Fmt.{decimal}
 use Rattle.std.specs.Int.{w16, to_be_bytes}
 use Rattle.hex.specs.Hex.{encode_lower}
 use Rattle.end_settings.specs.declared.Side.{Side}
+use Rattle.pdu_text.specs.Lines.{joined, octets_text}
 use Rattle.sim_lines.specs.Names.{side_name, state_name, phase_name}
 use Rattle.sim_lines.specs.declared.lines.Standing.{Standing}
-
--- the pieces, one after the other
-abbrev pub joined : List (List ℕ) → List ℕ
-joined [] = []
-joined (piece ∷ pieces) = piece ++ joined pieces
-
--- an octet in two hex digits of lower case
-abbrev pub octet_text : ℕ → List ℕ
-octet_text octet = encode_lower (octet ∷ [])
-
--- octets in hex digits, and a dash for none
-abbrev pub octets_text : List ℕ → List ℕ
-octets_text [] = codes "-"
-octets_text (octet ∷ octets) = encode_lower (octet ∷ octets)
 
 -- END takes KIND HEX
 abbrev pub take_line : Side → ℕ → List ℕ → List ℕ

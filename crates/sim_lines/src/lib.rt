@@ -15,9 +15,7 @@ mod words;
 pub use fault::{LineFault, ScriptFault, SimStatus};
 pub use label::Label;
 pub use line::{Command, ZEROS_MAX, read_line};
-pub use lines::{
-    Standing, write_hex, write_octets, write_refusal, write_report, write_take, write_text,
-};
+pub use lines::{Standing, write_refusal, write_report, write_take};
 pub use names::{phase_name, red_cause, side_letter, side_name, state_name, step_cause};
 pub use settings::{Key, ScriptSettings, Setting};
 pub use sides::{Sides, other};

@@ -2,12 +2,12 @@
 
 ghost use Rattle.std.specs.Prelude.{◌≡◌, OnOk};
 ghost use Rattle.std.specs.Io.KnownBytes.{Appends};
-ghost use Rattle.hex.specs.Hex.{encode_lower};
 ghost use Rattle.sim_lines.specs.Lines as lines;
 
 use crate::names::{phase_name, side_name, state_name};
 use end_settings::Side;
 use pdi_session::Phase;
+use pdu_text::{write_hex, write_octets, write_text};
 use safe_machine::ConnectionState;
 use std::io;
 use std::io::Write;
@@ -72,39 +72,4 @@ fn write_none<W: Write>(writer: &mut W, side: &str) -> io::Result<()>
     ensures { OnOk result (Appends (W.contents writer.old) (W.contents writer.new) (lines.none_line side.now)) }
 {
     writeln!(writer, "{side} none")
-}
-
-/// Writes octets in hex digits, and a dash for none.
-pub fn write_octets<W: Write>(writer: &mut W, octets: &[u8]) -> io::Result<()>
-    ensures { OnOk result (Appends (W.contents writer.old) (W.contents writer.new) (lines.octets_text octets.now)) }
-{
-    match octets {
-        [] => write_text(writer, "-"),
-        octets => write_hex(writer, octets),
-    }
-}
-
-/// Writes octets in hex digits of lower case, two for each.
-pub fn write_hex<W: Write>(writer: &mut W, octets: &[u8]) -> io::Result<()>
-    ensures { OnOk result (Appends (W.contents writer.old) (W.contents writer.new) (encode_lower octets.now)) }
-{
-    for octet in octets {
-        write_octet(writer, *octet)?;
-    }
-    Ok(())
-}
-
-fn write_octet<W: Write>(writer: &mut W, octet: u8) -> io::Result<()>
-    ensures { OnOk result (Appends (W.contents writer.old) (W.contents writer.new) (lines.octet_text octet)) }
-{
-    let mut digits = [0u8; 2];
-    let _ = hex::encode_to_slice([octet], &mut digits);
-    writer.write_all(&digits)
-}
-
-/// Writes a text.
-pub fn write_text<W: Write>(writer: &mut W, text: &str) -> io::Result<()>
-    ensures { OnOk result (Appends (W.contents writer.old) (W.contents writer.new) text.now) }
-{
-    writer.write_all(text.as_bytes())
 }

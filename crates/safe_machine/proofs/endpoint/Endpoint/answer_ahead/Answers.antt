@@ -1,10 +1,10 @@
 use Rattle.std.proofs.Common.{◌+◌, length, sym, subst, ap, ◌∙◌, arith}
-use Rattle.safe_machine.specs.Course.{cs_ahead}
 use Rattle.safe_machine.specs.View.{View, AllUnits}
 use Rattle.safe_machine.proofs.Views.{short-above, sized-above}
 use Rattle.safe_pdu.specs.Pdu.{pdu_of}
 use Rattle.safe_machine.proofs.Views.{ahead-does}
 use Rattle.safe_machine.proofs.endpoint.Endpoint.answer_ahead.Goals as goal
+use Rattle.safe_machine.specs.Decision.{cs_step}
 
 pub returns-clause-does : goal.returns-clause-does
 returns-clause-does g c =
@@ -14,9 +14,9 @@ returns-clause-does g c =
 pub reply-requires-clause-short : goal.reply-requires-clause-short
 reply-requires-clause-short g c =
     let e = ap (λ (v : View). v.ring) c.note_request.ensures.left ∙ ap (λ (v : View). v.ring) c.confirm_units.ensures.left in
-    omega (arith, ap length e, short-above (c.args.self.now.confirmed + cs_ahead c.args.self.now c.args.pdu.now.cs) c.args.self.now.ring, c.requires.short)
+    omega (arith, ap length e, short-above (c.args.self.now.confirmed + cs_step c.args.self.now (pdu_of c.args.pdu.now)) c.args.self.now.ring, c.requires.short)
 
 pub reply-requires-clause-sized : goal.reply-requires-clause-sized
 reply-requires-clause-sized g c =
     let e = ap (λ (v : View). v.ring) c.note_request.ensures.left ∙ ap (λ (v : View). v.ring) c.confirm_units.ensures.left in
-    subst AllUnits (sym e) (sized-above (c.args.self.now.confirmed + cs_ahead c.args.self.now c.args.pdu.now.cs) c.args.self.now.ring c.requires.sized)
+    subst AllUnits (sym e) (sized-above (c.args.self.now.confirmed + cs_step c.args.self.now (pdu_of c.args.pdu.now)) c.args.self.now.ring c.requires.sized)

@@ -1,9 +1,9 @@
 use Rattle.std.proofs.Common.{sym, ap, ◌∙◌}
 use Rattle.safe_pdu.specs.Pdu.{pdu_of}
-use Rattle.safe_machine.specs.Decision.{in_turn}
 use Rattle.safe_machine.specs.View.{View}
 use Rattle.safe_machine.proofs.Views.{early-asks}
 use Rattle.safe_machine.proofs.endpoint.Endpoint.answers_early.Goals as goal
+use Rattle.safe_machine.specs.Connections.{in_turn}
 
 pub returns-then-misses : goal.returns-then-misses
 returns-then-misses g c = record {

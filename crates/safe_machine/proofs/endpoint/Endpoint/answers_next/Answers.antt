@@ -1,10 +1,10 @@
 use Rattle.std.proofs.Common.{◌+◌, length, sym, subst, ap, ◌∙◌, arith}
-use Rattle.safe_machine.specs.Course.{cs_ahead}
 use Rattle.safe_machine.specs.View.{View, AllUnits}
 use Rattle.safe_machine.proofs.Views.{short-above, sized-above}
 use Rattle.safe_pdu.specs.Pdu.{pdu_of}
 use Rattle.safe_machine.proofs.Views.{next-does}
 use Rattle.safe_machine.proofs.endpoint.Endpoint.answers_next.Goals as goal
+use Rattle.safe_machine.specs.Decision.{cs_step}
 
 pub returns : goal.returns
 returns g c = record {
@@ -16,9 +16,9 @@ returns g c = record {
 pub reply-requires-clause-short : goal.reply-requires-clause-short
 reply-requires-clause-short g c =
     let e = ap (λ (v : View). v.ring) c.pass.ensures.left ∙ ap (λ (v : View). v.ring) c.note_request.ensures.left ∙ ap (λ (v : View). v.ring) c.tests_passed.ensures.left in
-    omega (arith, ap length e, short-above (c.args.self.now.confirmed + cs_ahead c.args.self.now c.args.pdu.now.cs) c.args.self.now.ring, c.requires.short)
+    omega (arith, ap length e, short-above (c.args.self.now.confirmed + cs_step c.args.self.now (pdu_of c.args.pdu.now)) c.args.self.now.ring, c.requires.short)
 
 pub reply-requires-clause-sized : goal.reply-requires-clause-sized
 reply-requires-clause-sized g c =
     let e = ap (λ (v : View). v.ring) c.pass.ensures.left ∙ ap (λ (v : View). v.ring) c.note_request.ensures.left ∙ ap (λ (v : View). v.ring) c.tests_passed.ensures.left in
-    subst AllUnits (sym e) (sized-above (c.args.self.now.confirmed + cs_ahead c.args.self.now c.args.pdu.now.cs) c.args.self.now.ring c.requires.sized)
+    subst AllUnits (sym e) (sized-above (c.args.self.now.confirmed + cs_step c.args.self.now (pdu_of c.args.pdu.now)) c.args.self.now.ring c.requires.sized)

@@ -1,4 +1,4 @@
-use Rattle.std.proofs.Common.{◌≡◌, [], ◌∷◌, sym, subst, ap, ◌∙◌, arith}
+use Rattle.std.proofs.Common.{◌≡◌, [], ◌∷◌, sym, subst, ap, ◌∙◌, arith, Ok, Err}
 use Rattle.std.specs.List.{FoldsTo}
 use Rattle.safe_pdu.specs.Pdu.{Pdu, pdu_of}
 use Rattle.safe_pdu.specs.Places.{safe_seen}
@@ -7,14 +7,12 @@ use Rattle.safe_machine.specs.Moves.{move}
 use Rattle.safe_machine.specs.Moves.Move.{Guards, Hears}
 use Rattle.safe_machine.specs.Octets.{heard}
 use Rattle.safe_machine.specs.Properties.{HandsIf, IsRecent, IsNextData, OnlyConfirms}
-use Rattle.safe_machine.specs.Step.{arrive}
-use Rattle.safe_machine.specs.View.{View, HandsOut, HandsUp}
-use Rattle.safe_machine.proofs.Arriving.{hands-nothing}
+use Rattle.safe_machine.specs.View.{View, HandsUp}
+use Rattle.safe_machine.proofs.Arriving.{hands-nothing, octets-does}
 use Rattle.safe_machine.proofs.Nearing.{reached-near, reached-still}
 use Rattle.safe_machine.proofs.Properties.{reached-recent, reached-passes, one-read, none-read}
 use Rattle.safe_machine.proofs.Reaching.{reached-move, reached-sound}
 use Rattle.safe_machine.proofs.Stopping.{reached-stops, reached-keeps}
-use Rattle.safe_machine.proofs.Views.{hands-out}
 use Rattle.safe_machine.proofs.endpoint.Endpoint.hear.Goals as goal
 
 pub arrive-requires-clause-sound : goal.arrive-requires-clause-sound
@@ -31,13 +29,15 @@ returns-in-Ok-clause-reached g c =
 pub returns-in-Err-clause-reached : goal.returns-in-Err-clause-reached
 returns-in-Err-clause-reached g c = reached-move (Guards c.args.now) c.args.self.now c.arrive_fault.new.self c.requires.reached tt (λ s h. (c.arrive_fault.ensures.does s h).0)
 
-pub returns-in-Ok-clause-made : goal.returns-in-Ok-clause-made
-returns-in-Ok-clause-made g c s h =
-    let rule = c.rule-rule.ensures ∙ ap (λ (v : View). v.settings.rule) h in
-    let p = pdu_of c.in-Ok.pdu in
-    let seen = c.in-Ok.ensures.exact ∙ ap (λ r. safe_seen r c.args.octets.now) rule in
-    subst (λ t. HandsOut g.O.PduOut.makes c.args.out.now s t c.arrive.new.out) (ap (λ r. move (heard r c.args.now) s) seen)
-    (hands-out g.O.PduOut.makes c.args.out.now c.arrive.new.out s (arrive p c.args.now s) (c.arrive.ensures.does s h).1)
+pub returns-in-Ok-clause-does : goal.returns-in-Ok-clause-does
+returns-in-Ok-clause-does g c =
+    octets-does g.O.PduOut.makes c.args.octets.now c.args.now (Ok (pdu_of c.in-Ok.pdu)) c.args.self.now c.arrive.new.self c.args.out.now c.arrive.new.out
+    (c.in-Ok.ensures.exact ∙ ap (λ r. safe_seen r c.args.octets.now) c.rule-rule.ensures) c.arrive.ensures.does
+
+pub returns-in-Err-clause-does : goal.returns-in-Err-clause-does
+returns-in-Err-clause-does g c =
+    octets-does g.O.PduOut.makes c.args.octets.now c.args.now (Err c.in-Err.fault) c.args.self.now c.arrive_fault.new.self c.args.out.now c.arrive_fault.new.out
+    (c.in-Err.ensures.exact ∙ ap (λ r. safe_seen r c.args.octets.now) c.rule-rule.ensures) c.arrive_fault.ensures.does
 
 pub returns-in-Err-clause-taken : goal.returns-in-Err-clause-taken
 returns-in-Err-clause-taken g c s h =

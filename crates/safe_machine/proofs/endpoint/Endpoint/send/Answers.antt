@@ -1,7 +1,6 @@
 use Rattle.std.proofs.Common.{◌≡◌, length, true, arith}
 use Rattle.std.specs.Prelude.{nat_lt}
 use Rattle.std.proofs.lemmas.Bool.{ltb-true}
-use Rattle.safe_machine.specs.Decision.{in_turn}
 use Rattle.safe_machine.specs.State.{make}
 use Rattle.safe_machine.specs.Step.{send}
 use Rattle.safe_pdu.specs.declared.Kind.TheVariants.{Data}
@@ -12,6 +11,7 @@ use Rattle.safe_machine.proofs.Cases.{and-parts}
 use Rattle.safe_machine.proofs.Counting.{turn-live}
 use Rattle.safe_machine.proofs.Reaching.{reached-move, reached-sound, send-sends, send-turns}
 use Rattle.safe_machine.proofs.endpoint.Endpoint.send.Goals as goal
+use Rattle.safe_machine.specs.Connections.{in_turn}
 
 pub send_unit-requires-clause-few : goal.send_unit-requires-clause-few
 send_unit-requires-clause-few g c = omega (arith, (reached-sound c.args.self.now c.requires.reached).few)

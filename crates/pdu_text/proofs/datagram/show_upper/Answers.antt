@@ -1,0 +1,10 @@
+use Rattle.std.proofs.KnownBytes.{Appends-trans}
+use Rattle.pdu_text.proofs.datagram.show_upper.Goals as goal
+
+pub returns-in_ok-clean-in-Ok-clause-written : goal.returns-in_ok-clean-in-Ok-clause-written
+returns-in_ok-clean-in-Ok-clause-written g c =
+    rw (← c.in-Ok.ensures.exact) (Appends-trans _ _ _ _ _ c.in_ok-write_safe-in-Ok.ensures c.in_ok-clean-in-Ok.ensures.written)
+
+pub returns-in_ok-write_fault-in-Err-clause-written : goal.returns-in_ok-write_fault-in-Err-clause-written
+returns-in_ok-write_fault-in-Err-clause-written g c =
+    rw (← c.in-Err.ensures.exact) (rw (c.number.ensures, c.name.ensures) at c.in_ok-write_fault-in-Err.ensures)

@@ -1,0 +1,4 @@
+pub mod Lines
+pub mod MessageText
+pub mod ShowText
+pub mod HexText

@@ -1,0 +1,136 @@
+//! The lines of the messages of a unit.
+
+ghost use Rattle.std.specs.Prelude.{◌≡◌, ◌+◌, ◌≤◌, ◌<◌, ◌^◌, [], ◌∷◌, codes, length, map, OnOk, IfOk};
+ghost use Rattle.std.specs.Io.KnownBytes.{Appends};
+ghost use Rattle.sci_telegram.specs.Places.{tele_seen};
+ghost use Rattle.sci_telegram.specs.Tele.{tele_of};
+ghost use Rattle.pdu_text.specs.Lines.{fault_line};
+ghost use Rattle.pdu_text.specs.MessageText.{are_telegrams, hex_field, telegram_head, is_clean_body, is_telegram, message_label, message_line, message_lines, names_text, telegram_line, unit_lines, unit_text, is_clean_unit};
+ghost use Rattle.packing.specs.Places.{unit_seen};
+
+use crate::texts::{write_fault, write_hex, write_octets, write_text};
+use safe_pdu::Kind;
+use sci_telegram::Telegram;
+use std::io;
+use std::io::Write;
+
+/// Writes the lines of a body, those of the unit in a Data or RetrData, and answers whether none of
+/// them names a fault.
+pub fn show_body<W: Write>(writer: &mut W, kind: Kind, body: &[u8]) -> io::Result<bool>
+    ensures written { OnOk result (Appends (W.contents writer.old) (W.contents writer.new) (unit_lines kind body.now)) }
+    ensures clean { IfOk result (λ clean. clean ≡ is_clean_body kind body.now) }
+{
+    match kind {
+        Kind::Data | Kind::RetrData => {
+            let clean = show_unit(writer, body)?;
+            Ok(clean)
+        }
+        _ => Ok(true),
+    }
+}
+
+fn show_unit<W: Write>(writer: &mut W, unit: &[u8]) -> io::Result<bool>
+    ensures written { OnOk result (Appends (W.contents writer.old) (W.contents writer.new)
+        (unit_text (unit_seen unit.now))) }
+    ensures clean { IfOk result (λ clean. clean ≡ is_clean_unit (unit_seen unit.now)) }
+{
+    match packing::unpack(unit) {
+        Ok(messages) => {
+            let clean = write_messages(writer, messages.as_slice())?;
+            Ok(clean)
+        }
+        Err(fault) => {
+            write_fault(writer, "unit", fault.number(), fault.name())?;
+            Ok(false)
+        }
+    }
+}
+
+/// Writes the lines of messages, numbered from 1.
+fn write_messages<W: Write>(writer: &mut W, messages: &[&[u8]]) -> io::Result<bool>
+    ensures written { OnOk result (Appends (W.contents writer.old) (W.contents writer.new)
+        (message_lines 1 (map (λ m. m.now) messages.now))) }
+    ensures clean { IfOk result (λ clean. clean ≡ are_telegrams (map (λ m. m.now) messages.now)) }
+{
+    let mut clean = true;
+    for (i, message) in messages.iter().enumerate() {
+        let whole = write_message(writer, i + 1, message)?;
+        clean = clean && whole;
+    }
+    Ok(clean)
+}
+
+/// Writes the line of a message, and answers whether it is a telegram.
+fn write_message<W: Write>(writer: &mut W, number: usize, message: &[u8]) -> io::Result<bool>
+    ensures written { OnOk result (Appends (W.contents writer.old) (W.contents writer.new)
+        (message_line number (tele_seen message.now))) }
+    ensures clean { IfOk result (λ clean. clean ≡ is_telegram (tele_seen message.now)) }
+{
+    match sci_telegram::decode(message) {
+        Ok(telegram) => {
+            write_telegram(writer, number, &telegram)?;
+            Ok(true)
+        }
+        Err(fault) => {
+            write_message_fault(writer, number, fault.number(), fault.name())?;
+            Ok(false)
+        }
+    }
+}
+
+fn write_message_fault<W: Write>(
+    writer: &mut W,
+    number: usize,
+    fault: u8,
+    name: &str,
+) -> io::Result<()>
+    ensures { OnOk result (Appends (W.contents writer.old) (W.contents writer.new)
+        (fault_line (message_label number) fault name.now)) }
+{
+    writeln!(writer, "message {number} fault {fault} {name}")
+}
+
+/// Writes the line of a telegram.
+fn write_telegram<W: Write>(
+    writer: &mut W,
+    number: usize,
+    telegram: &Telegram<'_>,
+) -> io::Result<()>
+    ensures { OnOk result (Appends (W.contents writer.old) (W.contents writer.new)
+        (telegram_line number (tele_of telegram.now))) }
+{
+    write_head(writer, number, telegram)?;
+    write_names(writer, telegram.sender.as_str(), telegram.receiver.as_str())?;
+    write_octets(writer, telegram.payload)?;
+    write_text(writer, "\n")
+}
+
+fn write_head<W: Write>(writer: &mut W, number: usize, telegram: &Telegram<'_>) -> io::Result<()>
+    ensures { OnOk result (Appends (W.contents writer.old) (W.contents writer.new)
+        (telegram_head number (tele_of telegram.now))) }
+{
+    write_label(writer, number)?;
+    write_hex_field(writer, " protocol ", &[telegram.protocol])?;
+    write_hex_field(writer, " type ", &telegram.kind.to_be_bytes())
+}
+
+/// Writes a label and octets in hex digits.
+fn write_hex_field<W: Write>(writer: &mut W, label: &str, octets: &[u8]) -> io::Result<()>
+    ensures { OnOk result (Appends (W.contents writer.old) (W.contents writer.new) (hex_field label.now octets.now)) }
+{
+    write_text(writer, label)?;
+    write_hex(writer, octets)
+}
+
+fn write_label<W: Write>(writer: &mut W, number: usize) -> io::Result<()>
+    ensures { OnOk result (Appends (W.contents writer.old) (W.contents writer.new) (message_label number)) }
+{
+    write!(writer, "message {number}")
+}
+
+fn write_names<W: Write>(writer: &mut W, sender: &str, receiver: &str) -> io::Result<()>
+    ensures { OnOk result (Appends (W.contents writer.old) (W.contents writer.new)
+        (names_text sender.now receiver.now)) }
+{
+    write!(writer, " from {sender} to {receiver} payload ")
+}

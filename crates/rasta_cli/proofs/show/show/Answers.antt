@@ -1,6 +1,0 @@
-use Rattle.std.proofs.KnownBytes.{Appends-trans}
-use Rattle.rasta_cli.proofs.show.show.Goals as goal
-
-pub returns-in_ok-clean-in-Ok-clause-written : goal.returns-in_ok-clean-in-Ok-clause-written
-returns-in_ok-clean-in-Ok-clause-written g c =
-    rw (← c.in-Ok.ensures.exact) (Appends-trans _ _ _ _ _ c.in_ok-write_red-in-Ok.ensures c.in_ok-clean-in-Ok.ensures.written)

@@ -1,0 +1,32 @@
+-- What each decision hands up, and what it lets its branch rely on.
+use Rattle.std.specs.Prelude.{◌≡◌, ◌<◌, ◌≤◌, ℕ, ◌-◌, if◌then◌else◌, List, [], ◌∷◌}
+use Rattle.safe_machine.specs.declared.decision.Decision.{Decision}
+use Rattle.safe_machine.specs.declared.decision.Decision.TheVariants.{Accepts, Connects, Takes, Resumes, AnswersNext, AnswersEarly}
+use Rattle.safe_pdu.specs.Pdu.{Pdu}
+use Rattle.safe_pdu.specs.Bodies.{IsBody}
+use Rattle.safe_pdu.specs.declared.Kind.TheVariants.{ConnReq}
+use Rattle.safe_machine.specs.Made.{carries}
+use Rattle.safe_machine.specs.Decision.{cs_step, cts_step}
+use Rattle.safe_machine.specs.View.{View}
+
+-- the unit that a PDU carries
+abbrev pub carried : Pdu → List (List ℕ)
+carried p = if carries p.kind then p.body ∷ [] else []
+
+-- the units that a decision hands up
+abbrev pub handed_by : Decision → Pdu → List (List ℕ)
+handed_by (Takes connection) p = carried p
+handed_by _ p = []
+
+-- what a branch relies on
+abbrev pub Passes : View → Pdu → ℕ → Type 0
+Passes v p now = (cs_step v p < v.made - v.confirmed) × (cts_step v p ≤ now - v.confirmed_at)
+
+abbrev pub Allows : View → Pdu → ℕ → Decision → Type 0
+Allows v p now Accepts = IsBody ConnReq p.body × (v.ring ≡ [])
+Allows v p now Connects = IsBody ConnReq p.body × Passes v p now
+Allows v p now (Takes connection) = Passes v p now
+Allows v p now Resumes = Passes v p now
+Allows v p now AnswersNext = Passes v p now
+Allows v p now AnswersEarly = cs_step v p < v.made - v.confirmed
+Allows v p now _ = Unit {0}
