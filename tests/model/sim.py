@@ -190,7 +190,7 @@ class Script:
         self.check(channel)
         self.find(label)
         self.named.add(label)
-        self.deliver(label, self.find(label))
+        self.deliver(label, channel, self.find(label))
 
     def hit(self, label, channel, place, bits):
         self.check(channel)
@@ -198,7 +198,7 @@ class Script:
         unreadable_unless(place < len(datagram))
         datagram[place] ^= bits[0]
         self.named.add(label)
-        self.deliver(label, bytes(datagram))
+        self.deliver(label, channel, bytes(datagram))
 
     def lose(self, label):
         self.find(label)
@@ -214,8 +214,8 @@ class Script:
                 return
             label = self.order[self.next_unnamed]
             self.named.add(label)
-            for _ in channels:
-                self.deliver(label, self.find(label))
+            for channel in channels:
+                self.deliver(label, channel, self.find(label))
 
     def est(self):
         self.open('fe')
@@ -233,7 +233,7 @@ class Script:
             raise Stop('no such label')
         return made[int(label[1:]) - 1]
 
-    def deliver(self, label, datagram):
+    def deliver(self, label, channel, datagram):
         end = 'fe' if label[0] == 'i' else 'il'
         if self.is_traced and self.pair.breaks_premise(end, datagram):
             self.lines.append('note %s not live' % label)
