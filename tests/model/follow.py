@@ -121,10 +121,10 @@ def leaving(reason, detail):
 
 
 class Connection:
-    """Two ends, by their identifiers, and the channels between them."""
+    """Two ends, by their identifiers, the lower one in front, and the channels between them."""
 
     def __init__(self, ends):
-        self.ends, self.routes, self.directions = sorted(ends), [], {end: Direction() for end in ends}
+        self.ends, self.routes, self.directions = ends, [], (Direction(), Direction())
 
     def channel(self, source, destination):
         for place, route in enumerate(self.routes):
@@ -136,8 +136,7 @@ class Connection:
         return CHANNELS
 
     def sums(self, first, t_max):
-        for sender, receiver in (self.ends, self.ends[::-1]):
-            direction = self.directions[sender]
+        for (sender, receiver), direction in zip((self.ends, self.ends[::-1]), self.directions):
             yield 'sum %d->%d %s' % (sender, receiver, direction.sums(first, t_max))
             for place, route in enumerate(self.routes):
                 n = direction.channels[place]
@@ -158,14 +157,15 @@ class Follower:
         if p is None or isinstance(p, str):
             self.damaged += 1
             return way if p is None else '%s red %d' % (way, number), [fault('red', seen) if p is None else fault('safe', p)]
-        connection = self.connection({p.sender, p.receiver})
+        connection = self.connection(sorted((p.sender, p.receiver)))
         channel = connection.channel(source, destination)
-        words = connection.directions[p.sender].follow(time, line, channel, number, p, connection.directions[p.receiver].stamp)
+        own, other = connection.directions[::1 if p.sender == connection.ends[0] else -1]
+        words = own.follow(time, line, channel, number, p, other.stamp)
         return '%d->%d ch %s red %d %s sn %d cs %d ts %d cts %d' % (
             p.sender, p.receiver, channel + 1 if channel < CHANNELS else 'other', number, p.kind, p.sn, p.cs, p.ts, p.cts), words
 
     def connection(self, ends):
-        known = [connection for connection in self.connections if connection.ends == sorted(ends)]
+        known = [connection for connection in self.connections if connection.ends == ends]
         if not known and len(self.connections) == CONNECTIONS:
             self.forgotten += 1
             del self.connections[0]
@@ -176,7 +176,7 @@ class Follower:
     def sums(self, first, t_max):
         for connection in self.connections:
             yield from connection.sums(first, t_max)
-        all_numbers = [direction.together for connection in self.connections for direction in connection.directions.values()]
+        all_numbers = [direction.together for connection in self.connections for direction in connection.directions]
         yield 'sum all PDUs %d missing %d repeats %d damaged %d forgotten %d unreadable %d' % (
             sum(n.heard for n in all_numbers), sum(n.missing for n in all_numbers), sum(n.repeats for n in all_numbers),
             self.damaged, self.forgotten, self.unreadable)
@@ -192,13 +192,15 @@ def seconds(micros):
 
 def number(text, most):
     """Decimal digits up to a number."""
-    return int(text) if re.fullmatch('0*[0-9]{1,20}', text) and int(text.lstrip('0') or '0') <= most else None
+    digits = text.lstrip('0') or text[:1]
+    return int(digits) if re.fullmatch('[0-9]{1,20}', digits) and int(digits) <= most else None
 
 
 def time(text):
     """Microseconds: seconds, a point, and six to nine digits, of which six count."""
     found = re.fullmatch(r'([0-9]+)\.([0-9]{6})[0-9]{0,3}', text)
-    return None if not found or number(found[1], 999999999999) is None else 1000000 * int(found[1]) + int(found[2])
+    whole = number(found[1], 999999999999) if found else None
+    return None if whole is None else 1000000 * whole + int(found[2])
 
 
 def address(host, port):
