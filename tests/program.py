@@ -30,6 +30,14 @@ def answered(command, timeout=120):
     return done.stdout.decode('utf-8', 'replace'), done.stderr.decode('utf-8', 'replace'), done.returncode
 
 
+def has_follow(program):
+    """Whether the program knows the word `follow`; where it does not, that is told."""
+    _, err, status = answered(program + ['follow', '--code', '8', os.devnull])
+    if status == 2 and err:
+        print('%s has no word follow: what it prints is not compared' % ' '.join(program))
+    return not (status == 2 and err)
+
+
 def played(program, path, text):
     """What comes of a script of `sim` with this text; it is written to the path."""
     with open(path, 'w', encoding='utf-8', newline='') as file:

@@ -1,15 +1,19 @@
 #!/usr/bin/env python3
 """Follows a capture on the model, and prints what `rasta follow` must print: a line for each datagram, and the sums.
 
-    tests/model/follow.py follow --code 8 FILE
+    tests/model/follow.py follow [--code 0|8|16] [--only WORD] [--t-max MS] FILE
 """
+import argparse
+import re
 import sys
 
 sys.dont_write_bytecode = True
 from settings import Settings  # noqa: E402
 from texts import OPENINGS, red_seen, safe_seen  # noqa: E402
 
-KEPT, PASSED_MAX, CHANNELS, CONNECTIONS, WRAP, T_MAX = 32, 65535, 4, 16, 2 ** 32, 1800
+KEPT, PASSED_MAX, CHANNELS, CONNECTIONS, WRAP = 32, 65535, 4, 16, 2 ** 32
+LINE_MAX, PAYLOAD_MAX = 8192, 2048
+ONLY = ('opens', 'repeat', 'ahead', 'late', 'stale', 'anew', 'resent', 'age', 'reason', 'fault')
 FAULTS = {'red': ('Short', 'Length', 'Reserve'), 'safe': ('Short', 'Length', 'Code', 'Type', 'Body')}
 REASONS = ('closed by user', 'unexpected PDU', 'sequence error', 'timeout', 'service not allowed', 'wrong version',
            'retransmission impossible', 'protocol error')
@@ -98,10 +102,10 @@ class Direction:
         self.silence = max(self.silence, time - self.last) if self.last else self.silence
         self.last, self.left = time, left or self.left
 
-    def sums(self, first):
+    def sums(self, first, t_max):
         opened = 'opened by %s times %d' % (self.opening[0], self.openings) if self.opening else 'opening not seen'
         kinds = 'heartbeats %d requests %d resent %d' % tuple(self.kinds.values())
-        age = 'age %d of %d%s' % (self.oldest, T_MAX, ' reached' if self.oldest >= T_MAX else '')
+        age = 'age %d of %d%s' % (self.oldest, t_max, ' reached' if self.oldest >= t_max else '')
         last = 'last ' + seconds(self.last - first) if self.last else 'not heard'
         return ' '.join((opened, self.together.sums(), kinds, 'silence ' + seconds(self.silence), age, last,
                          'DiscReq ' + self.left if self.left else 'no DiscReq'))
@@ -117,10 +121,10 @@ def leaving(reason, detail):
 
 
 class Connection:
-    """Two ends, by their identifiers, and the channels between them."""
+    """Two ends, by their identifiers, the lower one in front, and the channels between them."""
 
     def __init__(self, ends):
-        self.ends, self.routes, self.directions = sorted(ends), [], {end: Direction() for end in ends}
+        self.ends, self.routes, self.directions = ends, [], (Direction(), Direction())
 
     def channel(self, source, destination):
         for place, route in enumerate(self.routes):
@@ -131,10 +135,9 @@ class Connection:
             return len(self.routes) - 1
         return CHANNELS
 
-    def sums(self, first):
-        for sender, receiver in (self.ends, self.ends[::-1]):
-            direction = self.directions[sender]
-            yield 'sum %d->%d %s' % (sender, receiver, direction.sums(first))
+    def sums(self, first, t_max):
+        for (sender, receiver), direction in zip((self.ends, self.ends[::-1]), self.directions):
+            yield 'sum %d->%d %s' % (sender, receiver, direction.sums(first, t_max))
             for place, route in enumerate(self.routes):
                 n = direction.channels[place]
                 yield 'sum %d->%d ch %d %s-%s datagrams %d %s' % (
@@ -145,23 +148,24 @@ class Follower:
     """All connections of a capture, the one that was heard last at the end."""
 
     def __init__(self, rule):
-        self.rule, self.connections, self.damaged, self.forgotten = rule, [], 0, 0
+        self.rule, self.connections, self.damaged, self.forgotten, self.unreadable = rule, [], 0, 0, 0
 
     def line(self, time, line, source, destination, octets):
-        """What a datagram says, and what is remarkable in it."""
+        """What a datagram says, and the words of what is remarkable in it."""
         way, seen = '->'.join((source, destination)), red_seen(octets)
         number, p = (None, None) if isinstance(seen, str) else (seen[0], safe_seen(seen[1], self.rule))
         if p is None or isinstance(p, str):
             self.damaged += 1
-            return '%s %s' % (way, fault('red', seen) if p is None else 'red %d %s' % (number, fault('safe', p)))
-        connection = self.connection({p.sender, p.receiver})
+            return way if p is None else '%s red %d' % (way, number), [fault('red', seen) if p is None else fault('safe', p)]
+        connection = self.connection(sorted((p.sender, p.receiver)))
         channel = connection.channel(source, destination)
-        words = connection.directions[p.sender].follow(time, line, channel, number, p, connection.directions[p.receiver].stamp)
-        return ' '.join(['%d->%d ch %s red %d %s sn %d cs %d ts %d cts %d' % (
-            p.sender, p.receiver, channel + 1 if channel < CHANNELS else 'other', number, p.kind, p.sn, p.cs, p.ts, p.cts)] + words)
+        own, other = connection.directions[::1 if p.sender == connection.ends[0] else -1]
+        words = own.follow(time, line, channel, number, p, other.stamp)
+        return '%d->%d ch %s red %d %s sn %d cs %d ts %d cts %d' % (
+            p.sender, p.receiver, channel + 1 if channel < CHANNELS else 'other', number, p.kind, p.sn, p.cs, p.ts, p.cts), words
 
     def connection(self, ends):
-        known = [connection for connection in self.connections if connection.ends == sorted(ends)]
+        known = [connection for connection in self.connections if connection.ends == ends]
         if not known and len(self.connections) == CONNECTIONS:
             self.forgotten += 1
             del self.connections[0]
@@ -169,13 +173,13 @@ class Follower:
         self.connections = others + (known or [Connection(ends)])
         return self.connections[-1]
 
-    def sums(self, first):
+    def sums(self, first, t_max):
         for connection in self.connections:
-            yield from connection.sums(first)
-        all_numbers = [direction.together for connection in self.connections for direction in connection.directions.values()]
-        yield 'sum all PDUs %d missing %d repeats %d damaged %d forgotten %d unreadable 0' % (
+            yield from connection.sums(first, t_max)
+        all_numbers = [direction.together for connection in self.connections for direction in connection.directions]
+        yield 'sum all PDUs %d missing %d repeats %d damaged %d forgotten %d unreadable %d' % (
             sum(n.heard for n in all_numbers), sum(n.missing for n in all_numbers), sum(n.repeats for n in all_numbers),
-            self.damaged, self.forgotten)
+            self.damaged, self.forgotten, self.unreadable)
 
 
 def fault(layer, name):
@@ -186,25 +190,79 @@ def seconds(micros):
     return '%s%d.%06d' % ('-' if micros < 0 else '', abs(micros) // 1000000, abs(micros) % 1000000)
 
 
-def micros(time):
-    seconds, fraction = time.split('.')
-    return 1000000 * int(seconds) + int(fraction[:6])
+def number(text, most):
+    """Decimal digits up to a number."""
+    digits = text.lstrip('0') or text[:1]
+    return int(digits) if re.fullmatch('[0-9]{1,20}', digits) and int(digits) <= most else None
+
+
+def time(text):
+    """Microseconds: seconds, a point, and six to nine digits, of which six count."""
+    found = re.fullmatch(r'([0-9]+)\.([0-9]{6})[0-9]{0,3}', text)
+    whole = number(found[1], 999999999999) if found else None
+    return None if whole is None else 1000000 * whole + int(found[2])
+
+
+def address(host, port):
+    octets, port = [number(word, 255) for word in host.split('.')], number(port, 65535)
+    return None if len(octets) != 4 or None in octets or port is None else '%d.%d.%d.%d:%d' % (*octets, port)
+
+
+def read(raw):
+    """Time, source, destination and payload of a line, or its first fault."""
+    if len(raw) > LINE_MAX or len(raw) == LINE_MAX and raw[-1:] != b'\n':
+        return 'too long'
+    fields = re.sub('\r?\n$', '', raw.decode('latin-1')).split('\t')
+    if len(fields) != 6:
+        return 'not six fields'
+    seen = time(fields[0]), address(*fields[1:3]), address(*fields[3:5])
+    for value, name in zip(seen, ('time', 'source', 'destination')):
+        if value is None:
+            return name
+    if len(fields[5]) > 2 * PAYLOAD_MAX:
+        return 'too long'
+    return (*seen, bytes.fromhex(fields[5])) if re.fullmatch('([0-9a-fA-F]{2})*', fields[5]) else 'payload'
+
+
+def is_wanted(only, t_max, words):
+    """Whether a line with these words is printed."""
+    if only in ('opens', 'resent', 'reason'):
+        return any(word.split()[0] == only for word in words)
+    if only == 'age':
+        return any(int(word.split()[1]) >= t_max for word in words if word.startswith('age '))
+    return only is None or any(word.split()[1] == only for word in words if word.startswith(('channel ', 'all ', 'sn ', 'red ', 'safe ')))
+
+
+def followed(raws, code=8, only=None, t_max=1800):
+    """Standard output, standard error and exit status."""
+    follower, first, out, err = Follower(Settings(code=code).rule), None, [], []
+    for line, raw in enumerate(raws, 1):
+        seen = read(raw)
+        if isinstance(seen, str):
+            follower.unreadable += 1
+            err.append('line %d: unreadable: %s\n' % (line, seen))
+            continue
+        first = seen[0] if first is None else first
+        said, words = follower.line(seen[0], line, *seen[1:])
+        if is_wanted(only, t_max, words):
+            out.append(' '.join([seconds(seen[0] - first), 'line', str(line), said] + words) + '\n')
+    out += [said + '\n' for said in follower.sums(first, t_max)]
+    return ''.join(out), ''.join(err), 1 if err else 0
 
 
 def main(words):
-    if len(words) != 4 or words[:2] != ['follow', '--code'] or words[2] not in ('8', '16'):
-        print(__doc__, file=sys.stderr)
-        return 2
-    follower, first = Follower(Settings(code=int(words[2])).rule), None
-    with open(words[3], encoding='ascii') as file:
-        for line, text in enumerate(file, 1):
-            time, source, source_port, destination, destination_port, payload = text.rstrip('\n').split('\t')
-            time = micros(time)
-            first = time if first is None else first
-            said = follower.line(time, line, source + ':' + source_port, destination + ':' + destination_port, bytes.fromhex(payload))
-            print(seconds(time - first), 'line', line, said)
-    print('\n'.join(follower.sums(first)))
-    return 0
+    parser = argparse.ArgumentParser(usage=__doc__)
+    parser.add_argument('word', choices=['follow'])
+    parser.add_argument('--code', type=int, choices=(0, 8, 16), default=8)
+    parser.add_argument('--only', choices=ONLY)
+    parser.add_argument('--t-max', type=int, default=1800)
+    parser.add_argument('file')
+    asked = parser.parse_args(words)
+    with open(asked.file, 'rb') as file:
+        out, err, status = followed(file, asked.code, asked.only, asked.t_max)
+    sys.stdout.write(out)
+    sys.stderr.write(err)
+    return status
 
 
 if __name__ == '__main__':
