@@ -137,7 +137,7 @@ fn asked_by<'a>(name: &str, entries: &ArgMatches<'a>) -> Option<Request<'a>>
             let script = entry(entries, "script")?;
             Some(Request::Sim { script })
         }
-        "follow" => Some(Request::Follow(following(entries)?)),
+        "follow" => Some(Request::Follow(choices(entries)?)),
         _ => {
             let word = ends(name)?;
             let file = entry(entries, "file")?;
@@ -148,7 +148,7 @@ fn asked_by<'a>(name: &str, entries: &ArgMatches<'a>) -> Option<Request<'a>>
 }
 
 /// What the entries of `follow` choose.
-fn following<'a>(entries: &ArgMatches<'a>) -> Option<Following<'a>>
+fn choices<'a>(entries: &ArgMatches<'a>) -> Option<Following<'a>>
     ensures found { IfSome result (HasChoices (rows_of (found_of entries.now))) }
     ensures none { IsNone result → HasNoChoices (rows_of (found_of entries.now)) }
 {
