@@ -16,24 +16,24 @@ abbrev pub six_digits : ℕ → List ℕ
 six_digits n = digit 100000 n ∷ digit 10000 n ∷ digit 1000 n ∷ digit 100 n ∷ digit 10 n ∷ digit 1 n ∷ []
 
 -- whole seconds, a point, six digits
-abbrev pub duration_text : ℕ → List ℕ
+unfoldable pub duration_text : ℕ → List ℕ
 duration_text micros = pieces (decimal (micros / 1000000) ∷ codes "." ∷ six_digits (micros % 1000000) ∷ [])
 
 -- the time since the first one, with a minus before it where it is earlier
-abbrev pub since_text : ℕ → ℕ → List ℕ
+unfoldable pub since_text : ℕ → ℕ → List ℕ
 since_text first time =
     if nat_lt time first then codes "-" ++ duration_text (first - time) else duration_text (time - first)
 
 abbrev pub octet_of : Address → ℕ → List ℕ
 octet_of a place = decimal (slice_index a.host place)
 
-abbrev pub address_text : Address → List ℕ
+unfoldable pub address_text : Address → List ℕ
 address_text a =
     pieces
     (octet_of a 0 ∷ codes "." ∷ octet_of a 1 ∷ codes "." ∷ octet_of a 2 ∷ codes "." ∷ octet_of a 3 ∷ codes ":" ∷ decimal a.port ∷ [])
 
 -- from one end to the other, by their identifiers
-abbrev pub ends_text : ℕ → ℕ → List ℕ
+unfoldable pub ends_text : ℕ → ℕ → List ℕ
 ends_text sender receiver = pieces (decimal sender ∷ codes "->" ∷ decimal receiver ∷ [])
 
 -- channels count from 1, and those that are not told apart have no number

@@ -39,7 +39,7 @@ detail_word reason detail =
     else if nat_eq reason 7 then protocol_word detail
     else []
 
-abbrev pub leaving_words : Leaving → List ℕ
+unfoldable pub leaving_words : Leaving → List ℕ
 leaving_words l =
     pieces
     (codes " reason " ∷ decimal l.reason ∷ reason_word l.reason ∷ codes " detail " ∷ decimal l.detail

@@ -1,5 +1,5 @@
 -- The line of a datagram.
-use Rattle.std.specs.Prelude.{ℕ, List, [], ◌∷◌, codes}
+use Rattle.std.specs.Prelude.{ℕ, List, [], ◌∷◌, ◌++◌, codes}
 use Rattle.std.specs.Fmt.{decimal}
 use Rattle.red_pdu.specs.declared.RedFault.{RedFault}
 use Rattle.red_pdu.specs.FaultNames.{red_name, red_number}
@@ -14,36 +14,47 @@ use Rattle.capture_text.specs.Pieces.{address_text, channel_text, ends_text, pie
 use Rattle.capture_text.specs.RemarkText.{remarks_text}
 
 -- when it was recorded, and its line in the capture
-abbrev pub head_text : ℕ → ℕ → Record → List ℕ
+unfoldable pub head_text : ℕ → ℕ → Record → List ℕ
 head_text first line r = pieces (since_text first r.time ∷ codes " line " ∷ decimal line ∷ codes " " ∷ [])
 
 -- number, type and header fields
-abbrev pub fields_text : ℕ → Header → List ℕ
+unfoldable pub fields_text : ℕ → Header → List ℕ
 fields_text seq h =
     pieces
     (codes " red " ∷ decimal seq ∷ codes " " ∷ kind_name h.kind ∷ codes " sn " ∷ decimal h.sn ∷ codes " cs " ∷ decimal h.cs
     ∷ codes " ts " ∷ decimal h.ts ∷ codes " cts " ∷ decimal h.cts ∷ [])
 
-abbrev pub pdu_text : ℕ → Header → Remarks → List ℕ
+unfoldable pub pdu_text : ℕ → Header → Remarks → List ℕ
 pdu_text seq h m =
     pieces (ends_text h.sender h.receiver ∷ channel_text m.route ∷ fields_text seq h ∷ remarks_text m ∷ [])
 
 -- what is no PDU has no ends, but addresses
-abbrev pub way_text : Record → List ℕ
+unfoldable pub way_text : Record → List ℕ
 way_text r = pieces (address_text r.source ∷ codes "->" ∷ address_text r.destination ∷ [])
 
-abbrev pub safe_fault_text : ℕ → SafeFault → List ℕ
-safe_fault_text seq fault =
-    pieces
-    (codes " red " ∷ decimal seq ∷ codes " safe fault " ∷ decimal (safe_number fault) ∷ codes " " ∷ safe_name fault ∷ [])
+-- LAYER fault NUMBER NAME
+unfoldable pub fault_text : List ℕ → ℕ → List ℕ → List ℕ
+fault_text layer number name = pieces (codes " " ∷ layer ∷ codes " fault " ∷ decimal number ∷ codes " " ∷ name ∷ [])
+
+abbrev pub safe_fault_text : SafeFault → List ℕ
+safe_fault_text fault = fault_text (codes "safe") (safe_number fault) (safe_name fault)
 
 abbrev pub red_fault_text : RedFault → List ℕ
-red_fault_text fault = pieces (codes " red fault " ∷ decimal (red_number fault) ∷ codes " " ∷ red_name fault ∷ [])
+red_fault_text fault = fault_text (codes "red") (red_number fault) (red_name fault)
+
+unfoldable pub number_text : ℕ → List ℕ
+number_text seq = pieces (codes " red " ∷ decimal seq ∷ [])
+
+unfoldable pub no_safe_text : Record → ℕ → SafeFault → List ℕ
+no_safe_text r seq fault = way_text r ++ number_text seq ++ safe_fault_text fault
+
+unfoldable pub no_red_text : Record → RedFault → List ℕ
+no_red_text r fault = way_text r ++ red_fault_text fault
 
 abbrev pub remark_text : Record → Remark → List ℕ
 remark_text r (Pdu seq h m) = pdu_text seq h m
-remark_text r (NoSafe seq fault) = pieces (way_text r ∷ safe_fault_text seq fault ∷ [])
-remark_text r (NoRed fault) = pieces (way_text r ∷ red_fault_text fault ∷ [])
+remark_text r (NoSafe seq fault) = no_safe_text r seq fault
+remark_text r (NoRed fault) = no_red_text r fault
 
-abbrev pub record_text : ℕ → ℕ → Record → Remark → List ℕ
+unfoldable pub record_text : ℕ → ℕ → Record → Remark → List ℕ
 record_text first line r m = pieces (head_text first line r ∷ remark_text r m ∷ codes "\n" ∷ [])

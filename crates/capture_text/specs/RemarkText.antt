@@ -39,7 +39,7 @@ leaving_text None = []
 leaving_text (Some leaving) = leaving_words leaving
 
 -- all that is remarkable in a PDU
-abbrev pub remarks_text : Remarks → List ℕ
+unfoldable pub remarks_text : Remarks → List ℕ
 remarks_text r =
     pieces
     (opens_text r.opens ∷ maybe_text (codes "channel") r.channel ∷ judged_text (codes "all") r.together ∷ maybe_text (codes "sn") r.sequence

@@ -2,11 +2,20 @@
 #![tactic(auto)]
 
 mod choice;
+mod course;
 mod pieces;
 mod reasons;
 mod record;
 mod remarks;
+mod running;
+mod summary;
 
 pub use choice::{Word, is_wanted};
+pub use course::{Asked, Course, write_fault};
 pub use record::write_record;
 pub use remarks::write_remarks;
+pub use running::{FollowStatus, run};
+pub use summary::{Counts, Scale, write_summary};
+
+#[cfg(test)]
+mod tests;

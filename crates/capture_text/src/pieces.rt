@@ -9,6 +9,7 @@ use std::io;
 use std::io::Write;
 
 /// Writes a time as seconds since the first one.
+#[tactic(auto, unfolding(crate::specs::Pieces::since_text))]
 pub(crate) fn write_since<W: Write>(writer: &mut W, first: u64, time: u64) -> io::Result<()>
     ensures { OnOk result (Appends (W.contents writer.old) (W.contents writer.new) (since_text first time)) }
 {
@@ -20,6 +21,7 @@ pub(crate) fn write_since<W: Write>(writer: &mut W, first: u64, time: u64) -> io
 }
 
 /// Writes microseconds as seconds with six digits behind the point.
+#[tactic(auto, unfolding(crate::specs::Pieces::duration_text))]
 pub(crate) fn write_duration<W: Write>(writer: &mut W, micros: u64) -> io::Result<()>
     ensures { OnOk result (Appends (W.contents writer.old) (W.contents writer.new) (duration_text micros)) }
 {
@@ -43,6 +45,7 @@ fn spell(number: u64) -> [u8; 6]
     ]
 }
 
+#[tactic(auto, unfolding(crate::specs::Pieces::address_text))]
 pub(crate) fn write_address<W: Write>(writer: &mut W, address: Address) -> io::Result<()>
     ensures { OnOk result (Appends (W.contents writer.old) (W.contents writer.new) (address_text address)) }
 {
@@ -55,6 +58,7 @@ pub(crate) fn write_address<W: Write>(writer: &mut W, address: Address) -> io::R
 }
 
 /// Writes which end sends to which.
+#[tactic(auto, unfolding(crate::specs::Pieces::ends_text))]
 pub(crate) fn write_ends<W: Write>(writer: &mut W, sender: u32, receiver: u32) -> io::Result<()>
     ensures { OnOk result (Appends (W.contents writer.old) (W.contents writer.new) (ends_text sender receiver)) }
 {

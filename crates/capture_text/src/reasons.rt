@@ -9,6 +9,7 @@ use std::io;
 use std::io::Write;
 
 /// Writes reason and detail of a DiscReq, each with its word where it has one.
+#[tactic(auto, unfolding(crate::specs::Reasons::leaving_words))]
 pub(crate) fn write_reasons<W: Write>(writer: &mut W, leaving: Leaving) -> io::Result<()>
     ensures { OnOk result (Appends (W.contents writer.old) (W.contents writer.new) (leaving_words leaving)) }
 {

@@ -2,7 +2,7 @@
 
 ghost use Rattle.std.specs.Prelude.{◌≡◌, OnOk};
 ghost use Rattle.std.specs.Io.KnownBytes.{Appends};
-ghost use Rattle.capture_text.specs.RecordText.{fields_text, head_text, pdu_text, record_text, red_fault_text, remark_text, safe_fault_text, way_text};
+ghost use Rattle.capture_text.specs.RecordText.{fault_text, fields_text, head_text, no_red_text, no_safe_text, number_text, pdu_text, record_text, red_fault_text, remark_text, safe_fault_text, way_text};
 
 use crate::pieces::{channel_name, write_address, write_ends, write_since, write_text};
 use crate::remarks::write_remarks;
@@ -18,6 +18,7 @@ use std::io::Write;
 /// # Errors
 ///
 /// An error is the writer's; what came before it stays written.
+#[tactic(auto, unfolding(crate::specs::RecordText::record_text))]
 pub fn write_record<W: Write>(
     writer: &mut W,
     first: u64,
@@ -29,9 +30,11 @@ pub fn write_record<W: Write>(
 {
     write_head(writer, first, line, record)?;
     write_remark(writer, record, remark)?;
-    write_text(writer, "\n")
+    write_text(writer, "\n")?;
+    Ok(())
 }
 
+#[tactic(auto, unfolding(crate::specs::RecordText::head_text))]
 fn write_head<W: Write>(writer: &mut W, first: u64, line: u64, record: &Record) -> io::Result<()>
     ensures { OnOk result (Appends (W.contents writer.old) (W.contents writer.new) (head_text first line «record».now)) }
 {
@@ -44,17 +47,43 @@ fn write_remark<W: Write>(writer: &mut W, record: &Record, remark: &Remark) -> i
 {
     match *remark {
         Remark::Pdu(seq, header, remarks) => write_pdu(writer, seq, &header, &remarks),
-        Remark::NoSafe(seq, fault) => {
-            write_way(writer, record)?;
-            write_safe_fault(writer, seq, fault)
-        }
-        Remark::NoRed(fault) => {
-            write_way(writer, record)?;
-            write_red_fault(writer, fault)
-        }
+        Remark::NoSafe(seq, fault) => write_no_safe(writer, record, seq, fault),
+        Remark::NoRed(fault) => write_no_red(writer, record, fault),
     }
 }
 
+#[tactic(auto, unfolding(crate::specs::RecordText::no_safe_text))]
+fn write_no_safe<W: Write>(
+    writer: &mut W,
+    record: &Record,
+    seq: u32,
+    fault: SafeFault,
+) -> io::Result<()>
+    ensures { OnOk result (Appends (W.contents writer.old) (W.contents writer.new) (no_safe_text «record».now seq fault)) }
+{
+    write_way(writer, record)?;
+    write_number(writer, seq)?;
+    write_safe_fault(writer, fault)?;
+    Ok(())
+}
+
+#[tactic(auto, unfolding(crate::specs::RecordText::number_text))]
+fn write_number<W: Write>(writer: &mut W, seq: u32) -> io::Result<()>
+    ensures { OnOk result (Appends (W.contents writer.old) (W.contents writer.new) (number_text seq)) }
+{
+    write!(writer, " red {seq}")
+}
+
+#[tactic(auto, unfolding(crate::specs::RecordText::no_red_text))]
+fn write_no_red<W: Write>(writer: &mut W, record: &Record, fault: RedFault) -> io::Result<()>
+    ensures { OnOk result (Appends (W.contents writer.old) (W.contents writer.new) (no_red_text «record».now fault)) }
+{
+    write_way(writer, record)?;
+    write_red_fault(writer, fault)?;
+    Ok(())
+}
+
+#[tactic(auto, unfolding(crate::specs::RecordText::pdu_text))]
 fn write_pdu<W: Write>(
     writer: &mut W,
     seq: u32,
@@ -69,6 +98,7 @@ fn write_pdu<W: Write>(
     write_remarks(writer, remarks)
 }
 
+#[tactic(auto, unfolding(crate::specs::RecordText::fields_text))]
 fn write_fields<W: Write>(writer: &mut W, seq: u32, header: &Header) -> io::Result<()>
     ensures { OnOk result (Appends (W.contents writer.old) (W.contents writer.new) (fields_text seq header.now)) }
 {
@@ -90,6 +120,7 @@ fn write_fields<W: Write>(writer: &mut W, seq: u32, header: &Header) -> io::Resu
 }
 
 /// Writes where a datagram that is no PDU comes from and goes to.
+#[tactic(auto, unfolding(crate::specs::RecordText::way_text))]
 fn write_way<W: Write>(writer: &mut W, record: &Record) -> io::Result<()>
     ensures { OnOk result (Appends (W.contents writer.old) (W.contents writer.new) (way_text «record».now)) }
 {
@@ -98,12 +129,12 @@ fn write_way<W: Write>(writer: &mut W, record: &Record) -> io::Result<()>
     write_address(writer, record.destination)
 }
 
-fn write_safe_fault<W: Write>(writer: &mut W, seq: u32, fault: SafeFault) -> io::Result<()>
-    ensures { OnOk result (Appends (W.contents writer.old) (W.contents writer.new) (safe_fault_text seq fault)) }
+fn write_safe_fault<W: Write>(writer: &mut W, fault: SafeFault) -> io::Result<()>
+    ensures { OnOk result (Appends (W.contents writer.old) (W.contents writer.new) (safe_fault_text fault)) }
 {
     let number = fault.number();
     let name = fault.name();
-    write!(writer, " red {seq} safe fault {number} {name}")
+    write_fault(writer, "safe", number, name)
 }
 
 fn write_red_fault<W: Write>(writer: &mut W, fault: RedFault) -> io::Result<()>
@@ -111,5 +142,13 @@ fn write_red_fault<W: Write>(writer: &mut W, fault: RedFault) -> io::Result<()>
 {
     let number = fault.number();
     let name = fault.name();
-    write!(writer, " red fault {number} {name}")
+    write_fault(writer, "red", number, name)
+}
+
+/// Writes a layer's fault.
+#[tactic(auto, unfolding(crate::specs::RecordText::fault_text))]
+fn write_fault<W: Write>(writer: &mut W, layer: &str, number: u8, name: &str) -> io::Result<()>
+    ensures { OnOk result (Appends (W.contents writer.old) (W.contents writer.new) (fault_text layer.now number name.now)) }
+{
+    write!(writer, " {layer} fault {number} {name}")
 }

@@ -16,6 +16,7 @@ use std::io::Write;
 /// # Errors
 ///
 /// An error is the writer's; what came before it stays written.
+#[tactic(auto, unfolding(crate::specs::RemarkText::remarks_text))]
 pub fn write_remarks<W: Write>(writer: &mut W, remarks: &Remarks) -> io::Result<()>
     ensures { OnOk result (Appends (W.contents writer.old) (W.contents writer.new) (remarks_text remarks.now)) }
 {

@@ -5,10 +5,10 @@ ghost use Rattle.std.specs.Option.{option_copied};
 ghost use Rattle.clap.specs.declared.Command.TheViews.{out-Command};
 ghost use Rattle.clap.specs.Words.{app_of, fault_of, first_of, found_of, rows_of, subcommand_of, subcommand_rows_of};
 ghost use Rattle.rasta_words.specs.CommandLine.{Asks, FindsNone, HasEntries, HasNoEntries, IsFaultOf, IsFound, IsTurns, Refuses, code_word, coded_app, ends_word, file_app, local_app, md4_app, net_app, plain_app, rasta_app, show_app, sim_app};
-ghost use Rattle.rasta_words.specs.Choices.{HasChoices, HasNoChoices, IsAgeChosen, IsCodeChosen, IsMilliseconds, IsRemarkChosen, chosen_app, follow_app, is_flagged, remark_word};
+ghost use Rattle.rasta_words.specs.Choices.{HasChoices, HasNoChoices, IsAgeChosen, IsCodeChosen, IsMilliseconds, IsRemarkChosen, chosen_app, follow_app, remark_word};
 
 use capture_text::Word as Remarkable;
-use clap::{Arg, ArgAction, ArgMatches, Command};
+use clap::{Arg, ArgMatches, Command};
 use safe_pdu::CodeLength;
 use settings_file::Word;
 use std::alloc::{AllocError, Global};
@@ -57,8 +57,6 @@ pub struct Following<'a> {
     pub code: CodeLength,
     /// `--iv`: the initial value of the code as hex digits, or that of RFC 1320.
     pub iv: Option<&'a str>,
-    /// `--messages`: the telegrams of each unit are printed too.
-    pub messages: bool,
     /// `--only`: the remark whose lines alone are printed.
     pub only: Option<Remarkable>,
     /// `--t-max`: the age of a confirmed timestamp that is remarkable, in milliseconds; 1,800 where nothing is said.
@@ -80,7 +78,7 @@ pub enum WordsFault {
     #[error("error: turns are a number from 1 to 1,000,000\n\nUsage: rasta <il|fe|pair> --turns <turns> <file>\n\nFor more information, try 'rasta --help'.")]
     BadTurns,
     /// A choice of `follow` that is none.
-    #[error("error: a code has 0, 8 or 16 octets, T_max is a number of milliseconds from 1 to 4,294,967,295, and lines are chosen by opens, repeat, ahead, late, stale, anew, resent, age, reason or fault\n\nUsage: rasta follow [--code <0|8|16>] [--iv <iv>] [--messages] [--only <word>] [--t-max <ms>] <file>\n\nFor more information, try 'rasta follow --help'.")]
+    #[error("error: a code has 0, 8 or 16 octets, T_max is a number of milliseconds from 1 to 4,294,967,295, and lines are chosen by opens, repeat, ahead, late, stale, anew, resent, age, reason or fault\n\nUsage: rasta follow [--code <0|8|16>] [--iv <iv>] [--only <word>] [--t-max <ms>] <file>\n\nFor more information, try 'rasta follow --help'.")]
     BadChoice,
     /// A word is not UTF-8.
     #[error("error: a word is no UTF-8 text\n\nUsage: rasta <COMMAND>\n\nFor more information, try 'rasta --help'.")]
@@ -155,7 +153,6 @@ fn choices<'a>(entries: &ArgMatches<'a>) -> Option<Following<'a>>
     Some(Following {
         code: chosen_code(entry(entries, "code"))?,
         iv: entry(entries, "iv"),
-        messages: is_chosen(entry(entries, "messages")),
         only: chosen_remark(entry(entries, "only"))?,
         t_max: chosen_age(entry(entries, "t-max"))?,
         file: entry(entries, "file")?,
@@ -170,16 +167,6 @@ fn chosen_code(word: Option<&str>) -> Option<CodeLength>
     match word {
         None => Some(CodeLength::Eight),
         Some(word) => code_length(word),
-    }
-}
-
-/// Whether a flag was given.
-fn is_chosen(word: Option<&str>) -> bool
-    ensures { result ≡ is_flagged (option_copied word.entry) }
-{
-    match word {
-        None => false,
-        Some(word) => word == "true",
     }
 }
 
@@ -394,7 +381,7 @@ fn follow_command<'a>(alloc: Global) -> Result<Command<'a>, AllocError>
     chosen_command(alloc)?.arg(only)?.arg(t_max)?.arg(file)
 }
 
-/// The command `follow` with what it takes of the safety code and of telegrams.
+/// The command `follow` with what it takes of the safety code.
 fn chosen_command<'a>(alloc: Global) -> Result<Command<'a>, AllocError>
     ensures app { IfOk result (λ command. app_of command ≡ chosen_app) }
     ensures local { IfOk result (λ command. (out-Command command).has_globals ≡ false) }
@@ -405,17 +392,12 @@ fn chosen_command<'a>(alloc: Global) -> Result<Command<'a>, AllocError>
     let iv = Arg::new(alloc, "iv").long("iv").help(
         "Initial value of the code as 32 hex digits; without it that of RFC 1320",
     );
-    let messages = Arg::new(alloc, "messages")
-        .long("messages")
-        .action(ArgAction::SetTrue)
-        .help("Prints the telegrams of each unit too");
     Command::new(alloc, "follow")
         .about(
             "Follows a recorded connection: what was lost, repeated and sent again, and who left and why",
         )
         .arg(code)?
-        .arg(iv)?
-        .arg(messages)
+        .arg(iv)
 }
 
 fn sim_command<'a>(alloc: Global) -> Result<Command<'a>, AllocError>

@@ -1,0 +1,17 @@
+-- The line of a line that is no datagram.
+use Rattle.std.specs.Prelude.{ℕ, List, [], ◌∷◌, codes}
+use Rattle.std.specs.Fmt.{decimal}
+use Rattle.capture.specs.declared.line.LineFault.{LineFault}
+use Rattle.capture.specs.declared.line.LineFault.TheVariants.{Fields, Time, Source, Destination, Long, Payload}
+use Rattle.capture_text.specs.Pieces.{pieces}
+
+abbrev pub fault_word : LineFault → List ℕ
+fault_word Fields = codes "not six fields"
+fault_word Time = codes "time"
+fault_word Source = codes "source"
+fault_word Destination = codes "destination"
+fault_word Long = codes "too long"
+fault_word Payload = codes "payload"
+
+unfoldable pub fault_text : ℕ → LineFault → List ℕ
+fault_text number fault = pieces (codes "line " ∷ decimal number ∷ codes ": unreadable: " ∷ fault_word fault ∷ codes "\n" ∷ [])

@@ -1,0 +1,78 @@
+-- What a line of a capture does, and what is printed of it.
+use Rattle.std.specs.Prelude.{ℕ, List, [], length, if◌then◌else◌, Option, Some, None, Result, Ok, Err}
+use Rattle.safe_pdu.specs.declared.CodeRule.{CodeRule}
+use Rattle.capture.specs.declared.connections.Connection.{Connection}
+use Rattle.capture.specs.declared.following.Remark.{Remark}
+use Rattle.capture.specs.declared.heard.Heard.{Heard}
+use Rattle.capture.specs.declared.line.LineFault.{LineFault}
+use Rattle.capture.specs.declared.line.Record.{Record}
+use Rattle.capture.specs.Hearing.{heard_of}
+use Rattle.capture.specs.Lines.{Line}
+use Rattle.capture.specs.Numbers.{counted}
+use Rattle.capture.specs.Whole.{connections_after, damaged_after, forgotten_after, remark_of, totals_of}
+use Rattle.capture_text.specs.Choice.{is_asked}
+use Rattle.capture_text.specs.RecordText.{record_text}
+use Rattle.capture_text.specs.SummaryText.{summary_text}
+use Rattle.capture_text.specs.declared.course.Asked.{Asked}
+use Rattle.capture_text.specs.declared.summary.Counts.{Counts}
+
+-- a recorded datagram, apart from its octets
+abbrev pub record_of : Line → Record
+record_of l = record { time = l.time; source = l.source; destination = l.destination; size = length l.payload }
+
+-- a line that was read, and what its datagram says
+abbrev pub heard_line : CodeRule → Result Line LineFault → Result (Record × Heard) LineFault
+heard_line rule (Ok l) = Ok (record_of l, heard_of rule l.payload)
+heard_line rule (Err fault) = Err fault
+
+-- what is remarkable in it
+abbrev pub found_in : List Connection → ℕ → Result (Record × Heard) LineFault → Result (Record × Remark) LineFault
+found_in cs number (Ok h) = Ok (h.0, remark_of cs number h.0 h.1)
+found_in cs number (Err fault) = Err fault
+
+-- what is kept after it; a line that is no datagram changes nothing
+abbrev pub connections_behind : List Connection → ℕ → Result (Record × Heard) LineFault → List Connection
+connections_behind cs number (Ok h) = connections_after cs number h.0 h.1
+connections_behind cs number (Err fault) = cs
+
+abbrev pub damaged_behind : ℕ → Result (Record × Heard) LineFault → ℕ
+damaged_behind damaged (Ok h) = damaged_after damaged h.1
+damaged_behind damaged (Err fault) = damaged
+
+abbrev pub forgotten_behind : ℕ → List Connection → Result (Record × Heard) LineFault → ℕ
+forgotten_behind forgotten cs (Ok h) = forgotten_after forgotten cs h.1
+forgotten_behind forgotten cs (Err fault) = forgotten
+
+-- the time of the first datagram
+abbrev pub first_of : Option ℕ → ℕ → ℕ
+first_of None time = time
+first_of (Some first) time = first
+
+-- what is printed of a datagram: its line, where it is asked for
+abbrev pub told_text : Asked → ℕ → ℕ → Record → Remark → List ℕ
+told_text a first number r m = if is_asked a.only a.t_max m then record_text first number r m else []
+
+abbrev pub found_text : Asked → Option ℕ → ℕ → Result (Record × Remark) LineFault → List ℕ
+found_text a first number (Ok f) = told_text a (first_of first f.0.time) number f.0 f.1
+found_text a first number (Err fault) = []
+
+abbrev pub first_behind : Option ℕ → Result (Record × Remark) LineFault → Option ℕ
+first_behind first (Ok f) = Some (first_of first f.0.time)
+first_behind first (Err fault) = first
+
+abbrev pub unreadable_behind : ℕ → Result (Record × Remark) LineFault → ℕ
+unreadable_behind unreadable (Ok f) = unreadable
+unreadable_behind unreadable (Err fault) = counted unreadable 1
+
+-- the fault of a line that is no datagram
+abbrev pub fault_in : Result (Record × Remark) LineFault → Option LineFault
+fault_in (Ok f) = None
+fault_in (Err fault) = Some fault
+
+abbrev pub counts_of : ℕ → ℕ → ℕ → Counts
+counts_of damaged forgotten unreadable = record { damaged = damaged; forgotten = forgotten; unreadable = unreadable }
+
+-- the sums over all lines so far
+abbrev pub course_text : ℕ → Option ℕ → List Connection → Counts → List ℕ
+course_text t_max first cs counts =
+    summary_text (record { first = first_of first 0; t_max = t_max }) cs (totals_of cs) counts

@@ -1,0 +1,250 @@
+//! A capture, line by line.
+
+ghost use Rattle.std.specs.Prelude.{◌≡◌, None, OnOk, IfOk};
+ghost use Rattle.std.specs.Io.KnownBytes.{Appends};
+ghost use Rattle.capture.specs.Hearing.{heard_of};
+ghost use Rattle.capture.specs.Lines.{line_of};
+ghost use Rattle.capture.specs.Numbers.{counted};
+ghost use Rattle.capture.specs.Whole.{connections_after, damaged_after, forgotten_after, remark_of};
+ghost use Rattle.capture_text.specs.FaultText.{fault_text, fault_word};
+ghost use Rattle.capture_text.specs.Steps.{connections_behind, counts_of, course_text, damaged_behind, fault_in, first_behind, first_of, forgotten_behind, found_in, found_text, heard_line, told_text, unreadable_behind};
+
+use crate::choice::{Word, is_wanted};
+use crate::record::write_record;
+use crate::summary::{Counts, Scale, write_summary};
+use capture::{Buffer, Following, Heard, LineFault, Record, Remark, hear, read_line};
+use safe_pdu::CodeRule;
+use std::io;
+use std::io::Write;
+
+/// What is asked of a capture.
+#[derive(Clone, Copy, Debug, PartialEq, Eq)]
+pub struct Asked {
+    /// The rule of the safety code.
+    pub rule: CodeRule,
+    /// The remark whose lines are printed; all are, where there is none.
+    pub only: Option<Word>,
+    /// T_max in milliseconds, which ages are measured against.
+    pub t_max: u32,
+}
+
+/// How far a capture was read.
+#[derive(Drop)]
+pub struct Course {
+    /// What is kept of its datagrams.
+    pub following: Following,
+    /// When the first datagram was recorded, in microseconds; none before it.
+    pub first: Option<u64>,
+    /// How many lines were read.
+    pub lines: u64,
+    /// How many of them were no datagram.
+    pub unreadable: u64,
+}
+
+impl Course {
+    /// Nothing was read yet.
+    pub fn new() -> Self
+        ensures first { result.first ≡ None }
+        ensures lines { result.lines ≡ 0 }
+        ensures unreadable { result.unreadable ≡ 0 }
+    {
+        Course {
+            following: Following::new(),
+            first: None,
+            lines: 0,
+            unreadable: 0,
+        }
+    }
+
+    /// Takes a line without its line feed into account, and writes what is printed of it; answers its fault where it is
+    /// no datagram. The buffer is for its payload.
+    ///
+    /// # Errors
+    ///
+    /// An error is the writer's; what came before it stays written, and the line is taken into account.
+    pub fn take_line<W: Write>(
+        &mut self,
+        asked: &Asked,
+        line: &[u8],
+        buffer: &mut Buffer,
+        writer: &mut W,
+    ) -> io::Result<Option<LineFault>>
+        ensures lines { self.new.lines ≡ counted self.old.lines 1 }
+        ensures first { self.new.first ≡ first_behind self.old.first
+            (found_in self.old.following.connections.items (counted self.old.lines 1)
+            (heard_line asked.now.rule (line_of line.now))) }
+        ensures unreadable { self.new.unreadable ≡ unreadable_behind self.old.unreadable
+            (found_in self.old.following.connections.items (counted self.old.lines 1)
+            (heard_line asked.now.rule (line_of line.now))) }
+        ensures connections { self.new.following.connections.items
+            ≡ connections_behind self.old.following.connections.items (counted self.old.lines 1)
+            (heard_line asked.now.rule (line_of line.now)) }
+        ensures damaged { self.new.following.damaged
+            ≡ damaged_behind self.old.following.damaged (heard_line asked.now.rule (line_of line.now)) }
+        ensures forgotten { self.new.following.forgotten
+            ≡ forgotten_behind self.old.following.forgotten self.old.following.connections.items
+            (heard_line asked.now.rule (line_of line.now)) }
+        ensures fault { IfOk result (λ fault. fault ≡ fault_in
+            (found_in self.old.following.connections.items (counted self.old.lines 1)
+            (heard_line asked.now.rule (line_of line.now)))) }
+        ensures written { OnOk result (Appends (W.contents writer.old) (W.contents writer.new)
+            (found_text asked.now self.old.first (counted self.old.lines 1)
+            (found_in self.old.following.connections.items (counted self.old.lines 1)
+            (heard_line asked.now.rule (line_of line.now))))) }
+    {
+        self.lines = self.lines.saturating_add(1);
+        let heard = hear_line(&asked.rule, line, buffer);
+        let found = follow(&mut self.following, self.lines, heard);
+        self.tell(asked, found, writer)
+    }
+
+    /// Takes a line into account that is too long to be kept.
+    pub fn pass_long(&mut self)
+        ensures following { self.new.following ≡ self.old.following }
+        ensures first { self.new.first ≡ self.old.first }
+        ensures lines { self.new.lines ≡ counted self.old.lines 1 }
+        ensures unreadable { self.new.unreadable ≡ counted self.old.unreadable 1 }
+    {
+        let unreadable = self.unreadable;
+        self.lines = self.lines.saturating_add(1);
+        self.unreadable = unreadable.saturating_add(1);
+    }
+
+    /// Writes what is printed of a line.
+    fn tell<W: Write>(
+        &mut self,
+        asked: &Asked,
+        found: Result<(Record, Remark), LineFault>,
+        writer: &mut W,
+    ) -> io::Result<Option<LineFault>>
+        ensures following { self.new.following ≡ self.old.following }
+        ensures lines { self.new.lines ≡ self.old.lines }
+        ensures first { self.new.first ≡ first_behind self.old.first found }
+        ensures unreadable { self.new.unreadable ≡ unreadable_behind self.old.unreadable found }
+        ensures fault { IfOk result (λ fault. fault ≡ fault_in found) }
+        ensures written { OnOk result (Appends (W.contents writer.old) (W.contents writer.new)
+            (found_text asked.now self.old.first self.old.lines found)) }
+    {
+        match found {
+            Ok((record, remark)) => {
+                let first = start(self.first, record.time);
+                self.first = Some(first);
+                write_wanted(writer, asked, first, self.lines, &record, &remark)?;
+                Ok(None)
+            }
+            Err(fault) => {
+                self.unreadable = self.unreadable.saturating_add(1);
+                Ok(Some(fault))
+            }
+        }
+    }
+
+    /// Writes the sums over all lines so far.
+    ///
+    /// # Errors
+    ///
+    /// An error is the writer's; what came before it stays written.
+    pub fn sum<W: Write>(&self, t_max: u32, writer: &mut W) -> io::Result<()>
+        ensures { OnOk result (Appends (W.contents writer.old) (W.contents writer.new)
+            (course_text t_max self.now.first self.now.following.connections.items
+            (counts_of self.now.following.damaged self.now.following.forgotten self.now.unreadable))) }
+    {
+        let scale = Scale {
+            first: start(self.first, 0),
+            t_max,
+        };
+        let counts = Counts {
+            damaged: self.following.damaged,
+            forgotten: self.following.forgotten,
+            unreadable: self.unreadable,
+        };
+        write_summary(writer, scale, self.following.connections.as_slice(), counts)
+    }
+}
+
+/// The time of the first datagram.
+fn start(first: Option<u64>, time: u64) -> u64
+    ensures { result ≡ first_of first time }
+{
+    match first {
+        None => time,
+        Some(first) => first,
+    }
+}
+
+/// Reads a line, and answers what its datagram says.
+fn hear_line(
+    rule: &CodeRule,
+    line: &[u8],
+    buffer: &mut Buffer,
+) -> Result<(Record, Heard), LineFault>
+    ensures { result ≡ heard_line rule.now (line_of line.now) }
+{
+    match read_line(line, buffer) {
+        Ok(record) => Ok((record, hear(&buffer[..record.size], rule))),
+        Err(fault) => Err(fault),
+    }
+}
+
+/// Follows the datagram of a line.
+fn follow(
+    following: &mut Following,
+    number: u64,
+    heard: Result<(Record, Heard), LineFault>,
+) -> Result<(Record, Remark), LineFault>
+    ensures found { result ≡ found_in following.old.connections.items number heard }
+    ensures connections { following.new.connections.items ≡ connections_behind following.old.connections.items number heard }
+    ensures damaged { following.new.damaged ≡ damaged_behind following.old.damaged heard }
+    ensures forgotten { following.new.forgotten ≡ forgotten_behind following.old.forgotten following.old.connections.items heard }
+{
+    match heard {
+        Ok((record, heard)) => {
+            let remark = following.hear(number, &record, &heard);
+            Ok((record, remark))
+        }
+        Err(fault) => Err(fault),
+    }
+}
+
+fn write_wanted<W: Write>(
+    writer: &mut W,
+    asked: &Asked,
+    first: u64,
+    number: u64,
+    record: &Record,
+    remark: &Remark,
+) -> io::Result<()>
+    ensures { OnOk result (Appends (W.contents writer.old) (W.contents writer.new)
+        (told_text asked.now first number «record».now remark.now)) }
+{
+    if is_wanted(asked.only, asked.t_max, remark) {
+        return write_record(writer, first, number, record, remark);
+    }
+    Ok(())
+}
+
+/// Writes why a line is no datagram.
+///
+/// # Errors
+///
+/// An error is the writer's; what came before it stays written.
+#[tactic(auto, unfolding(crate::specs::FaultText::fault_text))]
+pub fn write_fault<W: Write>(writer: &mut W, number: u64, fault: LineFault) -> io::Result<()>
+    ensures { OnOk result (Appends (W.contents writer.old) (W.contents writer.new) (fault_text number fault)) }
+{
+    let word = name_of_fault(fault);
+    writeln!(writer, "line {number}: unreadable: {word}")
+}
+
+fn name_of_fault(fault: LineFault) -> &'static str
+    ensures { result.now ≡ fault_word fault }
+{
+    match fault {
+        LineFault::Fields => "not six fields",
+        LineFault::Time => "time",
+        LineFault::Source => "source",
+        LineFault::Destination => "destination",
+        LineFault::Long => "too long",
+        LineFault::Payload => "payload",
+    }
+}

@@ -1,0 +1,359 @@
+//! Whole captures, and the text that is to be printed of each, worked out by hand.
+
+use crate::{Asked, FollowStatus, Word, run, write_remarks};
+use capture::{Judged, Remarks};
+use md4::INITIAL_VALUE;
+use safe_pdu::{CodeLength, CodeRule, Leaving};
+use std::alloc::Allocator;
+use std::io::Write;
+use std::test::Fail;
+
+/// A unit of 45 octets, in hex digits.
+const UNIT: &str =
+    "000000000000000000000000000000000000000000000000000000000000000000000000000000000000000000";
+
+/// The numbers of a PDU without a code.
+#[derive(Clone, Copy)]
+struct Pdu {
+    /// The redundancy number.
+    seq: u32,
+    /// The type.
+    kind: u16,
+    /// SN and CS.
+    numbers: (u32, u32),
+    /// TS and CTS.
+    stamps: (u32, u32),
+    /// The body in hex digits.
+    body: &'static str,
+}
+
+/// Puts the front of a line: the time in microseconds, and the addresses of a channel, from the first end or back.
+fn put_front<A: Allocator>(
+    lines: &mut Vec<u8, A>,
+    time: u32,
+    channel: u8,
+    back: bool,
+) -> Result<(), Fail> {
+    let (from, to) = if back { (2, 1) } else { (1, 2) };
+    let seconds = time / 1_000_000;
+    let micros = time % 1_000_000;
+    write!(
+        lines,
+        "170000000{seconds}.{micros:06}000\t10.0.{channel}.{from}\t800{from}\t10.0.{channel}.{to}\t800{to}\t"
+    )?;
+    Ok(())
+}
+
+/// Puts the line of a PDU from end 1 to end 2, or back.
+fn put<A: Allocator>(
+    lines: &mut Vec<u8, A>,
+    time: u32,
+    channel: u8,
+    back: bool,
+    pdu: Pdu,
+) -> Result<(), Fail> {
+    put_front(lines, time, channel, back)?;
+    let size = 28 + (pdu.body.len() / 2 % 2000) as u16;
+    let whole = (size + 8).swap_bytes();
+    let size = size.swap_bytes();
+    let seq = pdu.seq.swap_bytes();
+    write!(lines, "{whole:04x}0000{seq:08x}{size:04x}")?;
+    let kind = pdu.kind.swap_bytes();
+    let (sender, receiver) = if back { (2u32, 1u32) } else { (1u32, 2u32) };
+    let sender = sender.swap_bytes();
+    let receiver = receiver.swap_bytes();
+    write!(lines, "{kind:04x}{receiver:08x}{sender:08x}")?;
+    let (sn, cs) = pdu.numbers;
+    let (ts, cts) = pdu.stamps;
+    let sn = sn.swap_bytes();
+    let cs = cs.swap_bytes();
+    let ts = ts.swap_bytes();
+    let cts = cts.swap_bytes();
+    let body = pdu.body;
+    writeln!(lines, "{sn:08x}{cs:08x}{ts:08x}{cts:08x}{body}")?;
+    Ok(())
+}
+
+fn asked(length: CodeLength, only: Option<Word>) -> Asked {
+    Asked {
+        rule: CodeRule {
+            length,
+            initial_value: INITIAL_VALUE,
+        },
+        only,
+        t_max: 1800,
+    }
+}
+
+// Two channels, of which the second loses a heartbeat.
+#[test]
+fn loses_on_one_channel(rt: HostRuntime) -> Result<(), Fail> {
+    let opens = Pdu {
+        seq: 0,
+        kind: 6200,
+        numbers: (100, 0),
+        stamps: (1000, 0),
+        body: "3033303320000000000000000000",
+    };
+    let granted = Pdu {
+        seq: 0,
+        kind: 6201,
+        numbers: (500, 100),
+        stamps: (7000, 1000),
+        body: "3033303320000000000000000000",
+    };
+    let first = Pdu {
+        seq: 1,
+        kind: 6220,
+        numbers: (101, 500),
+        stamps: (1020, 7000),
+        body: "",
+    };
+    let second = Pdu {
+        seq: 2,
+        kind: 6220,
+        numbers: (102, 500),
+        stamps: (1030, 7000),
+        body: "",
+    };
+    let mut lines = Vec::new(rt.alloc());
+    put(&mut lines, 0, 0, false, opens)?;
+    put(&mut lines, 50, 1, false, opens)?;
+    put(&mut lines, 10_000, 0, true, granted)?;
+    put(&mut lines, 10_060, 1, true, granted)?;
+    put(&mut lines, 20_000, 0, false, first)?;
+    put(&mut lines, 30_000, 0, false, second)?;
+    put(&mut lines, 30_040, 1, false, second)?;
+    let mut out = Vec::new(rt.alloc());
+    let mut err = Vec::new(rt.alloc());
+    let asked = asked(CodeLength::Zero, None);
+    let status = run(rt.alloc(), lines.as_slice(), &asked, &mut out, &mut err);
+    assert_eq!(rt; status, FollowStatus::Done);
+    let wanted = "\
+0.000000 line 1 1->2 ch 1 red 0 ConnReq sn 100 cs 0 ts 1000 cts 0 opens
+0.000050 line 2 1->2 ch 2 red 0 ConnReq sn 100 cs 0 ts 1000 cts 0 all repeat of line 1
+0.010000 line 3 2->1 ch 1 red 0 ConnResp sn 500 cs 100 ts 7000 cts 1000 opens age 0 ms
+0.010060 line 4 2->1 ch 2 red 0 ConnResp sn 500 cs 100 ts 7000 cts 1000 all repeat of line 3 age 0 ms
+0.020000 line 5 1->2 ch 1 red 1 HB sn 101 cs 500 ts 1020 cts 7000 age 0 ms
+0.030000 line 6 1->2 ch 1 red 2 HB sn 102 cs 500 ts 1030 cts 7000 age 0 ms
+0.030040 line 7 1->2 ch 2 red 2 HB sn 102 cs 500 ts 1030 cts 7000 channel ahead 1 all repeat of line 6 age 0 ms
+sum 1->2 opened by ConnReq times 1 PDUs 3 missing 0 repeats 2 stale 0 heartbeats 2 requests 0 resent 0 \
+silence 0.020000 age 0 of 1800 last 0.030000 no DiscReq
+sum 1->2 ch 1 10.0.0.1:8001-10.0.0.2:8002 datagrams 3 PDUs 3 missing 0 repeats 0 stale 0
+sum 1->2 ch 2 10.0.1.1:8001-10.0.1.2:8002 datagrams 2 PDUs 2 missing 1 repeats 0 stale 0
+sum 2->1 opened by ConnResp times 1 PDUs 1 missing 0 repeats 1 stale 0 heartbeats 0 requests 0 resent 0 \
+silence 0.000000 age 0 of 1800 last 0.010000 no DiscReq
+sum 2->1 ch 1 10.0.0.1:8001-10.0.0.2:8002 datagrams 1 PDUs 1 missing 0 repeats 0 stale 0
+sum 2->1 ch 2 10.0.1.1:8001-10.0.1.2:8002 datagrams 1 PDUs 1 missing 0 repeats 0 stale 0
+sum all PDUs 4 missing 0 repeats 3 damaged 0 forgotten 0 unreadable 0
+";
+    assert!(rt; out.as_slice() == wanted.as_bytes());
+    assert!(rt; err.is_empty());
+    Ok(())
+}
+
+// A unit is lost on both channels, asked for and sent again.
+#[test]
+fn asks_again(rt: HostRuntime) -> Result<(), Fail> {
+    let unit = Pdu {
+        seq: 10,
+        kind: 6240,
+        numbers: (200, 600),
+        stamps: (2000, 8000),
+        body: UNIT,
+    };
+    let beat = Pdu {
+        seq: 12,
+        kind: 6220,
+        numbers: (202, 600),
+        stamps: (2020, 8000),
+        body: "",
+    };
+    let request = Pdu {
+        seq: 30,
+        kind: 6212,
+        numbers: (601, 200),
+        stamps: (8030, 2000),
+        body: "",
+    };
+    let answer = Pdu {
+        seq: 13,
+        kind: 6213,
+        numbers: (203, 601),
+        stamps: (2040, 8030),
+        body: "",
+    };
+    let again = Pdu {
+        seq: 14,
+        kind: 6241,
+        numbers: (204, 601),
+        stamps: (2041, 8030),
+        body: UNIT,
+    };
+    let mut lines = Vec::new(rt.alloc());
+    put(&mut lines, 0, 0, false, unit)?;
+    put(&mut lines, 100, 1, false, unit)?;
+    put(&mut lines, 20_000, 0, false, beat)?;
+    put(&mut lines, 30_000, 0, true, request)?;
+    put(&mut lines, 40_000, 0, false, answer)?;
+    put(&mut lines, 41_000, 0, false, again)?;
+    let mut out = Vec::new(rt.alloc());
+    let mut err = Vec::new(rt.alloc());
+    let asked = asked(CodeLength::Zero, None);
+    let status = run(rt.alloc(), lines.as_slice(), &asked, &mut out, &mut err);
+    assert_eq!(rt; status, FollowStatus::Done);
+    let wanted = "\
+0.000000 line 1 1->2 ch 1 red 10 Data sn 200 cs 600 ts 2000 cts 8000
+0.000100 line 2 1->2 ch 2 red 10 Data sn 200 cs 600 ts 2000 cts 8000 all repeat of line 1
+0.020000 line 3 1->2 ch 1 red 12 HB sn 202 cs 600 ts 2020 cts 8000 channel ahead 1 all ahead 1 sn ahead 1
+0.030000 line 4 2->1 ch 1 red 30 RetrReq sn 601 cs 200 ts 8030 cts 2000 age 20 ms
+0.040000 line 5 1->2 ch 1 red 13 RetrResp sn 203 cs 601 ts 2040 cts 8030 age 0 ms
+0.041000 line 6 1->2 ch 1 red 14 RetrData sn 204 cs 601 ts 2041 cts 8030 resent age 0 ms
+sum 1->2 opening not seen PDUs 4 missing 1 repeats 1 stale 0 heartbeats 1 requests 0 resent 1 \
+silence 0.020000 age 0 of 1800 last 0.041000 no DiscReq
+sum 1->2 ch 1 10.0.0.1:8001-10.0.0.2:8002 datagrams 4 PDUs 4 missing 1 repeats 0 stale 0
+sum 1->2 ch 2 10.0.1.1:8001-10.0.1.2:8002 datagrams 1 PDUs 1 missing 0 repeats 0 stale 0
+sum 2->1 opening not seen PDUs 1 missing 0 repeats 0 stale 0 heartbeats 0 requests 1 resent 0 \
+silence 0.000000 age 20 of 1800 last 0.030000 no DiscReq
+sum 2->1 ch 1 10.0.0.1:8001-10.0.0.2:8002 datagrams 1 PDUs 1 missing 0 repeats 0 stale 0
+sum 2->1 ch 2 10.0.1.1:8001-10.0.1.2:8002 datagrams 0 PDUs 0 missing 0 repeats 0 stale 0
+sum all PDUs 5 missing 1 repeats 1 damaged 0 forgotten 0 unreadable 0
+";
+    assert!(rt; out.as_slice() == wanted.as_bytes());
+    Ok(())
+}
+
+// Nothing recent is confirmed in time, so an end leaves, and the other opens again; old ages alone are printed.
+#[test]
+fn leaves_and_opens_again(rt: HostRuntime) -> Result<(), Fail> {
+    let beat = Pdu {
+        seq: 5,
+        kind: 6220,
+        numbers: (300, 700),
+        stamps: (5000, 9000),
+        body: "",
+    };
+    let back = Pdu {
+        seq: 8,
+        kind: 6220,
+        numbers: (701, 300),
+        stamps: (9100, 5000),
+        body: "",
+    };
+    let slow = Pdu {
+        seq: 6,
+        kind: 6220,
+        numbers: (301, 701),
+        stamps: (6801, 9100),
+        body: "",
+    };
+    let leaves = Pdu {
+        seq: 9,
+        kind: 6216,
+        numbers: (702, 300),
+        stamps: (10_950, 5000),
+        body: "00000300",
+    };
+    let opens = Pdu {
+        seq: 0,
+        kind: 6200,
+        numbers: (42, 0),
+        stamps: (8000, 0),
+        body: "3033303320000000000000000000",
+    };
+    let mut lines = Vec::new(rt.alloc());
+    put(&mut lines, 0, 0, false, beat)?;
+    put(&mut lines, 100_000, 0, true, back)?;
+    put(&mut lines, 1_801_000, 0, false, slow)?;
+    put(&mut lines, 1_850_000, 0, true, leaves)?;
+    put(&mut lines, 3_000_000, 0, false, opens)?;
+    let mut out = Vec::new(rt.alloc());
+    let mut err = Vec::new(rt.alloc());
+    let asked = asked(CodeLength::Zero, Some(Word::Age));
+    let status = run(rt.alloc(), lines.as_slice(), &asked, &mut out, &mut err);
+    assert_eq!(rt; status, FollowStatus::Done);
+    let wanted = "\
+1.850000 line 4 2->1 ch 1 red 9 DiscReq sn 702 cs 300 ts 10950 cts 5000 age 1801 ms reason 3 timeout detail 0
+sum 1->2 opened by ConnReq times 1 PDUs 3 missing 0 repeats 0 stale 0 heartbeats 2 requests 0 resent 0 \
+silence 1.801000 age 0 of 1800 last 3.000000 no DiscReq
+sum 1->2 ch 1 10.0.0.1:8001-10.0.0.2:8002 datagrams 3 PDUs 3 missing 0 repeats 0 stale 0
+sum 2->1 opening not seen PDUs 2 missing 0 repeats 0 stale 0 heartbeats 1 requests 0 resent 0 \
+silence 1.750000 age 1801 of 1800 reached last 1.850000 DiscReq reason 3 timeout detail 0
+sum 2->1 ch 1 10.0.0.1:8001-10.0.0.2:8002 datagrams 2 PDUs 2 missing 0 repeats 0 stale 0
+sum all PDUs 5 missing 0 repeats 0 damaged 0 forgotten 0 unreadable 0
+";
+    assert!(rt; out.as_slice() == wanted.as_bytes());
+    Ok(())
+}
+
+// A datagram under the code of another one is damaged, and a line that is none is named.
+#[test]
+fn names_what_is_forged(rt: HostRuntime) -> Result<(), Fail> {
+    let mut lines = Vec::new(rt.alloc());
+    put_front(&mut lines, 0, 0, false)?;
+    writeln!(
+        lines,
+        "2c0000000700000024004c18020000000100000065000000f40100000a000000050000000ded786fc4bf93f2"
+    )?;
+    put_front(&mut lines, 500, 0, false)?;
+    writeln!(
+        lines,
+        "2c0000000800000024004c18020000000100000066000000f40100000a000000050000000ded786fc4bf93f2"
+    )?;
+    writeln!(lines, "what")?;
+    let mut out = Vec::new(rt.alloc());
+    let mut err = Vec::new(rt.alloc());
+    let asked = asked(CodeLength::Eight, None);
+    let status = run(rt.alloc(), lines.as_slice(), &asked, &mut out, &mut err);
+    assert_eq!(rt; status, FollowStatus::Refused);
+    let wanted = "\
+0.000000 line 1 1->2 ch 1 red 7 HB sn 101 cs 500 ts 10 cts 5
+0.000500 line 2 10.0.0.1:8001->10.0.0.2:8002 red 8 safe fault 3 Code
+sum 1->2 opening not seen PDUs 1 missing 0 repeats 0 stale 0 heartbeats 1 requests 0 resent 0 \
+silence 0.000000 age 0 of 1800 last 0.000000 no DiscReq
+sum 1->2 ch 1 10.0.0.1:8001-10.0.0.2:8002 datagrams 1 PDUs 1 missing 0 repeats 0 stale 0
+sum 2->1 opening not seen PDUs 0 missing 0 repeats 0 stale 0 heartbeats 0 requests 0 resent 0 \
+silence 0.000000 age 0 of 1800 not heard no DiscReq
+sum 2->1 ch 1 10.0.0.1:8001-10.0.0.2:8002 datagrams 0 PDUs 0 missing 0 repeats 0 stale 0
+sum all PDUs 1 missing 0 repeats 0 damaged 1 forgotten 0 unreadable 1
+";
+    assert!(rt; out.as_slice() == wanted.as_bytes());
+    assert!(rt; err.as_slice() == b"line 3: unreadable: not six fields\n".as_slice());
+    Ok(())
+}
+
+// Nothing is said of a PDU that follows as it should, and each remark has its words.
+#[test]
+fn writes_remarks(rt: HostRuntime) -> Result<(), Fail> {
+    let mut text = Vec::new(rt.alloc());
+    let quiet = Remarks {
+        opens: false,
+        route: 0,
+        channel: Some(Judged::First),
+        together: Judged::Next,
+        sequence: Some(Judged::Next),
+        resent: false,
+        age: None,
+        leaving: None,
+    };
+    write_remarks(&mut text, &quiet)?;
+    assert!(rt; text.is_empty());
+    let loud = Remarks {
+        opens: true,
+        route: 0,
+        channel: Some(Judged::Repeat(12)),
+        together: Judged::Late,
+        sequence: Some(Judged::Ahead(2)),
+        resent: true,
+        age: Some(45),
+        leaving: Some(Leaving {
+            detail: 3,
+            reason: 4,
+        }),
+    };
+    write_remarks(&mut text, &loud)?;
+    let wanted = " opens channel repeat of line 12 all late sn ahead 2 resent age 45 ms \
+reason 4 service not allowed detail 3 not of this pair";
+    assert!(rt; text.as_slice() == wanted.as_bytes());
+    Ok(())
+}
