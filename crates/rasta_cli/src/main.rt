@@ -1,6 +1,7 @@
 //! The program `rasta`.
 #![tactic(auto)]
 
+mod follow;
 mod program;
 mod runs;
 mod sim;

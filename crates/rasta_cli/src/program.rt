@@ -6,11 +6,12 @@ ghost use Rattle.rasta_words.specs.CommandLine.{rasta_app};
 ghost use Rattle.rasta_cli.specs.Shown.{DoneAs};
 ghost use Rattle.rasta_words.specs.Status.{EndsBy};
 
+use crate::follow::run_follow;
 use crate::runs::{run_md4, run_show};
 use crate::sim::run_sim;
 use clap::error::ErrorKind;
 use rasta_net::run_net;
-use rasta_words::{Fault, Request, Status, WordsFault, command, report};
+use rasta_words::{Fault, Following, Request, Status, WordsFault, command, report};
 use settings_file::Word;
 use std::alloc::{AllocError, Global};
 use std::convert::AsStr;
@@ -50,6 +51,7 @@ pub fn run<R: AllocGlobal + Files + Net + Clock, S: AsStr, O: Write, E: Write>(
         Ok(Request::Digest { hex }) => run_md4(rt.alloc(), hex, out, err),
         Ok(Request::Show { code, iv, hex }) => run_show(rt.alloc(), code, iv, hex, out, err),
         Ok(Request::Sim { script }) => run_script(rt, script, out, err),
+        Ok(Request::Follow(following)) => run_capture(rt, &following, out, err),
         Ok(Request::Net { word, file, turns }) => run_file(rt, word, file, turns, out, err),
         Err(fault) => refuse(&fault, out, err),
     }
@@ -64,6 +66,28 @@ fn run_script<R: AllocGlobal + Files, O: Write, E: Write>(
 ) -> Status {
     match fs::open(rt, script) {
         Ok(file) => run_sim(rt.alloc(), file, out, err),
+        Err(error) if matches!(error.kind(), io::ErrorKind::OutOfMemory) => report(
+            err,
+            Fault::Memory,
+        ),
+        Err(_) => report(err, Fault::File),
+    }
+}
+
+/// Follows the capture of a file; `-` is standard input.
+fn run_capture<R: AllocGlobal + Files, O: Write, E: Write>(
+    rt: &R,
+    following: &Following<'_>,
+    out: &mut O,
+    err: &mut E,
+) -> Status {
+    let path = if following.file == "-" {
+        "/dev/stdin"
+    } else {
+        following.file
+    };
+    match fs::open(rt, path) {
+        Ok(file) => run_follow(rt.alloc(), file, following, out, err),
         Err(error) if matches!(error.kind(), io::ErrorKind::OutOfMemory) => report(
             err,
             Fault::Memory,
@@ -97,10 +121,11 @@ fn refuse<O: Write, E: Write>(fault: &WordsFault, out: &mut O, err: &mut E) -> S
 {
     match fault {
         WordsFault::Memory(_) => report(err, Fault::Memory),
-        WordsFault::BadCode | WordsFault::BadTurns | WordsFault::NotText => {
-            let _ = writeln!(err, "{fault}");
-            Status::WrongWords
-        }
+        WordsFault::BadCode | WordsFault::BadTurns | WordsFault::BadChoice | WordsFault::NotText =>
+            {
+                let _ = writeln!(err, "{fault}");
+                Status::WrongWords
+            }
         WordsFault::Words(error) if matches!(error.kind(), ErrorKind::OutOfMemory) => {
             report(err, Fault::Memory)
         }

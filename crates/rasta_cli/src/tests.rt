@@ -1,7 +1,9 @@
+use crate::follow::run_follow;
 use crate::runs::{run_md4, run_show};
-use rasta_words::{Request, Status, WordsFault, command};
+use capture_text::Word;
+use rasta_words::{Following, Request, Status, WordsFault, command};
 use safe_pdu::CodeLength;
-use settings_file::Word;
+use settings_file::Word as Ends;
 use std::test::Fail;
 
 const HEARTBEAT: &str = "24000000000000001c004c18020000000100000065000000f40100000a00000005000000";
@@ -208,9 +210,50 @@ fn accepts_the_words_of_md4(rt: HostRuntime) -> Result<(), Fail> {
     Ok(())
 }
 
+// What `follow` takes where nothing is chosen, each choice, and choices that are none.
+#[test]
+fn accepts_the_words_of_follow(rt: HostRuntime) -> Result<(), Fail> {
+    let plain = Following {
+        code: CodeLength::Eight,
+        iv: None,
+        only: None,
+        t_max: 1800,
+        file: "night.tsv",
+    };
+    let words = ["rasta", "follow", "night.tsv"];
+    let found = command(rt.alloc(), &words).map_err(|_| "refused")?;
+    assert_eq!(rt; found, Request::Follow(plain));
+    let words = [
+        "rasta", "follow", "--code", "16", "--only", "age", "--t-max", "900", "--iv", OWN_VALUE,
+        "-",
+    ];
+    let found = command(rt.alloc(), &words).map_err(|_| "refused")?;
+    assert_eq!(rt;
+        found,
+        Request::Follow(Following {
+            code: CodeLength::Sixteen,
+            iv: Some(OWN_VALUE),
+            only: Some(Word::Age),
+            t_max: 900,
+            file: "-",
+        })
+    );
+    for (choice, text) in [
+        ("--code", "9"),
+        ("--only", "lost"),
+        ("--t-max", "0"),
+        ("--t-max", "4294967296"),
+    ] {
+        let words = ["rasta", "follow", choice, text, "night.tsv"];
+        let refused = matches!(command(rt.alloc(), &words), Err(WordsFault::BadChoice));
+        assert!(rt; refused, "at {choice} {text}");
+    }
+    Ok(())
+}
+
 #[test]
 fn accepts_the_words_of_the_ends(rt: HostRuntime) -> Result<(), Fail> {
-    for (name, word) in [("il", Word::Il), ("fe", Word::Fe), ("pair", Word::Pair)] {
+    for (name, word) in [("il", Ends::Il), ("fe", Ends::Fe), ("pair", Ends::Pair)] {
         for (text, turns) in [("1", 1), ("200", 200), ("1000000", 1_000_000)] {
             let words = ["rasta", name, "ends.toml", "--turns", text];
             let found = command(rt.alloc(), &words).map_err(|_| "refused")?;
@@ -291,5 +334,46 @@ fn prints_the_digests(rt: HostRuntime) -> Result<(), Fail> {
         assert_eq!(rt; out.as_slice(), text.as_bytes(), "at {hex}");
         assert_eq!(rt; err.as_slice(), fault.as_bytes(), "at {hex}");
     }
+    Ok(())
+}
+
+// A heartbeat that was recorded, a line that is no datagram behind it, and an initial value that is none.
+#[test]
+fn follows_a_capture(rt: HostRuntime) -> Result<(), Fail> {
+    let following = Following {
+        code: CodeLength::Zero,
+        iv: None,
+        only: None,
+        t_max: 1800,
+        file: "-",
+    };
+    let text = format!(in rt.alloc();
+        "1700000000.000000000\t10.0.0.1\t8001\t10.0.0.2\t8002\t{HEARTBEAT}\nnone\n"
+    )?;
+    let (mut out, mut err) = (Vec::new(rt.alloc()), Vec::new(rt.alloc()));
+    let ended = run_follow(
+        rt.alloc(),
+        text.as_str().as_bytes(),
+        &following,
+        &mut out,
+        &mut err,
+    );
+    assert_eq!(rt; ended, Status::Refused);
+    assert!(rt;
+        out.as_slice().starts_with(b"0.000000 line 1 1->2 ch 1 red 0 HB sn 101 cs 500 ts 10 cts 5")
+    );
+    assert_eq!(rt;
+        err.as_slice(),
+        b"line 2: unreadable: not six fields\n".as_slice()
+    );
+    let none = Following {
+        iv: Some("00"),
+        ..following
+    };
+    let (mut out, mut err) = (Vec::new(rt.alloc()), Vec::new(rt.alloc()));
+    let ended = run_follow(rt.alloc(), b"".as_slice(), &none, &mut out, &mut err);
+    assert_eq!(rt; ended, Status::Refused);
+    assert_eq!(rt; err.as_slice(), b"fault: hex\n".as_slice());
+    assert_eq!(rt; out.as_slice(), b"".as_slice());
     Ok(())
 }

@@ -1,0 +1,45 @@
+//! The word `follow`: a recorded connection, line by line.
+
+ghost use Rattle.std.specs.Prelude.{◌≡◌, ◌≢◌, None};
+ghost use Rattle.std.specs.Option.{option_copied};
+ghost use Rattle.pdu_text.specs.HexText.{initial_value_of};
+
+use capture_text::{Asked, FollowStatus};
+use pdu_text::initial_value;
+use rasta_words::{Fault, Following, Status, report};
+use safe_pdu::CodeRule;
+use std::alloc::Allocator;
+use std::io::{Read, Write};
+
+/// Runs `follow` over the capture that a reader holds. The lines of its datagrams and the sums go to `out`, lines that are no
+/// datagrams to `err`. A text for the initial value that is none is `fault: hex`.
+///
+/// It ends as done where each line was a datagram, as refused where one was none, the reader failed or memory was refused, and as
+/// failed where an output failed.
+pub fn run_follow<R: Read + Drop, O: Write, E: Write, A: Allocator + Copy>(
+    alloc: A,
+    reader: R,
+    following: &Following<'_>,
+    out: &mut O,
+    err: &mut E,
+) -> Status
+    ensures no_value { initial_value_of (option_copied following.now.iv) ≡ None → result ≡ Status.Refused }
+    ensures words { result ≢ Status.WrongWords }
+{
+    let Some(words) = initial_value(following.iv) else {
+        return report(err, Fault::Hex);
+    };
+    let asked = Asked {
+        rule: CodeRule {
+            length: following.code,
+            initial_value: words,
+        },
+        only: following.only,
+        t_max: following.t_max,
+    };
+    match capture_text::run(alloc, reader, &asked, out, err) {
+        FollowStatus::Done => Status::Done,
+        FollowStatus::Refused => Status::Refused,
+        FollowStatus::Failed => Status::Failed,
+    }
+}
