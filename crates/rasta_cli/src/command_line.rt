@@ -163,7 +163,8 @@ fn code_length(word: &str) -> Option<CodeLength>
 }
 
 fn matched<'a, S: AsStr>(alloc: Global, words: &'a [S]) -> Result<ArgMatches<'a>, WordsFault>
-    ensures rows { IfOk result (λ matches. subcommand_rows_of matches ≡ subcommand_of rasta_app (map S.text words.entry.now)) }
+    ensures rows { IfOk result (λ matches. subcommand_rows_of matches
+        ≡ subcommand_of rasta_app (map S.text words.entry.now)) }
     ensures fits { IsOk result → fault_of rasta_app (map S.text words.entry.now) ≡ [] }
     ensures refused { IfErr result (IsFaultOf (map S.text words.entry.now)) }
 {

@@ -44,7 +44,8 @@ pub fn run<R: AllocGlobal + Files + Net + Clock, S: AsStr, O: Write, E: Write>(
     out: &mut O,
     err: &mut E,
 ) -> Status
-    ensures done { result ≡ Status.Done → fault_of rasta_app (map S.text words.now) ≡ [] → DoneAs (map S.text words.now) (O.contents out.old) (O.contents out.new) }
+    ensures done { result ≡ Status.Done → fault_of rasta_app (map S.text words.now) ≡ []
+        → DoneAs (map S.text words.now) (O.contents out.old) (O.contents out.new) }
 {
     match command(rt.alloc(), words) {
         Ok(Request::Digest { hex }) => run_md4(rt.alloc(), hex, out, err),

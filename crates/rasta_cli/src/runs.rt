@@ -27,12 +27,15 @@ pub fn run_show<O: Write, E: Write>(
     err: &mut E,
 ) -> Status
     // All that was written is the datagram's text, and it has no fault.
-    ensures done { result ≡ Status.Done → HasShown code (option_copied iv.entry) hex.now true (O.contents out.old) (O.contents out.new) }
+    ensures done { result ≡ Status.Done
+        → HasShown code (option_copied iv.entry) hex.now true (O.contents out.old) (O.contents out.new) }
 
     // The text has a fault, or nothing was written.
     ensures refused { result ≡ Status.Refused
-        → HasShown code (option_copied iv.entry) hex.now false (O.contents out.old) (O.contents out.new) ⊎ (out.new ≡ out.old) }
-    ensures no_value { initial_value_of (option_copied iv.entry) ≡ None → (result ≡ Status.Refused) × (out.new ≡ out.old) }
+        → HasShown code (option_copied iv.entry) hex.now false (O.contents out.old) (O.contents out.new)
+        ⊎ (out.new ≡ out.old) }
+    ensures no_value { initial_value_of (option_copied iv.entry) ≡ None
+        → (result ≡ Status.Refused) × (out.new ≡ out.old) }
     ensures no_octets { octets_of hex.now ≡ None → (result ≡ Status.Refused) × (out.new ≡ out.old) }
     ensures words { result ≢ Status.WrongWords }
 {
@@ -113,11 +116,13 @@ fn shown<O: Write>(
     hex: &str,
     out: &mut O,
 ) -> Result<bool, Fault>
-    ensures ok { IfOk result (λ clean. HasShown code (option_copied iv.entry) hex.now clean (O.contents out.old) (O.contents out.new)) }
+    ensures ok { IfOk result
+        (λ clean. HasShown code (option_copied iv.entry) hex.now clean (O.contents out.old) (O.contents out.new)) }
     ensures untouched { IfErr result (λ fault. status_of fault ≡ Status.Refused → out.new ≡ out.old) }
     ensures no_value { initial_value_of (option_copied iv.entry) ≡ None → result ≡ Err Fault.Hex }
     ensures no_octets { octets_of hex.now ≡ None → (result ≡ Err Fault.Hex) ⊎ (result ≡ Err Fault.Memory) }
-    ensures hex { result ≡ Err Fault.Hex → (initial_value_of (option_copied iv.entry) ≡ None) ⊎ (octets_of hex.now ≡ None) }
+    ensures hex { result ≡ Err Fault.Hex
+        → (initial_value_of (option_copied iv.entry) ≡ None) ⊎ (octets_of hex.now ≡ None) }
 {
     let Some(words) = initial_value(iv) else {
         return Err(Fault::Hex);
