@@ -7,10 +7,11 @@ use sim_lines::SimStatus;
 use std::alloc::Allocator;
 use std::io::{Read, Write};
 
-/// Runs `sim`: the script that a reader holds, on two ends that were never opened. What it prints goes to `out`, a fault to `err`.
+/// Runs `sim`: the script that a reader holds, on two ends that were never opened. What it prints goes to `out`, a
+/// fault to `err`.
 ///
-/// It ends as done where the script ran to its end, as refused by a fault of the script and for want of memory, and as failed where
-/// `out` fails. What was printed before a fault stays printed.
+/// It ends as done where the script ran to its end, as refused by a fault of the script and for want of memory, and
+/// as failed where `out` fails. What was printed before a fault stays printed.
 pub fn run_sim<R: Read + Drop, O: Write, E: Write, A: Allocator + Copy>(
     alloc: A,
     reader: R,

@@ -27,8 +27,8 @@ const SETTINGS_MAX: usize = 1_048_576;
 /// The longest wait of a turn that found nothing, in milliseconds; the system may wait one longer.
 const WAIT_MAX: u64 = 4;
 
-/// Runs `il`, `fe` or `pair` for `turns` turns over the sockets that the text of a settings file names, prints each telegram that
-/// an end takes, and at last how each end stands.
+/// Runs `il`, `fe` or `pair` for `turns` turns over the sockets that the text of a settings file names, prints each
+/// telegram that an end takes, and at last how each end stands.
 ///
 /// A text that is no settings is `fault: settings`, and behind it stands the key and what is wrong with it; a text of more than
 /// 1,048,576 octets is none.

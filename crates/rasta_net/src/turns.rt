@@ -74,8 +74,9 @@ impl<'a, C: Channels, A: Allocator + Copy> Actor<'a, C, A> {
         }
     }
 
-    /// Its part of a turn: it takes what has come; then an interlocking whose session is established, and a field element that
-    /// initialises, put what is left until a put is refused as Full. The field element then calls `init_done`, once nothing is left.
+    /// Its part of a turn: it takes what has come; then an interlocking whose session is established, and a field
+    /// element that initialises, put what is left until a put is refused as Full. The field element then calls
+    /// `init_done`, once nothing is left.
     ///
     /// # Errors
     ///
@@ -157,7 +158,8 @@ impl<'a, C: Channels, A: Allocator + Copy> Actor<'a, C, A> {
         Ok(())
     }
 
-    /// Ends the initialisation, once nothing is left to be put. Where it is refused as Full it is tried again in the next turn.
+    /// Ends the initialisation, once nothing is left to be put. Where it is refused as Full it is tried again in the
+    /// next turn.
     fn end_initialising<W: Write>(&mut self, now: u64, writer: &mut W) -> Result<(), Fault>
         requires now { now ≤ 2 ^ 62 }
         requires later { self.old.end.time ≤ now }
