@@ -34,14 +34,16 @@ impl<A: Allocator> Endpoint<A> {
         requires reach { self.old.expected < 2 ^ 62 }
         requires ready { U.ready units.old }
         ensures does { Does O.makes (arrive_octets octets.now now) self.old out.old self.new out.new }
-        ensures taken { (s : State) → StandsFor self.old s → HandsUp U.takes units.old s (arrive_octets octets.now now s) units.new }
+        ensures taken { (s : State) → StandsFor self.old s
+            → HandsUp U.takes units.old s (arrive_octets octets.now now s) units.new }
         ensures answer { result ≡ heard_answer (safe_seen self.old.settings.rule octets.now) now self.old }
         ensures reached { IsReached self.new }
         ensures near { self.new.expected ≤ self.old.expected + index_step }
         ensures confirms { OnlyConfirms (safe_seen self.old.settings.rule octets.now) self.old self.new }
         ensures passes { (p : Pdu) → IsNextData (safe_seen self.old.settings.rule octets.now) p now self.old
             → FoldsTo U.takes units.old (p.body ∷ []) units.new × (self.new.connection ≡ Up) }
-        ensures recent { HandsIf U.takes units.old units.new (IsRecent (safe_seen self.old.settings.rule octets.now) now self.old) }
+        ensures recent { HandsIf U.takes units.old units.new
+            (IsRecent (safe_seen self.old.settings.rule octets.now) now self.old) }
         ensures ready { U.ready units.new }
     {
         let rule = self.rule();
@@ -65,7 +67,8 @@ impl<A: Allocator> Endpoint<A> {
         requires known { Known self.old }
         requires ready { U.ready units.old }
         ensures does { Does O.makes (arrive (pdu_of pdu.now) now) self.old out.old self.new out.new }
-        ensures taken { (s : State) → StandsFor self.old s → HandsUp U.takes units.old s (arrive (pdu_of pdu.now) now s) units.new }
+        ensures taken { (s : State) → StandsFor self.old s
+            → HandsUp U.takes units.old s (arrive (pdu_of pdu.now) now s) units.new }
         ensures answer { result ≡ arrive_answer (pdu_of pdu.now) now self.old }
         ensures ready { U.ready units.new }
     {
@@ -90,7 +93,8 @@ impl<A: Allocator> Endpoint<A> {
         requires known { Known self.old }
         requires ready { U.ready units.old }
         ensures does { Does O.makes (respond (pdu_of pdu.now) now) self.old out.old self.new out.new }
-        ensures taken { FoldsTo U.takes units.old (handed_by (decide self.old (pdu_of pdu.now) now) (pdu_of pdu.now)) units.new }
+        ensures taken { FoldsTo U.takes units.old
+            (handed_by (decide self.old (pdu_of pdu.now) now) (pdu_of pdu.now)) units.new }
         ensures answer { result ≡ answer_of (decide self.old (pdu_of pdu.now) now) }
         ensures ready { U.ready units.new }
     {

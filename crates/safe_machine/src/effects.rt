@@ -80,7 +80,8 @@ impl<A: Allocator> Endpoint<A> {
         requires number { cs_step self.old (pdu_of pdu.now) < self.old.made - self.old.confirmed }
         requires time { cts_step self.old (pdu_of pdu.now) ≤ now - self.old.confirmed_at }
         requires ready { U.ready units.old }
-        ensures does { Does O.makes (carry_out (pdu_of pdu.now) now (Takes connection)) self.old out.old self.new out.new }
+        ensures does { Does O.makes
+            (carry_out (pdu_of pdu.now) now (Takes connection)) self.old out.old self.new out.new }
         ensures taken { FoldsTo U.takes units.old (carried (pdu_of pdu.now)) units.new }
         ensures ready { U.ready units.new }
     {
@@ -183,7 +184,8 @@ impl<A: Allocator> Endpoint<A> {
         requires short { length self.old.ring ≤ WINDOW_MAX }
         requires sized { AllUnits self.old.ring }
         ensures resent { (ring : List Numbered) (s : State) → self.old ≡ beside ring s
-            → (self.new ≡ beside ring (resend (octets_of ring) now s)) × Hands O.makes out.old s (resend (octets_of ring) now s) out.new }
+            → (self.new ≡ beside ring (resend (octets_of ring) now s))
+            × Hands O.makes out.old s (resend (octets_of ring) now s) out.new }
         ensures few { self.new.made ≤ self.old.made + WINDOW_MAX }
         ensures ring { self.new.ring ≡ self.old.ring }
     {
@@ -198,7 +200,8 @@ impl<A: Allocator> Endpoint<A> {
         requires inside { place < length self.old.ring }
         requires sized { IfSome (slice_get self.old.ring place) (λ u. IsBody Kind.RetrData u.octets) }
         ensures counted { self.new ≡ record self.old { made = self.old.made + 1; last_made = now; since = 0 } }
-        ensures made { (u : Numbered) → slice_get self.old.ring place ≡ Some u → (ring : List Numbered) (s : State) → self.old ≡ beside ring s
+        ensures made { (u : Numbered) → slice_get self.old.ring place ≡ Some u → (ring : List Numbered) (s : State)
+            → self.old ≡ beside ring s
             → O.makes out.old (safe_text s.settings.rule (next_made s Kind.RetrData u.octets now).pdu) out.new }
     {
         let unit = self.unit_at(place);
@@ -292,7 +295,8 @@ impl<A: Allocator> Endpoint<A> {
     /// Moves on the own time last confirmed.
     fn confirm_time(&mut self, pdu: &SafePdu<'_>, now: u64)
         requires fits { cts_step self.old (pdu_of pdu.now) ≤ now - self.old.confirmed_at }
-        ensures left { self.new ≡ record self.old { confirmed_at = self.old.confirmed_at + cts_step self.old (pdu_of pdu.now) } }
+        ensures left { self.new
+            ≡ record self.old { confirmed_at = self.old.confirmed_at + cts_step self.old (pdu_of pdu.now) } }
     {
         let step = self.cts_step(pdu);
         self.confirmed_at += u64::from(step);

@@ -105,7 +105,8 @@ impl<A: Allocator> Endpoint<A> {
         out: &mut O,
     )
         requires few { self.old.made < 2 ^ 40 }
-        ensures does { Does O.makes (make Kind.DiscReq (leaving_body reason detail) now) self.old out.old self.new out.new }
+        ensures does { Does O.makes
+            (make Kind.DiscReq (leaving_body reason detail) now) self.old out.old self.new out.new }
         ensures few { self.new.made ≤ self.old.made + 1 }
     {
         let body = leaving_octets(reason, detail);
@@ -117,7 +118,8 @@ impl<A: Allocator> Endpoint<A> {
         requires few { self.old.made < 2 ^ 40 }
         requires body { IsBody kind (opening_body self.old.settings.n_sendmax) }
         requires plain { leaves_units kind ≡ true }
-        ensures does { Does O.makes (λ s. make kind (opening_body s.settings.n_sendmax) now s) self.old out.old self.new out.new }
+        ensures does { Does O.makes
+            (λ s. make kind (opening_body s.settings.n_sendmax) now s) self.old out.old self.new out.new }
     {
         let body = opening_octets(self.config.n_sendmax);
         self.say(kind, &body, now, out);

@@ -92,7 +92,8 @@ impl<A: Allocator> Machine<A> {
         ensures bad_config { (result ≡ Err BadConfig) ↔ (is_legal (settings_of role config) ≡ false) }
         ensures stands { IfOk result (λ machine. StandsFor machine (opened (settings_of role config) first_sn now)) }
         ensures near { IfOk result (λ machine. machine.expected ≡ 0) }
-        ensures made { OnOk result (FoldsTo O.makes out.old (texts config.rule (opened (settings_of role config) first_sn now).made) out.new) }
+        ensures made { OnOk result
+            (FoldsTo O.makes out.old (texts config.rule (opened (settings_of role config) first_sn now).made) out.new) }
         ensures nothing_made { OnErr result (out.new ≡ out.old) }
     {
         if !config.is_legal(role) {
@@ -130,7 +131,8 @@ impl<A: Allocator> Machine<A> {
     pub fn close<O: PduOut>(&mut self, reason: Reason, detail: Detail, now: u64, out: &mut O)
         ensures stands { (s : State) → StandsFor self.old s → StandsFor self.new (leave reason detail now s) }
         ensures near { self.new.expected ≡ self.old.expected }
-        ensures made { (s : State) → StandsFor self.old s → HandsOut O.makes out.old s (leave reason detail now s) out.new }
+        ensures made { (s : State) → StandsFor self.old s
+            → HandsOut O.makes out.old s (leave reason detail now s) out.new }
     {
         self.end.leave(reason, detail, now, out);
     }
@@ -140,7 +142,8 @@ impl<A: Allocator> Machine<A> {
         // Before it a tick leaves the machine as it is.
         ensures before { (s : State) → StandsFor self.now s → (now : ℕ) → IsBefore now result → tick now s ≡ s }
         // From it on, up to 2^62, a tick does not.
-        ensures after { (s : State) → StandsFor self.now s → (now : ℕ) → now ≤ 2 ^ 62 → IsReachedAt now result → tick now s ≢ s }
+        ensures after { (s : State) → StandsFor self.now s → (now : ℕ) → now ≤ 2 ^ 62 → IsReachedAt now result
+            → tick now s ≢ s }
     {
         self.end.deadline()
     }
@@ -185,8 +188,10 @@ impl<A: Allocator> Machine<A> {
         requires ready { U.ready units.old }
         ensures stands { (s : State) → StandsFor self.old s → StandsFor self.new (arrive_octets octets.now now s) }
         ensures near { self.new.expected ≤ self.old.expected + index_step }
-        ensures made { (s : State) → StandsFor self.old s → HandsOut O.makes out.old s (arrive_octets octets.now now s) out.new }
-        ensures taken { (s : State) → StandsFor self.old s → HandsUp U.takes units.old s (arrive_octets octets.now now s) units.new }
+        ensures made { (s : State) → StandsFor self.old s
+            → HandsOut O.makes out.old s (arrive_octets octets.now now s) out.new }
+        ensures taken { (s : State) → StandsFor self.old s
+            → HandsUp U.takes units.old s (arrive_octets octets.now now s) units.new }
         ensures answer { (s : State) → StandsFor self.old s → result ≡ octets_answer octets.now now s }
         // The units that stop being unconfirmed are none, or those up to the index that the confirmed number stands for.
         ensures confirms { OnlyConfirms (safe_seen self.old.settings.rule octets.now) self.old self.new }
@@ -194,7 +199,8 @@ impl<A: Allocator> Machine<A> {
         ensures passes { (p : Pdu) → IsNextData (safe_seen self.old.settings.rule octets.now) p now self.old
             → FoldsTo U.takes units.old (p.body ∷ []) units.new × (self.new.connection ≡ Up) }
         // A unit that went up came with a confirmed timestamp which this end reads as less than T_max old.
-        ensures recent { HandsIf U.takes units.old units.new (IsRecent (safe_seen self.old.settings.rule octets.now) now self.old) }
+        ensures recent { HandsIf U.takes units.old units.new
+            (IsRecent (safe_seen self.old.settings.rule octets.now) now self.old) }
         ensures ready { U.ready units.new }
     {
         self.end.arrive_octets(octets, now, out, units)
@@ -210,12 +216,15 @@ impl<A: Allocator> Machine<A> {
         requires size { IsUnitSized unit.now.items }
         ensures stands { (s : State) → StandsFor self.old s → StandsFor self.new (send unit.now.items now s) }
         ensures near { self.new.expected ≡ self.old.expected }
-        ensures made { (s : State) → StandsFor self.old s → HandsOut O.makes out.old s (send unit.now.items now s) out.new }
+        ensures made { (s : State) → StandsFor self.old s
+            → HandsOut O.makes out.old s (send unit.now.items now s) out.new }
         ensures sent { (s : State) → StandsFor self.old s → IsOk result ↔ (may_send s ≡ true) }
         ensures not_up { (s : State) → StandsFor self.old s → (result ≡ Err NotUp) ↔ (in_turn s.connection ≡ false) }
-        ensures window { (s : State) → StandsFor self.old s → (result ≡ Err Window) ↔ ((in_turn s.connection ≡ true) × (may_send s ≡ false)) }
+        ensures window { (s : State) → StandsFor self.old s → (result ≡ Err Window)
+            ↔ ((in_turn s.connection ≡ true) × (may_send s ≡ false)) }
         // No unit stops being unconfirmed.
-        ensures kept { OnOk result (self.new.ring ≡ self.old.ring ++ record { number = self.old.made; octets = unit.now.items } ∷ []) }
+        ensures kept { OnOk result
+            (self.new.ring ≡ self.old.ring ++ record { number = self.old.made; octets = unit.now.items } ∷ []) }
         ensures unchanged { OnErr result (self.new ≡ self.old) }
         ensures nothing_made { OnErr result (out.new ≡ out.old) }
     {

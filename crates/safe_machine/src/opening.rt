@@ -32,7 +32,8 @@ pub(crate) fn begin<A: Allocator, O: PduOut>(
     requires room { ring ≡ record { room = WINDOW_MAX; units = [] } }
     requires body { IsBody Kind.ConnReq (opening_body config.n_sendmax) }
     ensures stands { StandsFor result (opened (settings_of role config) first now) }
-    ensures made { FoldsTo O.makes out.old (texts config.rule (opened (settings_of role config) first now).made) out.new }
+    ensures made { FoldsTo O.makes out.old
+        (texts config.rule (opened (settings_of role config) first now).made) out.new }
 {
     match role {
         Role::Client => begin_client(config, first, now, ring, out),
@@ -51,7 +52,8 @@ fn begin_client<A: Allocator, O: PduOut>(
     requires room { ring ≡ record { room = WINDOW_MAX; units = [] } }
     requires body { IsBody Kind.ConnReq (opening_body config.n_sendmax) }
     ensures stands { StandsFor result (opened (settings_of Client config) first now) }
-    ensures made { FoldsTo O.makes out.old (texts config.rule (opened (settings_of Client config) first now).made) out.new }
+    ensures made { FoldsTo O.makes out.old
+        (texts config.rule (opened (settings_of Client config) first now).made) out.new }
 {
     let mut end = blank(
         config,
@@ -128,7 +130,8 @@ impl MachineConfig {
     }
 
     fn has_times(&self) -> bool
-        ensures { result ≡ (nat_le T_MAX_LOWEST self.now.t_max && nat_le self.now.t_max T_MAX_HIGHEST) && (nat_le T_H_LOWEST self.now.t_h && nat_lt self.now.t_h self.now.t_max) }
+        ensures { result ≡ (nat_le T_MAX_LOWEST self.now.t_max && nat_le self.now.t_max T_MAX_HIGHEST)
+            && (nat_le T_H_LOWEST self.now.t_h && nat_lt self.now.t_h self.now.t_max) }
     {
         T_MAX_LOWEST <= self.t_max
             && self.t_max <= T_MAX_HIGHEST
@@ -137,7 +140,8 @@ impl MachineConfig {
     }
 
     fn has_limits(&self) -> bool
-        ensures { result ≡ (nat_le 1 self.now.mwa && nat_le self.now.mwa MWA_MAX) && (nat_le PDU_LIMIT_LOWEST self.now.pdu_limit && nat_le self.now.pdu_limit PDU_LIMIT_HIGHEST) }
+        ensures { result ≡ (nat_le 1 self.now.mwa && nat_le self.now.mwa MWA_MAX)
+            && (nat_le PDU_LIMIT_LOWEST self.now.pdu_limit && nat_le self.now.pdu_limit PDU_LIMIT_HIGHEST) }
     {
         1 <= self.mwa
             && self.mwa <= u64::from(MWA_MAX)

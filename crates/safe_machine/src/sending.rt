@@ -72,7 +72,8 @@ impl<A: Allocator> Endpoint<A> {
         requires size { length unit.now ≤ UNIT_MAX }
         requires room { length self.old.ring < self.old.room }
         requires above { AllBelow number self.old.ring }
-        ensures { self.new ≡ record self.old { ring = self.old.ring ++ record { number = number; octets = unit.now } ∷ [] } }
+        ensures { self.new
+            ≡ record self.old { ring = self.old.ring ++ record { number = number; octets = unit.now } ∷ [] } }
     {
         let _kept = self.ring.sent(number, copy_of(unit));
     }
