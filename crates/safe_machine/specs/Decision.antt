@@ -8,7 +8,7 @@ use Rattle.safe_machine.specs.declared.ConnectionState.TheVariants.{Closed, Down
 use Rattle.safe_machine.specs.declared.DropCause.TheVariants.{Stranger, NotOpened, Number, Request, Answered, Below}
 use Rattle.safe_machine.specs.declared.decision.Decision.{Decision}
 use Rattle.safe_machine.specs.declared.decision.Decision.TheVariants.{Nothing, Drops, Shuts, Leaves, Rejects, Accepts, Connects, Takes, Asks, Resumes, AnswersNext, AnswersEarly}
-use Rattle.safe_machine.specs.declared.Step.{Step as Answer}
+use Rattle.safe_machine.specs.declared.Step.{Step as Outcome}
 use Rattle.safe_machine.specs.declared.Step.TheVariants.{Taken, Dropped, Gap, Left, Nothing as NoAnswer}
 use Rattle.safe_machine.specs.Made.{our_version}
 use Rattle.safe_machine.specs.Numbers.{sn_of, ahead}
@@ -22,7 +22,7 @@ use Rattle.safe_machine.specs.Connections.{in_turn, is_closed}
 pub use Rattle.safe_machine.specs.Connections.{in_turn, is_closed}
 use Rattle.safe_machine.specs.declared.table.Cell.{Cell}
 use Rattle.safe_machine.specs.Table.{cell}
-use Rattle.safe_machine.specs.declared.table.Cell.TheVariants.{Take, Ask, Answer as Reply, Resume, Refuse, Skip}
+use Rattle.safe_machine.specs.declared.table.Cell.TheVariants.{Take, Ask, Answer, Resume, Refuse, Skip}
 use Rattle.safe_machine.specs.declared.Reason.TheVariants.{UnexpectedPdu, WrongVersion, RetransmissionImpossible, ProtocolError}
 use Rattle.safe_machine.specs.declared.Detail.TheVariants.{Unspecified, ConfirmedNumber, ConfirmedTimestamp}
 
@@ -90,7 +90,7 @@ answering v p now d =
 abbrev pub by_cell : View → Pdu → ℕ → ℕ → Cell → Decision
 by_cell v p now d (Take connection) = tested v p now (Takes connection)
 by_cell v p now d Ask = Asks
-by_cell v p now d Reply = answering v p now d
+by_cell v p now d Answer = answering v p now d
 by_cell v p now d Resume = tested v p now Resumes
 by_cell v p now d (Refuse reason) = Leaves reason Unspecified
 by_cell v p now d Skip = Drops Request
@@ -125,7 +125,7 @@ abbrev pub decide : View → Pdu → ℕ → Decision
 decide v p now = if is_closed v.connection then Nothing else by_sender v p now
 
 -- what a decision is told as
-abbrev pub answer_of : Decision → Answer
+abbrev pub answer_of : Decision → Outcome
 answer_of Nothing = NoAnswer
 answer_of (Drops cause) = Dropped cause
 answer_of Shuts = NoAnswer

@@ -15,6 +15,6 @@ pub mod Law
 pub mod InOrder
 pub mod Moves
 pub mod Octets
-pub mod Allows
+pub mod inner
 pub mod Reached
 pub mod Properties

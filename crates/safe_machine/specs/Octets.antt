@@ -4,7 +4,7 @@ use Rattle.safe_pdu.specs.declared.SafeFault.{SafeFault}
 use Rattle.safe_pdu.specs.Pdu.{Pdu}
 use Rattle.safe_pdu.specs.Places.{safe_seen}
 use Rattle.safe_machine.specs.declared.DropCause.TheVariants.{Fault}
-use Rattle.safe_machine.specs.declared.Step.{Step as Answer}
+use Rattle.safe_machine.specs.declared.Step.{Step as Outcome}
 use Rattle.safe_machine.specs.declared.Step.TheVariants.{Dropped, Nothing as NoAnswer}
 use Rattle.safe_machine.specs.State.{State}
 use Rattle.safe_machine.specs.View.{View, kept_of}
@@ -19,7 +19,7 @@ heard (Ok p) now = Hears p now
 heard (Err fault) now = Guards now
 
 -- and how it is answered: closed, guard and fault in this order
-abbrev pub heard_answer : Result Pdu SafeFault → ℕ → View → Answer
+abbrev pub heard_answer : Result Pdu SafeFault → ℕ → View → Outcome
 heard_answer (Ok p) now v = arrive_answer p now v
 heard_answer (Err fault) now v = unless_guarded now v (if is_closed v.connection then NoAnswer else Dropped (Fault fault))
 
@@ -32,5 +32,5 @@ abbrev pub arrive_octets : List ℕ → ℕ → State → State
 arrive_octets octets now s = move (heard (seen_by s octets) now) s
 
 -- and are answered
-abbrev pub octets_answer : List ℕ → ℕ → State → Answer
+abbrev pub octets_answer : List ℕ → ℕ → State → Outcome
 octets_answer octets now s = heard_answer (seen_by s octets) now (kept_of s)

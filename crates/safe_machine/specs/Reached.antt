@@ -1,18 +1,14 @@
 -- What every machine has: it stands for a state that moves lead to from an opening.
-use Rattle.std.specs.Prelude.{◌≡◌, ◌+◌, ◌<◌, ◌≤◌, ◌^◌, ℕ, true, length, List, [], ◌∷◌}
+use Rattle.std.specs.Prelude.{◌≡◌, ◌+◌, ◌≤◌, ℕ, true, length, List, [], ◌∷◌}
 use Rattle.safe_pdu.specs.Bodies.{IsBody}
 use Rattle.safe_pdu.specs.SafeText.{HasNumbers}
 use Rattle.safe_machine.specs.Settings.{Settings, is_legal}
 use Rattle.safe_machine.specs.State.{State, opened, unconfirmed}
 use Rattle.safe_machine.specs.Moves.{Move, move, moved, IsUnitSized}
 use Rattle.safe_machine.specs.Moves.Move.{Hears, Sends}
-use Rattle.safe_machine.specs.View.{View, StandsFor, AllUnits, AllBelow}
+use Rattle.safe_machine.specs.View.{View, StandsFor}
 use Rattle.octets.specs.declared.limits.TheConstants.{WINDOW_MAX}
-use Rattle.safe_pdu.specs.declared.Kind.TheVariants.{ConnReq}
-use Rattle.safe_machine.specs.declared.ConnectionState.TheVariants.{Down}
-use Rattle.safe_machine.specs.Made.{opening_body}
 use Rattle.safe_machine.specs.Step.{may_send, send}
-use Rattle.safe_machine.specs.Connections.{is_live}
 
 -- what arrives has numbers of 32 bits and a body that fits its type, and what is sent has the size of a unit
 abbrev pub IsRead : Move → Type 0
@@ -32,19 +28,6 @@ pub record IsReached (v : View) : Type 0 where
   pub legal : is_legal settings ≡ true
   pub read : AreRead moves
   pub stands : StandsFor v (moved moves (opened settings first began))
-
--- the bounds that every machine keeps
-pub record Sound (v : View) : Type 0 where
-  pub few : v.made < 2 ^ 33
-  pub window : v.window ≤ WINDOW_MAX
-  pub room : v.room ≡ WINDOW_MAX
-  pub short : length v.ring ≤ WINDOW_MAX
-  pub sized : AllUnits v.ring
-  pub below : AllBelow v.made v.ring
-  pub live : is_live v.connection ≡ true → v.confirmed < v.made
-  pub since : v.since < 2 ^ 33
-  pub down : v.connection ≡ Down → v.ring ≡ []
-  pub opening : IsBody ConnReq (opening_body v.settings.n_sendmax)
 
 -- it stands for some state
 abbrev pub Known : View → Type 0

@@ -7,7 +7,7 @@ use Rattle.safe_pdu.specs.Pdu.{Pdu}
 use Rattle.safe_pdu.specs.Bodies.{window_of}
 use Rattle.safe_machine.specs.Made.{opening_body, leaving_body, carries}
 use Rattle.safe_machine.specs.State.{State, unconfirmed, make, move_to, pass, hand_up, note_request, reply, ask, leave}
-use Rattle.safe_machine.specs.declared.Step.{Step as Answer}
+use Rattle.safe_machine.specs.declared.Step.{Step as Outcome}
 use Rattle.safe_machine.specs.declared.Step.TheVariants.{Left}
 use Rattle.safe_machine.specs.declared.decision.Decision.{Decision}
 use Rattle.safe_machine.specs.Connections.{in_turn}
@@ -84,11 +84,11 @@ abbrev pub arrive : Pdu → ℕ → State → State
 arrive p now s = respond p now (guard now s)
 
 -- an answer, unless the guard leaves
-abbrev pub unless_guarded : ℕ → View → Answer → Answer
+abbrev pub unless_guarded : ℕ → View → Outcome → Outcome
 unless_guarded now v answer = by_guard now v Left answer
 
 -- how an arrival is answered
-abbrev pub arrive_answer : Pdu → ℕ → View → Answer
+abbrev pub arrive_answer : Pdu → ℕ → View → Outcome
 arrive_answer p now v = unless_guarded now v (answer_of (decide v p now))
 
 -- a heartbeat where one is due by time

@@ -1,12 +1,9 @@
 -- What a machine keeps of a state: each list as its count, and the unconfirmed units.
-use Rattle.std.specs.Prelude.{◌≡◌, ℕ, Bool, true, false, List, ◌++◌, length, drop, map, All, ◌<◌}
+use Rattle.std.specs.Prelude.{◌≡◌, ℕ, Bool, true, false, List, length, drop, map}
 use Rattle.std.specs.List.{FoldsTo}
 use Rattle.octets.specs.declared.limits.TheConstants.{WINDOW_MAX}
 use Rattle.retrans.specs.Units.{Numbered}
-use Rattle.safe_pdu.specs.declared.Kind.{Kind}
-use Rattle.safe_pdu.specs.declared.Kind.TheVariants.{RetrResp, Data, RetrData}
 use Rattle.safe_pdu.specs.declared.CodeRule.{CodeRule}
-use Rattle.safe_pdu.specs.Bodies.{IsBody}
 use Rattle.safe_pdu.specs.SafeText.{safe_text}
 use Rattle.safe_machine.specs.declared.ConnectionState.{ConnectionState}
 use Rattle.safe_machine.specs.declared.Role.{Role}
@@ -90,37 +87,6 @@ texts rule ms = map (λ (m : Made). safe_text rule m.pdu) ms
 -- The octets of what was made between two states were handed out, in order.
 abbrev pub HandsOut : {O : Type 0} → (O → List ℕ → O → Type 0) → O → State → State → O → Type 0
 HandsOut makes before s t after = FoldsTo makes before (texts s.settings.rule (drop (length s.made) t.made)) after
-
--- the same by the PDUs that came behind the others
-pub record Hands {O : Type 0} (makes : O → List ℕ → O → Type 0) (before : O) (s t : State) (after : O) : Type 0 where
-  pub more : List Made
-  pub grown : t.made ≡ s.made ++ more
-  pub same : t.settings ≡ s.settings
-  pub handed : FoldsTo makes before (texts s.settings.rule more) after
-
--- For each state that the value stood for it now stands for the step of it, and what the step makes was handed out.
-abbrev pub Does : {O : Type 0} → (O → List ℕ → O → Type 0) → (State → State) → View → O → View → O → Type 0
-Does makes step m before n after =
-    (s : State) → StandsFor m s → StandsFor n (step s) × Hands makes before s (step s) after
-
--- a PDU that leaves the unconfirmed units as they are
-abbrev pub leaves_units : Kind → Bool
-leaves_units RetrResp = false
-leaves_units Data = false
-leaves_units RetrData = false
-leaves_units _ = true
-
--- the same of a change that makes nothing
-abbrev pub Turns : (State → State) → View → View → Type 0
-Turns step m n = (s : State) → StandsFor m s → StandsFor n (step s)
-
--- each number below one
-abbrev pub AllBelow : ℕ → List Numbered → Type 0
-AllBelow number units = All (λ (u : Numbered). u.number < number) units
-
--- each with the octets of a unit
-abbrev pub AllUnits : List Numbered → Type 0
-AllUnits units = All (λ (u : Numbered). IsBody RetrData u.octets) units
 
 -- The units that were taken between two states were handed up, in order.
 abbrev pub HandsUp : {U : Type 0} → (U → List ℕ → U → Type 0) → U → State → State → U → Type 0

@@ -8,12 +8,14 @@ ghost use Rattle.safe_machine.specs.State.{State};
 ghost use Rattle.safe_machine.specs.Decision.{answer_of, decide};
 ghost use Rattle.safe_machine.specs.Octets.{arrive_octets, heard_answer};
 ghost use Rattle.safe_machine.specs.Properties.{HandsIf, IsNextData, IsRecent, OnlyConfirms, index_step};
-ghost use Rattle.safe_machine.specs.Reached.{IsReached, Known, Sound};
+ghost use Rattle.safe_machine.specs.Reached.{IsReached, Known};
+ghost use Rattle.safe_machine.specs.inner.Sound.{Sound};
 ghost use Rattle.safe_machine.specs.declared.ConnectionState.TheVariants.{Up};
 ghost use Rattle.safe_pdu.specs.Places.{safe_seen};
 ghost use Rattle.safe_machine.specs.Step.{arrive, arrive_answer, carry_out, guard, respond};
-ghost use Rattle.safe_machine.specs.View.{Does, HandsUp, StandsFor};
-ghost use Rattle.safe_machine.specs.Allows.{Allows, handed_by};
+ghost use Rattle.safe_machine.specs.View.{HandsUp, StandsFor};
+ghost use Rattle.safe_machine.specs.inner.Doing.{Does};
+ghost use Rattle.safe_machine.specs.inner.Allows.{Allows, handed_by};
 
 use super::decision::Decision;
 use super::endpoint::Endpoint;

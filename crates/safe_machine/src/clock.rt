@@ -2,7 +2,7 @@
 
 ghost use Rattle.std.specs.Prelude.{◌≡◌, ◌+◌, ◌-◌, ◌<◌, ◌≤◌, ◌^◌, Some, ◌&&◌};
 ghost use Rattle.safe_machine.specs.Step.{guard, heartbeat, tick};
-ghost use Rattle.safe_machine.specs.View.{Does};
+ghost use Rattle.safe_machine.specs.inner.Doing.{Does};
 ghost use Rattle.safe_machine.specs.Deadlines.{deadline_of, timeout_of, beat_due, overdue};
 
 use super::endpoint::Endpoint;

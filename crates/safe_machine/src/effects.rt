@@ -12,8 +12,9 @@ ghost use Rattle.safe_machine.specs.State.{State, ask, next_made, reply, resend}
 ghost use Rattle.safe_machine.specs.Decision.{cs_step, cts_step, distance};
 ghost use Rattle.safe_machine.specs.declared.decision.Decision.TheVariants.{Accepts, AnswersEarly, AnswersNext, Connects, Rejects, Resumes, Takes};
 ghost use Rattle.safe_machine.specs.Step.{beat, carry_out, take_unit, answered_ahead};
-ghost use Rattle.safe_machine.specs.View.{AllUnits, Does, Hands, Turns, beside};
-ghost use Rattle.safe_machine.specs.Allows.{carried};
+ghost use Rattle.safe_machine.specs.View.{beside};
+ghost use Rattle.safe_machine.specs.inner.Doing.{AllUnits, Does, Hands, Turns};
+ghost use Rattle.safe_machine.specs.inner.Allows.{carried};
 
 use super::endpoint::Endpoint;
 use super::{ConnectionState, Detail, PduOut, Reason, UnitIn};

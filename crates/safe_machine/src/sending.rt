@@ -8,7 +8,8 @@ ghost use Rattle.safe_machine.specs.State.{State, make};
 ghost use Rattle.safe_machine.specs.Moves.{IsUnitSized};
 ghost use Rattle.safe_machine.specs.Reached.{IsReached};
 ghost use Rattle.safe_machine.specs.Step.{send, has_room, may_send};
-ghost use Rattle.safe_machine.specs.View.{AllBelow, Does, StandsFor};
+ghost use Rattle.safe_machine.specs.View.{StandsFor};
+ghost use Rattle.safe_machine.specs.inner.Doing.{AllBelow, Does};
 
 use super::endpoint::Endpoint;
 use super::{PduOut, Unit};

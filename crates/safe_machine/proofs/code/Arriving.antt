@@ -20,12 +20,13 @@ use Rattle.safe_machine.specs.declared.decision.Decision.{Decision}
 use Rattle.safe_machine.specs.Decision.{decide, distance, cs_step}
 use Rattle.safe_machine.specs.declared.decision.Decision.TheVariants.{Nothing, Drops, Shuts, Leaves, Rejects, Accepts, Connects, Takes, Asks, Resumes, AnswersNext, AnswersEarly}
 use Rattle.safe_machine.specs.Step.{carry_out, respond, arrive, guard, take_unit, tests_passed, confirm_units}
-use Rattle.safe_machine.specs.View.{View, StandsFor, Does, HandsUp, kept_of}
+use Rattle.safe_machine.specs.View.{View, StandsFor, HandsUp, kept_of}
+use Rattle.safe_machine.specs.inner.Doing.{Does}
 use Rattle.safe_machine.proofs.one.OneMachine.{plain-guard}
 use Rattle.safe_machine.proofs.one.Deciding.{Fits, Tested}
 use Rattle.safe_machine.proofs.code.Views.{guard-is, left_by, does-as}
 use Rattle.safe_machine.proofs.one.Resending.{resend-taken}
-use Rattle.safe_machine.specs.Allows.{Allows, Passes, handed_by, carried}
+use Rattle.safe_machine.specs.inner.Allows.{Allows, Passes, handed_by, carried}
 use Rattle.safe_machine.specs.Deadlines.{overdue}
 use Rattle.safe_machine.proofs.one.StepCases.{leave-cases, unit-cases, early-cases}
 

@@ -12,7 +12,8 @@ use Rattle.safe_machine.specs.declared.decision.Decision.TheVariants.{Nothing, D
 use Rattle.safe_machine.specs.Step.{carry_out, arrive, guard, take_unit, tests_passed, confirm_units}
 use Rattle.safe_machine.specs.Moves.{moved}
 use Rattle.safe_machine.specs.Reached.{IsReached}
-use Rattle.safe_machine.specs.View.{View, Turns, kept_of}
+use Rattle.safe_machine.specs.View.{View, kept_of}
+use Rattle.safe_machine.specs.inner.Doing.{Turns}
 use Rattle.safe_machine.proofs.one.Legal.{legal}
 use Rattle.safe_machine.proofs.one.Deciding.{Fits, decide-fits}
 use Rattle.safe_machine.proofs.two.Lone.{lone-guard, arrive-by}

@@ -18,7 +18,8 @@ use Rattle.safe_machine.specs.declared.decision.Decision.TheVariants.{Nothing, D
 use Rattle.safe_machine.specs.Step.{carry_out, respond, arrive, guard, take_unit, tests_passed}
 use Rattle.safe_machine.specs.Moves.{moved}
 use Rattle.safe_machine.specs.Reached.{IsReached}
-use Rattle.safe_machine.specs.View.{View, StandsFor, HandsUp, Turns, beside, kept_of}
+use Rattle.safe_machine.specs.View.{View, StandsFor, HandsUp, beside, kept_of}
+use Rattle.safe_machine.specs.inner.Doing.{Turns}
 use Rattle.safe_machine.specs.Properties.{HandsIf, IsNextData}
 use Rattle.safe_machine.proofs.one.Deciding.{Fits, decide-fits, listens-live}
 use Rattle.safe_machine.proofs.two.Lone.{lone-guard, arrive-by}
@@ -26,7 +27,7 @@ use Rattle.safe_machine.proofs.two.Timing.{guard-passed, makes-guard}
 use Rattle.safe_machine.proofs.code.Arriving.{decided-taken, arrive-goes}
 use Rattle.safe_machine.proofs.order.OrderDecide.{decided, table-takes}
 use Rattle.safe_machine.specs.Connections.{is_live}
-use Rattle.safe_machine.specs.Allows.{handed_by}
+use Rattle.safe_machine.specs.inner.Allows.{handed_by}
 use Rattle.safe_machine.proofs.one.StepCases.{unit-cases}
 
 -- who hands up is live behind its guard

@@ -32,8 +32,10 @@ use Rattle.safe_machine.proofs.one.Counting.{Bounded, bounded-guard, bounded-res
 use Rattle.safe_machine.proofs.one.Kept.{Kept, AllowsMove, Anything, anything, kept-move}
 use Rattle.safe_machine.proofs.one.Legal.{legal as lawful}
 use Rattle.safe_machine.proofs.one.Texts.{Texts, own-legal, kept-texts, texts-make, AllSized, sized-run, texts-drop}
-use Rattle.safe_machine.specs.Reached.{IsRead, AreRead, IsReached, Sound}
-use Rattle.safe_machine.specs.View.{View, StandsFor, Turns, AllUnits, AllBelow, kept_of}
+use Rattle.safe_machine.specs.Reached.{IsRead, AreRead, IsReached}
+use Rattle.safe_machine.specs.inner.Sound.{Sound}
+use Rattle.safe_machine.specs.View.{View, StandsFor, kept_of}
+use Rattle.safe_machine.specs.inner.Doing.{Turns, AllUnits, AllBelow}
 use Rattle.safe_machine.proofs.one.Resending.{resend-settings, resend-connection}
 use Rattle.safe_machine.specs.Connections.{in_turn, is_connected}
 use Rattle.safe_machine.proofs.one.StepCases.{leave-cases, guard-cases, heartbeat-cases, unit-cases, send-cases, early-cases}

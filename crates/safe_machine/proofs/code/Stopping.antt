@@ -21,7 +21,8 @@ use Rattle.safe_machine.specs.Step.{carry_out, arrive, guard, take_unit, tests_p
 use Rattle.safe_machine.specs.Ring.{carried_at, ring_of}
 use Rattle.safe_machine.specs.Moves.{moved}
 use Rattle.safe_machine.specs.Reached.{IsReached}
-use Rattle.safe_machine.specs.View.{View, Turns, beside, kept_of}
+use Rattle.safe_machine.specs.View.{View, beside, kept_of}
+use Rattle.safe_machine.specs.inner.Doing.{Turns}
 use Rattle.safe_machine.specs.Properties.{StopsOnly}
 use Rattle.safe_machine.proofs.one.Deciding.{Fits, decide-fits}
 use Rattle.safe_machine.proofs.two.Lone.{lone-guard, arrive-by}

@@ -29,7 +29,8 @@ use Rattle.safe_machine.specs.Decision.{distance, cs_step, cts_step}
 use Rattle.safe_machine.specs.declared.decision.Decision.TheVariants.{Rejects, Accepts, Connects, Takes, Resumes, AnswersNext, AnswersEarly}
 use Rattle.safe_pdu.specs.Bodies.{window_of, IsBody}
 use Rattle.safe_machine.specs.Ring.{after_at, carried_at, ring_of}
-use Rattle.safe_machine.specs.View.{View, beside, StandsFor, texts, HandsOut, Hands, Does, leaves_units, Turns, AllUnits, kept_of}
+use Rattle.safe_machine.specs.View.{View, beside, StandsFor, texts, HandsOut, kept_of}
+use Rattle.safe_machine.specs.inner.Doing.{Hands, Does, leaves_units, Turns, AllUnits}
 use Rattle.safe_machine.proofs.one.Ring.{carried_at-append, ring-confirm, ring-resend, ring_of-units, octets_of-append}
 use Rattle.safe_machine.specs.Connections.{is_live, in_turn}
 use Rattle.safe_machine.specs.Deadlines.{overdue, beat_due}

@@ -15,7 +15,7 @@ use Rattle.safe_machine.specs.declared.Detail.TheVariants.{Unspecified, Confirme
 use Rattle.safe_machine.specs.State.{State, make, move_to, pass, note_request, reply, unconfirmed}
 use Rattle.safe_machine.specs.declared.table.Cell.{Cell}
 use Rattle.safe_machine.specs.Table.{cell, start_row, up_row, run_row, request_row}
-use Rattle.safe_machine.specs.declared.table.Cell.TheVariants.{Take, Ask, Answer as Reply, Resume, Refuse, Skip}
+use Rattle.safe_machine.specs.declared.table.Cell.TheVariants.{Take, Ask, Answer, Resume, Refuse, Skip}
 use Rattle.safe_machine.specs.declared.decision.Decision.{Decision}
 use Rattle.safe_machine.specs.Decision.{is_stranger, is_goodbye, is_ours, cs_fits, cts_fits, tested, in_down, as_client, in_start, by_cell, by_table, by_connection, by_sender, distance, cs_step}
 use Rattle.safe_machine.specs.declared.decision.Decision.TheVariants.{Nothing, Drops, Shuts, Leaves, Rejects, Accepts, Connects, Takes, Resumes, AnswersNext, AnswersEarly}
@@ -151,7 +151,7 @@ module _ (p : Pdu) (now : ℕ) (s : State) where
   connected-goes : is_connected s.connection ≡ true → (d : ℕ) (c : Cell) → IsGoodCell c → Q (by_cell (kept_of s) p now d c)
   connected-goes on d (Take connection) good = tested-goes (Takes connection) (inr (inr (inr (inr (on, ap is_connected (takes-is connection) ∙ good)))))
   connected-goes on d Ask good = inr (inr (inr (inr (on, refl))))
-  connected-goes on d Reply good =
+  connected-goes on d Answer good =
       let early : Q AnswersEarly =
       early-cases (λ u. GoesOn s.connection u.connection) p now s (λ _. inr (inr (inr (inr (on, refl))))) (inl (reply-is (note_request (distance (kept_of s) p) (confirm_units p s))))
       in

@@ -1,5 +1,6 @@
 use Rattle.std.proofs.Common.{◌+◌, length, sym, subst, ap, ◌∙◌, arith}
-use Rattle.safe_machine.specs.View.{View, AllUnits}
+use Rattle.safe_machine.specs.View.{View}
+use Rattle.safe_machine.specs.inner.Doing.{AllUnits}
 use Rattle.safe_machine.proofs.code.Views.{short-above, sized-above}
 use Rattle.safe_pdu.specs.Pdu.{pdu_of}
 use Rattle.safe_machine.proofs.code.Views.{ahead-does}

@@ -1,7 +1,8 @@
 use Rattle.std.proofs.Common.{◌≡◌, ◌≤◌, length, subst, ap, ◌∙◌, arith}
 use Rattle.retrans.specs.Units.{octets_of}
 use Rattle.safe_machine.specs.State.{resend}
-use Rattle.safe_machine.specs.View.{View, Hands, beside}
+use Rattle.safe_machine.specs.View.{View, beside}
+use Rattle.safe_machine.specs.inner.Doing.{Hands}
 use Rattle.safe_machine.proofs.code.Views.{resend-more, take-past}
 use Rattle.safe_machine.proofs.endpoint.Endpoint.resend_all.Goals as goal
 

@@ -1,7 +1,8 @@
 use Rattle.std.proofs.Common.{◌≡◌, ◌+◌, List, take}
 use Rattle.retrans.specs.Units.{Numbered, octets_of}
 use Rattle.safe_machine.specs.State.{State, resend}
-use Rattle.safe_machine.specs.View.{Hands, beside}
+use Rattle.safe_machine.specs.View.{beside}
+use Rattle.safe_machine.specs.inner.Doing.{Hands}
 use Rattle.safe_machine.proofs.endpoint.Endpoint.resend_all.Given as goal
 
 abbrev pub invariant-loop-place : goal.invariant-loop-place

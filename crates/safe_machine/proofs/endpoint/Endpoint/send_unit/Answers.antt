@@ -1,5 +1,6 @@
 use Rattle.std.proofs.Common.{sym, subst, ap, ◌∙◌, ◌<◌, ◌++◌, ◌∷◌, [], length}
-use Rattle.safe_machine.specs.View.{View, AllBelow}
+use Rattle.safe_machine.specs.View.{View}
+use Rattle.safe_machine.specs.inner.Doing.{AllBelow}
 use Rattle.safe_machine.proofs.code.Views.{send-does}
 use Rattle.safe_machine.proofs.endpoint.Endpoint.send_unit.Goals as goal
 

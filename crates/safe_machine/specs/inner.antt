@@ -1,0 +1,4 @@
+-- What serves the contracts of functions inside the crate, and no promise.
+pub mod Doing
+pub mod Allows
+pub mod Sound
