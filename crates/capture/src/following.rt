@@ -61,9 +61,11 @@ impl Following {
     /// Takes a datagram of a line into account, and answers what is remarkable in it.
     pub fn hear(&mut self, line: u64, record: &Record, heard: &Heard) -> Remark
         ensures remark { result ≡ remark_of self.old.connections.items line record.now heard.now }
-        ensures connections { self.new.connections.items ≡ connections_after self.old.connections.items line record.now heard.now }
+        ensures connections { self.new.connections.items
+            ≡ connections_after self.old.connections.items line record.now heard.now }
         ensures damaged { self.new.damaged ≡ damaged_after self.old.damaged heard.now }
-        ensures forgotten { self.new.forgotten ≡ forgotten_after self.old.forgotten self.old.connections.items heard.now }
+        ensures forgotten { self.new.forgotten
+            ≡ forgotten_after self.old.forgotten self.old.connections.items heard.now }
     {
         match *heard {
             Heard::Pdu(seq, header) => {

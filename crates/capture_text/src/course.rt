@@ -193,9 +193,11 @@ fn follow(
     heard: Result<(Record, Heard), LineFault>,
 ) -> Result<(Record, Remark), LineFault>
     ensures found { result ≡ found_in following.old.connections.items number heard }
-    ensures connections { following.new.connections.items ≡ connections_behind following.old.connections.items number heard }
+    ensures connections { following.new.connections.items
+        ≡ connections_behind following.old.connections.items number heard }
     ensures damaged { following.new.damaged ≡ damaged_behind following.old.damaged heard }
-    ensures forgotten { following.new.forgotten ≡ forgotten_behind following.old.forgotten following.old.connections.items heard }
+    ensures forgotten { following.new.forgotten
+        ≡ forgotten_behind following.old.forgotten following.old.connections.items heard }
 {
     match heard {
         Ok((record, heard)) => {
