@@ -26,8 +26,8 @@ pub fn write_record<W: Write>(
     record: &Record,
     remark: &Remark,
 ) -> io::Result<()>
-    ensures { OnOk result
-        (Appends (W.contents writer.old) (W.contents writer.new) (record_text first line «record».now remark.now)) }
+    ensures { OnOk result (Appends (W.contents writer.old) (W.contents writer.new)
+        (record_text first line «record».now remark.now)) }
 {
     write_head(writer, first, line, record)?;
     write_remark(writer, record, remark)?;
@@ -37,16 +37,16 @@ pub fn write_record<W: Write>(
 
 #[tactic(auto, unfolding(crate::specs::RecordText::head_text))]
 fn write_head<W: Write>(writer: &mut W, first: u64, line: u64, record: &Record) -> io::Result<()>
-    ensures { OnOk result
-        (Appends (W.contents writer.old) (W.contents writer.new) (head_text first line «record».now)) }
+    ensures { OnOk result (Appends (W.contents writer.old) (W.contents writer.new)
+        (head_text first line «record».now)) }
 {
     write_since(writer, first, record.time)?;
     write!(writer, " line {line} ")
 }
 
 fn write_remark<W: Write>(writer: &mut W, record: &Record, remark: &Remark) -> io::Result<()>
-    ensures { OnOk result
-        (Appends (W.contents writer.old) (W.contents writer.new) (remark_text «record».now remark.now)) }
+    ensures { OnOk result (Appends (W.contents writer.old) (W.contents writer.new)
+        (remark_text «record».now remark.now)) }
 {
     match *remark {
         Remark::Pdu(seq, header, remarks) => write_pdu(writer, seq, &header, &remarks),
@@ -62,8 +62,8 @@ fn write_no_safe<W: Write>(
     seq: u32,
     fault: SafeFault,
 ) -> io::Result<()>
-    ensures { OnOk result
-        (Appends (W.contents writer.old) (W.contents writer.new) (no_safe_text «record».now seq fault)) }
+    ensures { OnOk result (Appends (W.contents writer.old) (W.contents writer.new)
+        (no_safe_text «record».now seq fault)) }
 {
     write_way(writer, record)?;
     write_number(writer, seq)?;
@@ -94,8 +94,8 @@ fn write_pdu<W: Write>(
     header: &Header,
     remarks: &Remarks,
 ) -> io::Result<()>
-    ensures { OnOk result
-        (Appends (W.contents writer.old) (W.contents writer.new) (pdu_text seq header.now remarks.now)) }
+    ensures { OnOk result (Appends (W.contents writer.old) (W.contents writer.new)
+        (pdu_text seq header.now remarks.now)) }
 {
     write_ends(writer, header.sender, header.receiver)?;
     write_text(writer, channel_name(remarks.route))?;
@@ -153,8 +153,8 @@ fn write_red_fault<W: Write>(writer: &mut W, fault: RedFault) -> io::Result<()>
 /// Writes a layer's fault.
 #[tactic(auto, unfolding(crate::specs::RecordText::fault_text))]
 fn write_fault<W: Write>(writer: &mut W, layer: &str, number: u8, name: &str) -> io::Result<()>
-    ensures { OnOk result
-        (Appends (W.contents writer.old) (W.contents writer.new) (fault_text layer.now number name.now)) }
+    ensures { OnOk result (Appends (W.contents writer.old) (W.contents writer.new)
+        (fault_text layer.now number name.now)) }
 {
     write!(writer, " {layer} fault {number} {name}")
 }

@@ -59,8 +59,8 @@ fn write_connections<W: Write>(
     scale: Scale,
     connections: &[Connection],
 ) -> io::Result<()>
-    ensures { OnOk result
-        (Appends (W.contents writer.old) (W.contents writer.new) (connections_text scale connections.now)) }
+    ensures { OnOk result (Appends (W.contents writer.old) (W.contents writer.new)
+        (connections_text scale connections.now)) }
 {
     for connection in connections {
         write_connection(writer, scale, connection)?;
@@ -74,8 +74,8 @@ fn write_connection<W: Write>(
     scale: Scale,
     connection: &Connection,
 ) -> io::Result<()>
-    ensures { OnOk result
-        (Appends (W.contents writer.old) (W.contents writer.new) (connection_text scale connection.now)) }
+    ensures { OnOk result (Appends (W.contents writer.old) (W.contents writer.new)
+        (connection_text scale connection.now)) }
 {
     let ends = (connection.low, connection.high);
     let back = (connection.high, connection.low);
