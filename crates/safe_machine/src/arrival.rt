@@ -81,7 +81,7 @@ impl<A: Allocator> Endpoint<A> {
         self.respond(pdu, now, out, units)
     }
 
-    /// Receives a PDU, where the guard has passed.
+    /// Decides on a PDU behind the guard, and does what was decided.
     fn respond<O: PduOut, U: UnitIn>(
         &mut self,
         pdu: &SafePdu<'_>,
