@@ -1,6 +1,6 @@
 //! The command that the words of a command line ask for.
 
-ghost use Rattle.std.specs.Prelude.{◌≡◌, ℕ, [], Some, IsOk, IfOk, IfErr, IsNone, IfSome, false, map};
+ghost use Rattle.std.specs.Prelude.{◌≡◌, ℕ, [], Option, Some, IsOk, IfOk, IfErr, IsNone, IfSome, false, map};
 ghost use Rattle.std.specs.Option.{option_copied};
 ghost use Rattle.clap.specs.declared.Command.TheViews.{out-Command};
 ghost use Rattle.clap.specs.Words.{app_of, fault_of, first_of, found_of, rows_of, subcommand_of, subcommand_rows_of};
