@@ -28,8 +28,11 @@ file_rule = record (new_rule (codes "file")) { required = true }
 abbrev pub chosen_app : App
 chosen_app = with_rule (with_rule (new_app (codes "follow")) chosen_code_rule) iv_rule
 
+abbrev pub limited_app : App
+limited_app = with_rule (with_rule chosen_app only_rule) t_max_rule
+
 abbrev pub follow_app : App
-follow_app = with_rule (with_rule (with_rule chosen_app only_rule) t_max_rule) file_rule
+follow_app = with_rule limited_app file_rule
 
 -- how a length of code is written
 abbrev pub code_word : CodeLength → Text

@@ -5,7 +5,7 @@ ghost use Rattle.std.specs.Option.{option_copied};
 ghost use Rattle.clap.specs.declared.Command.TheViews.{out-Command};
 ghost use Rattle.clap.specs.Words.{app_of, fault_of, first_of, found_of, rows_of, subcommand_of, subcommand_rows_of};
 ghost use Rattle.rasta_words.specs.CommandLine.{Asks, FindsNone, HasEntries, HasNoEntries, IsFaultOf, IsFound, IsTurns, Refuses, coded_app, ends_word, file_app, local_app, md4_app, net_app, plain_app, rasta_app, show_app, sim_app};
-ghost use Rattle.rasta_words.specs.Choices.{HasChoices, HasNoChoices, IsAgeChosen, IsCodeChosen, IsMilliseconds, IsRemarkChosen, chosen_app, code_word, follow_app, remark_word};
+ghost use Rattle.rasta_words.specs.Choices.{HasChoices, HasNoChoices, IsAgeChosen, IsCodeChosen, IsMilliseconds, IsRemarkChosen, chosen_app, code_word, follow_app, limited_app, remark_word};
 
 use capture_text::Word as Remarkable;
 use clap::{Arg, ArgMatches, Command};
@@ -369,16 +369,26 @@ fn follow_command<'a>(alloc: Global) -> Result<Command<'a>, AllocError>
     ensures app { IfOk result (λ command. app_of command ≡ follow_app) }
     ensures local { IfOk result (λ command. (out-Command command).has_globals ≡ false) }
 {
+    let command = limited_command(alloc)?;
+    let file = Arg::new(alloc, "file").required(true).help(
+        "The capture, - for standard input: what `tshark -T fields -e frame.time_epoch -e ip.src -e udp.srcport -e ip.dst -e udp.dstport -e udp.payload` prints",
+    );
+    command.arg(file)
+}
+
+/// The command `follow` with what it takes of the lines that are printed, too.
+fn limited_command<'a>(alloc: Global) -> Result<Command<'a>, AllocError>
+    ensures app { IfOk result (λ command. app_of command ≡ limited_app) }
+    ensures local { IfOk result (λ command. (out-Command command).has_globals ≡ false) }
+{
+    let command = chosen_command(alloc)?;
     let only = Arg::new(alloc, "only").long("only").help(
         "Prints the lines with this remark alone: opens, repeat, ahead, late, stale, anew, resent, age, reason or fault",
     );
     let t_max = Arg::new(alloc, "t-max").long("t-max").help(
         "The age of a confirmed timestamp that is remarkable, in milliseconds; without it 1800",
     );
-    let file = Arg::new(alloc, "file").required(true).help(
-        "The capture, - for standard input: what `tshark -T fields -e frame.time_epoch -e ip.src -e udp.srcport -e ip.dst -e udp.dstport -e udp.payload` prints",
-    );
-    chosen_command(alloc)?.arg(only)?.arg(t_max)?.arg(file)
+    command.arg(only)?.arg(t_max)
 }
 
 /// The command `follow` with what it takes of the safety code.
