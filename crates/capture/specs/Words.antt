@@ -33,7 +33,7 @@ abbrev pub is_numeral : List ℕ → Bool
 is_numeral [] = false
 is_numeral (digit ∷ digits) = list_all is_ascii_digit (digit ∷ digits)
 
--- the number that they spell, where it is at most so much
+-- the number that they spell, where it is at most `most`
 abbrev pub number_of : ℕ → List ℕ → Option ℕ
 number_of most word = if is_numeral word && nat_le (digits_value 10 word) most then Some (digits_value 10 word) else None
 

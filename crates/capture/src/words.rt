@@ -33,7 +33,7 @@ fn place(octets: &[u8], mark: u8) -> Option<usize>
     octets.iter().position(|octet| *octet == mark)
 }
 
-/// Whether a mark stands so many times in octets.
+/// Whether a mark stands `times` times in octets.
 pub(crate) fn are_parted_by(octets: &[u8], mark: u8, times: usize) -> bool
     ensures { result ≡ nat_eq (count_by (λ o. o == mark) octets.now) times }
 {
@@ -89,7 +89,7 @@ fn octet(text: &[u8]) -> Option<u8>
     Some(number as u8)
 }
 
-/// The number that decimal digits spell, where it is at most so much.
+/// The number that decimal digits spell, where it is at most `most`.
 pub(crate) fn number(word: &[u8], most: u64) -> Option<u64>
     requires { most ≤ 10 ^ 18 }
     ensures value { result ≡ number_of most word.now }

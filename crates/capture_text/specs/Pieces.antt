@@ -8,7 +8,7 @@ abbrev pub pieces : List (List ℕ) → List ℕ
 pieces [] = []
 pieces (piece ∷ rest) = piece ++ pieces rest
 
--- the digit that stands for so many
+-- the decimal digit of a number below ten
 abbrev pub digit : ℕ → ℕ → ℕ
 digit weight n = 48 + n / weight % 10
 

@@ -91,7 +91,7 @@ fn plays_a_hit_at_each_octet(rt: HostRuntime) -> Result<(), Fail> {
     Ok(())
 }
 
-/// A writer that takes so many octets, and fails at the next.
+/// A writer that takes the octets that are left, and fails at the next.
 #[derive(Drop)]
 struct Short {
     left: usize,
@@ -122,7 +122,7 @@ fn tells_a_failed_output(rt: HostRuntime) -> Result<(), Fail> {
     Ok(())
 }
 
-/// How a script ends in a heap of so many octets.
+/// How a script ends in a heap of `octets` octets.
 fn plays_within(
     rt: &(impl Abort + AllocGlobal),
     octets: usize,

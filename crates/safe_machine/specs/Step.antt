@@ -99,7 +99,7 @@ heartbeat now s = if beat_due now (kept_of s) then make Heartbeat [] now s else 
 abbrev pub tick : ℕ → State → State
 tick now s = heartbeat now (guard now s)
 
--- units go out in turn while the peer's window is open, where so many await their confirmation
+-- units go out in turn while fewer await their confirmation than the peer's window has places
 abbrev pub is_open : ConnectionState → (awaiting window : ℕ) → Bool
 is_open connection awaiting window = in_turn connection && nat_lt awaiting window
 

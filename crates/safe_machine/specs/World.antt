@@ -29,7 +29,7 @@ pub record World : Type 0 where
   pub fe : State
   pub joined : Option ℕ  -- of the present incarnation of the field element
   pub fe_before : List Served
-  pub dead_il : ℕ  -- of the PDUs that the present il made, the first so many are dead: made before the later opening
+  pub dead_il : ℕ  -- how many of the PDUs that the present il made are dead: made before the later opening
   pub dead_fe : ℕ
   pub clock_il : ℕ  -- the time of each end's last event, 0 before any
   pub clock_fe : ℕ

@@ -45,7 +45,7 @@ impl<'a> Words<'a> {
         }
     }
 
-    /// The next word as a number of at most so much.
+    /// The next word as a number of at most `most`.
     pub fn number(&mut self, most: u64) -> Result<u64, LineFault> {
         number(self.word()?, most).ok_or(LineFault::Unreadable)
     }
@@ -100,7 +100,7 @@ impl<'a> Words<'a> {
         })
     }
 
-    /// All further words as numbers, each of at most so much.
+    /// All further words as numbers, each of at most `most`.
     pub fn numbers<A: Allocator + Copy>(
         &mut self,
         alloc: A,
@@ -124,7 +124,7 @@ impl<'a> Words<'a> {
     }
 }
 
-/// The number that decimal digits spell, where it is at most so much.
+/// The number that decimal digits spell, where it is at most `most`.
 pub fn number(word: &str, most: u64) -> Option<u64>
     ensures found { IfSome result (λ n. (list_all is_ascii_digit word.now ≡ true) × (digits_value 10 word.now ≡ n)) }
     ensures bound { IfSome result (λ n. n ≤ most) }

@@ -8,7 +8,7 @@ use Rattle.stack_end.specs.Ends.{EndState, packed, packed_up_to, sends}
 use Rattle.stack_end.specs.Fields.{Fields, Stands, Went, can_pack, packed_once}
 use Rattle.stack_end.proofs.Uppers.{sent-none}
 
--- a unit goes out, and so much is left
+-- a unit goes out, and what is left of the messages
 abbrev pub sent_out : List ℕ → List (List ℕ) → ℕ → EndState → EndState
 sent_out unit rest now x = record x { machine = send unit now x.machine; session = record { history = x.session.history; waiting = rest } }
 

@@ -15,7 +15,7 @@ use Rattle.safe_machine.proofs.two.Times.{Rises, behind_of}
 use Rattle.safe_machine.proofs.order.OrderKinds.{GoodAt, Kinds, kinds-push}
 use Rattle.safe_machine.specs.View.{kept_of}
 
--- the state of an end in this role after so many arrivals
+-- the state of an end in this role after a number of arrivals
 abbrev pub state_of : Bool → ℕ → ConnectionState
 state_of true n = client_state n
 state_of false n = server_state n
