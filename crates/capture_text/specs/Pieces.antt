@@ -8,7 +8,7 @@ abbrev pub pieces : List (List ℕ) → List ℕ
 pieces [] = []
 pieces (piece ∷ rest) = piece ++ pieces rest
 
--- the decimal digit of a number below ten
+-- the decimal digit of this weight: 1 of the last, 10 of the one before it
 abbrev pub digit : ℕ → ℕ → ℕ
 digit weight n = 48 + n / weight % 10
 
