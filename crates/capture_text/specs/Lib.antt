@@ -5,4 +5,5 @@ pub mod RecordText
 pub mod Choice
 pub mod SummaryText
 pub mod FaultText
+pub mod Telegrams
 pub mod Steps

@@ -1,5 +1,5 @@
 -- What a line of a capture does, and what is printed of it.
-use Rattle.std.specs.Prelude.{ℕ, List, [], length, if◌then◌else◌, Option, Some, None, Result, Ok, Err}
+use Rattle.std.specs.Prelude.{ℕ, List, [], ◌++◌, length, if◌then◌else◌, Option, Some, None, Result, Ok, Err}
 use Rattle.safe_pdu.specs.declared.CodeRule.{CodeRule}
 use Rattle.capture.specs.declared.connections.Connection.{Connection}
 use Rattle.capture.specs.declared.following.Remark.{Remark}
@@ -13,6 +13,7 @@ use Rattle.capture.specs.Whole.{connections_after, damaged_after, forgotten_afte
 use Rattle.capture_text.specs.Choice.{is_asked}
 use Rattle.capture_text.specs.RecordText.{record_text}
 use Rattle.capture_text.specs.SummaryText.{summary_text}
+use Rattle.capture_text.specs.Telegrams.{telegram_lines}
 use Rattle.capture_text.specs.declared.course.Asked.{Asked}
 use Rattle.capture_text.specs.declared.summary.Counts.{Counts}
 
@@ -24,6 +25,15 @@ record_of l = record { time = l.time; source = l.source; destination = l.destina
 abbrev pub heard_line : CodeRule → Result Line LineFault → Result (Record × Heard) LineFault
 heard_line rule (Ok l) = Ok (record_of l, heard_of rule l.payload)
 heard_line rule (Err fault) = Err fault
+
+-- its octets, and how many they are; none of a line that is no datagram
+abbrev pub payload_in : Result Line LineFault → List ℕ
+payload_in (Ok l) = l.payload
+payload_in (Err fault) = []
+
+abbrev pub size_in : Result (Record × Heard) LineFault → ℕ
+size_in (Ok h) = h.0.size
+size_in (Err fault) = 0
 
 -- what is remarkable in it
 abbrev pub found_in : List Connection → ℕ → Result (Record × Heard) LineFault → Result (Record × Remark) LineFault
@@ -48,13 +58,17 @@ abbrev pub first_of : Option ℕ → ℕ → ℕ
 first_of None time = time
 first_of (Some first) time = first
 
--- what is printed of a datagram: its line, where it is asked for
-abbrev pub told_text : Asked → ℕ → ℕ → Record → Remark → List ℕ
-told_text a first number r m = if is_asked a.only a.t_max m then record_text first number r m else []
+-- what is printed of a datagram: its line, where it is asked for, and behind it its telegrams, where these are
+abbrev pub asked_telegrams : Asked → List ℕ → List ℕ
+asked_telegrams a octets = if a.messages then telegram_lines a.rule octets else []
 
-abbrev pub found_text : Asked → Option ℕ → ℕ → Result (Record × Remark) LineFault → List ℕ
-found_text a first number (Ok f) = told_text a (first_of first f.0.time) number f.0 f.1
-found_text a first number (Err fault) = []
+abbrev pub told_text : Asked → ℕ → ℕ → Record → Remark → List ℕ → List ℕ
+told_text a first number r m octets =
+    if is_asked a.only a.t_max m then record_text first number r m ++ asked_telegrams a octets else []
+
+abbrev pub found_text : Asked → Option ℕ → ℕ → List ℕ → Result (Record × Remark) LineFault → List ℕ
+found_text a first number octets (Ok f) = told_text a (first_of first f.0.time) number f.0 f.1 octets
+found_text a first number octets (Err fault) = []
 
 abbrev pub first_behind : Option ℕ → Result (Record × Remark) LineFault → Option ℕ
 first_behind first (Ok f) = Some (first_of first f.0.time)

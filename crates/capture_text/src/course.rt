@@ -1,18 +1,19 @@
 //! A capture, line by line.
 
-ghost use Rattle.std.specs.Prelude.{◌≡◌, None, OnOk, IfOk};
+ghost use Rattle.std.specs.Prelude.{◌≡◌, ◌≤◌, None, take, OnOk, IfOk};
 ghost use Rattle.std.specs.Io.KnownBytes.{Appends};
 ghost use Rattle.capture.specs.Hearing.{heard_of};
 ghost use Rattle.capture.specs.Lines.{line_of};
 ghost use Rattle.capture.specs.Numbers.{counted};
 ghost use Rattle.capture.specs.Whole.{connections_after, damaged_after, forgotten_after, remark_of};
 ghost use Rattle.capture_text.specs.FaultText.{fault_text, fault_word};
-ghost use Rattle.capture_text.specs.Steps.{connections_behind, counts_of, course_text, damaged_behind, fault_in, first_behind, first_of, forgotten_behind, found_in, found_text, heard_line, told_text, unreadable_behind};
+ghost use Rattle.capture_text.specs.Steps.{asked_telegrams, connections_behind, counts_of, course_text, damaged_behind, fault_in, first_behind, first_of, forgotten_behind, found_in, found_text, heard_line, payload_in, size_in, told_text, unreadable_behind};
 
 use crate::choice::{Word, is_wanted};
 use crate::record::write_record;
 use crate::summary::{Counts, Scale, write_summary};
-use capture::{Buffer, Following, Heard, LineFault, Record, Remark, hear, read_line};
+use crate::telegrams::write_telegrams;
+use capture::{Buffer, Following, Heard, LineFault, PAYLOAD_ROOM, Record, Remark, hear, read_line};
 use safe_pdu::CodeRule;
 use std::io;
 use std::io::Write;
@@ -26,6 +27,8 @@ pub struct Asked {
     pub only: Option<Word>,
     /// T_max in milliseconds, which ages are measured against.
     pub t_max: u32,
+    /// Whether the telegrams of a datagram are printed behind its line.
+    pub messages: bool,
 }
 
 /// How far a capture was read.
@@ -88,14 +91,15 @@ impl Course {
             (found_in self.old.following.connections.items (counted self.old.lines 1)
             (heard_line asked.now.rule (line_of line.now)))) }
         ensures written { OnOk result (Appends (W.contents writer.old) (W.contents writer.new)
-            (found_text asked.now self.old.first (counted self.old.lines 1)
+            (found_text asked.now self.old.first (counted self.old.lines 1) (payload_in (line_of line.now))
             (found_in self.old.following.connections.items (counted self.old.lines 1)
             (heard_line asked.now.rule (line_of line.now))))) }
     {
         self.lines = self.lines.saturating_add(1);
         let heard = hear_line(&asked.rule, line, buffer);
+        let size = size_of(&heard);
         let found = follow(&mut self.following, self.lines, heard);
-        self.tell(asked, found, writer)
+        self.tell(asked, found, &buffer[..size], writer)
     }
 
     /// Takes a line into account that is too long to be kept.
@@ -115,6 +119,7 @@ impl Course {
         &mut self,
         asked: &Asked,
         found: Result<(Record, Remark), LineFault>,
+        datagram: &[u8],
         writer: &mut W,
     ) -> io::Result<Option<LineFault>>
         ensures following { self.new.following ≡ self.old.following }
@@ -123,13 +128,13 @@ impl Course {
         ensures unreadable { self.new.unreadable ≡ unreadable_behind self.old.unreadable found }
         ensures fault { IfOk result (λ fault. fault ≡ fault_in found) }
         ensures written { OnOk result (Appends (W.contents writer.old) (W.contents writer.new)
-            (found_text asked.now self.old.first self.old.lines found)) }
+            (found_text asked.now self.old.first self.old.lines datagram.now found)) }
     {
         match found {
             Ok((record, remark)) => {
                 let first = start(self.first, record.time);
                 self.first = Some(first);
-                write_wanted(writer, asked, first, self.lines, &record, &remark)?;
+                write_wanted(writer, asked, first, self.lines, &record, &remark, datagram)?;
                 Ok(None)
             }
             Err(fault) => {
@@ -178,11 +183,23 @@ fn hear_line(
     line: &[u8],
     buffer: &mut Buffer,
 ) -> Result<(Record, Heard), LineFault>
-    ensures { result ≡ heard_line rule.now (line_of line.now) }
+    ensures heard { result ≡ heard_line rule.now (line_of line.now) }
+    ensures payload { take (size_in result) buffer.new ≡ payload_in (line_of line.now) }
+    ensures fits { size_in result ≤ PAYLOAD_ROOM }
 {
     match read_line(line, buffer) {
         Ok(record) => Ok((record, hear(&buffer[..record.size], rule))),
         Err(fault) => Err(fault),
+    }
+}
+
+/// How many octets the datagram of a line has; none, where it is no datagram.
+fn size_of(heard: &Result<(Record, Heard), LineFault>) -> usize
+    ensures { result ≡ size_in heard.now }
+{
+    match heard {
+        Ok((record, _)) => record.size,
+        Err(_) => 0,
     }
 }
 
@@ -215,12 +232,25 @@ fn write_wanted<W: Write>(
     number: u64,
     record: &Record,
     remark: &Remark,
+    datagram: &[u8],
 ) -> io::Result<()>
     ensures { OnOk result (Appends (W.contents writer.old) (W.contents writer.new)
-        (told_text asked.now first number «record».now remark.now)) }
+        (told_text asked.now first number «record».now remark.now datagram.now)) }
 {
-    if is_wanted(asked.only, asked.t_max, remark) {
-        return write_record(writer, first, number, record, remark);
+    if !is_wanted(asked.only, asked.t_max, remark) {
+        return Ok(());
+    }
+    write_record(writer, first, number, record, remark)?;
+    write_asked(writer, asked, datagram)
+}
+
+/// Writes the telegrams of a datagram, where they are asked for.
+fn write_asked<W: Write>(writer: &mut W, asked: &Asked, datagram: &[u8]) -> io::Result<()>
+    ensures { OnOk result (Appends (W.contents writer.old) (W.contents writer.new)
+        (asked_telegrams asked.now datagram.now)) }
+{
+    if asked.messages {
+        return write_telegrams(writer, &asked.rule, datagram);
     }
     Ok(())
 }

@@ -9,6 +9,7 @@ mod record;
 mod remarks;
 mod running;
 mod summary;
+mod telegrams;
 
 pub use choice::{Word, is_wanted};
 pub use course::{Asked, Course, write_fault};
@@ -16,6 +17,7 @@ pub use record::write_record;
 pub use remarks::write_remarks;
 pub use running::{FollowStatus, run};
 pub use summary::{Counts, Scale, write_summary};
+pub use telegrams::write_telegrams;
 
 #[cfg(test)]
 mod tests;

@@ -82,6 +82,7 @@ fn asked(length: CodeLength, only: Option<Word>) -> Asked {
         },
         only,
         t_max: 1800,
+        messages: false,
     }
 }
 
@@ -355,5 +356,40 @@ fn writes_remarks(rt: HostRuntime) -> Result<(), Fail> {
     let wanted = " opens channel repeat of line 12 all late sn ahead 2 resent age 45 ms \
 reason 4 service not allowed detail 3 not of this pair";
     assert!(rt; text.as_slice() == wanted.as_bytes());
+    Ok(())
+}
+
+// The telegrams of a datagram stand behind its line, as `show` has them: here a unit of zeros, which is none.
+#[test]
+fn prints_telegrams(rt: HostRuntime) -> Result<(), Fail> {
+    let unit = Pdu {
+        seq: 10,
+        kind: 6240,
+        numbers: (200, 600),
+        stamps: (2000, 8000),
+        body: UNIT,
+    };
+    let beat = Pdu {
+        seq: 11,
+        kind: 6220,
+        numbers: (201, 600),
+        stamps: (2020, 8000),
+        body: "",
+    };
+    let mut lines = Vec::new(rt.alloc());
+    put(&mut lines, 0, 0, false, unit)?;
+    put(&mut lines, 20_000, 0, false, beat)?;
+    let mut out = Vec::new(rt.alloc());
+    let mut err = Vec::new(rt.alloc());
+    let mut asked = asked(CodeLength::Zero, None);
+    asked.messages = true;
+    let status = run(rt.alloc(), lines.as_slice(), &asked, &mut out, &mut err);
+    assert_eq!(rt; status, FollowStatus::Done);
+    let wanted = "\
+0.000000 line 1 1->2 ch 1 red 10 Data sn 200 cs 600 ts 2000 cts 8000
+unit fault 2 Length
+0.020000 line 2 1->2 ch 1 red 11 HB sn 201 cs 600 ts 2020 cts 8000
+sum ";
+    assert!(rt; out.as_slice().starts_with(wanted.as_bytes()));
     Ok(())
 }

@@ -36,6 +36,7 @@ pub fn run_follow<R: Read + Drop, O: Write, E: Write, A: Allocator + Copy>(
         },
         only: following.only,
         t_max: following.t_max,
+        messages: following.messages,
     };
     match capture_text::run(alloc, reader, &asked, out, err) {
         FollowStatus::Done => Status::Done,

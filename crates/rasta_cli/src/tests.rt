@@ -216,6 +216,7 @@ fn accepts_the_words_of_follow(rt: HostRuntime) -> Result<(), Fail> {
     let plain = Following {
         code: CodeLength::Eight,
         iv: None,
+        messages: false,
         only: None,
         t_max: 1800,
         file: "night.tsv",
@@ -224,7 +225,17 @@ fn accepts_the_words_of_follow(rt: HostRuntime) -> Result<(), Fail> {
     let found = command(rt.alloc(), &words).map_err(|_| "refused")?;
     assert_eq!(rt; found, Request::Follow(plain));
     let words = [
-        "rasta", "follow", "--code", "16", "--only", "age", "--t-max", "900", "--iv", OWN_VALUE,
+        "rasta",
+        "follow",
+        "--messages",
+        "--code",
+        "16",
+        "--only",
+        "age",
+        "--t-max",
+        "900",
+        "--iv",
+        OWN_VALUE,
         "-",
     ];
     let found = command(rt.alloc(), &words).map_err(|_| "refused")?;
@@ -233,6 +244,7 @@ fn accepts_the_words_of_follow(rt: HostRuntime) -> Result<(), Fail> {
         Request::Follow(Following {
             code: CodeLength::Sixteen,
             iv: Some(OWN_VALUE),
+            messages: true,
             only: Some(Word::Age),
             t_max: 900,
             file: "-",
@@ -343,6 +355,7 @@ fn follows_a_capture(rt: HostRuntime) -> Result<(), Fail> {
     let following = Following {
         code: CodeLength::Zero,
         iv: None,
+        messages: false,
         only: None,
         t_max: 1800,
         file: "-",

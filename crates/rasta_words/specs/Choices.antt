@@ -1,20 +1,25 @@
 -- The choices of `follow`, and how its words name them.
-use Rattle.std.specs.Prelude.{◌≡◌, ℕ, ◌≤◌, ◌<◌, ◌^◌, true, List, codes, Option, None, Some}
+use Rattle.std.specs.Prelude.{◌≡◌, ℕ, ◌≤◌, ◌<◌, ◌^◌, Bool, false, true, List, codes, Option, None, Some}
 use Rattle.std.specs.Option.{option_copied}
+use Rattle.std.specs.Str.{bytes_eq}
 use Rattle.std.specs.Str.Parse.{IsNumeral, digits_value, without_leading_plus}
 use Rattle.clap.specs.Words.{App, Row, Rule, Text, first_of, new_app, new_rule, with_rule}
+use Rattle.clap.specs.declared.builder.action.ArgAction.TheVariants.{SetTrue}
 use Rattle.capture_text.specs.declared.choice.Word.{Word as Remarkable}
 use Rattle.capture_text.specs.declared.choice.Word.TheVariants.{Opens, Repeat, Ahead, Late, Stale, Anew, Resent, Age, Leaving, Fault}
 use Rattle.safe_pdu.specs.declared.CodeLength.{CodeLength}
 use Rattle.safe_pdu.specs.declared.CodeLength.TheVariants.{Zero, Eight, Sixteen}
 use Rattle.rasta_words.specs.declared.command_line.Following.{Following}
 
--- follow [--code N] [--iv HEX] [--only WORD] [--t-max MS] FILE
+-- follow [--code N] [--iv HEX] [--messages] [--only WORD] [--t-max MS] FILE
 abbrev pub chosen_code_rule : Rule
 chosen_code_rule = record (new_rule (codes "code")) { long = Some (codes "code") }
 
 abbrev pub iv_rule : Rule
 iv_rule = record (new_rule (codes "iv")) { long = Some (codes "iv") }
+
+abbrev pub messages_rule : Rule
+messages_rule = record (new_rule (codes "messages")) { long = Some (codes "messages"); action = Some SetTrue }
 
 abbrev pub only_rule : Rule
 only_rule = record (new_rule (codes "only")) { long = Some (codes "only") }
@@ -31,8 +36,11 @@ chosen_app = with_rule (with_rule (new_app (codes "follow")) chosen_code_rule) i
 abbrev pub limited_app : App
 limited_app = with_rule (with_rule chosen_app only_rule) t_max_rule
 
+abbrev pub telling_app : App
+telling_app = with_rule limited_app messages_rule
+
 abbrev pub follow_app : App
-follow_app = with_rule limited_app file_rule
+follow_app = with_rule telling_app file_rule
 
 -- how a length of code is written
 abbrev pub code_word : CodeLength → Text
@@ -44,6 +52,11 @@ code_word Sixteen = codes "16"
 abbrev pub IsCodeChosen : Option Text → CodeLength → Type 0
 IsCodeChosen None code = code ≡ Eight
 IsCodeChosen (Some word) code = word ≡ code_word code
+
+-- whether a flag was given
+abbrev pub is_flagged : Option Text → Bool
+is_flagged None = false
+is_flagged (Some word) = bytes_eq word (codes "true")
 
 -- how a remark is written by which lines are chosen
 abbrev pub remark_word : Remarkable → Text
@@ -81,7 +94,7 @@ IsAgeChosen (Some word) age = IsMilliseconds word age
 abbrev pub HasChoices : List Row → Following → Type 0
 HasChoices rows f =
     IsCodeChosen (first_of (codes "code") rows) f.code × (first_of (codes "iv") rows ≡ option_copied f.iv)
-    × IsRemarkChosen (first_of (codes "only") rows) f.only
+    × (is_flagged (first_of (codes "messages") rows) ≡ f.messages) × IsRemarkChosen (first_of (codes "only") rows) f.only
     × IsAgeChosen (first_of (codes "t-max") rows) f.t_max × (first_of (codes "file") rows ≡ Some f.file.now)
 
 abbrev pub HasNoChoices : List Row → Type 0

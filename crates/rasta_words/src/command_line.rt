@@ -5,10 +5,10 @@ ghost use Rattle.std.specs.Option.{option_copied};
 ghost use Rattle.clap.specs.declared.Command.TheViews.{out-Command};
 ghost use Rattle.clap.specs.Words.{app_of, fault_of, first_of, found_of, rows_of, subcommand_of, subcommand_rows_of};
 ghost use Rattle.rasta_words.specs.CommandLine.{Asks, FindsNone, HasEntries, HasNoEntries, IsFaultOf, IsFound, IsTurns, Refuses, coded_app, ends_word, file_app, local_app, md4_app, net_app, plain_app, rasta_app, show_app, sim_app};
-ghost use Rattle.rasta_words.specs.Choices.{HasChoices, HasNoChoices, IsAgeChosen, IsCodeChosen, IsMilliseconds, IsRemarkChosen, chosen_app, code_word, follow_app, limited_app, remark_word};
+ghost use Rattle.rasta_words.specs.Choices.{HasChoices, HasNoChoices, IsAgeChosen, IsCodeChosen, IsMilliseconds, IsRemarkChosen, chosen_app, code_word, follow_app, is_flagged, limited_app, remark_word, telling_app};
 
 use capture_text::Word as Remarkable;
-use clap::{Arg, ArgMatches, Command};
+use clap::{Arg, ArgAction, ArgMatches, Command};
 use safe_pdu::CodeLength;
 use settings_file::Word;
 use std::alloc::{AllocError, Global};
@@ -57,6 +57,8 @@ pub struct Following<'a> {
     pub code: CodeLength,
     /// `--iv`: the initial value of the code as hex digits, or that of RFC 1320.
     pub iv: Option<&'a str>,
+    /// `--messages`: the telegrams of a datagram are printed behind its line.
+    pub messages: bool,
     /// `--only`: the remark whose lines alone are printed.
     pub only: Option<Remarkable>,
     /// `--t-max`: the age of a confirmed timestamp that is remarkable, in milliseconds; 1,800 where nothing is said.
@@ -78,7 +80,7 @@ pub enum WordsFault {
     #[error("error: turns are a number from 1 to 1,000,000\n\nUsage: rasta <il|fe|pair> --turns <turns> <file>\n\nFor more information, try 'rasta --help'.")]
     BadTurns,
     /// A choice of `follow` that is none.
-    #[error("error: a code has 0, 8 or 16 octets, T_max is a number of milliseconds from 1 to 4,294,967,295, and lines are chosen by opens, repeat, ahead, late, stale, anew, resent, age, reason or fault\n\nUsage: rasta follow [--code <0|8|16>] [--iv <iv>] [--only <word>] [--t-max <ms>] <file>\n\nFor more information, try 'rasta follow --help'.")]
+    #[error("error: a code has 0, 8 or 16 octets, T_max is a number of milliseconds from 1 to 4,294,967,295, and lines are chosen by opens, repeat, ahead, late, stale, anew, resent, age, reason or fault\n\nUsage: rasta follow [--code <0|8|16>] [--iv <iv>] [--messages] [--only <word>] [--t-max <ms>] <file>\n\nFor more information, try 'rasta follow --help'.")]
     BadChoice,
     /// A word is not UTF-8.
     #[error("error: a word is no UTF-8 text\n\nUsage: rasta <COMMAND>\n\nFor more information, try 'rasta --help'.")]
@@ -153,6 +155,7 @@ fn choices<'a>(entries: &ArgMatches<'a>) -> Option<Following<'a>>
     Some(Following {
         code: chosen_code(entry(entries, "code"))?,
         iv: entry(entries, "iv"),
+        messages: is_chosen(entry(entries, "messages")),
         only: chosen_remark(entry(entries, "only"))?,
         t_max: chosen_age(entry(entries, "t-max"))?,
         file: entry(entries, "file")?,
@@ -167,6 +170,16 @@ fn chosen_code(word: Option<&str>) -> Option<CodeLength>
     match word {
         None => Some(CodeLength::Eight),
         Some(word) => code_length(word),
+    }
+}
+
+/// Whether a flag was given.
+fn is_chosen(word: Option<&str>) -> bool
+    ensures { result ≡ is_flagged (option_copied word.entry) }
+{
+    match word {
+        None => false,
+        Some(word) => word == "true",
     }
 }
 
@@ -369,14 +382,27 @@ fn follow_command<'a>(alloc: Global) -> Result<Command<'a>, AllocError>
     ensures app { IfOk result (λ command. app_of command ≡ follow_app) }
     ensures local { IfOk result (λ command. (out-Command command).has_globals ≡ false) }
 {
-    let command = limited_command(alloc)?;
+    let command = telling_command(alloc)?;
     let file = Arg::new(alloc, "file").required(true).help(
         "The capture, - for standard input: what `tshark -T fields -e frame.time_epoch -e ip.src -e udp.srcport -e ip.dst -e udp.dstport -e udp.payload` prints",
     );
     command.arg(file)
 }
 
-/// The command `follow` with what it takes of the lines that are printed, too.
+/// The command `follow` with what it takes but the file.
+fn telling_command<'a>(alloc: Global) -> Result<Command<'a>, AllocError>
+    ensures app { IfOk result (λ command. app_of command ≡ telling_app) }
+    ensures local { IfOk result (λ command. (out-Command command).has_globals ≡ false) }
+{
+    let command = limited_command(alloc)?;
+    let messages = Arg::new(alloc, "messages")
+        .long("messages")
+        .action(ArgAction::SetTrue)
+        .help("Prints the telegrams of a datagram behind its line");
+    command.arg(messages)
+}
+
+/// The command `follow` with what it takes of the code and of the lines that are printed.
 fn limited_command<'a>(alloc: Global) -> Result<Command<'a>, AllocError>
     ensures app { IfOk result (λ command. app_of command ≡ limited_app) }
     ensures local { IfOk result (λ command. (out-Command command).has_globals ≡ false) }

@@ -1,0 +1,21 @@
+-- The telegrams of a datagram.
+use Rattle.std.specs.Prelude.{ℕ, List, [], Result, Ok, Err}
+use Rattle.red_pdu.specs.declared.RedFault.{RedFault}
+use Rattle.red_pdu.specs.RedText.{red_seen}
+use Rattle.safe_pdu.specs.declared.CodeRule.{CodeRule}
+use Rattle.safe_pdu.specs.declared.SafeFault.{SafeFault}
+use Rattle.safe_pdu.specs.Pdu.{Pdu}
+use Rattle.safe_pdu.specs.Places.{safe_seen}
+use Rattle.pdu_text.specs.MessageText.{unit_lines}
+
+abbrev pub body_lines : Result Pdu SafeFault → List ℕ
+body_lines (Ok p) = unit_lines p.kind p.body
+body_lines (Err fault) = []
+
+abbrev pub upper_lines : CodeRule → Result (ℕ × List ℕ) RedFault → List ℕ
+upper_lines rule (Ok p) = body_lines (safe_seen rule p.1)
+upper_lines rule (Err fault) = []
+
+-- the lines of its telegrams, as `show` has them; none of what is no PDU
+abbrev pub telegram_lines : CodeRule → List ℕ → List ℕ
+telegram_lines rule octets = upper_lines rule (red_seen octets)
