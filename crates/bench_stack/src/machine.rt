@@ -7,6 +7,7 @@ ghost use Rattle.safe_machine.specs.Moves.{IsUnitSized};
 use crate::{append, rule_of};
 use arrayvec::ArrayVec;
 use linked_list_allocator::LocalHeap;
+use octets::copy_of;
 use octets::limits::SAFE_PDU_MAX;
 use safe_machine::{ConnectionState, Machine, MachineConfig, PduOut, Role, Unit, UnitIn};
 use std::alloc::Global;
@@ -167,16 +168,6 @@ impl Ends {
     }
 }
 
-/// A unit of these octets.
-fn unit_of(octets: &[u8]) -> Unit
-    requires { length octets.now ≤ UNIT_MAX }
-    ensures { result.items ≡ octets.now }
-{
-    let mut unit = Unit::new();
-    let _fits = unit.try_extend_from_slice(octets);
-    unit
-}
-
 /// Makes two rows: the client's Data, which carry one unit again and again, and the heartbeats by which the server confirms
 /// them, one after each `mwa` units. A row that is too short has what fits. It answers how many units the server took.
 /// C: `bench_machine_rows(const uint8_t *, size_t, uint32_t, uint32_t, uint32_t, uint8_t *, size_t, uint8_t *, size_t)`.
@@ -195,7 +186,7 @@ pub extern "C" fn bench_machine_rows(
     let Some(mut ends) = joined(alloc, code, mwa) else {
         return 0;
     };
-    let unit = unit_of(unit);
+    let unit: Unit = copy_of(unit);
     let mut data = Latest::new();
     let mut heartbeat = Latest::new();
     let mut units = Units { taken: 0 };
@@ -252,7 +243,7 @@ pub extern "C" fn bench_machine_sends(
 ) -> Tally
     requires { IsUnitSized unit.now }
 {
-    let unit = unit_of(unit);
+    let unit: Unit = copy_of(unit);
     let mut made = Counted::new();
     let mut units = Units { taken: 0 };
     let Some(mut ends) = joined(alloc, code, mwa) else {

@@ -7,6 +7,7 @@ ghost use Rattle.channels.specs.Memory.{told_of, new_kept, with_more_room, with_
 
 use crate::{ChannelFault, Channels};
 use arrayvec::ArrayVec;
+use octets::copy_of;
 use octets::limits::RED_PDU_MAX;
 use std::alloc::{AllocError, Allocator, Global};
 use std::collections::VecDeque;
@@ -158,7 +159,7 @@ impl<A: Allocator> Channels for MemChannels<A> {
             self.failed_sends = self.failed_sends.wrapping_add(1);
             return Err(ChannelFault::Room);
         }
-        let _kept = self.sent.push((channel, datagram_of(datagram)));
+        let _kept = self.sent.push((channel, copy_of(datagram)));
         self.sends_left -= 1;
         Ok(())
     }
@@ -185,13 +186,4 @@ impl<A: Allocator> Channels for MemChannels<A> {
         let _kept = self.answers.push(Some((channel, octets)));
         Ok(Some((channel, size)))
     }
-}
-
-fn datagram_of(octets: &[u8]) -> Datagram
-    requires { length octets.now ≤ RED_PDU_MAX }
-    ensures { result.items ≡ octets.now }
-{
-    let mut datagram = Datagram::new();
-    let _fits = datagram.try_extend_from_slice(octets);
-    datagram
 }

@@ -4,3 +4,6 @@
 
 pub mod limits;
 pub mod places;
+mod storage;
+
+pub use storage::{Unit, copy_of};

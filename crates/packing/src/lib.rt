@@ -9,17 +9,15 @@ ghost use Rattle.std.specs.Prelude.{◌≡◌};
 ghost use Rattle.packing.specs.FaultNames.{unit_name, unit_number};
 
 use arrayvec::ArrayVec;
-use octets::limits::{UNIT_MAX, UNIT_MESSAGES};
+use octets::limits::UNIT_MESSAGES;
 
 mod unit;
 mod waiting;
 
+pub use octets::Unit;
 pub use octets::limits::WAITING_MAX;
 pub use unit::{one_spelling, unpack};
 pub use waiting::{Waiting, pack, read_back};
-
-/// The octets of a unit, in storage of the longest one.
-pub type Unit = ArrayVec<u8, UNIT_MAX>;
 
 /// The messages of a unit, in order, as views of it.
 pub type Messages<'a> = ArrayVec<&'a [u8], UNIT_MESSAGES>;

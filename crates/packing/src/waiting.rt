@@ -8,6 +8,7 @@ use super::unit::{put_message, unpack};
 use super::{Full, Messages, PackFault, Unit, WAITING_MAX};
 use arrayvec::ArrayVec;
 use circular_buffer::HeapCircularBuffer;
+use octets::copy_of;
 use octets::limits::{MESSAGE_MAX, UNIT_MESSAGES};
 use std::alloc::{AllocError, Allocator, Global};
 use std::marker::Model;
@@ -82,9 +83,7 @@ impl<A: Allocator> Waiting<A> {
         ensures added { OnOk result (self.new ≡ self.old ++ message.now ∷ []) }
         ensures full { OnErr result (self.new ≡ self.old) }
     {
-        let mut copy = Message::new();
-        copy.try_extend_from_slice(message).unwrap();
-        if self.ring.try_push_back(copy).is_ok() {
+        if self.ring.try_push_back(copy_of(message)).is_ok() {
             Ok(())
         } else {
             Err(Full)

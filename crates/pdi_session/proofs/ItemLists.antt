@@ -3,6 +3,7 @@ use Rattle.std.proofs.Common.{◌≡◌, Bool, true, false, cond, List, [], ◌�
 use Rattle.std.specs.Prelude.{is_none}
 use Rattle.std.proofs.lemmas.Bool.{false≢true, true≢false}
 use Rattle.std.proofs.lemmas.List.{append-nil}
+use Rattle.octets.specs.Lists.{IsBeginning}
 use Rattle.sci_telegram.specs.Tele.{Tele}
 use Rattle.pdi_session.specs.declared.Phase.{Phase}
 use Rattle.pdi_session.specs.declared.Phase.TheVariants.{Idle, Checking, Requesting, AwaitCheck, AwaitRequest, Refused, Initialising, Established, Ended}
@@ -17,7 +18,7 @@ use Rattle.pdi_session.specs.Telegrams.{form_of, is_addressed, is_reserved, tele
 use Rattle.pdi_session.specs.Tables.{at_up, is_initialising, may_put, table}
 use Rattle.pdi_session.specs.SessionStep.{Event, Up, Arrives, Puts, InitDone, Closes, Item, SessionState, added_by, item_of, judged, phase_after, phase_by, put_refusal, taken_as, taken_by}
 use Rattle.pdi_session.specs.Histories.{History, begun, grown, grown_along, handed_by, is_ended, put_by}
-use Rattle.pdi_session.specs.Laws.{AreReserved, IsBeginning, QueueLaw, TakenLaw, items_of}
+use Rattle.pdi_session.specs.Laws.{AreReserved, QueueLaw, TakenLaw, items_of}
 use Rattle.pdi_session.proofs.TableLemmas.{by_cond}
 use Rattle.pdi_session.proofs.Rows.{reserved_of, item_of_form}
 use Rattle.pdi_session.proofs.RowLaws.{Outcome, Closed, Went, Answered, Took, outcome, own_law, put_law}

@@ -3,6 +3,7 @@ use Rattle.std.proofs.Common.{◌≡◌, ◌⊎◌, ℕ, ◌≤◌, Bool, true, 
 use Rattle.std.specs.Prelude.{is_none, unwrap_or}
 use Rattle.std.proofs.lemmas.Bool.{false≢true, true≢false}
 use Rattle.std.proofs.lemmas.List.{append-nil}
+use Rattle.octets.specs.Lists.{IsBeginning}
 use Rattle.sci_telegram.specs.Tele.{Tele}
 use Rattle.pdi_session.specs.declared.TheConstants.{CHECKSUM_MAX}
 use Rattle.pdi_session.specs.declared.Phase.{Phase}
@@ -16,7 +17,7 @@ use Rattle.pdi_session.specs.Telegrams.{form_of, is_addressed}
 use Rattle.pdi_session.specs.Tables.{at_up, is_early, is_initialising, may_put, table}
 use Rattle.pdi_session.specs.SessionStep.{Event, Up, Arrives, Puts, InitDone, Closes, SessionState, added_by, end_of, judged, phase_after, phase_by, sent_by}
 use Rattle.pdi_session.specs.Histories.{History, ends_by, grown, grown_along, handed_by, is_ended}
-use Rattle.pdi_session.specs.Laws.{IsBeginning, items_of}
+use Rattle.pdi_session.specs.Laws.{items_of}
 use Rattle.pdi_session.specs.JoinedSessions.{AtFe, AtIl, EndsEarly, InTurn, IsNext, IsNextAt, Joined, JoinedEvent, OneMoreLaw, PhaseLaw, TakesFrontLaw, happen, happens, joined}
 use Rattle.pdi_session.proofs.TableLemmas.{by_cond}
 use Rattle.pdi_session.proofs.ItemLists.{PutIsQueue, Taken, begins_through, items_begin, phase_over, put_grows, taken_begun, taken_grows}

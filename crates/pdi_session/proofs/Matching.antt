@@ -3,6 +3,7 @@ use Rattle.std.proofs.Common.{◌≡◌, ◌⊎◌, ℕ, ◌==◌, true, List, [
 use Rattle.std.specs.Prelude.{is_none}
 use Rattle.std.specs.List.{list_any}
 use Rattle.std.proofs.lemmas.Bool.{false≢true, true≢false}
+use Rattle.octets.specs.Lists.{IsBeginning}
 use Rattle.sci_telegram.specs.Tele.{Tele}
 use Rattle.pdi_session.specs.declared.Phase.{Phase}
 use Rattle.pdi_session.specs.declared.Phase.TheVariants.{Idle, Checking, Requesting, AwaitCheck, AwaitRequest, Refused, Initialising, Established, Ended}
@@ -14,7 +15,6 @@ use Rattle.pdi_session.specs.Telegrams.{form_of, is_addressed}
 use Rattle.pdi_session.specs.Tables.{at_up, is_early}
 use Rattle.pdi_session.specs.SessionStep.{Event, Up, Arrives, Puts, InitDone, Closes, added_by, end_of, judged, sent_by}
 use Rattle.pdi_session.specs.Histories.{History, grown}
-use Rattle.pdi_session.specs.Laws.{IsBeginning}
 use Rattle.pdi_session.specs.JoinedSessions.{AtFe, AtIl, InTurn, IsNext, Joined, JoinedEvent, MatchingLaw, happen, happens, joined}
 use Rattle.pdi_session.proofs.Shapes.{FeAt, base, check_from, differs_from, il_past}
 use Rattle.pdi_session.proofs.PhaseLemma.{Crossed, Joint, decides, first_same, to_field}

@@ -3,6 +3,7 @@ use Rattle.std.proofs.Common.{◌≡◌, ◌⊎◌, ℕ, suc, ◌≤◌, ◌==�
 use Rattle.std.specs.Prelude.{is_none}
 use Rattle.std.proofs.lemmas.Bool.{eq-eqb, true≢false}
 use Rattle.std.proofs.lemmas.List.{length-append}
+use Rattle.octets.specs.Lists.{IsBeginning}
 use Rattle.sci_telegram.specs.Tele.{Tele}
 use Rattle.pdi_session.specs.declared.Phase.{Phase}
 use Rattle.pdi_session.specs.declared.Phase.TheVariants.{Idle, Checking, Requesting, AwaitCheck, AwaitRequest, Refused, Initialising, Established, Ended}
@@ -14,7 +15,7 @@ use Rattle.pdi_session.specs.Telegrams.{form_of, is_addressed}
 use Rattle.pdi_session.specs.Tables.{interlocking_table, is_early}
 use Rattle.pdi_session.specs.SessionStep.{SessionState, end_of, judged, notice_tele}
 use Rattle.pdi_session.specs.Histories.{History, is_ended}
-use Rattle.pdi_session.specs.Laws.{IsBeginning, IsItem, IsStatus, completions}
+use Rattle.pdi_session.specs.Laws.{IsItem, IsStatus, completions}
 use Rattle.pdi_session.proofs.Shapes.{Accepts, Asked, FeAt, FePast, Heard, IlAt, IlPast, Refuses, Starts, Told, base, check_from, completions-append, differs_from, equal_from, request_from, start_from}
 use Rattle.pdi_session.proofs.IlSteps.{counted}
 use Rattle.pdi_session.proofs.PhaseLemma.{Joint, decides, equal_says, first_same, free_form, goes_on, is_equal, later_has, met, none_begins, second_is, to_field, to_interlocking}

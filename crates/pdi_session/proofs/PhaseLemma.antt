@@ -5,6 +5,7 @@ use Rattle.std.specs.Str.{bytes_eq}
 use Rattle.std.specs.List.{AllByRecursion}
 use Rattle.std.proofs.lemmas.Bool.{eqb-true, eq-eqb, le-leb, false≢true, true≢false}
 use Rattle.std.proofs.lemmas.Slice.Eq.{bytes_eq-Decides}
+use Rattle.octets.specs.Lists.{IsBeginning}
 use Rattle.sci_telegram.specs.Tele.{Tele}
 use Rattle.pdi_session.specs.declared.TheConstants.{CHECKSUM_MAX}
 use Rattle.pdi_session.specs.declared.Phase.{Phase}
@@ -17,7 +18,6 @@ use Rattle.pdi_session.specs.Telegrams.{form_of, is_addressed, is_reserved, kind
 use Rattle.pdi_session.specs.Tables.{table}
 use Rattle.pdi_session.specs.SessionStep.{SessionState, end_of, judged}
 use Rattle.pdi_session.specs.Histories.{History}
-use Rattle.pdi_session.specs.Laws.{IsBeginning}
 use Rattle.pdi_session.proofs.Rows.{FormKind, form_kind, reserved_notice}
 use Rattle.pdi_session.proofs.Shapes.{All-next, FeAt, Heard, IlAt, IlPast, base, check_from, equal_from, il_past, request_from}
 

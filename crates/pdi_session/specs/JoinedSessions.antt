@@ -1,6 +1,7 @@
 -- Two sessions, each of which is handed the other's telegrams in the order of their queue.
 use Rattle.std.specs.Prelude.{◌≡◌, ◌≢◌, ◌⊎◌, ◌==◌, ◌≤◌, ℕ, true, false, List, [], ◌∷◌, ◌++◌, length, Some, None, ⊤}
 use Rattle.std.specs.List.{list_any}
+use Rattle.octets.specs.Lists.{IsBeginning}
 use Rattle.pdi_session.specs.declared.TheConstants.{CHECKSUM_MAX}
 use Rattle.pdi_session.specs.declared.Phase.{Phase}
 use Rattle.pdi_session.specs.declared.Phase.TheVariants.{Idle, Initialising, Established}
@@ -8,7 +9,7 @@ use Rattle.pdi_session.specs.Settings.{Addressing, Interlocking, Field}
 use Rattle.pdi_session.specs.Tables.{is_early}
 use Rattle.pdi_session.specs.SessionStep.{Event, Arrives}
 use Rattle.pdi_session.specs.Histories.{History, begun, grown, grown_along, is_ended}
-use Rattle.pdi_session.specs.Laws.{IsBeginning, was_established}
+use Rattle.pdi_session.specs.Laws.{was_established}
 
 pub record Joined : Type 0 where
   pub il : History

@@ -1,6 +1,7 @@
 -- What the tables promise, row by row, and over every list of a session's events.
 use Rattle.std.specs.Prelude.{◌≡◌, ◌≢◌, ◌==◌, ◌⊎◌, ◌<◌, ◌≤◌, ◌^◌, ℕ, ◌+◌, Bool, true, false, if◌then◌else◌, List, [], ◌∷◌, ◌++◌, Some, None, Ok, ⊤}
 use Rattle.std.specs.List.{AllByRecursion}
+use Rattle.octets.specs.Lists.{IsBeginning}
 use Rattle.packing.specs.UnitText.{IsMessage}
 use Rattle.sci_telegram.specs.Places.{tele_seen}
 use Rattle.sci_telegram.specs.Tele.{Tele}
@@ -68,9 +69,6 @@ StandsLaw = (e : Event) (s left : SessionState) (old new : List (List ℕ)) (h :
 abbrev pub items_of : List Tele → List Item
 items_of [] = []
 items_of (t ∷ ts) = if is_reserved t.kind then items_of ts else item_of t ∷ items_of ts
-
-abbrev pub IsBeginning : {X : Type 0} → List X → List X → Type 0
-IsBeginning {X} front whole = (rest : List X) × (front ++ rest ≡ whole)
 
 -- what is taken is a beginning of the commands or status judged, and all of it while the session is not over
 abbrev pub TakenLaw : Type 0

@@ -13,6 +13,7 @@ ghost use Rattle.red_layer.specs.Redundancy.{Input, decoded, run_from, after_run
 
 use arrayvec::ArrayVec;
 use deferral::Deferral;
+use octets::copy_of;
 use octets::limits::{REACH, SAFE_PDU_MAX};
 use red_pdu::{RedFault, RedPdu, decode};
 use std::alloc::{Allocator, Global};
@@ -238,7 +239,7 @@ impl<A: Allocator> RedLayer<A> {
             return RedEvent::Again;
         }
         let empty = self.waiting.least().is_none();
-        match self.waiting.put(seq, kept(upper)) {
+        match self.waiting.put(seq, copy_of(upper)) {
             Ok(()) => {
                 if empty {
                     self.since = now;
@@ -261,16 +262,6 @@ fn heard(octets: &[u8]) -> Result<RedPdu<'_>, RedFault>
         Ok(pdu) => Ok(pdu),
         Err(fault) => Err(fault),
     }
-}
-
-/// A copy of an upper part.
-fn kept(upper: &[u8]) -> Kept
-    requires { length upper.now ≤ SAFE_PDU_MAX }
-    ensures { result.items ≡ upper.now }
-{
-    let mut part = Kept::new();
-    let _fits = part.try_extend_from_slice(upper);
-    part
 }
 
 /// Hands up the waiting parts with consecutive numbers from a number on, and answers the number

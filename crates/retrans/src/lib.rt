@@ -5,17 +5,12 @@
 //! kept without wrap.
 #![tactic(auto)]
 
-use arrayvec::ArrayVec;
-use octets::limits::UNIT_MAX;
-
 mod law;
 mod unconfirmed;
 
 pub use law::units_law;
+pub use octets::Unit;
 pub use unconfirmed::Unconfirmed;
-
-/// The octets of a unit, in storage of the longest one (1,206 octets).
-pub type Unit = ArrayVec<u8, UNIT_MAX>;
 
 /// A unit, behind the number of the PDU that carried it last, without wrap.
 pub type NumberedUnit = (u64, Unit);

@@ -1,5 +1,6 @@
 -- The law of two machines: what one takes is a beginning of what the end joined to it sent.
 use Rattle.std.specs.Prelude.{ℕ, ◌+◌, ◌-◌, ◌≡◌, ◌≢◌, ◌<◌, ◌≤◌, ◌⊎◌, ◌==◌, Bool, false, Option, Some, None, MatchOption, List, [], ◌∷◌, ◌++◌, length, take, drop, if◌then◌else◌}
+use Rattle.octets.specs.Lists.{IsBeginning}
 use Rattle.safe_machine.specs.World.Side.{Il, Fe}
 use Rattle.safe_pdu.specs.Pdu.{Pdu}
 use Rattle.safe_machine.specs.Made.{Made, units}
@@ -7,7 +8,7 @@ use Rattle.safe_machine.specs.declared.ConnectionState.TheVariants.{Closed, Down
 use Rattle.safe_machine.specs.State.{State, unconfirmed}
 use Rattle.safe_machine.specs.Step.{arrive}
 use Rattle.safe_machine.specs.World.Event.{Arrive}
-use Rattle.safe_machine.specs.World.{happens, Timely, World, Served, Event, start, run, Genuine, Among, IsBeginningOf}
+use Rattle.safe_machine.specs.World.{happens, Timely, World, Served, Event, start, run, Genuine, Among}
 
 -- The incarnations of each end, the latest first: all but what stood there before the first opening.
 abbrev pub il_incarnations : World → List State
@@ -27,7 +28,7 @@ incarnation (s ∷ before) number = if number == length before + 1 then Some s e
 abbrev pub TakesBeginnings : List State → State → Option ℕ → Type 0
 TakesBeginnings ils fe None = fe.taken ≡ []
 TakesBeginnings ils fe (Some number) =
-    MatchOption (incarnation ils number) ⊥ (λ il. IsBeginningOf fe.taken (units il.made) × IsBeginningOf il.taken (units fe.made))
+    MatchOption (incarnation ils number) ⊥ (λ il. IsBeginning fe.taken (units il.made) × IsBeginning il.taken (units fe.made))
 
 -- this of each incarnation of the field element
 abbrev pub AllTakeBeginnings : List State → List Served → Type 0

@@ -185,6 +185,3 @@ abbrev pub Timely : List Event → World → Type 0
 Timely [] w = Unit {0}
 Timely (e ∷ es) w = TimelyEvent w e × Timely es (happens w e)
 
--- the first items of a list, none or all included
-abbrev pub IsBeginningOf : List (List ℕ) → List (List ℕ) → Type 0
-IsBeginningOf front whole = (rest : List (List ℕ)) × (front ++ rest ≡ whole)

@@ -20,9 +20,7 @@ mod table;
 
 pub use law::unit_law;
 pub use machine::{Machine, PduOut, UnitIn};
-
-/// The octets of a unit, in storage of the longest one (1,206 octets).
-pub type Unit = retrans::Unit;
+pub use octets::Unit;
 
 /// The states of a connection.
 #[derive(Clone, Copy, Debug, PartialEq, Eq)]

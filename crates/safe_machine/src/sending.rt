@@ -12,7 +12,8 @@ ghost use Rattle.safe_machine.specs.View.{StandsFor};
 ghost use Rattle.safe_machine.specs.inner.Doing.{AllBelow, Does};
 
 use super::endpoint::Endpoint;
-use super::{PduOut, Unit};
+use super::PduOut;
+use octets::copy_of;
 use octets::limits::UNIT_MAX;
 use safe_pdu::Kind;
 use std::alloc::Allocator;
@@ -78,14 +79,4 @@ impl<A: Allocator> Endpoint<A> {
     {
         let _kept = self.ring.sent(number, copy_of(unit));
     }
-}
-
-/// A copy of a unit.
-fn copy_of(unit: &[u8]) -> Unit
-    requires { length unit.now ≤ UNIT_MAX }
-    ensures { result.items ≡ unit.now }
-{
-    let mut copy = Unit::new();
-    let _fits = copy.try_extend_from_slice(unit);
-    copy
 }

@@ -24,6 +24,7 @@ use crate::upper::Upper;
 use arrayvec::ArrayVec;
 use channels::Channels;
 use end_settings::{EndConfig, Side};
+use octets::copy_of;
 use packing::Waiting;
 use pdi_session::{FieldConfig, InterlockingConfig, Parties, Session};
 use red_layer::{Numbers, RedConfig, RedLayer};
@@ -162,13 +163,9 @@ fn field(parties: Parties, versions: &[u8], checksum: &[u8]) -> Session
     requires short { length checksum.now ≤ CHECKSUM_MAX }
     ensures { result ≡ session_opened (addressing_of parties) (Field versions.now checksum.now) }
 {
-    let mut kept_versions = ArrayVec::new();
-    let _fits = kept_versions.try_extend_from_slice(versions);
-    let mut kept_checksum = ArrayVec::new();
-    let _fits = kept_checksum.try_extend_from_slice(checksum);
     Session::field(FieldConfig {
         parties,
-        versions: kept_versions,
-        checksum: kept_checksum,
+        versions: copy_of(versions),
+        checksum: copy_of(checksum),
     })
 }

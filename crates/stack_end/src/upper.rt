@@ -20,6 +20,7 @@ use crate::sending::ToChannels;
 use crate::telling::{Seen, tell_change, tell_event, tell_step};
 use arrayvec::ArrayVec;
 use channels::Channels;
+use octets::copy_of;
 use octets::limits::{SAFE_PDU_MAX, UNIT_MESSAGES};
 use packing::{Waiting, pack};
 use pdi_session::{InitFault, PutFault, Session, Taker};
@@ -243,7 +244,7 @@ impl<C: Channels, A: Allocator> Upper<C, A> {
         ensures few { FewWait self.old.session self.old.waiting → FewWait self.new.session self.new.waiting }
     {
         match (before, self.machine.state()) {
-            (ConnectionState::Down, ConnectionState::Start) => self.request = Some(kept(octets)),
+            (ConnectionState::Down, ConnectionState::Start) => self.request = Some(copy_of(octets)),
             _ => {}
         }
     }
@@ -410,16 +411,6 @@ impl<C: Channels, A: Allocator> Upper<C, A> {
             packs = self.pack_one(now);
         }
     }
-}
-
-/// A copy of an upper part.
-fn kept(octets: &[u8]) -> Part
-    requires { length octets.now ≤ SAFE_PDU_MAX }
-    ensures { result.items ≡ octets.now }
-{
-    let mut part = Part::new();
-    let _fits = part.try_extend_from_slice(octets);
-    part
 }
 
 /// Hands the parts that go up to what is above the redundancy layer.

@@ -5,6 +5,7 @@ use Rattle.std.specs.List.{AllByRecursion}
 use Rattle.std.proofs.lemmas.Bool.{eqb-true}
 use Rattle.std.proofs.lemmas.Bool.Decides.{nat_tests}
 use Rattle.std.proofs.lemmas.List.{length-append}
+use Rattle.octets.specs.Lists.{IsBeginning}
 use Rattle.octets.proofs.Choices.{by_test}
 use Rattle.packing.specs.Places.{unit_seen}
 use Rattle.red_layer.specs.Parts.{is_nil}
@@ -15,7 +16,7 @@ use Rattle.safe_machine.specs.Made.{units}
 use Rattle.safe_machine.specs.State.{unconfirmed}
 use Rattle.safe_machine.specs.Decision.{is_closed}
 use Rattle.safe_machine.specs.Moves.{ReachedState, ReachedLaw}
-use Rattle.safe_machine.specs.World.{Side, IsBeginningOf}
+use Rattle.safe_machine.specs.World.{Side}
 use Rattle.safe_machine.specs.World.Side.{Il, Fe}
 use Rattle.safe_machine.specs.Law as L
 use Rattle.sci_telegram.specs.Tele.{Tele}
@@ -23,7 +24,7 @@ use Rattle.pdi_session.specs.declared.TheConstants.{CHECKSUM_MAX}
 use Rattle.pdi_session.specs.declared.Phase.{Phase}
 use Rattle.pdi_session.specs.Settings.{first_version}
 use Rattle.pdi_session.specs.SessionStep.{Item, texts}
-use Rattle.pdi_session.specs.Laws.{IsBeginning, HasMessage, items_of}
+use Rattle.pdi_session.specs.Laws.{HasMessage, items_of}
 use Rattle.pdi_session.specs.JoinedSessions.{Joined, EndsEarly, PhaseLaw}
 use Rattle.end_settings.specs.EndSettings.{EndSettings, connection_of, are_fit, in_limits, is_addressing}
 use Rattle.stack_end.specs.Ends.{EndState, is_shut}
@@ -99,7 +100,7 @@ good-sent side x sp =
     (all-front Reads (messages_in (units x.machine.made)) x.session.waiting (subst (AllByRecursion Reads) sp.talk.queue (reads-texts x.session.history.queue sp.talk.messages))).0
 
 -- x's units that are confirmed were taken by y
-was-taken : ItemLaws → (a b : Side) (x y : EndState) → Spoken a x → Heeds y → ReachedState x.machine → IsBeginningOf y.machine.taken (units x.machine.made)
+was-taken : ItemLaws → (a b : Side) (x y : EndState) → Spoken a x → Heeds y → ReachedState x.machine → IsBeginning y.machine.taken (units x.machine.made)
     → length (units x.machine.made) ≤ length y.machine.taken + length (unconfirmed x.machine)
     → ((phase : Phase) → y.session.history.ended_in ≡ Some phase → put_at x ≡ []) → (o : Option Phase) → y.session.history.ended_in ≡ o → WasTaken x (taken_at y)
 was-taken laws a b x y sp he r begins count early None ended = λ _.
@@ -161,8 +162,8 @@ il-with : (p : LossLaws) (g : EndState) (before : List EndState) (number : ℕ) 
 il-with p g before number f at wg wf hf law pair is count =
     let inc : incarnation (g ∷ before) number ≡ Some g = ap (λ b. cond b (Some g) (incarnation before number)) (ap (λ n. n == length before + 1) at ∙ eqb-same (length before + 1)) in
     let joint : JointEnds f.end.settings g f.end = subst (λ o. MatchOption o ⊥ (λ y. JointEnds f.end.settings y f.end)) inc (pair number is) in
-    let takes : IsBeginningOf f.end.machine.taken (units g.machine.made) =
-    (subst (λ o. MatchOption o ⊥ (λ il. IsBeginningOf f.end.machine.taken (units il.made) × IsBeginningOf il.taken (units f.end.machine.made))) (inc-some (g ∷ before) number g inc)
+    let takes : IsBeginning f.end.machine.taken (units g.machine.made) =
+    (subst (λ o. MatchOption o ⊥ (λ il. IsBeginning f.end.machine.taken (units il.made) × IsBeginning il.taken (units f.end.machine.made))) (inc-some (g ∷ before) number g inc)
     (subst (λ o. L.TakesBeginnings (states (g ∷ before)) f.end.machine o) is law)).0
     in
     let early = (early-by p.phases g f.end (checksum-short Fe f.end.settings wf.spoken.fit) joint).1 in
@@ -189,8 +190,8 @@ fe-from p ils f number wf ws hs law pair is None inc count =
     (let few = subst (λ o. length (units f.end.machine.made) ≤ L.taken_count o + length (unconfirmed f.end.machine)) (inc-none ils number inc) count in omega (arith, few))
 fe-from p ils f number wf ws hs law pair is (Some g) inc count =
     let joint : JointEnds f.end.settings g f.end = subst (λ o. MatchOption o ⊥ (λ y. JointEnds f.end.settings y f.end)) inc (pair number is) in
-    let takes : IsBeginningOf g.machine.taken (units f.end.machine.made) =
-    (subst (λ o. MatchOption o ⊥ (λ il. IsBeginningOf f.end.machine.taken (units il.made) × IsBeginningOf il.taken (units f.end.machine.made))) (inc-some ils number g inc)
+    let takes : IsBeginning g.machine.taken (units f.end.machine.made) =
+    (subst (λ o. MatchOption o ⊥ (λ il. IsBeginning f.end.machine.taken (units il.made) × IsBeginning il.taken (units f.end.machine.made))) (inc-some ils number g inc)
     (subst (λ o. L.TakesBeginnings (states ils) f.end.machine o) is law)).1
     in
     let early = (early-by p.phases g f.end (checksum-short Fe f.end.settings wf.spoken.fit) joint).0 in

@@ -1,11 +1,12 @@
 -- The headline, from the laws of the layers.
 use Rattle.std.proofs.Common.{◌≡◌, inl, inr, ℕ, ◌+◌, ◌==◌, List, [], ◌∷◌, ◌++◌, length, take, Option, Some, None, Bool, true, false, cond, refl, sym, ap, subst, ◌∙◌, append_assoc}
 use Rattle.std.specs.Prelude.{MatchOption}
+use Rattle.octets.specs.Lists.{IsBeginning}
 use Rattle.octets.proofs.Choices.{by_cond}
 use Rattle.safe_machine.specs.Made.{units}
 use Rattle.safe_machine.specs.State.{State}
 use Rattle.safe_machine.specs.Moves.{TextsLaw}
-use Rattle.safe_machine.specs.World.{Side, IsBeginningOf}
+use Rattle.safe_machine.specs.World.{Side}
 use Rattle.safe_machine.specs.World.Side.{Il, Fe}
 use Rattle.safe_machine.specs.World as M
 use Rattle.safe_machine.specs.Law as L
@@ -13,7 +14,7 @@ use Rattle.sci_telegram.specs.Tele.{Tele}
 use Rattle.pdi_session.specs.Telegrams.{is_reserved}
 use Rattle.pdi_session.specs.SessionStep.{item_of, texts}
 use Rattle.pdi_session.specs.Histories.{History}
-use Rattle.pdi_session.specs.Laws.{IsBeginning, items_of, TakenLaw, QueueLaw}
+use Rattle.pdi_session.specs.Laws.{items_of, TakenLaw, QueueLaw}
 use Rattle.end_settings.specs.EndSettings.{session_of}
 use Rattle.stack_end.specs.Ends.{EndState}
 use Rattle.stack_engine.specs.Pairs.{JoinedEnd, start, run, ends_of}
@@ -61,7 +62,7 @@ items-append (x ∷ xs) ys =
 begin-items : (a b : List Tele) → IsBeginning a b → IsBeginning (items_of a) (items_of b)
 begin-items a b h = (items_of h.0, sym (items-append a h.0) ∙ ap items_of h.1)
 
-pub begin-came : (us vs : List (List ℕ)) → IsBeginningOf us vs → IsBeginning (telegrams_in (messages_in us)) (telegrams_in (messages_in vs))
+pub begin-came : (us vs : List (List ℕ)) → IsBeginning us vs → IsBeginning (telegrams_in (messages_in us)) (telegrams_in (messages_in vs))
 begin-came us vs h = (
   telegrams_in (messages_in h.0),
   sym (telegrams-append (messages_in us) (messages_in h.0)) ∙ ap telegrams_in (sym (messages-append us h.0)) ∙ ap (λ ws. telegrams_in (messages_in ws)) h.1,
@@ -83,7 +84,7 @@ queue-is side x h =
     ∙ telegrams-append (messages_in (units x.machine.made)) x.session.waiting
 
 -- from units to items
-pub items-begin : ItemLaws → (a b : Side) (f g : EndState) → Spoken a f → Spoken b g → IsBeginningOf f.machine.taken (units g.machine.made) → IsBeginning (taken_at f) (put_at g)
+pub items-begin : ItemLaws → (a b : Side) (f g : EndState) → Spoken a f → Spoken b g → IsBeginning f.machine.taken (units g.machine.made) → IsBeginning (taken_at f) (put_at g)
 items-begin laws a b f g hf hg begins =
     let sent = telegrams_in (messages_in (units g.machine.made)) in
     let all : IsBeginning f.session.history.judged g.session.history.queue =
@@ -102,7 +103,7 @@ none-taken laws side f h e =
     nil-front (taken_at f) t.0 (t.1 ∙ ap items_of judged)
 
 abbrev UnitsBegin : EndState → State → Type 0
-UnitsBegin f g = IsBeginningOf f.machine.taken (units g.made) × IsBeginningOf g.taken (units f.machine.made)
+UnitsBegin f g = IsBeginning f.machine.taken (units g.made) × IsBeginning g.taken (units f.machine.made)
 
 abbrev ItemsBegin : EndState → EndState → Type 0
 ItemsBegin f g = IsBeginning (taken_at f) (put_at g) × IsBeginning (taken_at g) (put_at f)

@@ -1,6 +1,7 @@
 -- Two joined sessions, each of which is handed the other's queue in turn.
 use Rattle.std.proofs.Common.{◌≡◌, ℕ, List, [], ◌∷◌, ◌++◌, length, drop, Option, Some, None, Result, Ok, Err, Bool, true, false, refl, sym, ap, subst, ◌∙◌, append_assoc, append-nil}
 use Rattle.std.specs.List.{AllByRecursion}
+use Rattle.octets.specs.Lists.{IsBeginning}
 use Rattle.octets.proofs.Choices.{by_test}
 use Rattle.packing.specs.declared.PackFault.{PackFault}
 use Rattle.packing.specs.Places.{unit_seen}
@@ -9,12 +10,12 @@ use Rattle.sci_telegram.specs.Tele.{Tele}
 use Rattle.sci_telegram.specs.Places.{tele_seen}
 use Rattle.pdi_session.specs.SessionStep.{Event, Up as GoesUp, Arrives, Puts, InitDone as Completes, Closes}
 use Rattle.pdi_session.specs.Histories.{History, begun, grown, grown_along, handed_by, is_ended}
-use Rattle.pdi_session.specs.Laws.{OverLaw, IsBeginning}
+use Rattle.pdi_session.specs.Laws.{OverLaw}
 use Rattle.pdi_session.specs.Settings.{first_version}
 use Rattle.pdi_session.specs.JoinedSessions.{Joined, JoinedEvent, AtIl, AtFe, InTurn, IsNext, OneMoreLaw, happen, happens, joined}
 use Rattle.safe_machine.specs.State.{State}
 use Rattle.safe_machine.specs.Made.{units}
-use Rattle.safe_machine.specs.World.{Side, IsBeginningOf}
+use Rattle.safe_machine.specs.World.{Side}
 use Rattle.safe_machine.specs.World.Side.{Il, Fe}
 use Rattle.safe_machine.specs.Octets.{seen_by, arrive_octets}
 use Rattle.end_settings.specs.EndSettings.{EndSettings, session_of}
@@ -145,7 +146,7 @@ module _ (y : History) (J : History → Type 0) (more : (e : Event) (x : History
       joint-leaves now j.leaving (answered octets x s) (joint-rises (comes_up x.machine.connection s.connection) j.left left)
 
 -- what came to an end that took a beginning of what its peer sent
-pub begins-queue : (side : Side) (us : List (List ℕ)) (y : EndState) → Spoken side y → IsBeginningOf us (units y.machine.made) → IsBeginning (telegrams_in (messages_in us)) y.session.history.queue
+pub begins-queue : (side : Side) (us : List (List ℕ)) (y : EndState) → Spoken side y → IsBeginning us (units y.machine.made) → IsBeginning (telegrams_in (messages_in us)) y.session.history.queue
 begins-queue side us y sp begins =
     begin-then (telegrams_in (messages_in us)) (telegrams_in (messages_in (units y.machine.made))) y.session.history.queue (begin-came us (units y.machine.made) begins)
     (telegrams_in y.session.waiting, sym (queue-is side y sp))

@@ -2,6 +2,7 @@
 use Rattle.std.proofs.Common.{◌≡◌, ◌≢◌, ◌⊎◌, inl, inr, ⊎_elim, ◌==◌, ◌+◌, ◌≤◌, ℕ, zero, suc, List, [], ◌∷◌, ◌++◌, length, Option, Some, None, true, false, cond, refl, sym, ap, subst, ◌∙◌, arith, append-nil}
 use Rattle.std.specs.Prelude.{MatchOption, ◌&&◌, nat_lt}
 use Rattle.std.proofs.lemmas.Bool.{false≢true, ltb-false}
+use Rattle.octets.specs.Lists.{IsBeginning}
 use Rattle.octets.proofs.Choices.{by_test}
 use Rattle.safe_machine.specs.declared.ConnectionState.{ConnectionState}
 use Rattle.safe_machine.specs.declared.ConnectionState.TheVariants.{Closed, Down, Start, Up as IsUp, RetrReq, RetrRun}
@@ -9,7 +10,7 @@ use Rattle.safe_machine.specs.Made.{units}
 use Rattle.safe_machine.specs.State.{State, unconfirmed}
 use Rattle.safe_machine.specs.Decision.{is_closed, in_turn}
 use Rattle.safe_machine.specs.Step.{may_send, is_connected}
-use Rattle.safe_machine.specs.World.{Side, IsBeginningOf}
+use Rattle.safe_machine.specs.World.{Side}
 use Rattle.safe_machine.specs.World.Side.{Il, Fe}
 use Rattle.safe_machine.specs.World as M
 use Rattle.safe_machine.specs.Law as L
@@ -19,7 +20,7 @@ use Rattle.pdi_session.specs.declared.Phase.TheVariants.{Idle}
 use Rattle.pdi_session.specs.Settings.{first_version}
 use Rattle.pdi_session.specs.Histories.{History}
 use Rattle.pdi_session.specs.Tables.{is_early}
-use Rattle.pdi_session.specs.Laws.{IsBeginning, OwnEarlyLaw, items_of}
+use Rattle.pdi_session.specs.Laws.{OwnEarlyLaw, items_of}
 use Rattle.pdi_session.specs.JoinedSessions.{AreInStep, Fits, InStepLaw, IsRunning, Joined, MatchingLaw, PhaseLaw, TakesFrontLaw}
 use Rattle.end_settings.specs.EndSettings.{EndSettings, session_of}
 use Rattle.stack_end.specs.Ends.{EndState, new_end, is_shut, Call, time_of, call}
@@ -118,7 +119,7 @@ record Together (x y : EndState) : Type 0 where
   il_good : AreGood x.machine.taken
   fe_good : AreGood y.machine.taken
 
-good-begins : (side : Side) (us : List (List ℕ)) (y : EndState) → Spoken side y → IsBeginningOf us (units y.machine.made) → AreGood us
+good-begins : (side : Side) (us : List (List ℕ)) (y : EndState) → Spoken side y → IsBeginning us (units y.machine.made) → AreGood us
 good-begins side us y sp b = (good-front us b.0 (subst AreGood (sym b.1) (good-sent side y sp))).0
 
 nobody : (number : ℕ) (x : EndState) (f : JoinedEnd) → f.joined ≡ None → (x.machine.taken ≡ []) ⊎ L.IsJoined number (served (f ∷ [])) → x.machine.taken ≡ []
@@ -141,7 +142,7 @@ together p x f di df h q (Some number) is =
     let pair : MatchOption (incarnation (x ∷ []) number) ⊥ (λ g. JointEnds f.end.settings g f.end) = q.pairs.0 number is in
     let takes = subst (λ o. L.TakesBeginnings (states (x ∷ [])) f.end.machine o) is law.beginnings.0 in
     by_test (λ b. MatchOption (cond b (Some x) None) ⊥ (λ g. JointEnds f.end.settings g f.end)
-    → MatchOption (cond b (Some x.machine) None) ⊥ (λ (il : State). IsBeginningOf f.end.machine.taken (units il.made) × IsBeginningOf il.taken (units f.end.machine.made)) → Together x f.end) (number == 0 + 1)
+    → MatchOption (cond b (Some x.machine) None) ⊥ (λ (il : State). IsBeginning f.end.machine.taken (units il.made) × IsBeginning il.taken (units f.end.machine.made)) → Together x f.end) (number == 0 + 1)
     (λ _ j t. record { joint = j; il_good = good-begins Fe x.machine.taken f.end h.fe_whole.0.spoken t.1; fe_good = good-begins Il f.end.machine.taken x h.il_whole.0.spoken t.0 })
     (λ _ j t. absurd j) pair takes
 

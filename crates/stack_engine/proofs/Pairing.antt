@@ -4,12 +4,13 @@ use Rattle.std.specs.Prelude.{MatchOption}
 use Rattle.std.specs.List.{AllByRecursion}
 use Rattle.std.proofs.lemmas.Bool.{eqb-true}
 use Rattle.std.proofs.lemmas.Bool.Decides.{nat_tests}
+use Rattle.octets.specs.Lists.{IsBeginning}
 use Rattle.octets.proofs.Choices.{by_test}
 use Rattle.safe_machine.specs.Made.{units}
 use Rattle.safe_machine.specs.State.{State}
 use Rattle.safe_machine.specs.Moves.{TextsLaw}
 use Rattle.safe_machine.specs.Octets.{arrive_octets}
-use Rattle.safe_machine.specs.World.{Side, joins, IsBeginningOf}
+use Rattle.safe_machine.specs.World.{Side, joins}
 use Rattle.safe_machine.specs.World.Side.{Il, Fe}
 use Rattle.safe_machine.specs.World as M
 use Rattle.safe_machine.specs.Law as L
@@ -155,9 +156,9 @@ il-quiet law s number fes e x y next same h =
     (λ f j is. subst (λ (k : History). Joint (new_pair s f.end.settings) k f.end.session.history) (sym same)
     (joint-il law (new_pair s f.end.settings) x.session.history f.end.session.history e (next x.session.history f.end.session.history) (j is))) fes h
 
-il-joined : (ss : List State) (s : State) (f : M.Served) (number : ℕ) → L.TakesBeginnings (s ∷ ss) f.machine f.joined → f.joined ≡ Some number → (number == length ss + 1) ≡ true → IsBeginningOf s.taken (units f.machine.made)
+il-joined : (ss : List State) (s : State) (f : M.Served) (number : ℕ) → L.TakesBeginnings (s ∷ ss) f.machine f.joined → f.joined ≡ Some number → (number == length ss + 1) ≡ true → IsBeginning s.taken (units f.machine.made)
 il-joined ss s f number h is at =
-    (subst (λ b. MatchOption (cond b (Some s) (L.incarnation ss number)) ⊥ (λ il. IsBeginningOf f.machine.taken (units il.made) × IsBeginningOf il.taken (units f.machine.made))) at
+    (subst (λ b. MatchOption (cond b (Some s) (L.incarnation ss number)) ⊥ (λ il. IsBeginning f.machine.taken (units il.made) × IsBeginning il.taken (units f.machine.made))) at
     (subst (λ o. L.TakesBeginnings (s ∷ ss) f.machine o) is h)).1
 
 il-pairs-hear : (p : PairLaws) (s : EndSettings) (number : ℕ) (ss : List State) (now : ℕ) (octets : List ℕ) (x : EndState) → (number == length ss + 1) ≡ true → Spoken Il x → Heeds x
@@ -228,7 +229,7 @@ fe-quiet law s ils e h number next =
     (λ g j. joint-fe law (new_pair g.settings s) g.session.history h e (next h g.session.history) j) (incarnation ils number)
 
 -- what octets do to a pair, once the interlocking is known
-fe-with : (p : PairLaws) (s : EndSettings) (now : ℕ) (octets : List ℕ) (x g : EndState) → Spoken Fe x → Heeds x → Spoken Il g → IsBeginningOf (arrive_octets octets now x.machine).taken (units g.machine.made)
+fe-with : (p : PairLaws) (s : EndSettings) (now : ℕ) (octets : List ℕ) (x g : EndState) → Spoken Fe x → Heeds x → Spoken Il g → IsBeginning (arrive_octets octets now x.machine).taken (units g.machine.made)
     → Joint (new_pair g.settings s) g.session.history x.session.history → Joint (new_pair g.settings s) g.session.history (heard now octets x).session.history
 fe-with p s now octets x g sx he sg sent j =
     let b = new_pair g.settings s in
@@ -272,13 +273,13 @@ fe-joint : (p : PairLaws) (s : EndSettings) (ils : List EndState) (f : JoinedEnd
 fe-joint p s ils f fs m now octets x wholes h before after number is None inc =
     let y = answered octets x (arrive_octets octets now x.machine) in
     let takes : L.TakesBeginnings (states ils) y.machine (Some number) = subst (λ o. L.TakesBeginnings (states ils) y.machine o) is after.beginnings.0 in
-    subst (λ o. MatchOption o ⊥ (λ il. IsBeginningOf y.machine.taken (units il.made) × IsBeginningOf il.taken (units y.machine.made))) (inc-none ils number inc) takes
+    subst (λ o. MatchOption o ⊥ (λ il. IsBeginning y.machine.taken (units il.made) × IsBeginning il.taken (units y.machine.made))) (inc-none ils number inc) takes
 fe-joint p s ils f fs m now octets x wholes h before after number is (Some g) inc =
     let t = arrive_octets octets now x.machine in
     let y = answered octets x t in
     let takes : L.TakesBeginnings (states ils) y.machine (Some number) = subst (λ o. L.TakesBeginnings (states ils) y.machine o) is after.beginnings.0 in
-    let sent : IsBeginningOf t.taken (units g.machine.made) =
-    (subst (λ o. MatchOption o ⊥ (λ il. IsBeginningOf y.machine.taken (units il.made) × IsBeginningOf il.taken (units y.machine.made))) (inc-some ils number g inc) takes).0
+    let sent : IsBeginning t.taken (units g.machine.made) =
+    (subst (λ o. MatchOption o ⊥ (λ il. IsBeginning y.machine.taken (units il.made) × IsBeginning il.taken (units y.machine.made))) (inc-some ils number g inc) takes).0
     in
     let whole = inc-whole ils number g wholes inc in
     let fall : L.JoinsFall number (served fs) = subst (λ o. L.JoinsFall (L.next_bound (length (states ils) + 1) o) (served fs)) is after.joins_fall.1 in

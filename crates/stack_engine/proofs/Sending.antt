@@ -4,6 +4,7 @@ use Rattle.std.specs.Prelude.{nat_le, ◌&&◌}
 use Rattle.std.specs.List.{AllByRecursion}
 use Rattle.std.proofs.lemmas.Bool.Decides.{nat_tests}
 use Rattle.std.proofs.lemmas.List.{take-append-drop}
+use Rattle.octets.specs.Lists.{IsBeginning}
 use Rattle.octets.specs.declared.limits.TheConstants.{UNIT_MESSAGES}
 use Rattle.packing.specs.UnitText.{IsMessage, unit_text}
 use Rattle.packing.specs.Places.{unit_seen}
@@ -18,7 +19,7 @@ use Rattle.safe_machine.specs.Moves.Move.{Guards, Ticks, Sends, Leaves}
 use Rattle.safe_machine.specs.World.{Side}
 use Rattle.sci_telegram.specs.Tele.{Tele}
 use Rattle.pdi_session.specs.SessionStep.{Puts, InitDone as Completes, Closes, texts}
-use Rattle.pdi_session.specs.Laws.{IsBeginning, HasMessage}
+use Rattle.pdi_session.specs.Laws.{HasMessage}
 use Rattle.end_settings.specs.EndSettings.{EndSettings, in_limits, are_fit}
 use Rattle.stack_end.specs.Ends.{EndState, packed}
 use Rattle.stack_engine.specs.Settled.{messages_in, telegrams_in, found_messages}

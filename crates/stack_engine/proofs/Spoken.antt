@@ -2,6 +2,7 @@
 use Rattle.std.proofs.Common.{◌≡◌, ℕ, List, [], ◌∷◌, ◌++◌, length, drop, Option, Some, None, Result, Ok, Err, Bool, true, false, refl, sym, ap, subst, ◌∙◌, append_assoc, append-nil}
 use Rattle.std.specs.List.{AllByRecursion}
 use Rattle.std.proofs.lemmas.Bool.{false≢true}
+use Rattle.octets.specs.Lists.{IsBeginning}
 use Rattle.octets.proofs.Choices.{by_test}
 use Rattle.packing.specs.Places.{unit_seen}
 use Rattle.safe_pdu.specs.declared.SafeFault.{SafeFault}
@@ -21,7 +22,7 @@ use Rattle.sci_telegram.specs.Tele.{Tele}
 use Rattle.pdi_session.specs.Settings.{Addressing, Role}
 use Rattle.pdi_session.specs.SessionStep.{Event, Up as GoesUp}
 use Rattle.pdi_session.specs.Histories.{handed_by}
-use Rattle.pdi_session.specs.Laws.{IsBeginning, HasKind, OverLaw}
+use Rattle.pdi_session.specs.Laws.{HasKind, OverLaw}
 use Rattle.end_settings.specs.EndSettings.{session_of, are_fit}
 use Rattle.stack_end.specs.Dialogue.{Dialogue, meets, Leaving, judge_units}
 use Rattle.stack_end.specs.Ends.{EndState, is_shut, with_machine, with_session, handed_up, comes_up, rises, answered, leaves, heard}

@@ -1,6 +1,7 @@
 -- What a session's events and judging keep: what waits is the end of its queue, and what it judged a beginning of what came.
 use Rattle.std.proofs.Common.{◌≡◌, ℕ, List, [], ◌∷◌, ◌++◌, Option, Some, None, Result, Ok, Err, refl, sym, ap, subst, ◌∙◌, append_assoc, append-nil}
 use Rattle.std.specs.List.{AllByRecursion}
+use Rattle.octets.specs.Lists.{IsBeginning}
 use Rattle.packing.specs.declared.PackFault.{PackFault}
 use Rattle.packing.specs.Places.{unit_seen}
 use Rattle.sci_telegram.specs.declared.TeleFault.{TeleFault}
@@ -10,7 +11,7 @@ use Rattle.sci_telegram.specs.Places.{tele_seen}
 use Rattle.pdi_session.specs.Settings.{Addressing, Role, AreSettings}
 use Rattle.pdi_session.specs.SessionStep.{Event, Arrives, added_by, texts}
 use Rattle.pdi_session.specs.Histories.{begun, grown, grown_along}
-use Rattle.pdi_session.specs.Laws.{HasKind, HasMessage, IsBeginning, MessageLaw}
+use Rattle.pdi_session.specs.Laws.{HasKind, HasMessage, MessageLaw}
 use Rattle.pdi_session.specs.JoinedSessions.{OneMoreLaw}
 use Rattle.stack_end.specs.Dialogue.{Dialogue, meets, Leaving, Judged, judged_none, judged_as, judge_read, unless_leaving, judge_messages, judge_unpacked, judge_units}
 use Rattle.stack_engine.specs.Settled.{found_messages, messages_in, found_telegram, telegrams_in}

@@ -1,7 +1,7 @@
 -- The headline: what an application takes is a beginning of what was put in at the end joined to it.
 use Rattle.std.specs.Prelude.{ℕ, ◌+◌, ◌≡◌, ◌<◌, ◌⊎◌, ◌==◌, Option, Some, None, MatchOption, List, [], ◌∷◌, length, if◌then◌else◌}
+use Rattle.octets.specs.Lists.{IsBeginning}
 use Rattle.pdi_session.specs.SessionStep.{Item}
-use Rattle.pdi_session.specs.Laws.{IsBeginning}
 use Rattle.stack_end.specs.Ends.{EndState}
 use Rattle.stack_engine.specs.Pairs.{World, JoinedEnd, Event, start, run}
 use Rattle.stack_engine.specs.Premise.{Genuine, AreTyped}

@@ -1,5 +1,6 @@
 -- ConfirmedTaken: over losses and retransmissions, what neither waits nor is in an unconfirmed unit was taken.
 use Rattle.std.specs.Prelude.{ℕ, ◌≡◌, ◌==◌, Bool, true, false, Option, Some, None, List, [], ◌∷◌, ◌++◌, length, if◌then◌else◌, Result, Ok, Err}
+use Rattle.octets.specs.Lists.{IsBeginning}
 use Rattle.packing.specs.declared.PackFault.{PackFault}
 use Rattle.packing.specs.Places.{unit_seen}
 use Rattle.sci_telegram.specs.declared.TeleFault.{TeleFault}
@@ -7,7 +8,7 @@ use Rattle.sci_telegram.specs.Tele.{Tele}
 use Rattle.sci_telegram.specs.Places.{tele_seen}
 use Rattle.safe_machine.specs.State.{unconfirmed}
 use Rattle.pdi_session.specs.SessionStep.{Item}
-use Rattle.pdi_session.specs.Laws.{IsBeginning, items_of}
+use Rattle.pdi_session.specs.Laws.{items_of}
 use Rattle.stack_end.specs.Ends.{EndState, is_settled, is_shut}
 use Rattle.stack_engine.specs.Pairs.{World, JoinedEnd, Event, start, run, latest}
 use Rattle.stack_engine.specs.Premise.{AtOpened, Genuine, AreTyped}

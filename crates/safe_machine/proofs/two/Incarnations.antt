@@ -3,15 +3,16 @@ use Rattle.std.proofs.Common.{◌≡◌, inl, inr, ℕ, ◌+◌, ◌<◌, ◌≤
 use Rattle.std.specs.Prelude.{if◌then◌else◌, ◌==◌, MatchOption}
 use Rattle.std.proofs.lemmas.Bool.{eq-eqb}
 use Rattle.std.proofs.lemmas.Bool.Decides.{eqb_tells}
+use Rattle.octets.specs.Lists.{IsBeginning}
 use Rattle.safe_machine.specs.Made.{units}
 use Rattle.safe_machine.specs.State.{State}
-use Rattle.safe_machine.specs.World.{Served, IsBeginningOf}
+use Rattle.safe_machine.specs.World.{Served}
 use Rattle.safe_machine.specs.Law.{JoinedBelow, next_bound, JoinsFall, IsJoined}
 use Rattle.safe_machine.proofs.two.Inner.{incarnation, TakesBeginnings, AllTakeBeginnings, OnlyJoinedTake}
 use Rattle.safe_machine.proofs.two.Lone.{Lone, beginning_trans}
 
 abbrev pub Linked : State → State → Type 0
-Linked fe il = IsBeginningOf fe.taken (units il.made) × IsBeginningOf il.taken (units fe.made)
+Linked fe il = IsBeginning fe.taken (units il.made) × IsBeginning il.taken (units fe.made)
 
 -- the incarnation with the greatest number is the latest
 pub latest : (s : State) (before : List State) → incarnation (s ∷ before) (length before) ≡ Some s
@@ -49,7 +50,7 @@ takes-il_lone s t before fe (Some number) below l h =
           let at_latest : TakesBeginnings (s ∷ before) fe (Some (length before)) = subst (λ (n : ℕ). TakesBeginnings (s ∷ before) fe (Some n)) same.1 h in
           let k = linked-of s fe before at_latest in
           let after : TakesBeginnings (t ∷ before) fe (Some (length before)) =
-          linked-latest t fe before (beginning_trans fe.taken (units s.made) (units t.made) k.0 l.longer, subst (λ us. IsBeginningOf us (units fe.made)) (sym l.taken) k.1) in
+          linked-latest t fe before (beginning_trans fe.taken (units s.made) (units t.made) k.0 l.longer, subst (λ us. IsBeginning us (units fe.made)) (sym l.taken) k.1) in
           subst (λ (n : ℕ). TakesBeginnings (t ∷ before) fe (Some n)) (sym same.1) after
       | inr other ↦ takes-other s t before fe (Some number) (omega (arith, other.1)) h
     ]
@@ -61,7 +62,7 @@ takes-fe_lone ils s t (Some number) l h = with_il (incarnation ils number) h
   where
     with_il : (o : Option State) → MatchOption o ⊥ (λ g. Linked s g) → MatchOption o ⊥ (λ g. Linked t g)
     with_il None k = k
-    with_il (Some g) k = (subst (λ us. IsBeginningOf us (units g.made)) (sym l.taken) k.0, beginning_trans g.taken (units s.made) (units t.made) k.1 l.longer)
+    with_il (Some g) k = (subst (λ us. IsBeginning us (units g.made)) (sym l.taken) k.0, beginning_trans g.taken (units s.made) (units t.made) k.1 l.longer)
 
 -- lists of such
 pub below-more : (a b : ℕ) (p : Option ℕ) → a ≤ b → JoinedBelow a p → JoinedBelow b p

@@ -1,9 +1,10 @@
 -- The law over all ends that ever stood, with the end before its first opening as number 0 and last of its list.
 use Rattle.std.specs.Prelude.{ℕ, ◌+◌, ◌≡◌, ◌≢◌, ◌≤◌, ◌⊎◌, ◌==◌, Option, Some, None, MatchOption, List, [], ◌∷◌, length, if◌then◌else◌}
+use Rattle.octets.specs.Lists.{IsBeginning}
 use Rattle.safe_machine.specs.declared.ConnectionState.TheVariants.{Closed}
 use Rattle.safe_machine.specs.Made.{units}
 use Rattle.safe_machine.specs.State.{State, unconfirmed}
-use Rattle.safe_machine.specs.World.{Served, IsBeginningOf}
+use Rattle.safe_machine.specs.World.{Served}
 use Rattle.safe_machine.specs.Law.{JoinsFall, IsJoined, taken_from_il, taken_count}
 
 -- the incarnation with this number, counted from 0
@@ -16,7 +17,7 @@ incarnation (s ∷ before) number = if number == length before then Some s else 
 abbrev pub TakesBeginnings : List State → State → Option ℕ → Type 0
 TakesBeginnings ils fe None = fe.taken ≡ []
 TakesBeginnings ils fe (Some number) =
-    MatchOption (incarnation ils number) ⊥ (λ il. IsBeginningOf fe.taken (units il.made) × IsBeginningOf il.taken (units fe.made))
+    MatchOption (incarnation ils number) ⊥ (λ il. IsBeginning fe.taken (units il.made) × IsBeginning il.taken (units fe.made))
 
 abbrev pub AllTakeBeginnings : List State → List Served → Type 0
 AllTakeBeginnings ils [] = Unit {0}

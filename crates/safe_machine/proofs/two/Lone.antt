@@ -3,6 +3,7 @@ use Rattle.std.proofs.Common.{◌≡◌, ◌≢◌, ◌⊎◌, inl, inr, ℕ, su
 use Rattle.std.specs.Prelude.{if◌then◌else◌, ◌&&◌, ◌==◌}
 use Rattle.std.proofs.lemmas.List.{append-nil, drop-drop}
 use Rattle.std.proofs.lemmas.Bool.{false≢true, cond_both}
+use Rattle.octets.specs.Lists.{IsBeginning}
 use Rattle.safe_pdu.specs.declared.Kind.{Kind}
 use Rattle.safe_pdu.specs.declared.Kind.TheVariants.{DiscReq, Heartbeat, Data}
 use Rattle.safe_machine.specs.declared.ConnectionState.{ConnectionState}
@@ -15,7 +16,7 @@ use Rattle.safe_machine.specs.Decision.{is_stranger, by_connection, by_sender}
 use Rattle.safe_machine.specs.declared.decision.Decision.TheVariants.{Drops, Nothing}
 use Rattle.safe_machine.specs.declared.DropCause.TheVariants.{Stranger}
 use Rattle.safe_machine.specs.Step.{guard, respond, arrive, carry_out, heartbeat, tick, send}
-use Rattle.safe_machine.specs.World.{IsBeginningOf, Among, GenuineAt}
+use Rattle.safe_machine.specs.World.{Among, GenuineAt}
 use Rattle.safe_machine.proofs.one.Runs.{units-append, Every, every-at, every-drop_push}
 use Rattle.safe_machine.proofs.two.Invariant.{is_opening, NotOpening, Sound, Started, Solo, Pair}
 use Rattle.safe_machine.proofs.two.Moves.{pair-leave, pair-beat, pair-sent}
@@ -31,7 +32,7 @@ use Rattle.safe_machine.proofs.one.ConnectionFacts.{connected-live, turn-connect
 -- from s to t nothing was taken
 pub record Lone (s t : State) : Type 0 where
   pub taken : t.taken ≡ s.taken
-  pub longer : IsBeginningOf (units s.made) (units t.made)
+  pub longer : IsBeginning (units s.made) (units t.made)
   pub opening : (n : ℕ) → Every NotOpening (drop n s.made) → Every NotOpening (drop n t.made)
   pub settings : t.settings ≡ s.settings
   pub expected : t.expected ≡ s.expected
@@ -43,10 +44,10 @@ pub record Lone (s t : State) : Type 0 where
   -- as many units more are unconfirmed as were sent
   pub owes : t.connection ≢ Closed → length (units t.made) + length (unconfirmed s) ≡ length (units s.made) + length (unconfirmed t)
 
-pub beginning_refl : (us : List (List ℕ)) → IsBeginningOf us us
+pub beginning_refl : (us : List (List ℕ)) → IsBeginning us us
 beginning_refl us = ([], append-nil us)
 
-pub beginning_trans : (us vs ws : List (List ℕ)) → IsBeginningOf us vs → IsBeginningOf vs ws → IsBeginningOf us ws
+pub beginning_trans : (us vs ws : List (List ℕ)) → IsBeginning us vs → IsBeginning vs ws → IsBeginning us ws
 beginning_trans us vs ws h k = (h.0 ++ k.0, sym (append_assoc us h.0 k.0) ∙ (ap (λ xs. xs ++ k.0) h.1 ∙ k.1))
 
 pub lone-refl : (s : State) → Lone s s

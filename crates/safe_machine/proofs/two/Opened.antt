@@ -6,7 +6,7 @@ use Rattle.safe_machine.specs.declared.ConnectionState.TheVariants.{Closed, Down
 use Rattle.safe_pdu.specs.Pdu.{Pdu}
 use Rattle.safe_machine.specs.Made.{Made, units}
 use Rattle.safe_machine.specs.State.{State, unconfirmed}
-use Rattle.safe_machine.specs.World.{World, Served, Event, unopened, start, run, happens, Genuine, GenuineEvent, GenuineAt, IsBeginningOf, Among, joins, changed, open_il, open_fe, with_il, with_fe}
+use Rattle.safe_machine.specs.World.{World, Served, Event, unopened, start, run, happens, Genuine, GenuineEvent, GenuineAt, Among, joins, changed, open_il, open_fe, with_il, with_fe}
 use Rattle.safe_machine.specs.World.Side.{Il, Fe}
 use Rattle.safe_machine.specs.World.Event.{Open, Send, Close, Guard, Tick, Arrive}
 use Rattle.safe_machine.specs.Settings.{is_legal}
@@ -19,6 +19,7 @@ use Rattle.safe_machine.specs.Law as Public
 use Rattle.safe_machine.proofs.two.Inner.{incarnation, TakesBeginnings, AllTakeBeginnings, OnlyJoinedTake, taken_from_fe}
 use Rattle.safe_machine.proofs.two.Worlds.{Inv, inv-run, inv-start}
 use Rattle.std.proofs.lemmas.Bool.{cond_both}
+use Rattle.octets.specs.Lists.{IsBeginning}
 
 -- a list without its last entry
 length-front : {A : Type 0} (x : A) (xs : List A) → length (take (length xs) (x ∷ xs)) ≡ length xs
@@ -48,7 +49,7 @@ AllLate (f ∷ fs) = Late f.joined × AllLate fs
 takes : (x : State) (xs : List State) (fe : State) (joined : Option ℕ) → Late joined → TakesBeginnings (x ∷ xs) fe joined → Public.TakesBeginnings (take (length xs) (x ∷ xs)) fe joined
 takes x xs fe None late h = h
 takes x xs fe (Some number) late h =
-    subst (λ o. MatchOption o ⊥ (λ il. IsBeginningOf fe.taken (units il.made) × IsBeginningOf il.taken (units fe.made))) (found x xs number late) h
+    subst (λ o. MatchOption o ⊥ (λ il. IsBeginning fe.taken (units il.made) × IsBeginning il.taken (units fe.made))) (found x xs number late) h
 
 all-takes : (x : State) (xs : List State) (fs : List Served) (n : ℕ) → AllLate fs → AllTakeBeginnings (x ∷ xs) fs → Public.AllTakeBeginnings (take (length xs) (x ∷ xs)) (take n fs)
 all-takes x xs [] zero late h = tt

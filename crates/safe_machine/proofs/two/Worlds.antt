@@ -2,6 +2,7 @@
 use Rattle.std.proofs.Common.{◌≡◌, ◌≢◌, ◌⊎◌, inl, inr, ℕ, zero, suc, ◌+◌, ◌<◌, ◌≤◌, List, [], ◌∷◌, ◌++◌, length, drop, Option, Some, None, Bool, true, false, refl, sym, ap, subst, ◌∙◌, arith}
 use Rattle.std.specs.Prelude.{if◌then◌else◌}
 use Rattle.std.proofs.lemmas.Bool.{false≢true, cond_both}
+use Rattle.octets.specs.Lists.{IsBeginning}
 use Rattle.safe_machine.specs.World.Side.{Il, Fe}
 use Rattle.safe_pdu.specs.declared.Kind.TheVariants.{RetrResp, DiscReq}
 use Rattle.safe_machine.specs.declared.ConnectionState.{ConnectionState}
@@ -14,7 +15,7 @@ use Rattle.safe_machine.specs.declared.decision.Decision.{Decision}
 use Rattle.safe_machine.specs.Decision.{decide, distance}
 use Rattle.safe_machine.specs.declared.decision.Decision.TheVariants.{Nothing, Drops, Shuts, Leaves, Rejects, Accepts, Connects, Takes, Asks, Resumes, AnswersNext, AnswersEarly}
 use Rattle.safe_machine.specs.Step.{guard, respond, arrive, carry_out, tick, send, tests_passed, confirm_units}
-use Rattle.safe_machine.specs.World.{World, Served, Event, unopened, start, happens, run, Among, GenuineAt, GenuineEvent, Genuine, joins, IsBeginningOf, as_role, open_il, open_fe, with_il, with_fe}
+use Rattle.safe_machine.specs.World.{World, Served, Event, unopened, start, happens, run, Among, GenuineAt, GenuineEvent, Genuine, joins, as_role, open_il, open_fe, with_il, with_fe}
 use Rattle.safe_machine.specs.World.Event.{Open, Send, Close, Guard, Tick, Arrive}
 use Rattle.safe_machine.specs.Law.{next_bound, JoinsFall, taken_from_il}
 use Rattle.safe_machine.proofs.two.Inner.{TakesBeginnings, AllTakeBeginnings, OnlyJoinedTake, LawOf, taken_from_fe, LosesNothingOf}
@@ -70,7 +71,7 @@ met-law s il before fe None fe_before old m takes only more =
     }
 met-law s il before fe (Some number) fe_before old m takes only more =
     let here : number ≡ length before = m.joined_to in
-    let both : IsBeginningOf fe.taken (units il.made) × IsBeginningOf il.taken (units fe.made) =
+    let both : IsBeginning fe.taken (units il.made) × IsBeginning il.taken (units fe.made) =
     ((run_of (drop fe.expected il.made) ++ [], m.il_sends.carried), (run_of (drop il.expected fe.made) ++ [], m.fe_sends.carried)) in
     record {
       beginnings = (
