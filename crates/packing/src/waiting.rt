@@ -83,7 +83,8 @@ impl<A: Allocator> Waiting<A> {
         ensures added { OnOk result (self.new ≡ self.old ++ message.now ∷ []) }
         ensures full { OnErr result (self.new ≡ self.old) }
     {
-        if self.ring.try_push_back(copy_of(message)).is_ok() {
+        let copy: Message = copy_of(message);
+        if self.ring.try_push_back(copy).is_ok() {
             Ok(())
         } else {
             Err(Full)

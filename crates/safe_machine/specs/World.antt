@@ -184,4 +184,3 @@ TimelyEvent w e = at_end (event_end e) w.clock_il w.clock_fe ≤ event_time e
 abbrev pub Timely : List Event → World → Type 0
 Timely [] w = Unit {0}
 Timely (e ∷ es) w = TimelyEvent w e × Timely es (happens w e)
-

@@ -11,8 +11,8 @@ ghost use Rattle.safe_machine.specs.Step.{send, has_room, may_send};
 ghost use Rattle.safe_machine.specs.View.{StandsFor};
 ghost use Rattle.safe_machine.specs.inner.Doing.{AllBelow, Does};
 
-use super::endpoint::Endpoint;
 use super::PduOut;
+use super::endpoint::Endpoint;
 use octets::copy_of;
 use octets::limits::UNIT_MAX;
 use safe_pdu::Kind;
