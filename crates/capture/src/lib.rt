@@ -18,6 +18,3 @@ pub use following::{Following, Remark, Totals, sum_up};
 pub use heard::{Header, Heard, hear};
 pub use line::{Address, Buffer, LineFault, PAYLOAD_ROOM, Record, read_line};
 pub use window::{Judged, KEPT, PASSED_MAX, Window, judge, note};
-
-#[cfg(test)]
-mod tests;

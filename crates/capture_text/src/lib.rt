@@ -18,6 +18,3 @@ pub use remarks::write_remarks;
 pub use running::{FollowStatus, run};
 pub use summary::{Counts, Scale, write_summary};
 pub use telegrams::write_telegrams;
-
-#[cfg(test)]
-mod tests;

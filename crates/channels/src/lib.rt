@@ -7,8 +7,6 @@ ghost use Rattle.std.specs.Prelude.{◌≡◌, ◌≤◌, length, is_ok, IfOk, I
 ghost use Rattle.channels.specs.Told.{Told, Sends, after_receive};
 
 mod memory;
-#[cfg(test)]
-mod tests;
 mod udp;
 
 pub use memory::{MemChannels, MemoryFault};

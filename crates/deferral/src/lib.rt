@@ -12,8 +12,6 @@ ghost use Rattle.deferral.specs.FiniteMap.{Rises, put_in, take_out, part_under, 
 use std::alloc::{AllocError, Allocator, Global};
 use std::marker::Model;
 
-#[cfg(test)]
-mod tests;
 
 /// A finite map from sequence numbers to parts, of as many numbers as it has places.
 ///

@@ -61,6 +61,3 @@ impl PackFault {
 /// As many messages wait as there is room for.
 #[derive(Clone, Copy, Debug, PartialEq, Eq)]
 pub struct Full;
-
-#[cfg(test)]
-mod tests;

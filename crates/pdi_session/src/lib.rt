@@ -242,6 +242,3 @@ pub enum Verdict {
     /// The session ends.
     Ends(Detail),
 }
-
-#[cfg(test)]
-mod tests;

@@ -12,6 +12,3 @@ pub use datagram::show;
 pub use hex_text::{HexFault, hex_octets, initial_value};
 pub use messages::show_body;
 pub use texts::{write_hex, write_octets, write_text};
-
-#[cfg(test)]
-mod tests;

@@ -14,6 +14,3 @@ pub use unconfirmed::Unconfirmed;
 
 /// A unit, behind the number of the PDU that carried it last, without wrap.
 pub type NumberedUnit = (u64, Unit);
-
-#[cfg(test)]
-mod tests;

@@ -198,8 +198,3 @@ pub enum Step {
     /// The end was closed before, or a DiscReq closed it.
     Nothing,
 }
-
-#[cfg(test)]
-mod server_tests;
-#[cfg(test)]
-mod tests;

@@ -214,6 +214,3 @@ pub struct Leaving {
     /// Why the sender left.
     pub reason: u16,
 }
-
-#[cfg(test)]
-mod tests;

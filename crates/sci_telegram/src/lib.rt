@@ -106,6 +106,3 @@ impl TeleFault {
         }
     }
 }
-
-#[cfg(test)]
-mod tests;

@@ -8,8 +8,6 @@ mod groups;
 mod keys;
 mod lists;
 mod readers;
-#[cfg(test)]
-mod tests;
 mod values;
 mod whole;
 

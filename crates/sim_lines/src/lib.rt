@@ -19,6 +19,3 @@ pub use lines::{Standing, write_refusal, write_report, write_take};
 pub use names::{phase_name, red_cause, side_letter, side_name, state_name, step_cause};
 pub use settings::{Key, ScriptSettings, Setting};
 pub use sides::{Sides, other};
-
-#[cfg(test)]
-mod tests;

@@ -4,18 +4,12 @@
 #![tactic(auto)]
 
 mod calls;
-#[cfg(test)]
-mod embedding;
 mod end;
-#[cfg(test)]
-mod fault_tests;
 mod judging;
 mod layers;
 mod opening;
 mod sending;
 mod telling;
-#[cfg(test)]
-mod tests;
 mod upper;
 
 pub use end::End;

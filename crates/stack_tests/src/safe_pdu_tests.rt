@@ -1,4 +1,4 @@
-use crate::{CodeLength, CodeRule, Kind, SafeFault, SafePdu, decode, encode, read_back};
+use safe_pdu::{CodeLength, CodeRule, Kind, SafeFault, SafePdu, decode, encode, read_back};
 use std::test::Fail;
 
 const OWN_VALUE: [u32; 4] = [1, 2, 3, 4];

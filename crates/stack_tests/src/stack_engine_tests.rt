@@ -1,42 +1,14 @@
-use crate::{ApplyFault, Call, Doing, Event, Pair, Told};
+use crate::stack_end_tests::config;
 use channels::Note;
-use end_settings::{Checksum, EndConfig, Side, Versions};
+use end_settings::{EndConfig, Side};
 use linked_list_allocator::LocalHeap;
 use pdi_session::Phase;
 use red_layer::RedEvent;
 use safe_machine::{ConnectionState, Step};
-use sci_telegram::{Name, OwnedName};
+use stack_engine::{ApplyFault, Call, Doing, Event, Pair, Told};
 use std::alloc::Allocator;
 use std::process::Abort;
 use std::test::Fail;
-
-/// The settings of an end.
-fn config(side: Side) -> Result<EndConfig, Fail> {
-    let (id, peer_id, name, peer_name) = match side {
-        Side::Interlocking => (1, 2, "IL1", "FE1"),
-        Side::FieldElement => (2, 1, "FE1", "IL1"),
-    };
-    Ok(EndConfig {
-        id,
-        peer_id,
-        name: OwnedName::new(Name::new(name)?),
-        peer_name: OwnedName::new(Name::new(peer_name)?),
-        protocol: 1,
-        versions: Versions::new(&[3]).ok_or("versions")?,
-        checksum: Checksum::new(&[]).ok_or("checksum")?,
-        code: 8,
-        initial_value: [1, 2, 3, 4],
-        channels: 2,
-        n_sendmax: 20,
-        n_maxpacket: 3,
-        q: 4,
-        t_max: 1_800,
-        t_h: 300,
-        t_seq: 50,
-        mwa: 10,
-        pdu_limit: 4_294_901_760,
-    })
-}
 
 /// Time passes at the field element.
 fn tick<A: Allocator + Copy>(pair: &mut Pair<A>, time: u64) -> Result<(), ApplyFault> {
@@ -181,10 +153,14 @@ fn joins_the_latest_maker(rt: HostRuntime) -> Result<(), Fail> {
     let (il, fe) = (config(Side::Interlocking)?, config(Side::FieldElement)?);
     let mut pair = Pair::new(rt.alloc());
     assert_eq!(rt; open_all(&mut pair, &il, &fe), Ok(()));
-    let request = made(&rt, &pair)?;
-    assert_eq!(rt; deliver(&mut pair, request.as_slice()), Ok(()));
-    is_joined_to_the_later(&rt, &pair)?;
-    tells_in_order(&rt, &pair)
+    joins(&rt, &mut pair)
+}
+
+fn joins(rt: &(impl AllocGlobal + Abort), pair: &mut Pair) -> Result<(), Fail> {
+    let request = made(rt, pair)?;
+    assert_eq!(rt; deliver(pair, request.as_slice()), Ok(()));
+    is_joined_to_the_later(rt, pair)?;
+    tells_in_order(rt, pair)
 }
 
 /// How a pair stands: its events, its incarnations, and the phase of the field element.
@@ -213,10 +189,14 @@ fn step(pair: &mut Pair<&LocalHeap>, place: u8, il: &EndConfig, fe: &EndConfig) 
 /// How many of four events happen in a heap; the first that finds no room changes nothing.
 fn count_in(rt: &impl Abort, heap: &LocalHeap, il: &EndConfig, fe: &EndConfig) -> u8 {
     let mut pair = Pair::new(heap);
+    count(rt, &mut pair, il, fe)
+}
+
+fn count(rt: &impl Abort, pair: &mut Pair<&LocalHeap>, il: &EndConfig, fe: &EndConfig) -> u8 {
     for place in 0..4 {
-        let before = standing(&pair);
-        if !step(&mut pair, place, il, fe) {
-            assert_eq!(rt; standing(&pair), before);
+        let before = standing(pair);
+        if !step(pair, place, il, fe) {
+            assert_eq!(rt; standing(pair), before);
             return place;
         }
     }

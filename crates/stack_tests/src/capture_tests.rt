@@ -1,6 +1,6 @@
 //! Lines and datagrams with values from outside.
 
-use crate::{
+use capture::{
     Address, Following, Header, Heard, Judged, LineFault, PAYLOAD_ROOM, Record, Remark, Remarks,
     Totals, Window, hear, judge, note, read_line, sum_up,
 };

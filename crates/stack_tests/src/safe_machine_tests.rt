@@ -1,11 +1,11 @@
 ghost use Rattle.std.specs.Prelude.{◌≡◌, ◌≤◌, ◌<◌, ◌+◌, ◌^◌, IfOk};
 
-use crate::{
+use arrayvec::ArrayVec;
+use linked_list_allocator::LocalHeap;
+use safe_machine::{
     ConnectionState, Detail, DropCause, Machine, MachineConfig, MachineFault, PduOut, Reason, Role,
     SendFault, Step, Unit, UnitIn,
 };
-use arrayvec::ArrayVec;
-use linked_list_allocator::LocalHeap;
 use safe_pdu::{CodeLength, CodeRule, SafeFault, decode};
 use std::alloc::Allocator;
 use std::test::Fail;

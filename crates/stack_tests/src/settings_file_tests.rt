@@ -1,4 +1,4 @@
-use crate::{Ends, SettingsFault, Word, settings};
+use settings_file::{Ends, SettingsFault, Word, settings};
 use std::test::Fail;
 
 // The keys that have no default, with those that a case replaces left out.

@@ -1,7 +1,7 @@
 //! Whole captures, and the text that is to be printed of each, worked out by hand.
 
-use crate::{Asked, FollowStatus, Word, run, write_remarks};
 use capture::{Judged, Remarks};
+use capture_text::{Asked, FollowStatus, Word, run, write_remarks};
 use md4::INITIAL_VALUE;
 use safe_pdu::{CodeLength, CodeRule, Leaving};
 use std::alloc::Allocator;

@@ -1,4 +1,4 @@
-use crate::{Name, NameFault, OwnedName, TeleFault, Telegram, decode, encode, read_back};
+use sci_telegram::{Name, NameFault, OwnedName, TeleFault, Telegram, decode, encode, read_back};
 use std::test::Fail;
 
 // A version check from IL1 to W12 with the payload 03.

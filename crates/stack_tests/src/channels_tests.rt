@@ -1,4 +1,4 @@
-use crate::{ChannelFault, Channels, MemChannels, MemoryFault, UdpChannels, UdpFault, Watch};
+use channels::{ChannelFault, Channels, MemChannels, MemoryFault, UdpChannels, UdpFault, Watch};
 use linked_list_allocator::LocalHeap;
 use std::test::Fail;
 use std::time::Duration;

@@ -1,9 +1,9 @@
-use crate::{
+use arrayvec::ArrayVec;
+use packing::{WAITING_MAX, Waiting, pack, unpack};
+use pdi_session::{
     Detail, FieldConfig, InitFault, InterlockingConfig, Parties, Phase, PutFault, Session,
     SessionEnd, Taker, are_versions,
 };
-use arrayvec::ArrayVec;
-use packing::{WAITING_MAX, Waiting, pack, unpack};
 use sci_telegram::{Name, NameFault, OwnedName, Telegram, decode};
 use std::process::Abort;
 use std::test::Fail;

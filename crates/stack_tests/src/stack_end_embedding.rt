@@ -2,12 +2,12 @@
 
 ghost use Rattle.std.specs.Prelude.{◌≤◌, ◌^◌};
 
-use crate::tests::config;
-use crate::{End, PollFault};
+use crate::stack_end_tests::config;
 use channels::{Channels, MemChannels};
 use end_settings::Side;
 use pdi_session::{Phase, Taker};
 use safe_machine::ConnectionState;
+use stack_end::{End, PollFault};
 use std::test::Fail;
 
 /// An application that wants one output on: it sends the command until it has taken a status.

@@ -1,4 +1,4 @@
-use crate::{
+use pdu_text::{
     HexFault, hex_octets, initial_value, show, show_body, write_hex, write_octets, write_text,
 };
 use safe_pdu::{CodeLength, CodeRule, Kind};

@@ -1,13 +1,14 @@
 ghost use Rattle.std.specs.Prelude.{◌≡◌, ◌≤◌, ◌^◌};
 ghost use Rattle.channels.specs.Memory.{told_of};
 
-use crate::tests::{Taken, config};
-use crate::{End, PollFault};
+use crate::stack_end_tests::{Taken, config};
 use arrayvec::ArrayVec;
 use channels::{ChannelFault, Channels, MemChannels};
 use end_settings::Side;
 use pdi_session::Phase;
 use safe_machine::ConnectionState;
+use stack_end::{End, PollFault};
+use std::process::Abort;
 use std::test::Fail;
 
 /// Channels in memory of which one sending and one reception fail, counted from 0.
@@ -95,7 +96,12 @@ impl Mishap {
 const NONE: usize = 1_000_000;
 
 impl Station {
-    fn open(rt: &HostRuntime, side: Side, first_sn: u32, mishap: Mishap) -> Result<Station, Fail> {
+    fn open(
+        rt: &(impl AllocGlobal + Abort),
+        side: Side,
+        first_sn: u32,
+        mishap: Mishap,
+    ) -> Result<Station, Fail> {
         let channels = Faulty {
             inner: MemChannels::new(rt.alloc(), 600)?,
             sends: 0,
@@ -169,6 +175,26 @@ struct Course {
 }
 
 impl Line {
+    /// Two ends, of which the field element was opened first.
+    fn open(rt: &(impl AllocGlobal + Abort), mishap: Mishap) -> Result<Line, Fail> {
+        let heard = Mishap {
+            send: NONE,
+            ..mishap
+        };
+        let sent = Mishap {
+            receive: NONE,
+            ..mishap
+        };
+        let fe = Station::open(rt, Side::FieldElement, 500, heard)?;
+        let il = Station::open(rt, Side::Interlocking, 100, sent)?;
+        Ok(Line { il, fe })
+    }
+
+    fn run(&mut self, mishap: &Mishap) -> Result<Course, Fail> {
+        self.play(mishap)?;
+        self.course()
+    }
+
     /// Two commands are put into a session, and datagrams of the interlocking are lost.
     fn play(&mut self, mishap: &Mishap) -> Result<(), Fail> {
         for turn in 0..160u8 {
@@ -201,20 +227,8 @@ impl Line {
 }
 
 /// A session in which two commands are put, with a mishap.
-fn run(rt: &HostRuntime, mishap: Mishap) -> Result<Course, Fail> {
-    let heard = Mishap {
-        send: NONE,
-        ..mishap
-    };
-    let sent = Mishap {
-        receive: NONE,
-        ..mishap
-    };
-    let fe = Station::open(rt, Side::FieldElement, 500, heard)?;
-    let il = Station::open(rt, Side::Interlocking, 100, sent)?;
-    let mut line = Line { il, fe };
-    line.play(&mishap)?;
-    line.course()
+fn run(rt: &(impl AllocGlobal + Abort), mishap: Mishap) -> Result<Course, Fail> {
+    Line::open(rt, mishap)?.run(&mishap)
 }
 
 const GOOD: Mishap = Mishap {
@@ -250,17 +264,21 @@ fn a_failed_send_is_a_lost_copy(rt: HostRuntime) -> Result<(), Fail> {
                     ..calm
                 },
             )?;
-            assert_eq!(rt; failed.il, lost.il, "il at {place}");
-            assert_eq!(rt; failed.fe, lost.fe, "fe at {place}");
-            assert_eq!(rt;
-                failed.taken.as_slice(),
-                lost.taken.as_slice(),
-                "at {place}"
-            );
-            assert_eq!(rt; failed.failed_sends, 1, "at {place}");
+            end_alike(&rt, place, &failed, &lost);
         }
     }
     Ok(())
+}
+
+fn end_alike(rt: &impl Abort, place: usize, failed: &Course, lost: &Course) {
+    assert_eq!(rt; failed.il, lost.il, "il at {place}");
+    assert_eq!(rt; failed.fe, lost.fe, "fe at {place}");
+    assert_eq!(rt;
+        failed.taken.as_slice(),
+        lost.taken.as_slice(),
+        "at {place}"
+    );
+    assert_eq!(rt; failed.failed_sends, 1, "at {place}");
 }
 
 // Each reception of the field element fails in turn: one poll answers that, and what is taken is what is taken without it.

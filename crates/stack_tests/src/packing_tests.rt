@@ -1,5 +1,5 @@
-use crate::{Full, PackFault, Unit, WAITING_MAX, Waiting, pack, read_back, unpack};
 use linked_list_allocator::LocalHeap;
+use packing::{Full, PackFault, Unit, WAITING_MAX, Waiting, pack, read_back, unpack};
 use std::alloc::{AllocError, Global};
 use std::process::Abort;
 use std::test::Fail;

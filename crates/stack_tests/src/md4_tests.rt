@@ -1,4 +1,4 @@
-use crate::{INITIAL_VALUE, Md4, code8, digest, digest_of_pieces};
+use md4::{INITIAL_VALUE, Md4, code8, digest, digest_of_pieces};
 use std::alloc::AllocError;
 use std::test::Fail;
 

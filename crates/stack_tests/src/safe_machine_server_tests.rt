@@ -2,9 +2,9 @@
 
 ghost use Rattle.std.specs.Prelude.{◌≡◌, ◌≤◌, ◌<◌, ◌+◌, ◌^◌, IfOk};
 
-use crate::tests::{RULE, SERVER, Taken, Wire, put};
-use crate::{Detail, DropCause, Machine, MachineFault, Reason, Role, Step};
+use crate::safe_machine_tests::{RULE, SERVER, Taken, Wire, put};
 use octets::limits::SAFE_PDU_MAX;
+use safe_machine::{Detail, DropCause, Machine, MachineFault, Reason, Role, Step};
 use safe_pdu::{Kind, SafePdu, encode};
 use std::alloc::Allocator;
 use std::test::Fail;

@@ -1,13 +1,13 @@
 ghost use Rattle.std.specs.Prelude.{◌≡◌, ◌≤◌, ◌^◌};
 
-use crate::{End, OpenFault, PollFault};
 use arrayvec::ArrayVec;
-use channels::MemChannels;
+use channels::{Channels, MemChannels};
 use end_settings::{Checksum, EndConfig, Side, Versions};
 use linked_list_allocator::LocalHeap;
 use pdi_session::{InitFault, Phase, PutFault, Taker};
 use safe_machine::ConnectionState;
 use sci_telegram::{Name, OwnedName};
+use stack_end::{End, OpenFault, PollFault};
 use std::process::Abort;
 use std::test::Fail;
 
@@ -77,7 +77,7 @@ pub(crate) fn config(side: Side) -> Result<EndConfig, Fail> {
 
 impl Station {
     fn open(
-        rt: &HostRuntime,
+        rt: &(impl AllocGlobal + Abort),
         config: EndConfig,
         side: Side,
         first_sn: u32,
@@ -161,7 +161,7 @@ struct Line {
 
 impl Line {
     /// Two ends, of which the field element was opened first.
-    fn open(rt: &HostRuntime, il: EndConfig) -> Result<Line, Fail> {
+    fn open(rt: &(impl AllocGlobal + Abort), il: EndConfig) -> Result<Line, Fail> {
         let fe = Station::open(rt, config(Side::FieldElement)?, Side::FieldElement, 500)?;
         let il = Station::open(rt, il, Side::Interlocking, 100)?;
         Ok(Line { il, fe })
@@ -179,10 +179,15 @@ impl Line {
     }
 
     /// The ends set up a connection and a session.
-    fn establish(&mut self) -> Result<(), Fail> {
+    fn establish(&mut self, rt: &impl Abort) {
         self.flow(1);
-        self.fe.done()?;
+        assert!(rt; self.fe.done().is_ok());
         self.flow(1);
+    }
+
+    fn carries_and_settles(&mut self, rt: &impl Abort) -> Result<(), Fail> {
+        self.carries_telegrams(rt)?;
+        self.settles(rt);
         Ok(())
     }
 
@@ -212,6 +217,12 @@ impl Line {
         assert_eq!(rt; self.il.put(0x24, 0), Err(PutFault::ReservedType));
     }
 
+    fn takes_each_once(&mut self, rt: &impl Abort) -> Result<(), Fail> {
+        self.repeats_on([2, 1, 2])?;
+        self.has_taken_both(rt);
+        Ok(())
+    }
+
     fn repeats_on(&mut self, channels: [usize; 3]) -> Result<(), Fail> {
         let heard = self.fe.heard;
         self.il.put(0x100, 1)?;
@@ -222,6 +233,13 @@ impl Line {
                 let _ = self.fe.next(self.il.end.channels_seen(), channel);
             }
         }
+        Ok(())
+    }
+
+    fn takes_what_was_lost(&mut self, rt: &impl Abort) -> Result<(), Fail> {
+        self.loses_the_first(rt)?;
+        self.asks_again(rt);
+        self.has_taken_both(rt);
         Ok(())
     }
 
@@ -278,9 +296,9 @@ impl Line {
     }
 }
 
-fn established(rt: &HostRuntime) -> Result<Line, Fail> {
+fn established(rt: &(impl AllocGlobal + Abort)) -> Result<Line, Fail> {
     let mut line = Line::open(rt, config(Side::Interlocking)?)?;
-    line.establish()?;
+    line.establish(rt);
     Ok(line)
 }
 
@@ -288,36 +306,25 @@ fn established(rt: &HostRuntime) -> Result<Line, Fail> {
 // heartbeat of its peer has confirmed it.
 #[test]
 fn sets_up_a_session(rt: HostRuntime) -> Result<(), Fail> {
-    let mut line = established(&rt)?;
-    line.carries_telegrams(&rt)?;
-    line.settles(&rt);
-    Ok(())
+    established(&rt)?.carries_and_settles(&rt)
 }
 
 // The same datagrams on the second channel change nothing; what is lost on the first is taken from the second.
 #[test]
 fn hears_both_channels(rt: HostRuntime) -> Result<(), Fail> {
-    let mut line = established(&rt)?;
-    line.repeats_on([2, 1, 2])?;
-    line.has_taken_both(&rt);
-    Ok(())
+    established(&rt)?.takes_each_once(&rt)
 }
 
 // A unit that is lost on both channels is sent again once the wait for it is over, and taken in its place.
 #[test]
 fn sends_a_lost_unit_again(rt: HostRuntime) -> Result<(), Fail> {
-    let mut line = established(&rt)?;
-    line.loses_the_first(&rt)?;
-    line.asks_again(&rt);
-    line.has_taken_both(&rt);
-    Ok(())
+    established(&rt)?.takes_what_was_lost(&rt)
 }
 
 // Parts behind a lost one are deferred until the table is full; at the deadline of the gap they go up, and the end asks for what it lacks.
 #[test]
 fn defers_until_the_deadline(rt: HostRuntime) -> Result<(), Fail> {
-    let mut line = established(&rt)?;
-    line.fills_the_queue(&rt)
+    established(&rt)?.fills_the_queue(&rt)
 }
 
 // A user closes; the peer follows, and both refuse what is put in.
@@ -341,6 +348,15 @@ fn ends_with_another_version(rt: HostRuntime) -> Result<(), Fail> {
     line.flow(1);
     line.has_ended(&rt);
     Ok(())
+}
+
+impl Line {
+    fn polls(&mut self, rt: &(impl AllocGlobal + Abort)) -> Result<(), Fail> {
+        let request = sent_first(rt, &self.il)?;
+        self.fe.polls_one(rt, request.as_slice())?;
+        self.il.polls_in_vain(rt);
+        Ok(())
+    }
 }
 
 impl Station {
@@ -369,19 +385,15 @@ impl Station {
 // A poll hands in what the channels answer and then lets time pass.
 #[test]
 fn polls_its_channels(rt: HostRuntime) -> Result<(), Fail> {
-    let mut il = Station::open(&rt, config(Side::Interlocking)?, Side::Interlocking, 100)?;
-    let request = sent_first(&rt, &il)?;
-    let mut fe = Station::open(&rt, config(Side::FieldElement)?, Side::FieldElement, 500)?;
-    fe.polls_one(&rt, request.as_slice())?;
-    il.polls_in_vain(&rt);
-    Ok(())
+    Line::open(&rt, config(Side::Interlocking)?)?.polls(&rt)
 }
 
-fn sent_first(rt: &HostRuntime, station: &Station) -> Result<Vec<u8>, Fail> {
+fn sent_first(rt: &(impl AllocGlobal + Abort), station: &Station) -> Result<Vec<u8>, Fail> {
     let (_, datagram) = station.end.channels_seen().sent(0).ok_or("nothing sent")?;
     Ok(Vec::from_slice(rt.alloc(), datagram)?)
 }
 
+/// Whether the settings are fit, where memory is found; the channels, where it is not.
 fn opens_in(
     heap: &LocalHeap,
     config: EndConfig,
@@ -398,32 +410,55 @@ fn opens_in(
 // refused before memory is asked for.
 #[test]
 fn opens_where_memory_is_found(rt: HostRuntime) -> Result<(), Fail> {
+    let mut config = config(Side::FieldElement)?;
     let mut refused = 0u32;
     let mut opened = false;
     for step in 0..120 {
-        let heap = LocalHeap::new(rt.alloc(), step * 1024)?;
-        let mut channels = MemChannels::new(rt.alloc(), 2)?;
-        channels.add(1, &[step as u8])?;
-        match opens_in(&heap, config(Side::FieldElement)?, channels) {
-            Ok(answer) => opened = answer,
-            Err(mut back) => {
-                let mut buffer = [0; 1];
-                assert!(rt; back.add(2, &[1]).is_ok());
-                assert_eq!(rt;
-                    channels::Channels::receive(&mut back, &mut buffer),
-                    Ok(Some((1, 1)))
-                );
-                refused = refused.wrapping_add(1);
-            }
+        opened = opens_with(&rt, step * 1024, &config)?;
+        if !opened {
+            refused = refused.wrapping_add(1);
         }
     }
     assert!(rt; refused > 60);
     assert!(rt; opened);
+    config.code = 9;
+    refuses_at_once(&rt, &config)
+}
+
+/// Whether an end is opened in a heap of this size; where it is not, the channels come back as they were.
+fn opens_with(
+    rt: &(impl AllocGlobal + Abort),
+    size: usize,
+    config: &EndConfig,
+) -> Result<bool, Fail> {
+    let heap = LocalHeap::new(rt.alloc(), size)?;
+    let mut channels = MemChannels::new(rt.alloc(), 2)?;
+    channels.add(1, &[7])?;
+    match opens_in(&heap, *config, channels) {
+        Ok(is_fit) => {
+            assert!(rt; is_fit);
+            Ok(true)
+        }
+        Err(mut back) => {
+            came_back(rt, &mut back);
+            Ok(false)
+        }
+    }
+}
+
+/// The channels hold the octet that was added to them, and take more.
+fn came_back(rt: &impl Abort, channels: &mut MemChannels) {
+    let mut buffer = [0; 1];
+    assert!(rt; channels.add(2, &[1]).is_ok());
+    assert_eq!(rt; channels.receive(&mut buffer), Ok(Some((1, 1))));
+    assert_eq!(rt; buffer, [7]);
+}
+
+/// Settings out of range are refused in a heap without room for anything.
+fn refuses_at_once(rt: &(impl AllocGlobal + Abort), config: &EndConfig) -> Result<(), Fail> {
     let heap = LocalHeap::new(rt.alloc(), 0)?;
-    let mut bad = config(Side::FieldElement)?;
-    bad.code = 9;
     let channels = MemChannels::new(rt.alloc(), 2)?;
-    assert!(rt; opens_in(&heap, bad, channels).is_ok_and(|answer| !answer));
+    assert!(rt; opens_in(&heap, *config, channels).is_ok_and(|is_fit| !is_fit));
     Ok(())
 }
 
@@ -504,21 +539,40 @@ impl<'a> Housed<'a> {
 // In a heap that the opening has filled, a lost unit is asked for, sent again and taken as in any other.
 #[test]
 fn goes_on_in_a_full_heap(rt: HostRuntime) -> Result<(), Fail> {
-    let mut il = Station::open(&rt, config(Side::Interlocking)?, Side::Interlocking, 100)?;
+    let config = config(Side::FieldElement)?;
     for step in 0..5_000 {
-        let heap = LocalHeap::new(rt.alloc(), 20_000 + step * 16)?;
-        let channels = MemChannels::new(rt.alloc(), 400)?;
-        let Some(mut fe) = Housed::open(&heap, channels, config(Side::FieldElement)?) else {
-            continue;
-        };
-        assert!(rt; Vec::<u8, &LocalHeap>::with_capacity(&heap, 64).is_err());
-        fe.loses_a_unit(&mut il)?;
-        assert_eq!(rt; fe.taken.list.as_slice(), [].as_slice());
-        fe.asks_again(&mut il);
-        assert_eq!(rt; fe.end.state(), ConnectionState::Up);
-        let both = [(0x100, 1), (0x100, 2)];
-        assert_eq!(rt; fe.taken.list.as_slice(), both.as_slice());
-        return Ok(());
+        if goes_on_in(&rt, 20_000 + step * 16, &config)? {
+            return Ok(());
+        }
     }
     Err(Fail::from("no heap is large enough"))
+}
+
+/// Whether an end is opened in a heap of this size, where it then goes on.
+fn goes_on_in(
+    rt: &(impl AllocGlobal + Abort),
+    size: usize,
+    config: &EndConfig,
+) -> Result<bool, Fail> {
+    let heap = LocalHeap::new(rt.alloc(), size)?;
+    let channels = MemChannels::new(rt.alloc(), 400)?;
+    match Housed::open(&heap, channels, *config) {
+        None => Ok(false),
+        Some(mut fe) => {
+            assert!(rt; Vec::<u8, &LocalHeap>::with_capacity(&heap, 64).is_err());
+            goes_on(rt, &mut fe)
+        }
+    }
+}
+
+/// An end takes both of two commands, of which the first is lost and sent again.
+fn goes_on(rt: &(impl AllocGlobal + Abort), fe: &mut Housed) -> Result<bool, Fail> {
+    let mut il = Station::open(rt, config(Side::Interlocking)?, Side::Interlocking, 100)?;
+    fe.loses_a_unit(&mut il)?;
+    assert_eq!(rt; fe.taken.list.as_slice(), [].as_slice());
+    fe.asks_again(&mut il);
+    assert_eq!(rt; fe.end.state(), ConnectionState::Up);
+    let both = [(0x100, 1), (0x100, 2)];
+    assert_eq!(rt; fe.taken.list.as_slice(), both.as_slice());
+    Ok(true)
 }

@@ -1,7 +1,7 @@
 ghost use Rattle.std.specs.Prelude.{◌≡◌, ◌<◌, ◌≤◌, All};
 
-use crate::{Unconfirmed, Unit};
 use linked_list_allocator::LocalHeap;
+use retrans::{Unconfirmed, Unit};
 use std::alloc::{AllocError, Allocator};
 use std::process::Abort;
 use std::test::Fail;

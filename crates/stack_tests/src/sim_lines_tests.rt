@@ -1,7 +1,5 @@
-use crate::label::Label;
-use crate::line::{Command, read_line};
-use crate::settings::{Key, ScriptSettings, Setting};
 use end_settings::Side;
+use sim_lines::{Command, Key, Label, ScriptSettings, Setting, read_line};
 use std::test::Fail;
 
 // What right lines ask for; hex digits may be of either case, and `-` is no octets.

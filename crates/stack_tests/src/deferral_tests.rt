@@ -1,4 +1,4 @@
-use crate::{Deferral, DeferralFault};
+use deferral::{Deferral, DeferralFault};
 use linked_list_allocator::LocalHeap;
 use std::test::Fail;
 
