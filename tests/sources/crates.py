@@ -26,13 +26,20 @@ def mark_public(crate, items, traits):
             item.is_public |= item.is_pub and (is_program or is_reached)
 
 
+def tested_in(file):
+    """The crate that a file of stack_tests tests: its name stands in front of the file's."""
+    names = [path.split('/')[1] for path in listed('crates', '*', 'src')]
+    return max((name for name in names if os.path.basename(file).startswith(name + '_')), key=len, default='stack_tests')
+
+
 class Crate:
     """What the sources of a crate hold."""
 
     def __init__(self, name, traits):
-        files = listed('crates', name, 'src', '*.rt')
+        apart = [file for file in listed('crates', 'stack_tests', 'src', '*_*.rt') if tested_in(file) == name]
+        files = listed('crates', name, 'src', '*.rt') + apart
         code = {file: code_of(read(file)) for file in files}
-        is_test = {file for file in files if file.endswith(('tests.rt', 'sim_cases.rt'))}
+        is_test = {file for file in files if file.endswith(('tests.rt', 'sim_cases.rt'))} | set(apart)
         self.name = name
         self.items = [item for file in files if file not in is_test for item in items_of(name, file)]
         self.helpers = [item for file in files if file in is_test for item in items_of(name, file)]
