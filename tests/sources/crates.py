@@ -27,16 +27,16 @@ def mark_public(crate, items, traits):
 
 
 def tested_in(file):
-    """The crate that a file of stack_tests tests: its name stands in front of the file's."""
+    """The library that a file of a crate of tests is about: its name stands in front of the file's."""
     names = [path.split('/')[1] for path in listed('crates', '*', 'src')]
-    return max((name for name in names if os.path.basename(file).startswith(name + '_')), key=len, default='stack_tests')
+    return max((name for name in names if os.path.basename(file).startswith(name + '_')), key=len, default='')
 
 
 class Crate:
     """What the sources of a crate hold."""
 
     def __init__(self, name, traits):
-        apart = [file for file in listed('crates', 'stack_tests', 'src', '*_*.rt') if tested_in(file) == name]
+        apart = [file for file in listed('crates', '*_tests', 'src', '*_*.rt') if tested_in(file) == name]
         files = listed('crates', name, 'src', '*.rt') + apart
         code = {file: code_of(read(file)) for file in files}
         is_test = {file for file in files if file.endswith(('tests.rt', 'sim_cases.rt'))} | set(apart)

@@ -1,7 +1,7 @@
 use Rattle.std.proofs.Common.{◌<◌, nat_lt}
 use Rattle.std.proofs.lemmas.List.Elements.{All-filter}
 use Rattle.retrans.specs.Units.{Numbered}
-use Rattle.stack_tests.proofs.retrans_tests.fills_twice.Goals as goal
+use Rattle.codec_tests.proofs.retrans_tests.fills_twice.Goals as goal
 
 pub fill-requires-2-clause-below : goal.fill-requires-2-clause-below
 fill-requires-2-clause-below g c =

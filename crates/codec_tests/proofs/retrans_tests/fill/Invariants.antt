@@ -1,7 +1,7 @@
 use Rattle.std.proofs.Common.{◌≡◌, ◌<◌}
 use Rattle.std.specs.List.{All}
 use Rattle.retrans.specs.Units.{Numbered}
-use Rattle.stack_tests.proofs.retrans_tests.fill.Given as goal
+use Rattle.codec_tests.proofs.retrans_tests.fill.Given as goal
 
 abbrev pub invariant-loop-number : goal.invariant-loop-number
 invariant-loop-number g l =

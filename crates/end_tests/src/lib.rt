@@ -1,0 +1,19 @@
+//! What is shown of an end, a pair, channels, settings and lines of scripts by examples; and an application that embeds an end.
+//!
+//! A crate of its own, since a crate with tests is proved once more with them.
+#![tactic(auto)]
+
+#[cfg(test)]
+mod channels_tests;
+#[cfg(test)]
+mod settings_file_tests;
+#[cfg(test)]
+mod sim_lines_tests;
+#[cfg(test)]
+mod stack_end_embedding;
+#[cfg(test)]
+mod stack_end_fault_tests;
+#[cfg(test)]
+mod stack_end_tests;
+#[cfg(test)]
+mod stack_engine_tests;
