@@ -63,7 +63,7 @@ class Direction:
     def __init__(self):
         self.opening = self.stamp = self.left = None
         self.channels = [Numbers() for _ in range(CHANNELS)]
-        self.together, self.sequence = Numbers(), Numbers()
+        self.together, self.sequence, self.damaged = Numbers(), Numbers(), [0] * CHANNELS
         self.openings = self.oldest = self.last = self.silence = 0
         self.kinds = {'HB': 0, 'RetrReq': 0, 'RetrData': 0}
 
@@ -86,7 +86,7 @@ class Direction:
         words += [named('all', together), named('sn', self.sequence.note(p.sn, line)) if is_new else '']
         if is_new and together != 'late':
             self.stamp = p.ts
-        age = -1 if peer is None or p.kind == 'ConnReq' else (peer - p.cts) % WRAP
+        age = -1 if peer is None or self.confirms_nothing(p) else (peer - p.cts) % WRAP
         if not 0 <= age < WRAP // 2:
             age = None
         left = leaving(*p.body[::-1]) if p.kind == 'DiscReq' else None
@@ -94,6 +94,11 @@ class Direction:
             self.counts(time, p.kind, age, left)
         words += ['resent' if p.kind == 'RetrData' else '', '' if age is None else 'age %d ms' % age, left]
         return [word for word in words if word]
+
+    def confirms_nothing(self, p):
+        """A ConnReq, and the DiscReq of an end that sent nothing but its ConnReq before."""
+        is_behind = self.opening is not None and self.opening[0] == 'ConnReq' and p.sn == (self.opening[2] + 1) % WRAP
+        return p.kind == 'ConnReq' or p.kind == 'DiscReq' and is_behind
 
     def counts(self, time, kind, age, left):
         if kind in self.kinds:
@@ -126,22 +131,30 @@ class Connection:
     def __init__(self, ends):
         self.ends, self.routes, self.directions = ends, [], (Direction(), Direction())
 
-    def channel(self, source, destination):
-        for place, route in enumerate(self.routes):
-            if set(route) == {source, destination}:
-                return place
+    def known(self, source, destination):
+        """The number of the channel between two addresses, whichever is the source."""
+        return next((place for place, route in enumerate(self.routes) if set(route) == {source, destination}), None)
+
+    def channel(self, source, destination, is_from_low):
+        place = self.known(source, destination)
+        if place is not None:
+            return place
         if len(self.routes) < CHANNELS:
-            self.routes.append((source, destination))
+            self.routes.append((source, destination) if is_from_low else (destination, source))
             return len(self.routes) - 1
         return CHANNELS
+
+    def damages(self, source, place):
+        """A datagram that is no PDU, of the end whose address sent it."""
+        self.directions[self.routes[place][0] != source].damaged[place] += 1
 
     def sums(self, first, t_max):
         for (sender, receiver), direction in zip((self.ends, self.ends[::-1]), self.directions):
             yield 'sum %d->%d %s' % (sender, receiver, direction.sums(first, t_max))
             for place, route in enumerate(self.routes):
                 n = direction.channels[place]
-                yield 'sum %d->%d ch %d %s-%s datagrams %d %s' % (
-                    sender, receiver, place + 1, *route, n.heard + n.repeats + n.stale, n.sums())
+                yield 'sum %d->%d ch %d %s-%s datagrams %d %s damaged %d' % (
+                    sender, receiver, place + 1, *route, n.heard + n.repeats + n.stale, n.sums(), direction.damaged[place])
 
 
 class Follower:
@@ -155,14 +168,23 @@ class Follower:
         way, seen = '->'.join((source, destination)), red_seen(octets)
         number, p = (None, None) if isinstance(seen, str) else (seen[0], safe_seen(seen[1], self.rule))
         if p is None or isinstance(p, str):
-            self.damaged += 1
+            self.damages(source, destination)
             return way if p is None else '%s red %d' % (way, number), [fault('red', seen) if p is None else fault('safe', p)]
         connection = self.connection(sorted((p.sender, p.receiver)))
-        channel = connection.channel(source, destination)
-        own, other = connection.directions[::1 if p.sender == connection.ends[0] else -1]
+        is_from_low = p.sender == connection.ends[0]
+        channel = connection.channel(source, destination, is_from_low)
+        own, other = connection.directions[::1 if is_from_low else -1]
         words = own.follow(time, line, channel, number, p, other.stamp)
         return '%d->%d ch %s red %d %s sn %d cs %d ts %d cts %d' % (
             p.sender, p.receiver, channel + 1 if channel < CHANNELS else 'other', number, p.kind, p.sn, p.cs, p.ts, p.cts), words
+
+    def damages(self, source, destination):
+        """A datagram that is no PDU, on the channel of the connection that was heard last of those that have it."""
+        self.damaged += 1
+        for connection in reversed(self.connections):
+            place = connection.known(source, destination)
+            if place is not None:
+                return connection.damages(source, place)
 
     def connection(self, ends):
         known = [connection for connection in self.connections if connection.ends == ends]

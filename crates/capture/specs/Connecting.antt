@@ -1,16 +1,18 @@
 -- The connections of a capture as a list, the one that was heard last at its end.
-use Rattle.std.specs.Prelude.{ℕ, ◌==◌, ◌&&◌, ◌||◌, Bool, true, nat_le, List, [], ◌∷◌, ◌++◌, length, slice_index_or, slice_set, replicate, if◌then◌else◌, Option, Some, None}
+use Rattle.std.specs.Prelude.{ℕ, ◌-◌, ◌==◌, ◌&&◌, ◌||◌, Bool, true, false, nat_le, List, [], ◌∷◌, ◌++◌, length, slice_index, slice_index_or, slice_set, replicate, reverse, if◌then◌else◌, Option, Some, None, is_some}
 use Rattle.std.specs.List.{position, remove}
 use Rattle.std.specs.Str.{bytes_eq}
 use Rattle.capture.specs.declared.heard.Header.{Header}
 use Rattle.capture.specs.declared.line.Address.{Address}
 use Rattle.capture.specs.declared.line.Record.{Record}
 use Rattle.capture.specs.declared.direction.TheConstants.{CHANNELS}
+use Rattle.capture.specs.declared.direction.Direction.{Direction}
 use Rattle.capture.specs.declared.direction.Place.{Place}
 use Rattle.capture.specs.declared.direction.Remarks.{Remarks}
 use Rattle.capture.specs.declared.connections.TheConstants.{CONNECTIONS}
 use Rattle.capture.specs.declared.connections.Route.{Route}
 use Rattle.capture.specs.declared.connections.Connection.{Connection}
+use Rattle.capture.specs.Numbers.{counted}
 use Rattle.capture.specs.Following.{followed, open_direction, remarks_of}
 
 -- nothing of the connection was heard yet
@@ -60,12 +62,16 @@ left sender receiver cs = left_at (found sender receiver cs) cs
 abbrev pub is_same_address : Address → Address → Bool
 is_same_address a b = (a.port == b.port) && bytes_eq a.host b.host
 
--- the place is free, or holds the channel between these addresses, whichever is the source
+-- the channel between these addresses, whichever is the source
+abbrev pub is_between : Route → Record → Bool
+is_between route r =
+    (is_same_address route.low r.source && is_same_address route.high r.destination)
+    || (is_same_address route.low r.destination && is_same_address route.high r.source)
+
+-- the place is free, or holds the channel
 abbrev pub is_held : Option Route → Record → Bool
 is_held None r = true
-is_held (Some route) r =
-    (is_same_address route.near r.source && is_same_address route.far r.destination)
-    || (is_same_address route.near r.destination && is_same_address route.far r.source)
+is_held (Some route) r = is_between route r
 
 abbrev pub route_place_of : List (Option Route) → Record → Option ℕ
 route_place_of routes r = position (λ route. is_held route r) routes
@@ -78,17 +84,22 @@ channel_at None = CHANNELS
 abbrev pub channel_of : List (Option Route) → Record → ℕ
 channel_of routes r = channel_at (route_place_of routes r)
 
-abbrev pub route_of : Option Route → Record → Option Route
-route_of (Some route) r = Some route
-route_of None r = Some (record { near = r.source; far = r.destination })
+-- the addresses of both ends, by which of them made the datagram
+abbrev pub route_from : Bool → Record → Route
+route_from true r = record { low = r.source; high = r.destination }
+route_from false r = record { low = r.destination; high = r.source }
 
-abbrev pub routes_at : Option ℕ → List (Option Route) → Record → List (Option Route)
-routes_at (Some place) routes r = slice_set routes place (route_of (slice_index_or routes place None) r)
-routes_at None routes r = routes
+abbrev pub route_of : Option Route → Bool → Record → Option Route
+route_of (Some route) from_low r = Some route
+route_of None from_low r = Some (route_from from_low r)
+
+abbrev pub routes_at : Option ℕ → List (Option Route) → Bool → Record → List (Option Route)
+routes_at (Some place) routes from_low r = slice_set routes place (route_of (slice_index_or routes place None) from_low r)
+routes_at None routes from_low r = routes
 
 -- the channels after a datagram: a new one is noted at the first free place
-abbrev pub routes_after : List (Option Route) → Record → List (Option Route)
-routes_after routes r = routes_at (route_place_of routes r) routes r
+abbrev pub routes_after : List (Option Route) → Bool → Record → List (Option Route)
+routes_after routes from_low r = routes_at (route_place_of routes r) routes from_low r
 
 abbrev pub place_in : Connection → ℕ → Record → Place
 place_in c line r = record { time = r.time; line = line; channel = channel_of c.routes r }
@@ -104,13 +115,13 @@ connection_remarks c line r seq h =
     else remarks_of c.from_high c.from_low.stamp (place_in c line r) seq h
 
 -- the connection after it
-abbrev pub heard_in : Connection → Record → Connection
-heard_in c r = record c { last = r.time; routes = routes_after c.routes r }
+abbrev pub heard_in : Connection → Record → Header → Connection
+heard_in c r h = record c { last = r.time; routes = routes_after c.routes (is_from_low c h) r }
 
 abbrev pub connection_after : Connection → ℕ → Record → ℕ → Header → Connection
 connection_after c line r seq h =
-    if is_from_low c h then record (heard_in c r) { from_low = followed c.from_low c.from_high.stamp (place_in c line r) seq h }
-    else record (heard_in c r) { from_high = followed c.from_high c.from_low.stamp (place_in c line r) seq h }
+    if is_from_low c h then record (heard_in c r h) { from_low = followed c.from_low c.from_high.stamp (place_in c line r) seq h }
+    else record (heard_in c r h) { from_high = followed c.from_high c.from_low.stamp (place_in c line r) seq h }
 
 -- the step: what is remarkable in a PDU of a line, and the connections after it
 abbrev pub step_remarks : List Connection → ℕ → Record → ℕ → Header → Remarks
@@ -119,3 +130,47 @@ step_remarks cs line r seq h = connection_remarks (taken h.sender h.receiver cs)
 abbrev pub step : List Connection → ℕ → Record → ℕ → Header → List Connection
 step cs line r seq h =
     left h.sender h.receiver cs ++ connection_after (taken h.sender h.receiver cs) line r seq h ∷ []
+
+-- where a connection has the channel between these addresses
+abbrev pub is_known : Option Route → Record → Bool
+is_known None r = false
+is_known (Some route) r = is_between route r
+
+abbrev pub known_place_of : List (Option Route) → Record → Option ℕ
+known_place_of routes r = position (λ route. is_known route r) routes
+
+abbrev pub has_channel : Connection → Record → Bool
+has_channel c r = is_some (known_place_of c.routes r)
+
+-- how many stand behind the last connection that has it
+abbrev pub behind_of : List Connection → Record → Option ℕ
+behind_of cs r = position (λ (c : Connection). has_channel c r) (reverse cs)
+
+-- the address of the end with the lower identifier sent it
+abbrev pub is_source_low : Option Route → Record → Bool
+is_source_low None r = false
+is_source_low (Some route) r = is_same_address route.low r.source
+
+-- one more datagram that is no PDU on a channel
+abbrev pub damaged_at : Direction → ℕ → Direction
+damaged_at d place = record d { damaged = slice_set d.damaged place (counted (slice_index d.damaged place) 1) }
+
+abbrev pub damaged_by : Bool → Connection → ℕ → Connection
+damaged_by true c place = record c { from_low = damaged_at c.from_low place }
+damaged_by false c place = record c { from_high = damaged_at c.from_high place }
+
+abbrev pub damaged_on : Option ℕ → Connection → Record → Connection
+damaged_on None c r = c
+damaged_on (Some place) c r = damaged_by (is_source_low (slice_index_or c.routes place None) r) c place
+
+abbrev pub connection_damaged : Connection → Record → Connection
+connection_damaged c r = damaged_on (known_place_of c.routes r) c r
+
+abbrev pub damage_at : Option ℕ → List Connection → Record → List Connection
+damage_at None cs r = cs
+damage_at (Some behind) cs r =
+    slice_set cs (length cs - 1 - behind) (connection_damaged (slice_index_or cs (length cs - 1 - behind) (opened 0 0)) r)
+
+-- a datagram that is no PDU is counted on its channel, of the connection that was heard last where several have that
+abbrev pub damage_noted : List Connection → Record → List Connection
+damage_noted cs r = damage_at (behind_of cs r) cs r

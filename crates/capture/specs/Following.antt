@@ -1,7 +1,7 @@
 -- What is remarkable in a PDU, and what is kept of it.
 use Rattle.std.specs.Prelude.{ℕ, ◌-◌, max, ◌^◌, ◌==◌, ◌&&◌, Bool, true, false, not, nat_lt, List, map, slice_index_or, slice_set, replicate, if◌then◌else◌, Option, Some, None}
 use Rattle.safe_pdu.specs.declared.Kind.{Kind}
-use Rattle.safe_pdu.specs.declared.Kind.TheVariants.{ConnReq, ConnResp, Heartbeat, RetrData, RetrReq}
+use Rattle.safe_pdu.specs.declared.Kind.TheVariants.{ConnReq, ConnResp, DiscReq, Heartbeat, RetrData, RetrReq}
 use Rattle.safe_pdu.specs.declared.Leaving.{Leaving}
 use Rattle.capture.specs.declared.heard.Header.{Header}
 use Rattle.capture.specs.declared.window.Window.{Window}
@@ -29,6 +29,7 @@ open_direction =
       sequence = open_window;
       stamp = None;
       opening = None;
+      damaged = replicate CHANNELS 0;
       tally = open_tally;
     }
 
@@ -75,10 +76,23 @@ abbrev pub age_at : Option ℕ → ℕ → Option ℕ
 age_at None confirmed = None
 age_at (Some stamp) confirmed = age_within (ahead confirmed stamp)
 
--- a ConnReq confirms nothing
-abbrev pub age_of : Option ℕ → Kind → ℕ → Option ℕ
-age_of stamp ConnReq confirmed = None
-age_of stamp _ confirmed = age_at stamp confirmed
+abbrev pub is_request : Kind → Bool
+is_request ConnReq = true
+is_request _ = false
+
+-- the sequence number follows directly on that of the last opening, and that was a ConnReq
+abbrev pub is_behind_request : Option Opening → ℕ → Bool
+is_behind_request None sn = false
+is_behind_request (Some opening) sn = is_request opening.kind && (ahead opening.sn sn == 1)
+
+-- a ConnReq confirms nothing, nor does the DiscReq of an end that sent nothing but its ConnReq before
+abbrev pub confirms_nothing : Option Opening → Kind → ℕ → Bool
+confirms_nothing opening ConnReq sn = true
+confirms_nothing opening DiscReq sn = is_behind_request opening sn
+confirms_nothing opening _ sn = false
+
+abbrev pub age_of : Option Opening → Option ℕ → Header → Option ℕ
+age_of opening stamp h = if confirms_nothing opening h.kind h.sn then None else age_at stamp h.cts
 
 -- a ConnReq or ConnResp opens, and its numbers and timestamp tell it from others
 abbrev pub opening_as : Kind → Opening → Option Opening
@@ -158,7 +172,7 @@ remarks_in d opens peer place seq h =
       together = judged d.together seq;
       sequence = sequence_judged (is_new (judged d.together seq)) d.sequence h.sn;
       resent = is_resent h.kind;
-      age = age_of peer h.kind h.cts;
+      age = age_of d.opening peer h;
       leaving = h.leaving;
     }
 
@@ -174,7 +188,7 @@ followed_in d peer place seq h =
       together = noted d.together seq place.line;
       sequence = sequence_noted (is_new (judged d.together seq)) d.sequence h.sn place.line;
       stamp = if is_furthest (judged d.together seq) then Some h.ts else d.stamp;
-      tally = tally_after (is_new (judged d.together seq)) d.tally place.time (age_of peer h.kind h.cts) h;
+      tally = tally_after (is_new (judged d.together seq)) d.tally place.time (age_of d.opening peer h) h;
     }
 
 abbrev pub followed : Direction → Option ℕ → Place → ℕ → Header → Direction

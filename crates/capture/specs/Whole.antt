@@ -10,7 +10,7 @@ use Rattle.capture.specs.declared.following.Remark.{Remark}
 use Rattle.capture.specs.declared.following.Remark.TheVariants as remark
 use Rattle.capture.specs.declared.following.Totals.{Totals}
 use Rattle.capture.specs.Numbers.{counted}
-use Rattle.capture.specs.Connecting.{found, step, step_remarks}
+use Rattle.capture.specs.Connecting.{damage_noted, found, step, step_remarks}
 
 -- what is remarkable in a datagram
 abbrev pub remark_of : List Connection → ℕ → Record → Heard → Remark
@@ -18,11 +18,11 @@ remark_of cs line r (heard.Pdu seq h) = remark.Pdu seq h (step_remarks cs line r
 remark_of cs line r (heard.NoSafe seq fault) = remark.NoSafe seq fault
 remark_of cs line r (heard.NoRed fault) = remark.NoRed fault
 
--- the connections after it: one that is no PDU changes none
+-- the connections after it: one that is no PDU is counted on its channel
 abbrev pub connections_after : List Connection → ℕ → Record → Heard → List Connection
 connections_after cs line r (heard.Pdu seq h) = step cs line r seq h
-connections_after cs line r (heard.NoSafe seq fault) = cs
-connections_after cs line r (heard.NoRed fault) = cs
+connections_after cs line r (heard.NoSafe seq fault) = damage_noted cs r
+connections_after cs line r (heard.NoRed fault) = damage_noted cs r
 
 abbrev pub damaged_after : ℕ → Heard → ℕ
 damaged_after damaged (heard.Pdu seq h) = damaged

@@ -1,9 +1,9 @@
 //! The connections of a capture: the one that was heard last stands last.
 
-ghost use Rattle.std.specs.Prelude.{◌≡◌, ◌<◌, ◌≤◌, ◌++◌, ◌∷◌, [], length, IfSome};
+ghost use Rattle.std.specs.Prelude.{◌≡◌, ◌<◌, ◌≤◌, ◌++◌, ◌∷◌, [], length, IfSome, reverse};
 ghost use Rattle.arrayvec.specs.ArrayVec.{array_vec_len};
 ghost use Rattle.capture.specs.Whole.{forgets};
-ghost use Rattle.capture.specs.Connecting.{channel_of, connection_after, connection_remarks, ends_of, is_from_low, is_held, is_same_address, left, opened, place_of, room_made, route_place_of, routes_after, step, step_remarks, taken};
+ghost use Rattle.capture.specs.Connecting.{behind_of, channel_of, connection_after, connection_damaged, connection_remarks, damage_noted, damaged_at, ends_of, has_channel, is_between, is_from_low, is_held, is_known, is_same_address, is_source_low, known_place_of, left, opened, place_of, room_made, route_from, route_place_of, routes_after, step, step_remarks, taken};
 
 use crate::direction::{CHANNELS, Direction, Place, Remarks, follow_pdu};
 use crate::heard::Header;
@@ -13,13 +13,13 @@ use arrayvec::ArrayVec;
 /// How many connections are followed at most.
 pub const CONNECTIONS: usize = 16;
 
-/// The two addresses of a channel, the source of its first datagram in front.
+/// The two addresses of a channel, as the first PDU on it tells them.
 #[derive(Clone, Copy, Debug, PartialEq, Eq)]
 pub struct Route {
-    /// Where the first datagram came from.
-    pub near: Address,
-    /// Where it went to.
-    pub far: Address,
+    /// That of the end with the lower identifier.
+    pub low: Address,
+    /// That of the other end.
+    pub high: Address,
 }
 
 /// A connection, as far as it was heard.
@@ -153,14 +153,15 @@ fn follow_in(
     ensures after { connection.new ≡ connection_after connection.old line record.now seq header.now }
 {
     connection.last = record.time;
-    let channel = note_route(&mut connection.routes, record);
+    let from_low = comes_from_low(connection, header);
+    let channel = note_route(&mut connection.routes, from_low, record);
     let time = record.time;
     let place = Place {
         time,
         line,
         channel,
     };
-    if comes_from_low(connection, header) {
+    if from_low {
         let peer = connection.from_high.stamp;
         follow_pdu(&mut connection.from_low, peer, place, seq, header)
     } else {
@@ -177,21 +178,34 @@ fn comes_from_low(connection: &Connection, header: &Header) -> bool
 }
 
 /// The number of a datagram's channel, which is noted where it is new and there is room for it.
-fn note_route(routes: &mut [Option<Route>; CHANNELS], record: &Record) -> usize
+fn note_route(routes: &mut [Option<Route>; CHANNELS], from_low: bool, record: &Record) -> usize
     ensures channel { result ≡ channel_of routes.old record.now }
-    ensures noted { routes.new ≡ routes_after routes.old record.now }
+    ensures noted { routes.new ≡ routes_after routes.old from_low record.now }
 {
     match route_place(routes, record) {
         Some(place) => {
             if routes[place].is_none() {
-                routes[place] = Some(Route {
-                    near: record.source,
-                    far: record.destination,
-                });
+                routes[place] = Some(addresses(from_low, record));
             }
             place
         }
         None => CHANNELS,
+    }
+}
+
+/// The addresses of both ends, by which of them made a datagram.
+fn addresses(from_low: bool, record: &Record) -> Route
+    ensures { result ≡ route_from from_low record.now }
+{
+    if from_low {
+        return Route {
+            low: record.source,
+            high: record.destination,
+        };
+    }
+    Route {
+        low: record.destination,
+        high: record.source,
     }
 }
 
@@ -209,11 +223,92 @@ fn holds(route: &Option<Route>, record: &Record) -> bool
 {
     match route {
         None => true,
-        Some(route) => {
-            is_same(route.near, record.source) && is_same(route.far, record.destination)
-                || is_same(route.near, record.destination) && is_same(route.far, record.source)
+        Some(route) => joins(route, record),
+    }
+}
+
+/// Whether a channel is the one between a datagram's addresses, whichever is the source.
+fn joins(route: &Route, record: &Record) -> bool
+    ensures { result ≡ is_between route.now record.now }
+{
+    is_same(route.low, record.source) && is_same(route.high, record.destination)
+        || is_same(route.low, record.destination) && is_same(route.high, record.source)
+}
+
+/// Counts a datagram that is no PDU on the channel between its addresses, where a connection has that; where several
+/// have it, the one that was heard last.
+pub(crate) fn note_damage(connections: &mut Connections, record: &Record)
+    ensures { connections.new.items ≡ damage_noted connections.old.items record.now }
+{
+    if let Some(behind) = behind(connections, record) {
+        let place = connections.len() - 1 - behind;
+        damage(&mut connections.as_mut_slice()[place], record);
+    }
+}
+
+/// How many connections stand behind the last one that has a datagram's channel.
+fn behind(connections: &Connections, record: &Record) -> Option<usize>
+    ensures value { result ≡ behind_of connections.now.items record.now }
+    ensures bound { IfSome result (λ behind. behind < array_vec_len connections.now) }
+{
+    connections
+        .as_slice()
+        .iter()
+        .rev()
+        .position(|connection| is_way(connection, record))
+}
+
+fn is_way(connection: &Connection, record: &Record) -> bool
+    ensures { result ≡ has_channel connection.now record.now }
+{
+    known_place(&connection.routes, record).is_some()
+}
+
+/// Where a datagram's channel stands, if it is one of these.
+fn known_place(routes: &[Option<Route>; CHANNELS], record: &Record) -> Option<usize>
+    ensures value { result ≡ known_place_of routes.now record.now }
+    ensures bound { IfSome result (λ place. place < CHANNELS) }
+{
+    routes.iter().position(|route| knows(route, record))
+}
+
+fn knows(route: &Option<Route>, record: &Record) -> bool
+    ensures { result ≡ is_known route.now record.now }
+{
+    match route {
+        None => false,
+        Some(route) => joins(route, record),
+    }
+}
+
+/// Counts a datagram that is no PDU on its channel, by the end whose address sent it.
+fn damage(connection: &mut Connection, record: &Record)
+    ensures { connection.new ≡ connection_damaged connection.old record.now }
+{
+    if let Some(place) = known_place(&connection.routes, record) {
+        if is_low(&connection.routes[place], record) {
+            count_damage(&mut connection.from_low, place);
+        } else {
+            count_damage(&mut connection.from_high, place);
         }
     }
+}
+
+/// Whether the address of the end with the lower identifier sent a datagram.
+fn is_low(route: &Option<Route>, record: &Record) -> bool
+    ensures { result ≡ is_source_low route.now record.now }
+{
+    match route {
+        None => false,
+        Some(route) => is_same(route.low, record.source),
+    }
+}
+
+fn count_damage(direction: &mut Direction, place: usize)
+    requires { place < CHANNELS }
+    ensures { direction.new ≡ damaged_at direction.old place }
+{
+    direction.damaged[place] = direction.damaged[place].saturating_add(1);
 }
 
 fn is_same(one: Address, other: Address) -> bool

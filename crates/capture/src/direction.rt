@@ -1,7 +1,7 @@
 //! What is remarkable in a PDU, by what was heard before it.
 
 ghost use Rattle.std.specs.Prelude.{◌≡◌, ◌<◌, length, map, true};
-ghost use Rattle.capture.specs.Following.{age_at, age_of, age_within, channel_judged, channel_noted, followed, followed_in, is_furthest, is_new, is_opened, is_resent, is_same_opening, kind_counted, open_direction, opened_as, opened_with, opening_of, remarks_in, remarks_of, sequence_judged, sequence_noted, tallied, tally_opened};
+ghost use Rattle.capture.specs.Following.{age_at, age_of, age_within, channel_judged, channel_noted, confirms_nothing, followed, followed_in, is_behind_request, is_furthest, is_new, is_opened, is_request, is_resent, is_same_opening, kind_counted, open_direction, opened_as, opened_with, opening_of, remarks_in, remarks_of, sequence_judged, sequence_noted, tallied, tally_opened};
 ghost use Rattle.capture.specs.Numbers.{reopened};
 
 use crate::heard::Header;
@@ -24,6 +24,8 @@ pub struct Direction {
     pub stamp: Option<u32>,
     /// The ConnReq or ConnResp that was heard last.
     pub opening: Option<Opening>,
+    /// How many of its datagrams on each channel were no PDU.
+    pub damaged: [u64; CHANNELS],
     /// What its PDUs were.
     pub tally: Tally,
 }
@@ -78,7 +80,8 @@ pub struct Remarks {
     /// It carries a unit that was sent before (RetrData).
     pub resent: bool,
     /// How old the timestamp that it confirms is at the end that made that timestamp, in milliseconds; none of a
-    /// ConnReq, and where that end was not heard, or nothing as late as the confirmed timestamp.
+    /// ConnReq or a DiscReq directly behind it, and where that end was not heard, or nothing as late as the confirmed
+    /// timestamp.
     pub age: Option<u32>,
     /// Reason and detail, of a DiscReq.
     pub leaving: Option<Leaving>,
@@ -106,6 +109,7 @@ impl Direction {
             sequence: Window::new(),
             stamp: None,
             opening: None,
+            damaged: [0; CHANNELS],
             tally: Tally {
                 openings: 0,
                 heartbeats: 0,
@@ -156,7 +160,7 @@ fn follow_opened(
     let together = note(&mut direction.together, seq, place.line);
     let is_new = is_first_copy(together);
     let sequence = note_sequence(&mut direction.sequence, is_new, header.sn, place.line);
-    let age = age(peer, header.kind, header.cts);
+    let age = age(direction.opening, peer, header);
     if is_newest(together) {
         direction.stamp = Some(header.ts);
     }
@@ -292,18 +296,38 @@ fn carries_again(kind: Kind) -> bool
 }
 
 /// How old the timestamp that a PDU confirms is at the end that made it, in milliseconds of the ring of 32 bits.
-fn age(stamp: Option<u32>, kind: Kind, confirmed: u32) -> Option<u32>
-    ensures { result ≡ age_of stamp kind confirmed }
+fn age(opening: Option<Opening>, stamp: Option<u32>, header: &Header) -> Option<u32>
+    ensures { result ≡ age_of opening stamp header.now }
+{
+    if confirms_none(opening, header.kind, header.sn) {
+        return None;
+    }
+    age_behind(stamp, header.cts)
+}
+
+/// Whether a PDU confirms nothing: a ConnReq, and the DiscReq of an end that sent nothing but its ConnReq before.
+fn confirms_none(opening: Option<Opening>, kind: Kind, sn: u32) -> bool
+    ensures { result ≡ confirms_nothing opening kind sn }
 {
     match kind {
-        Kind::ConnReq => None,
+        Kind::ConnReq => true,
+        Kind::DiscReq => follows_request(opening, sn),
         Kind::ConnResp
         | Kind::RetrReq
         | Kind::RetrResp
-        | Kind::DiscReq
         | Kind::Heartbeat
         | Kind::Data
-        | Kind::RetrData => age_behind(stamp, confirmed),
+        | Kind::RetrData => false,
+    }
+}
+
+/// Whether a sequence number follows directly on that of the last opening, and that was a ConnReq.
+fn follows_request(opening: Option<Opening>, sn: u32) -> bool
+    ensures { result ≡ is_behind_request opening sn }
+{
+    match opening {
+        None => false,
+        Some(opening) => matches!(opening.kind, Kind::ConnReq) && sn.wrapping_sub(opening.sn) == 1,
     }
 }
 

@@ -3,7 +3,7 @@
 ghost use Rattle.std.specs.Prelude.{◌≡◌, [], fold};
 ghost use Rattle.capture.specs.Whole.{connections_after, counted_in, damaged_after, forgotten_after, forgotten_with, no_totals, remark_of, totals_of};
 
-use crate::connections::{Connection, Connections, follow, has_no_room};
+use crate::connections::{Connection, Connections, follow, has_no_room, note_damage};
 use crate::direction::Remarks;
 use crate::heard::{Header, Heard};
 use crate::line::Record;
@@ -75,10 +75,12 @@ impl Following {
             }
             Heard::NoSafe(seq, fault) => {
                 self.damaged = self.damaged.saturating_add(1);
+                note_damage(&mut self.connections, record);
                 Remark::NoSafe(seq, fault)
             }
             Heard::NoRed(fault) => {
                 self.damaged = self.damaged.saturating_add(1);
+                note_damage(&mut self.connections, record);
                 Remark::NoRed(fault)
             }
         }

@@ -1,5 +1,5 @@
 -- Which lines are printed.
-use Rattle.std.specs.Prelude.{ℕ, ◌||◌, Bool, true, false, nat_le, Option, Some, None, is_some}
+use Rattle.std.specs.Prelude.{ℕ, ◌||◌, Bool, true, false, List, codes, nat_le, Option, Some, None, is_some}
 use Rattle.capture.specs.declared.direction.Remarks.{Remarks}
 use Rattle.capture.specs.declared.following.Remark.{Remark}
 use Rattle.capture.specs.declared.following.Remark.TheVariants.{Pdu, NoRed, NoSafe}
@@ -7,6 +7,19 @@ use Rattle.capture.specs.declared.window.Judged.{Judged}
 use Rattle.capture.specs.declared.window.Judged.TheVariants as judged
 use Rattle.capture_text.specs.declared.choice.Word.{Word}
 use Rattle.capture_text.specs.declared.choice.Word.TheVariants.{Opens, Repeat, Ahead, Late, Stale, Anew, Resent, Age, Leaving, Fault}
+
+-- how a word is written
+abbrev pub word_text : Word → List ℕ
+word_text Opens = codes "opens"
+word_text Repeat = codes "repeat"
+word_text Ahead = codes "ahead"
+word_text Late = codes "late"
+word_text Stale = codes "stale"
+word_text Anew = codes "anew"
+word_text Resent = codes "resent"
+word_text Age = codes "age"
+word_text Leaving = codes "reason"
+word_text Fault = codes "fault"
 
 abbrev pub is_named : Word → Judged → Bool
 is_named Repeat (judged.Repeat _) = true

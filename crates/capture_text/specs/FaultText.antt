@@ -3,7 +3,7 @@ use Rattle.std.specs.Prelude.{ℕ, List, [], ◌∷◌, codes}
 use Rattle.std.specs.Fmt.{decimal}
 use Rattle.capture.specs.declared.line.LineFault.{LineFault}
 use Rattle.capture.specs.declared.line.LineFault.TheVariants.{Fields, Time, Source, Destination, Long, Payload}
-use Rattle.capture_text.specs.Pieces.{pieces}
+use Rattle.pdu_text.specs.Lines.{joined}
 
 abbrev pub fault_word : LineFault → List ℕ
 fault_word Fields = codes "not six fields"
@@ -14,4 +14,4 @@ fault_word Long = codes "too long"
 fault_word Payload = codes "payload"
 
 unfoldable pub fault_text : ℕ → LineFault → List ℕ
-fault_text number fault = pieces (codes "line " ∷ decimal number ∷ codes ": unreadable: " ∷ fault_word fault ∷ codes "\n" ∷ [])
+fault_text number fault = joined (codes "line " ∷ decimal number ∷ codes ": unreadable: " ∷ fault_word fault ∷ codes "\n" ∷ [])

@@ -1,12 +1,8 @@
 -- What lines are made of: times, addresses and channels.
 use Rattle.std.specs.Prelude.{ℕ, ◌+◌, ◌-◌, ◌/◌, ◌%◌, nat_lt, nat_eq, List, [], ◌∷◌, ◌++◌, codes, slice_index, if◌then◌else◌}
 use Rattle.std.specs.Fmt.{decimal}
+use Rattle.pdu_text.specs.Lines.{joined}
 use Rattle.capture.specs.declared.line.Address.{Address}
-
--- the pieces, one after the other
-abbrev pub pieces : List (List ℕ) → List ℕ
-pieces [] = []
-pieces (piece ∷ rest) = piece ++ pieces rest
 
 -- the decimal digit of this weight: 1 of the last, 10 of the one before it
 abbrev pub digit : ℕ → ℕ → ℕ
@@ -17,7 +13,7 @@ six_digits n = digit 100000 n ∷ digit 10000 n ∷ digit 1000 n ∷ digit 100 n
 
 -- whole seconds, a point, six digits
 unfoldable pub duration_text : ℕ → List ℕ
-duration_text micros = pieces (decimal (micros / 1000000) ∷ codes "." ∷ six_digits (micros % 1000000) ∷ [])
+duration_text micros = joined (decimal (micros / 1000000) ∷ codes "." ∷ six_digits (micros % 1000000) ∷ [])
 
 -- the time since the first one, with a minus before it where it is earlier
 unfoldable pub since_text : ℕ → ℕ → List ℕ
@@ -29,12 +25,12 @@ octet_of a place = decimal (slice_index a.host place)
 
 unfoldable pub address_text : Address → List ℕ
 address_text a =
-    pieces
+    joined
     (octet_of a 0 ∷ codes "." ∷ octet_of a 1 ∷ codes "." ∷ octet_of a 2 ∷ codes "." ∷ octet_of a 3 ∷ codes ":" ∷ decimal a.port ∷ [])
 
 -- from one end to the other, by their identifiers
 unfoldable pub ends_text : ℕ → ℕ → List ℕ
-ends_text sender receiver = pieces (decimal sender ∷ codes "->" ∷ decimal receiver ∷ [])
+ends_text sender receiver = joined (decimal sender ∷ codes "->" ∷ decimal receiver ∷ [])
 
 -- channels count from 1, and those that are not told apart have no number
 abbrev pub channel_text : ℕ → List ℕ

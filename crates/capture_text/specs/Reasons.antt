@@ -2,7 +2,7 @@
 use Rattle.std.specs.Prelude.{ℕ, nat_eq, List, [], ◌∷◌, codes, if◌then◌else◌}
 use Rattle.std.specs.Fmt.{decimal}
 use Rattle.safe_pdu.specs.declared.Leaving.{Leaving}
-use Rattle.capture_text.specs.Pieces.{pieces}
+use Rattle.pdu_text.specs.Lines.{joined}
 
 abbrev pub reason_word : ℕ → List ℕ
 reason_word reason =
@@ -41,6 +41,6 @@ detail_word reason detail =
 
 unfoldable pub leaving_words : Leaving → List ℕ
 leaving_words l =
-    pieces
+    joined
     (codes " reason " ∷ decimal l.reason ∷ reason_word l.reason ∷ codes " detail " ∷ decimal l.detail
     ∷ detail_word l.reason l.detail ∷ [])

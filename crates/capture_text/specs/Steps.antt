@@ -10,7 +10,9 @@ use Rattle.capture.specs.Hearing.{heard_of}
 use Rattle.capture.specs.Lines.{Line}
 use Rattle.capture.specs.Numbers.{counted}
 use Rattle.capture.specs.Whole.{connections_after, damaged_after, forgotten_after, remark_of, totals_of}
+use Rattle.std.specs.Io.BufRead.{ends_with_byte, strip_last}
 use Rattle.capture_text.specs.Choice.{is_asked}
+use Rattle.capture_text.specs.FaultText.{fault_text}
 use Rattle.capture_text.specs.RecordText.{record_text}
 use Rattle.capture_text.specs.SummaryText.{summary_text}
 use Rattle.capture_text.specs.Telegrams.{telegram_lines}
@@ -90,3 +92,12 @@ counts_of damaged forgotten unreadable = record { damaged = damaged; forgotten =
 abbrev pub course_text : ℕ → Option ℕ → List Connection → Counts → List ℕ
 course_text t_max first cs counts =
     summary_text (record { first = first_of first 0; t_max = t_max }) cs (totals_of cs) counts
+
+-- the line of a fault, where there is one
+abbrev pub fault_lines : ℕ → Option LineFault → List ℕ
+fault_lines number None = []
+fault_lines number (Some fault) = fault_text number fault
+
+-- a line without its line feed, and without a carriage return before that
+abbrev pub without_end : List ℕ → List ℕ
+without_end line = if ends_with_byte 10 line then strip_last 13 (strip_last 10 line) else line

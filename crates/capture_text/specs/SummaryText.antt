@@ -1,5 +1,5 @@
 -- The sums at the end.
-use Rattle.std.specs.Prelude.{ℕ, nat_eq, nat_le, List, [], ◌∷◌, ◌++◌, codes, length, slice_index_or, if◌then◌else◌, Option, Some, None}
+use Rattle.std.specs.Prelude.{ℕ, nat_eq, nat_le, List, [], ◌∷◌, ◌++◌, codes, slice_index, slice_index_or, if◌then◌else◌, Option, Some, None}
 use Rattle.std.specs.Fmt.{decimal}
 use Rattle.safe_pdu.specs.declared.Leaving.{Leaving}
 use Rattle.safe_pdu.specs.Names.{kind_name}
@@ -13,27 +13,28 @@ use Rattle.capture.specs.declared.window.Window.{Window}
 use Rattle.capture.specs.Numbers.{counted, open_window}
 use Rattle.capture_text.specs.declared.summary.Scale.{Scale}
 use Rattle.capture_text.specs.declared.summary.Counts.{Counts}
-use Rattle.capture_text.specs.Pieces.{address_text, channel_text, duration_text, ends_text, pieces, since_text}
+use Rattle.pdu_text.specs.Lines.{joined}
+use Rattle.capture_text.specs.Pieces.{address_text, channel_text, duration_text, ends_text, since_text}
 use Rattle.capture_text.specs.Reasons.{leaving_words}
 
 -- how often an end opened, and by what
 abbrev pub opening_text : Option Opening → ℕ → List ℕ
 opening_text None times = codes " opening not seen"
-opening_text (Some opening) times = pieces (codes " opened by " ∷ kind_name opening.kind ∷ codes " times " ∷ decimal times ∷ [])
+opening_text (Some opening) times = joined (codes " opened by " ∷ kind_name opening.kind ∷ codes " times " ∷ decimal times ∷ [])
 
 unfoldable pub numbers_text : Window → List ℕ
 numbers_text w =
-    pieces
+    joined
     (codes " PDUs " ∷ decimal w.heard ∷ codes " missing " ∷ decimal w.missing ∷ codes " repeats " ∷ decimal w.repeats
     ∷ codes " stale " ∷ decimal w.stale ∷ [])
 
 unfoldable pub kinds_text : Tally → List ℕ
 kinds_text t =
-    pieces
+    joined
     (codes " heartbeats " ∷ decimal t.heartbeats ∷ codes " requests " ∷ decimal t.requests ∷ codes " resent " ∷ decimal t.resent ∷ [])
 
 unfoldable pub silence_text : ℕ → List ℕ
-silence_text silence = pieces (codes " silence " ∷ duration_text silence ∷ [])
+silence_text silence = joined (codes " silence " ∷ duration_text silence ∷ [])
 
 -- the greatest age, and whether it reached T_max
 abbrev pub reached_text : ℕ → ℕ → List ℕ
@@ -41,7 +42,7 @@ reached_text t_max oldest = if nat_le t_max oldest then codes " reached" else []
 
 unfoldable pub oldest_text : ℕ → ℕ → List ℕ
 oldest_text t_max oldest =
-    pieces (codes " age " ∷ decimal oldest ∷ codes " of " ∷ decimal t_max ∷ reached_text t_max oldest ∷ [])
+    joined (codes " age " ∷ decimal oldest ∷ codes " of " ∷ decimal t_max ∷ reached_text t_max oldest ∷ [])
 
 -- when an end was heard last
 abbrev pub last_text : ℕ → ℕ → List ℕ
@@ -65,26 +66,30 @@ abbrev pub datagrams_of : Window → ℕ
 datagrams_of w = counted (counted w.heard w.repeats) w.stale
 
 unfoldable pub route_text : Route → List ℕ
-route_text route = pieces (codes " " ∷ address_text route.near ∷ codes "-" ∷ address_text route.far ∷ [])
+route_text route = joined (codes " " ∷ address_text route.low ∷ codes "-" ∷ address_text route.high ∷ [])
 
 unfoldable pub datagrams_text : Window → List ℕ
-datagrams_text w = pieces (codes " datagrams " ∷ decimal (datagrams_of w) ∷ [])
+datagrams_text w = joined (codes " datagrams " ∷ decimal (datagrams_of w) ∷ [])
 
 -- what it sent on a channel
 unfoldable pub sum_text : ℕ → ℕ → ℕ → List ℕ
 sum_text from to place = codes "sum " ++ ends_text from to ++ channel_text place
 
-unfoldable pub known_channel_text : ℕ → ℕ → ℕ → Route → Window → List ℕ
-known_channel_text from to place route w =
-    sum_text from to place ++ route_text route ++ datagrams_text w ++ numbers_text w ++ codes "\n"
+unfoldable pub damaged_text : ℕ → List ℕ
+damaged_text damaged = joined (codes " damaged " ∷ decimal damaged ∷ codes "\n" ∷ [])
 
-abbrev pub maybe_channel_text : ℕ → ℕ → ℕ → Option Route → Window → List ℕ
-maybe_channel_text from to place None w = []
-maybe_channel_text from to place (Some route) w = known_channel_text from to place route w
+unfoldable pub known_channel_text : ℕ → ℕ → ℕ → Route → Window → ℕ → List ℕ
+known_channel_text from to place route w damaged =
+    sum_text from to place ++ route_text route ++ datagrams_text w ++ numbers_text w ++ damaged_text damaged
+
+abbrev pub maybe_channel_text : ℕ → ℕ → ℕ → Option Route → Window → ℕ → List ℕ
+maybe_channel_text from to place None w damaged = []
+maybe_channel_text from to place (Some route) w damaged = known_channel_text from to place route w damaged
 
 unfoldable pub place_text : ℕ → ℕ → List (Option Route) → Direction → ℕ → List ℕ
 place_text from to routes d place =
     maybe_channel_text from to place (slice_index_or routes place None) (slice_index_or d.channels place open_window)
+    (slice_index d.damaged place)
 
 unfoldable pub places_text : ℕ → ℕ → List (Option Route) → Direction → List ℕ
 places_text from to routes d =
@@ -103,11 +108,11 @@ connections_text s (c ∷ cs) = connection_text s c ++ connections_text s cs
 
 unfoldable pub totals_text : Totals → List ℕ
 totals_text t =
-    pieces (codes " PDUs " ∷ decimal t.heard ∷ codes " missing " ∷ decimal t.missing ∷ codes " repeats " ∷ decimal t.repeats ∷ [])
+    joined (codes " PDUs " ∷ decimal t.heard ∷ codes " missing " ∷ decimal t.missing ∷ codes " repeats " ∷ decimal t.repeats ∷ [])
 
 unfoldable pub counts_text : Counts → List ℕ
 counts_text c =
-    pieces (codes " damaged " ∷ decimal c.damaged ∷ codes " forgotten " ∷ decimal c.forgotten ∷ codes " unreadable " ∷ decimal c.unreadable ∷ [])
+    joined (codes " damaged " ∷ decimal c.damaged ∷ codes " forgotten " ∷ decimal c.forgotten ∷ codes " unreadable " ∷ decimal c.unreadable ∷ [])
 
 unfoldable pub all_text : Totals → Counts → List ℕ
 all_text t c = codes "sum all" ++ totals_text t ++ counts_text c ++ codes "\n"

@@ -1,7 +1,7 @@
 //! Which lines are printed.
 
-ghost use Rattle.std.specs.Prelude.{◌≡◌};
-ghost use Rattle.capture_text.specs.Choice.{has_word, is_asked, is_maybe_named, is_meant, is_named, is_number_named, is_overdue};
+ghost use Rattle.std.specs.Prelude.{◌≡◌, IfSome, Some};
+ghost use Rattle.capture_text.specs.Choice.{has_word, is_asked, is_maybe_named, is_meant, is_named, is_number_named, is_overdue, word_text};
 
 use capture::{Judged, Remark, Remarks};
 
@@ -28,6 +28,28 @@ pub enum Word {
     Leaving,
     /// `fault`: a datagram that is no PDU.
     Fault,
+}
+
+impl Word {
+    /// The word that a text is, or none.
+    pub fn named(text: &str) -> Option<Word>
+        ensures found { IfSome result (λ word. text.now ≡ word_text word) }
+        ensures only { (word : Word) → text.now ≡ word_text word → result ≡ Some word }
+    {
+        match text {
+            "opens" => Some(Word::Opens),
+            "repeat" => Some(Word::Repeat),
+            "ahead" => Some(Word::Ahead),
+            "late" => Some(Word::Late),
+            "stale" => Some(Word::Stale),
+            "anew" => Some(Word::Anew),
+            "resent" => Some(Word::Resent),
+            "age" => Some(Word::Age),
+            "reason" => Some(Word::Leaving),
+            "fault" => Some(Word::Fault),
+            _ => None,
+        }
+    }
 }
 
 /// Whether a line is printed where a word is asked for, or none; `t_max` in milliseconds.

@@ -1,6 +1,6 @@
 //! A capture, line by line.
 
-ghost use Rattle.std.specs.Prelude.{◌≡◌, ◌≤◌, None, take, OnOk, IfOk};
+ghost use Rattle.std.specs.Prelude.{◌≡◌, ◌≤◌, [], None, take, OnOk, IfOk};
 ghost use Rattle.std.specs.Io.KnownBytes.{Appends};
 ghost use Rattle.capture.specs.Hearing.{heard_of};
 ghost use Rattle.capture.specs.Lines.{line_of};
@@ -47,6 +47,9 @@ pub struct Course {
 impl Course {
     /// Nothing was read yet.
     pub fn new() -> Self
+        ensures connections { result.following.connections.items ≡ [] }
+        ensures damaged { result.following.damaged ≡ 0 }
+        ensures forgotten { result.following.forgotten ≡ 0 }
         ensures first { result.first ≡ None }
         ensures lines { result.lines ≡ 0 }
         ensures unreadable { result.unreadable ≡ 0 }

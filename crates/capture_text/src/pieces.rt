@@ -77,9 +77,3 @@ pub(crate) fn channel_name(route: usize) -> &'static str
         _ => " ch other",
     }
 }
-
-pub(crate) fn write_text<W: Write>(writer: &mut W, text: &str) -> io::Result<()>
-    ensures { OnOk result (Appends (W.contents writer.old) (W.contents writer.new) text.now) }
-{
-    writer.write_all(text.as_bytes())
-}

@@ -4,9 +4,10 @@ ghost use Rattle.std.specs.Prelude.{◌≡◌, OnOk};
 ghost use Rattle.std.specs.Io.KnownBytes.{Appends};
 ghost use Rattle.capture_text.specs.RecordText.{fault_text, fields_text, head_text, no_red_text, no_safe_text, number_text, pdu_text, record_text, red_fault_text, remark_text, safe_fault_text, way_text};
 
-use crate::pieces::{channel_name, write_address, write_ends, write_since, write_text};
+use crate::pieces::{channel_name, write_address, write_ends, write_since};
 use crate::remarks::write_remarks;
 use capture::{Header, Record, Remark, Remarks};
+use pdu_text::write_text;
 use red_pdu::RedFault;
 use safe_pdu::SafeFault;
 use std::io;

@@ -1,5 +1,14 @@
 //! Following a capture from a reader to its end.
 
+ghost use Rattle.std.specs.Prelude.{◌≡◌, ◌++◌, ◌+◌, OnOk, IfOk, IfSome, take, vec_len};
+ghost use Rattle.std.specs.Io.{StopsAt, appended_bytes};
+ghost use Rattle.std.specs.Io.BufRead.{ends_with_byte, strip_last, take_through};
+ghost use Rattle.std.specs.Io.KnownBytes.{Appends};
+ghost use Rattle.capture.specs.Lines.{line_of};
+ghost use Rattle.capture.specs.Numbers.{counted};
+ghost use Rattle.capture_text.specs.FaultText.{fault_text};
+ghost use Rattle.capture_text.specs.Steps.{connections_behind, fault_in, fault_lines, found_in, found_text, heard_line, payload_in, unreadable_behind, without_end};
+
 use crate::course::{Asked, Course, write_fault};
 use capture::{Buffer, LineFault, PAYLOAD_ROOM};
 use std::alloc::Allocator;
@@ -71,17 +80,10 @@ fn ran<R: Read + Drop, O: Write, E: Write, A: Allocator + Copy>(
         line.clear();
         match read_one(&mut reader, &mut line)? {
             Reading::End => break,
-            Reading::TooLong => {
-                course.pass_long();
-                tell(err, course.lines, LineFault::Long)?;
-            }
+            Reading::TooLong => take_long(&mut course, err)?,
             Reading::Line => {
                 let text = without_feed(line.as_slice());
-                match course.take_line(asked, text, &mut buffer, &mut writer) {
-                    Ok(None) => {}
-                    Ok(Some(fault)) => tell(err, course.lines, fault)?,
-                    Err(_) => return Err(Stop::Output),
-                }
+                take_text(&mut course, asked, text, &mut buffer, &mut writer, err)?;
             }
         }
     }
@@ -93,6 +95,51 @@ fn ran<R: Read + Drop, O: Write, E: Write, A: Allocator + Copy>(
         Ok(()) => Ok(course.unreadable),
         Err(_) => Err(Stop::Output),
     }
+}
+
+/// Takes a line without its line feed into account. What is printed of it goes to `writer`, and why it is no datagram to
+/// `err`.
+fn take_text<W: Write, E: Write>(
+    course: &mut Course,
+    asked: &Asked,
+    line: &[u8],
+    buffer: &mut Buffer,
+    writer: &mut W,
+    err: &mut E,
+) -> Result<(), Stop>
+    ensures lines { course.new.lines ≡ counted course.old.lines 1 }
+    ensures unreadable { course.new.unreadable ≡ unreadable_behind course.old.unreadable
+        (found_in course.old.following.connections.items (counted course.old.lines 1)
+        (heard_line asked.now.rule (line_of line.now))) }
+    ensures connections { course.new.following.connections.items
+        ≡ connections_behind course.old.following.connections.items (counted course.old.lines 1)
+        (heard_line asked.now.rule (line_of line.now)) }
+    ensures written { OnOk result (Appends (W.contents writer.old) (W.contents writer.new)
+        (found_text asked.now course.old.first (counted course.old.lines 1) (payload_in (line_of line.now))
+        (found_in course.old.following.connections.items (counted course.old.lines 1)
+        (heard_line asked.now.rule (line_of line.now))))) }
+    ensures told { OnOk result (Appends (E.contents err.old) (E.contents err.new)
+        (fault_lines (counted course.old.lines 1)
+        (fault_in (found_in course.old.following.connections.items (counted course.old.lines 1)
+        (heard_line asked.now.rule (line_of line.now)))))) }
+{
+    match course.take_line(asked, line, buffer, writer) {
+        Ok(None) => Ok(()),
+        Ok(Some(fault)) => tell(err, course.lines, fault),
+        Err(_) => Err(Stop::Output),
+    }
+}
+
+/// Takes a line into account that is too long to be kept.
+fn take_long<E: Write>(course: &mut Course, err: &mut E) -> Result<(), Stop>
+    ensures lines { course.new.lines ≡ counted course.old.lines 1 }
+    ensures unreadable { course.new.unreadable ≡ counted course.old.unreadable 1 }
+    ensures following { course.new.following ≡ course.old.following }
+    ensures told { OnOk result (Appends (E.contents err.old) (E.contents err.new)
+        (fault_text (counted course.old.lines 1) LineFault.Long)) }
+{
+    course.pass_long();
+    tell(err, course.lines, LineFault::Long)
 }
 
 /// What stands next in a capture.
@@ -109,8 +156,12 @@ enum Reading {
 fn read_one<R: BufRead, A: Allocator>(
     reader: &mut R,
     line: &mut Vec<u8, A>,
-) -> Result<Reading, Stop> {
-    match reader.by_ref().take(LINE_MAX).read_until(b'\n', line) {
+) -> Result<Reading, Stop>
+    ensures stops { OnOk result (StopsAt (appended_bytes line.old.items line.new.items) 10) }
+    ensures front { OnOk result (IfSome (R.remaining reader.old)
+        (λ octets. line.new.items ≡ line.old.items ++ take_through 10 (take LINE_MAX octets))) }
+{
+    match read_front(reader, line) {
         Ok(0) => return Ok(Reading::End),
         Ok(_) => {}
         Err(error) => return Err(stop_of(error)),
@@ -124,6 +175,19 @@ fn read_one<R: BufRead, A: Allocator>(
     }
 }
 
+/// Reads what stands up to the next line feed, with that, and no more than a line may have.
+fn read_front<R: BufRead, A: Allocator>(reader: &mut R, line: &mut Vec<u8, A>) -> io::Result<usize>
+    ensures size { IfOk result (λ size. vec_len line.new ≡ vec_len line.old + size) }
+    ensures stops { OnOk result (StopsAt (appended_bytes line.old.items line.new.items) 10) }
+    ensures front { OnOk result (IfSome (R.remaining reader.old)
+        (λ octets. line.new.items ≡ line.old.items ++ take_through 10 (take LINE_MAX octets))) }
+{
+    match Read::take(&mut *reader, LINE_MAX).read_until(b'\n', line) {
+        Ok(size) => Ok(size),
+        Err(error) => Err(error),
+    }
+}
+
 fn stop_of(error: io::Error) -> Stop {
     match error.kind() {
         ErrorKind::OutOfMemory => Stop::Memory,
@@ -132,7 +196,9 @@ fn stop_of(error: io::Error) -> Stop {
 }
 
 /// A line without its line feed, and without a carriage return before that.
-fn without_feed(line: &[u8]) -> &[u8] {
+fn without_feed(line: &[u8]) -> &[u8]
+    ensures { result.now ≡ without_end line.now }
+{
     match line {
         [text @ .., b'\r', b'\n'] => text,
         [text @ .., b'\n'] => text,
@@ -140,7 +206,9 @@ fn without_feed(line: &[u8]) -> &[u8] {
     }
 }
 
-fn tell<E: Write>(err: &mut E, number: u64, fault: LineFault) -> Result<(), Stop> {
+fn tell<E: Write>(err: &mut E, number: u64, fault: LineFault) -> Result<(), Stop>
+    ensures { OnOk result (Appends (E.contents err.old) (E.contents err.new) (fault_text number fault)) }
+{
     match write_fault(err, number, fault) {
         Ok(()) => Ok(()),
         Err(_) => Err(Stop::Output),

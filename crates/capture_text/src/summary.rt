@@ -3,13 +3,12 @@
 ghost use Rattle.std.specs.Prelude.{◌≡◌, ◌<◌, OnOk};
 ghost use Rattle.std.specs.Io.KnownBytes.{Appends};
 ghost use Rattle.capture.specs.Whole.{totals_of};
-ghost use Rattle.capture_text.specs.SummaryText.{all_text, connection_text, connections_text, counts_text, datagrams_of, datagrams_text, direction_text, ending_text, half_text, kinds_text, known_channel_text, last_text, maybe_channel_text, numbers_text, oldest_text, opening_text, place_text, places_text, reached_text, route_text, silence_text, sum_text, summary_text, tally_text, totals_text};
+ghost use Rattle.capture_text.specs.SummaryText.{all_text, connection_text, connections_text, counts_text, damaged_text, datagrams_of, datagrams_text, direction_text, ending_text, half_text, kinds_text, known_channel_text, last_text, maybe_channel_text, numbers_text, oldest_text, opening_text, place_text, places_text, reached_text, route_text, silence_text, sum_text, summary_text, tally_text, totals_text};
 
-use crate::pieces::{
-    channel_name, write_address, write_duration, write_ends, write_since, write_text,
-};
+use crate::pieces::{channel_name, write_address, write_duration, write_ends, write_since};
 use crate::reasons::write_reasons;
 use capture::{CHANNELS, Connection, Direction, Opening, Route, Tally, Totals, Window, sum_up};
+use pdu_text::write_text;
 use safe_pdu::Leaving;
 use std::io;
 use std::io::Write;
@@ -264,6 +263,7 @@ fn write_place<W: Write>(
         place,
         routes[place],
         &direction.channels[place],
+        direction.damaged[place],
     )
 }
 
@@ -273,13 +273,14 @@ fn write_maybe_channel<W: Write>(
     place: usize,
     route: Option<Route>,
     window: &Window,
+    damaged: u64,
 ) -> io::Result<()>
     ensures { OnOk result (Appends (W.contents writer.old) (W.contents writer.new)
-        (maybe_channel_text ends.0 ends.1 place route window.now)) }
+        (maybe_channel_text ends.0 ends.1 place route window.now damaged)) }
 {
     match route {
         None => Ok(()),
-        Some(route) => write_channel(writer, ends, place, route, window),
+        Some(route) => write_channel(writer, ends, place, route, window, damaged),
     }
 }
 
@@ -290,16 +291,24 @@ fn write_channel<W: Write>(
     place: usize,
     route: Route,
     window: &Window,
+    damaged: u64,
 ) -> io::Result<()>
     ensures { OnOk result (Appends (W.contents writer.old) (W.contents writer.new)
-        (known_channel_text ends.0 ends.1 place route window.now)) }
+        (known_channel_text ends.0 ends.1 place route window.now damaged)) }
 {
     write_sum(writer, ends, place)?;
     write_route(writer, route)?;
     write_datagrams(writer, window)?;
     write_numbers(writer, window)?;
-    write_text(writer, "\n")?;
-    Ok(())
+    write_damaged(writer, damaged)
+}
+
+/// Writes how many datagrams on a channel were no PDU, and ends the line.
+#[tactic(auto, unfolding(crate::specs::SummaryText::damaged_text))]
+fn write_damaged<W: Write>(writer: &mut W, damaged: u64) -> io::Result<()>
+    ensures { OnOk result (Appends (W.contents writer.old) (W.contents writer.new) (damaged_text damaged)) }
+{
+    writeln!(writer, " damaged {damaged}")
 }
 
 #[tactic(auto, unfolding(crate::specs::SummaryText::route_text))]
@@ -307,9 +316,9 @@ fn write_route<W: Write>(writer: &mut W, route: Route) -> io::Result<()>
     ensures { OnOk result (Appends (W.contents writer.old) (W.contents writer.new) (route_text route)) }
 {
     write_text(writer, " ")?;
-    write_address(writer, route.near)?;
+    write_address(writer, route.low)?;
     write_text(writer, "-")?;
-    write_address(writer, route.far)
+    write_address(writer, route.high)
 }
 
 #[tactic(auto, unfolding(crate::specs::SummaryText::sum_text))]

@@ -296,3 +296,67 @@ fn opens_again(rt: HostRuntime) {
     };
     assert_eq!(rt; sum_up(all.connections.as_slice()), wanted);
 }
+
+// A client that heard nothing leaves directly behind its ConnReq and confirms nothing; a later DiscReq confirms.
+#[test]
+fn ages_no_goodbye_that_confirms_nothing(rt: HostRuntime) {
+    let mut all = Following::new();
+    let server = Heard::Pdu(9, leaving((2, 1), u32::MAX, (1900, 0)));
+    let _remark = all.hear(1, &record(1, 0, true), &server);
+    let _remark = all.hear(2, &record(2, 0, false), &opening(0, u32::MAX, 1600));
+    let unheard = told(all.hear(
+        3,
+        &record(3, 0, false),
+        &Heard::Pdu(1, leaving((1, 2), 0, (1950, 0))),
+    ));
+    assert!(rt; unheard.is_some_and(|remarks| remarks.age.is_none()));
+    let heard = told(all.hear(
+        4,
+        &record(4, 0, false),
+        &Heard::Pdu(2, leaving((1, 2), 1, (1960, 0))),
+    ));
+    assert!(rt; heard.is_some_and(|remarks| remarks.age == Some(1900)));
+}
+
+/// A DiscReq of an end.
+fn leaving(ends: (u32, u32), sn: u32, stamps: (u32, u32)) -> Header {
+    let (sender, receiver) = ends;
+    let (ts, cts) = stamps;
+    Header {
+        kind: Kind::DiscReq,
+        receiver,
+        sender,
+        sn,
+        cs: 0,
+        ts,
+        cts,
+        leaving: None,
+    }
+}
+
+// A datagram that is no PDU counts on its channel, for the end whose address sent it; where two connections have that
+// channel the one heard last counts it, and on an unknown pair of addresses none does.
+#[test]
+fn counts_damage_by_channel(rt: HostRuntime) {
+    let mut all = Following::new();
+    let _remark = all.hear(1, &record(1, 0, false), &pdu(0, (1, 2), 10, (100, 0)));
+    let _remark = all.hear(2, &record(2, 1, true), &pdu(0, (2, 1), 20, (200, 100)));
+    let _remark = all.hear(3, &record(3, 3, false), &pdu(1, (1, 2), 11, (110, 0)));
+    let _remark = all.hear(4, &record(4, 1, true), &pdu(0, (5, 4), 30, (300, 0)));
+    let broken = Heard::NoRed(RedFault::Length);
+    let _remark = all.hear(5, &record(5, 0, true), &broken);
+    let _remark = all.hear(6, &record(6, 1, false), &broken);
+    let _remark = all.hear(7, &record(7, 1, false), &broken);
+    let _remark = all.hear(8, &record(8, 2, false), &broken);
+    let _remark = all.hear(9, &record(9, 3, false), &broken);
+    assert_eq!(rt; all.damaged, 5);
+    match all.connections.as_slice() {
+        [first, second] => {
+            assert_eq!(rt; first.from_low.damaged, [0, 0, 1, 0]);
+            assert_eq!(rt; first.from_high.damaged, [1, 0, 0, 0]);
+            assert_eq!(rt; second.from_low.damaged, [2, 0, 0, 0]);
+            assert_eq!(rt; second.from_high.damaged, [0, 0, 0, 0]);
+        }
+        _ => assert!(rt; false),
+    }
+}

@@ -27,6 +27,25 @@ struct Pdu {
     body: &'static str,
 }
 
+fn plain(kind: u16, seq: u32, numbers: (u32, u32), stamps: (u32, u32), body: &'static str) -> Pdu {
+    Pdu {
+        seq,
+        kind,
+        numbers,
+        stamps,
+        body,
+    }
+}
+
+/// A Data with one unit.
+fn data(seq: u32, numbers: (u32, u32), stamps: (u32, u32)) -> Pdu {
+    plain(6240, seq, numbers, stamps, UNIT)
+}
+
+fn heartbeat(seq: u32, numbers: (u32, u32), stamps: (u32, u32)) -> Pdu {
+    plain(6220, seq, numbers, stamps, "")
+}
+
 /// Puts the front of a line: the time in microseconds, and the addresses of a channel, from the first end or back.
 fn put_front<A: Allocator>(
     lines: &mut Vec<u8, A>,
@@ -89,34 +108,16 @@ fn asked(length: CodeLength, only: Option<Word>) -> Asked {
 // Two channels, of which the second loses a heartbeat.
 #[test]
 fn loses_on_one_channel(rt: HostRuntime) -> Result<(), Fail> {
-    let opens = Pdu {
-        seq: 0,
-        kind: 6200,
-        numbers: (100, 0),
-        stamps: (1000, 0),
-        body: "3033303320000000000000000000",
-    };
-    let granted = Pdu {
-        seq: 0,
-        kind: 6201,
-        numbers: (500, 100),
-        stamps: (7000, 1000),
-        body: "3033303320000000000000000000",
-    };
-    let first = Pdu {
-        seq: 1,
-        kind: 6220,
-        numbers: (101, 500),
-        stamps: (1020, 7000),
-        body: "",
-    };
-    let second = Pdu {
-        seq: 2,
-        kind: 6220,
-        numbers: (102, 500),
-        stamps: (1030, 7000),
-        body: "",
-    };
+    let opens = plain(6200, 0, (100, 0), (1000, 0), "3033303320000000000000000000");
+    let granted = plain(
+        6201,
+        0,
+        (500, 100),
+        (7000, 1000),
+        "3033303320000000000000000000",
+    );
+    let first = heartbeat(1, (101, 500), (1020, 7000));
+    let second = heartbeat(2, (102, 500), (1030, 7000));
     let mut lines = Vec::new(rt.alloc());
     put(&mut lines, 0, 0, false, opens)?;
     put(&mut lines, 50, 1, false, opens)?;
@@ -140,12 +141,12 @@ fn loses_on_one_channel(rt: HostRuntime) -> Result<(), Fail> {
 0.030040 line 7 1->2 ch 2 red 2 HB sn 102 cs 500 ts 1030 cts 7000 channel ahead 1 all repeat of line 6 age 0 ms
 sum 1->2 opened by ConnReq times 1 PDUs 3 missing 0 repeats 2 stale 0 heartbeats 2 requests 0 resent 0 \
 silence 0.020000 age 0 of 1800 last 0.030000 no DiscReq
-sum 1->2 ch 1 10.0.0.1:8001-10.0.0.2:8002 datagrams 3 PDUs 3 missing 0 repeats 0 stale 0
-sum 1->2 ch 2 10.0.1.1:8001-10.0.1.2:8002 datagrams 2 PDUs 2 missing 1 repeats 0 stale 0
+sum 1->2 ch 1 10.0.0.1:8001-10.0.0.2:8002 datagrams 3 PDUs 3 missing 0 repeats 0 stale 0 damaged 0
+sum 1->2 ch 2 10.0.1.1:8001-10.0.1.2:8002 datagrams 2 PDUs 2 missing 1 repeats 0 stale 0 damaged 0
 sum 2->1 opened by ConnResp times 1 PDUs 1 missing 0 repeats 1 stale 0 heartbeats 0 requests 0 resent 0 \
 silence 0.000000 age 0 of 1800 last 0.010000 no DiscReq
-sum 2->1 ch 1 10.0.0.1:8001-10.0.0.2:8002 datagrams 1 PDUs 1 missing 0 repeats 0 stale 0
-sum 2->1 ch 2 10.0.1.1:8001-10.0.1.2:8002 datagrams 1 PDUs 1 missing 0 repeats 0 stale 0
+sum 2->1 ch 1 10.0.0.1:8001-10.0.0.2:8002 datagrams 1 PDUs 1 missing 0 repeats 0 stale 0 damaged 0
+sum 2->1 ch 2 10.0.1.1:8001-10.0.1.2:8002 datagrams 1 PDUs 1 missing 0 repeats 0 stale 0 damaged 0
 sum all PDUs 4 missing 0 repeats 3 damaged 0 forgotten 0 unreadable 0
 ";
     assert!(rt; out.as_slice() == wanted.as_bytes());
@@ -156,41 +157,11 @@ sum all PDUs 4 missing 0 repeats 3 damaged 0 forgotten 0 unreadable 0
 // A unit is lost on both channels, asked for and sent again.
 #[test]
 fn asks_again(rt: HostRuntime) -> Result<(), Fail> {
-    let unit = Pdu {
-        seq: 10,
-        kind: 6240,
-        numbers: (200, 600),
-        stamps: (2000, 8000),
-        body: UNIT,
-    };
-    let beat = Pdu {
-        seq: 12,
-        kind: 6220,
-        numbers: (202, 600),
-        stamps: (2020, 8000),
-        body: "",
-    };
-    let request = Pdu {
-        seq: 30,
-        kind: 6212,
-        numbers: (601, 200),
-        stamps: (8030, 2000),
-        body: "",
-    };
-    let answer = Pdu {
-        seq: 13,
-        kind: 6213,
-        numbers: (203, 601),
-        stamps: (2040, 8030),
-        body: "",
-    };
-    let again = Pdu {
-        seq: 14,
-        kind: 6241,
-        numbers: (204, 601),
-        stamps: (2041, 8030),
-        body: UNIT,
-    };
+    let unit = data(10, (200, 600), (2000, 8000));
+    let beat = heartbeat(12, (202, 600), (2020, 8000));
+    let request = plain(6212, 30, (601, 200), (8030, 2000), "");
+    let answer = plain(6213, 13, (203, 601), (2040, 8030), "");
+    let again = plain(6241, 14, (204, 601), (2041, 8030), UNIT);
     let mut lines = Vec::new(rt.alloc());
     put(&mut lines, 0, 0, false, unit)?;
     put(&mut lines, 100, 1, false, unit)?;
@@ -212,12 +183,12 @@ fn asks_again(rt: HostRuntime) -> Result<(), Fail> {
 0.041000 line 6 1->2 ch 1 red 14 RetrData sn 204 cs 601 ts 2041 cts 8030 resent age 0 ms
 sum 1->2 opening not seen PDUs 4 missing 1 repeats 1 stale 0 heartbeats 1 requests 0 resent 1 \
 silence 0.020000 age 0 of 1800 last 0.041000 no DiscReq
-sum 1->2 ch 1 10.0.0.1:8001-10.0.0.2:8002 datagrams 4 PDUs 4 missing 1 repeats 0 stale 0
-sum 1->2 ch 2 10.0.1.1:8001-10.0.1.2:8002 datagrams 1 PDUs 1 missing 0 repeats 0 stale 0
+sum 1->2 ch 1 10.0.0.1:8001-10.0.0.2:8002 datagrams 4 PDUs 4 missing 1 repeats 0 stale 0 damaged 0
+sum 1->2 ch 2 10.0.1.1:8001-10.0.1.2:8002 datagrams 1 PDUs 1 missing 0 repeats 0 stale 0 damaged 0
 sum 2->1 opening not seen PDUs 1 missing 0 repeats 0 stale 0 heartbeats 0 requests 1 resent 0 \
 silence 0.000000 age 20 of 1800 last 0.030000 no DiscReq
-sum 2->1 ch 1 10.0.0.1:8001-10.0.0.2:8002 datagrams 1 PDUs 1 missing 0 repeats 0 stale 0
-sum 2->1 ch 2 10.0.1.1:8001-10.0.1.2:8002 datagrams 0 PDUs 0 missing 0 repeats 0 stale 0
+sum 2->1 ch 1 10.0.0.1:8001-10.0.0.2:8002 datagrams 1 PDUs 1 missing 0 repeats 0 stale 0 damaged 0
+sum 2->1 ch 2 10.0.1.1:8001-10.0.1.2:8002 datagrams 0 PDUs 0 missing 0 repeats 0 stale 0 damaged 0
 sum all PDUs 5 missing 1 repeats 1 damaged 0 forgotten 0 unreadable 0
 ";
     assert!(rt; out.as_slice() == wanted.as_bytes());
@@ -227,41 +198,11 @@ sum all PDUs 5 missing 1 repeats 1 damaged 0 forgotten 0 unreadable 0
 // Nothing recent is confirmed in time, so an end leaves, and the other opens again; old ages alone are printed.
 #[test]
 fn leaves_and_opens_again(rt: HostRuntime) -> Result<(), Fail> {
-    let beat = Pdu {
-        seq: 5,
-        kind: 6220,
-        numbers: (300, 700),
-        stamps: (5000, 9000),
-        body: "",
-    };
-    let back = Pdu {
-        seq: 8,
-        kind: 6220,
-        numbers: (701, 300),
-        stamps: (9100, 5000),
-        body: "",
-    };
-    let slow = Pdu {
-        seq: 6,
-        kind: 6220,
-        numbers: (301, 701),
-        stamps: (6801, 9100),
-        body: "",
-    };
-    let leaves = Pdu {
-        seq: 9,
-        kind: 6216,
-        numbers: (702, 300),
-        stamps: (10_950, 5000),
-        body: "00000300",
-    };
-    let opens = Pdu {
-        seq: 0,
-        kind: 6200,
-        numbers: (42, 0),
-        stamps: (8000, 0),
-        body: "3033303320000000000000000000",
-    };
+    let beat = heartbeat(5, (300, 700), (5000, 9000));
+    let back = heartbeat(8, (701, 300), (9100, 5000));
+    let slow = heartbeat(6, (301, 701), (6801, 9100));
+    let leaves = plain(6216, 9, (702, 300), (10_950, 5000), "00000300");
+    let opens = plain(6200, 0, (42, 0), (8000, 0), "3033303320000000000000000000");
     let mut lines = Vec::new(rt.alloc());
     put(&mut lines, 0, 0, false, beat)?;
     put(&mut lines, 100_000, 0, true, back)?;
@@ -277,10 +218,10 @@ fn leaves_and_opens_again(rt: HostRuntime) -> Result<(), Fail> {
 1.850000 line 4 2->1 ch 1 red 9 DiscReq sn 702 cs 300 ts 10950 cts 5000 age 1801 ms reason 3 timeout detail 0
 sum 1->2 opened by ConnReq times 1 PDUs 3 missing 0 repeats 0 stale 0 heartbeats 2 requests 0 resent 0 \
 silence 1.801000 age 0 of 1800 last 3.000000 no DiscReq
-sum 1->2 ch 1 10.0.0.1:8001-10.0.0.2:8002 datagrams 3 PDUs 3 missing 0 repeats 0 stale 0
+sum 1->2 ch 1 10.0.0.1:8001-10.0.0.2:8002 datagrams 3 PDUs 3 missing 0 repeats 0 stale 0 damaged 0
 sum 2->1 opening not seen PDUs 2 missing 0 repeats 0 stale 0 heartbeats 1 requests 0 resent 0 \
 silence 1.750000 age 1801 of 1800 reached last 1.850000 DiscReq reason 3 timeout detail 0
-sum 2->1 ch 1 10.0.0.1:8001-10.0.0.2:8002 datagrams 2 PDUs 2 missing 0 repeats 0 stale 0
+sum 2->1 ch 1 10.0.0.1:8001-10.0.0.2:8002 datagrams 2 PDUs 2 missing 0 repeats 0 stale 0 damaged 0
 sum all PDUs 5 missing 0 repeats 0 damaged 0 forgotten 0 unreadable 0
 ";
     assert!(rt; out.as_slice() == wanted.as_bytes());
@@ -312,10 +253,10 @@ fn names_what_is_forged(rt: HostRuntime) -> Result<(), Fail> {
 0.000500 line 2 10.0.0.1:8001->10.0.0.2:8002 red 8 safe fault 3 Code
 sum 1->2 opening not seen PDUs 1 missing 0 repeats 0 stale 0 heartbeats 1 requests 0 resent 0 \
 silence 0.000000 age 0 of 1800 last 0.000000 no DiscReq
-sum 1->2 ch 1 10.0.0.1:8001-10.0.0.2:8002 datagrams 1 PDUs 1 missing 0 repeats 0 stale 0
+sum 1->2 ch 1 10.0.0.1:8001-10.0.0.2:8002 datagrams 1 PDUs 1 missing 0 repeats 0 stale 0 damaged 1
 sum 2->1 opening not seen PDUs 0 missing 0 repeats 0 stale 0 heartbeats 0 requests 0 resent 0 \
 silence 0.000000 age 0 of 1800 not heard no DiscReq
-sum 2->1 ch 1 10.0.0.1:8001-10.0.0.2:8002 datagrams 0 PDUs 0 missing 0 repeats 0 stale 0
+sum 2->1 ch 1 10.0.0.1:8001-10.0.0.2:8002 datagrams 0 PDUs 0 missing 0 repeats 0 stale 0 damaged 0
 sum all PDUs 1 missing 0 repeats 0 damaged 1 forgotten 0 unreadable 1
 ";
     assert!(rt; out.as_slice() == wanted.as_bytes());
@@ -362,20 +303,8 @@ reason 4 service not allowed detail 3 not of this pair";
 // The telegrams of a datagram stand behind its line, as `show` has them: here a unit of zeros, which is none.
 #[test]
 fn prints_telegrams(rt: HostRuntime) -> Result<(), Fail> {
-    let unit = Pdu {
-        seq: 10,
-        kind: 6240,
-        numbers: (200, 600),
-        stamps: (2000, 8000),
-        body: UNIT,
-    };
-    let beat = Pdu {
-        seq: 11,
-        kind: 6220,
-        numbers: (201, 600),
-        stamps: (2020, 8000),
-        body: "",
-    };
+    let unit = data(10, (200, 600), (2000, 8000));
+    let beat = heartbeat(11, (201, 600), (2020, 8000));
     let mut lines = Vec::new(rt.alloc());
     put(&mut lines, 0, 0, false, unit)?;
     put(&mut lines, 20_000, 0, false, beat)?;

@@ -12,7 +12,6 @@ ghost use Rattle.deferral.specs.FiniteMap.{Rises, put_in, take_out, part_under, 
 use std::alloc::{AllocError, Allocator, Global};
 use std::marker::Model;
 
-
 /// A finite map from sequence numbers to parts, of as many numbers as it has places.
 ///
 /// The places stand in no order. A freed one is used again, and a part that waits is never moved.

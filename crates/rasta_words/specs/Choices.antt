@@ -6,7 +6,7 @@ use Rattle.std.specs.Str.Parse.{IsNumeral, digits_value, without_leading_plus}
 use Rattle.clap.specs.Words.{App, Row, Rule, Text, first_of, new_app, new_rule, with_rule}
 use Rattle.clap.specs.declared.builder.action.ArgAction.TheVariants.{SetTrue}
 use Rattle.capture_text.specs.declared.choice.Word.{Word as Remarkable}
-use Rattle.capture_text.specs.declared.choice.Word.TheVariants.{Opens, Repeat, Ahead, Late, Stale, Anew, Resent, Age, Leaving, Fault}
+use Rattle.capture_text.specs.Choice.{word_text}
 use Rattle.safe_pdu.specs.declared.CodeLength.{CodeLength}
 use Rattle.safe_pdu.specs.declared.CodeLength.TheVariants.{Zero, Eight, Sixteen}
 use Rattle.rasta_words.specs.declared.command_line.Following.{Following}
@@ -59,21 +59,9 @@ is_flagged None = false
 is_flagged (Some word) = bytes_eq word (codes "true")
 
 -- how a remark is written by which lines are chosen
-abbrev pub remark_word : Remarkable → Text
-remark_word Opens = codes "opens"
-remark_word Repeat = codes "repeat"
-remark_word Ahead = codes "ahead"
-remark_word Late = codes "late"
-remark_word Stale = codes "stale"
-remark_word Anew = codes "anew"
-remark_word Resent = codes "resent"
-remark_word Age = codes "age"
-remark_word Leaving = codes "reason"
-remark_word Fault = codes "fault"
-
 abbrev pub IsWritten : Text → Option Remarkable → Type 0
 IsWritten word None = ⊥
-IsWritten word (Some remark) = word ≡ remark_word remark
+IsWritten word (Some remark) = word ≡ word_text remark
 
 -- all lines, where no remark is written
 abbrev pub IsRemarkChosen : Option Text → Option Remarkable → Type 0

@@ -5,7 +5,7 @@ ghost use Rattle.std.specs.Option.{option_copied};
 ghost use Rattle.clap.specs.declared.Command.TheViews.{out-Command};
 ghost use Rattle.clap.specs.Words.{app_of, fault_of, first_of, found_of, rows_of, subcommand_of, subcommand_rows_of};
 ghost use Rattle.rasta_words.specs.CommandLine.{Asks, FindsNone, HasEntries, HasNoEntries, IsFaultOf, IsFound, IsTurns, Refuses, coded_app, ends_word, file_app, local_app, md4_app, net_app, plain_app, rasta_app, show_app, sim_app};
-ghost use Rattle.rasta_words.specs.Choices.{HasChoices, HasNoChoices, IsAgeChosen, IsCodeChosen, IsMilliseconds, IsRemarkChosen, chosen_app, code_word, follow_app, is_flagged, limited_app, remark_word, telling_app};
+ghost use Rattle.rasta_words.specs.Choices.{HasChoices, HasNoChoices, IsAgeChosen, IsCodeChosen, IsMilliseconds, IsRemarkChosen, chosen_app, code_word, follow_app, is_flagged, limited_app, telling_app};
 
 use capture_text::Word as Remarkable;
 use clap::{Arg, ArgAction, ArgMatches, Command};
@@ -191,26 +191,7 @@ fn chosen_remark(word: Option<&str>) -> Option<Option<Remarkable>>
 {
     match word {
         None => Some(None),
-        Some(word) => Some(Some(remarkable(word)?)),
-    }
-}
-
-fn remarkable(word: &str) -> Option<Remarkable>
-    ensures found { IfSome result (λ remark. word.now ≡ remark_word remark) }
-    ensures only { (remark : Remarkable) → word.now ≡ remark_word remark → result ≡ Some remark }
-{
-    match word {
-        "opens" => Some(Remarkable::Opens),
-        "repeat" => Some(Remarkable::Repeat),
-        "ahead" => Some(Remarkable::Ahead),
-        "late" => Some(Remarkable::Late),
-        "stale" => Some(Remarkable::Stale),
-        "anew" => Some(Remarkable::Anew),
-        "resent" => Some(Remarkable::Resent),
-        "age" => Some(Remarkable::Age),
-        "reason" => Some(Remarkable::Leaving),
-        "fault" => Some(Remarkable::Fault),
-        _ => None,
+        Some(word) => Some(Some(Remarkable::named(word)?)),
     }
 }
 
