@@ -9,7 +9,7 @@ use Rattle.safe_machine.specs.Made.{Made, opening_body}
 use Rattle.safe_machine.specs.Settings.{Settings}
 use Rattle.safe_machine.specs.State.{unconfirmed}
 use Rattle.safe_machine.specs.Decision.{decide, distance}
-use Rattle.safe_machine.specs.declared.decision.Decision.TheVariants.{AnswersEarly}
+use Rattle.safe_machine.specs.declared.arrival.Decision.TheVariants.{AnswersEarly}
 use Rattle.safe_machine.specs.World.Side.{Il, Fe}
 use Rattle.safe_machine.specs.World.{World, Event, start, happens, Genuine, GenuineEvent, Timely, TimelyEvent}
 use Rattle.safe_machine.specs.World.Event.{Open, Send, Tick, Arrive}

@@ -14,9 +14,9 @@ use Rattle.safe_machine.specs.Numbers.{sn_of, ahead}
 use Rattle.safe_machine.specs.Made.{Made, opening_body, leaving_body}
 use Rattle.safe_machine.specs.Settings.{Settings}
 use Rattle.safe_machine.specs.State.{State, opened, leave}
-use Rattle.safe_machine.specs.declared.decision.Decision.{Decision}
+use Rattle.safe_machine.specs.declared.arrival.Decision.{Decision}
 use Rattle.safe_machine.specs.Decision.{decide}
-use Rattle.safe_machine.specs.declared.decision.Decision.TheVariants.{Nothing, Drops, Shuts, Leaves, Rejects, Accepts, Connects, Takes, Asks, Resumes, AnswersNext, AnswersEarly}
+use Rattle.safe_machine.specs.declared.arrival.Decision.TheVariants.{Nothing, Drops, Shuts, Leaves, Rejects, Accepts, Connects, Takes, Asks, Resumes, AnswersNext, AnswersEarly}
 use Rattle.safe_machine.specs.Step.{arrive, arrive_answer, send, tick}
 use Rattle.safe_machine.specs.World.Side.{Il, Fe}
 use Rattle.safe_machine.specs.World.{Event, start, run, Genuine}

@@ -6,8 +6,8 @@ use Rattle.safe_pdu.specs.declared.Kind.TheVariants.{ConnReq, ConnResp, DiscReq}
 use Rattle.safe_machine.specs.declared.ConnectionState.{ConnectionState}
 use Rattle.safe_machine.specs.declared.ConnectionState.TheVariants.{Closed, Down, Start}
 use Rattle.safe_machine.specs.declared.DropCause.TheVariants.{Stranger, NotOpened, Number, Request, Answered, Below}
-use Rattle.safe_machine.specs.declared.decision.Decision.{Decision}
-use Rattle.safe_machine.specs.declared.decision.Decision.TheVariants.{Nothing, Drops, Shuts, Leaves, Rejects, Accepts, Connects, Takes, Asks, Resumes, AnswersNext, AnswersEarly}
+use Rattle.safe_machine.specs.declared.arrival.Decision.{Decision}
+use Rattle.safe_machine.specs.declared.arrival.Decision.TheVariants.{Nothing, Drops, Shuts, Leaves, Rejects, Accepts, Connects, Takes, Asks, Resumes, AnswersNext, AnswersEarly}
 use Rattle.safe_machine.specs.declared.Step.{Step as Outcome}
 use Rattle.safe_machine.specs.declared.Step.TheVariants.{Taken, Dropped, Gap, Left, Nothing as NoAnswer}
 use Rattle.safe_machine.specs.Made.{our_version}
@@ -20,9 +20,9 @@ use Rattle.safe_machine.specs.State.{State}
 use Rattle.safe_machine.specs.View.{View}
 use Rattle.safe_machine.specs.Connections.{in_turn, is_closed}
 pub use Rattle.safe_machine.specs.Connections.{in_turn, is_closed}
-use Rattle.safe_machine.specs.declared.table.Cell.{Cell}
+use Rattle.safe_machine.specs.declared.arrival.Cell.{Cell}
 use Rattle.safe_machine.specs.Table.{cell}
-use Rattle.safe_machine.specs.declared.table.Cell.TheVariants.{Take, Ask, Answer, Resume, Refuse, Skip}
+use Rattle.safe_machine.specs.declared.arrival.Cell.TheVariants.{Take, Ask, Answer, Resume, Refuse, Skip}
 use Rattle.safe_machine.specs.declared.Reason.TheVariants.{UnexpectedPdu, WrongVersion, RetransmissionImpossible, ProtocolError}
 use Rattle.safe_machine.specs.declared.Detail.TheVariants.{Unspecified, ConfirmedNumber, ConfirmedTimestamp}
 

@@ -9,14 +9,14 @@ use Rattle.safe_machine.specs.Made.{opening_body, leaving_body, carries}
 use Rattle.safe_machine.specs.State.{State, unconfirmed, make, move_to, pass, hand_up, note_request, reply, ask, leave}
 use Rattle.safe_machine.specs.declared.Step.{Step as Outcome}
 use Rattle.safe_machine.specs.declared.Step.TheVariants.{Left}
-use Rattle.safe_machine.specs.declared.decision.Decision.{Decision}
+use Rattle.safe_machine.specs.declared.arrival.Decision.{Decision}
 use Rattle.safe_machine.specs.Connections.{in_turn}
 pub use Rattle.safe_machine.specs.Connections.{is_live, is_connected}
 use Rattle.safe_machine.specs.View.{View, kept_of}
 use Rattle.safe_machine.specs.Decision.{answer_of, cs_step, cts_step, decide, distance}
 use Rattle.safe_machine.specs.Deadlines.{beat_due, by_guard}
 pub use Rattle.safe_machine.specs.Made.{last_time}
-use Rattle.safe_machine.specs.declared.decision.Decision.TheVariants.{Nothing, Drops, Shuts, Leaves, Rejects, Accepts, Connects, Takes, Asks, Resumes, AnswersNext, AnswersEarly}
+use Rattle.safe_machine.specs.declared.arrival.Decision.TheVariants.{Nothing, Drops, Shuts, Leaves, Rejects, Accepts, Connects, Takes, Asks, Resumes, AnswersNext, AnswersEarly}
 use Rattle.safe_machine.specs.declared.Reason.TheVariants.{WrongVersion}
 use Rattle.safe_machine.specs.declared.Detail.TheVariants.{Unspecified}
 

@@ -1,11 +1,13 @@
-//! What comes: the guard, the decision, and what is done by it.
+//! What comes: it is heard behind the guard, then decided on, and then what was decided is done.
 
 ghost use Rattle.std.specs.Prelude.{◌≡◌, ◌+◌, ◌<◌, ◌≤◌, ◌^◌, [], ◌∷◌, Err};
 ghost use Rattle.std.specs.List.{FoldsTo};
 ghost use Rattle.safe_pdu.specs.Pdu.{Pdu, pdu_of};
 ghost use Rattle.safe_pdu.specs.Bodies.{IsBody};
 ghost use Rattle.safe_machine.specs.State.{State};
-ghost use Rattle.safe_machine.specs.Decision.{answer_of, decide};
+ghost use Rattle.safe_machine.specs.Decision.{answer_of, decide, cs_step, cts_step, distance, answering, as_client, by_cell, by_connection, by_table, by_sender, in_down, in_start, is_ours, is_foreign, tested, cs_fits, cts_fits, unconfirming};
+ghost use Rattle.safe_machine.specs.Table.{cell, request_row, run_row, start_row, up_row};
+ghost use Rattle.safe_machine.specs.Numbers.{ahead};
 ghost use Rattle.safe_machine.specs.Octets.{arrive_octets, heard_answer};
 ghost use Rattle.safe_machine.specs.Properties.{HandsIf, IsNextData, IsRecent, OnlyConfirms, index_step};
 ghost use Rattle.safe_machine.specs.Reached.{IsReached, Known};
@@ -16,11 +18,13 @@ ghost use Rattle.safe_machine.specs.Step.{arrive, arrive_answer, carry_out, guar
 ghost use Rattle.safe_machine.specs.View.{HandsUp, StandsFor};
 ghost use Rattle.safe_machine.specs.inner.Doing.{Does};
 ghost use Rattle.safe_machine.specs.inner.Allows.{Allows, handed_by};
+ghost use Rattle.safe_machine.specs.declared.arrival.Decision.TheVariants.{Accepts, AnswersEarly, Asks, Connects, Rejects, Resumes, Takes};
+ghost use Rattle.safe_machine.specs.declared.Role.TheVariants.{Client};
 
-use super::decision::Decision;
-use super::endpoint::Endpoint;
-use super::{ConnectionState, Detail, DropCause, PduOut, Reason, Step, UnitIn};
-use safe_pdu::{SafeFault, SafePdu, decode};
+use super::endpoint::{Endpoint, VERSION, low};
+use super::{ConnectionState, Detail, DropCause, PduOut, Reason, Role, Step, UnitIn};
+use octets::limits::REACH;
+use safe_pdu::{Kind, SafeFault, SafePdu, decode, read_opening};
 use std::alloc::Allocator;
 
 impl<A: Allocator> Endpoint<A> {
@@ -48,15 +52,14 @@ impl<A: Allocator> Endpoint<A> {
             (IsRecent (safe_seen self.old.settings.rule octets.now) now self.old) }
         ensures ready { U.ready units.new }
     {
-        let rule = self.rule();
-        match decode(octets, &rule) {
+        match decode(octets, &self.config.rule) {
             Ok(pdu) => self.arrive(&pdu, now, out, units),
             Err(fault) => self.arrive_fault(fault, now, out),
         }
     }
 
     /// The guard, and then what a PDU brings.
-    pub(crate) fn arrive<O: PduOut, U: UnitIn>(
+    fn arrive<O: PduOut, U: UnitIn>(
         &mut self,
         pdu: &SafePdu<'_>,
         now: u64,
@@ -105,6 +108,190 @@ impl<A: Allocator> Endpoint<A> {
         decision.answer()
     }
 
+    /// What the end decides.
+    fn decide(&self, pdu: &SafePdu<'_>, now: u64) -> Decision
+        requires body { IsBody pdu.now.kind pdu.now.body.now }
+        requires reach { self.now.expected < 2 ^ 62 }
+        ensures { result ≡ decide self.now (pdu_of pdu.now) now }
+    {
+        if self.connection == ConnectionState::Closed {
+            return Decision::Nothing;
+        }
+        self.by_sender(pdu, now)
+    }
+
+    /// What an end that is not closed decides.
+    fn by_sender(&self, pdu: &SafePdu<'_>, now: u64) -> Decision
+        requires body { IsBody pdu.now.kind pdu.now.body.now }
+        requires reach { self.now.expected < 2 ^ 62 }
+        ensures { result ≡ by_sender self.now (pdu_of pdu.now) now }
+    {
+        if self.is_foreign(pdu) {
+            return Decision::Drops(DropCause::Stranger);
+        }
+        self.by_connection(pdu, now)
+    }
+
+    /// Whether it is not of this pair of ends.
+    fn is_foreign(&self, pdu: &SafePdu<'_>) -> bool
+        ensures { result ≡ is_foreign self.now.settings (pdu_of pdu.now) }
+    {
+        pdu.receiver != self.config.own || pdu.sender != self.config.peer
+    }
+
+    /// What an end decides by its state.
+    fn by_connection(&self, pdu: &SafePdu<'_>, now: u64) -> Decision
+        requires body { IsBody pdu.now.kind pdu.now.body.now }
+        requires reach { self.now.expected < 2 ^ 62 }
+        ensures { result ≡ by_connection self.now (pdu_of pdu.now) now self.now.connection }
+    {
+        let is_goodbye = matches!(pdu.kind, Kind::DiscReq);
+        match self.connection {
+            ConnectionState::Closed => Decision::Nothing,
+            ConnectionState::Down => in_down(pdu),
+            _ if is_goodbye => Decision::Shuts,
+            ConnectionState::Start => self.in_start(pdu, now),
+            _ => self.by_table(pdu, now),
+        }
+    }
+
+    /// What an end in Start decides of a PDU that is no DiscReq.
+    fn in_start(&self, pdu: &SafePdu<'_>, now: u64) -> Decision
+        requires body { IsBody pdu.now.kind pdu.now.body.now }
+        requires reach { self.now.expected < 2 ^ 62 }
+        ensures { result ≡ in_start self.now (pdu_of pdu.now) now }
+    {
+        match self.role {
+            Role::Client => self.as_client(pdu, now),
+            Role::Server => self.by_table(pdu, now),
+        }
+    }
+
+    /// What a client in Start decides.
+    fn as_client(&self, pdu: &SafePdu<'_>, now: u64) -> Decision
+        requires { IsBody pdu.now.kind pdu.now.body.now }
+        ensures { result ≡ as_client self.now (pdu_of pdu.now) now pdu.now.kind }
+    {
+        match pdu.kind {
+            Kind::ConnResp => {
+                if is_ours(pdu.body) {
+                    self.tested(pdu, now, Decision::Connects)
+                } else {
+                    Decision::Leaves(Reason::WrongVersion, Detail::Unspecified)
+                }
+            }
+            _ => Decision::Leaves(Reason::UnexpectedPdu, Detail::Unspecified),
+        }
+    }
+
+    /// What an end with an expected number decides.
+    fn by_table(&self, pdu: &SafePdu<'_>, now: u64) -> Decision
+        requires { self.now.expected < 2 ^ 62 }
+        ensures { result ≡ by_table self.now (pdu_of pdu.now) now (distance self.now (pdu_of pdu.now)) }
+    {
+        let distance = self.distance(pdu);
+        if u64::from(distance) > REACH * u64::from(self.config.n_sendmax) {
+            return Decision::Drops(DropCause::Number);
+        }
+        let cell = cell_of(self.connection, distance == 0, pdu.kind);
+        self.by_cell(pdu, now, distance, cell)
+    }
+
+    /// What a cell of the table makes of a PDU.
+    fn by_cell(&self, pdu: &SafePdu<'_>, now: u64, distance: u32, cell: Cell) -> Decision
+        requires { self.now.expected < 2 ^ 62 }
+        ensures { result ≡ by_cell self.now (pdu_of pdu.now) now distance cell }
+    {
+        match cell {
+            Cell::Take(connection) => self.tested(pdu, now, Decision::Takes(connection)),
+            Cell::Ask => Decision::Asks,
+            Cell::Answer => self.answering(pdu, now, distance),
+            Cell::Resume => self.tested(pdu, now, Decision::Resumes),
+            Cell::Refuse(reason) => Decision::Leaves(reason, Detail::Unspecified),
+            Cell::Skip => Decision::Drops(DropCause::Request),
+        }
+    }
+
+    /// What the number of a RetrReq makes of it.
+    fn answering(&self, pdu: &SafePdu<'_>, now: u64, distance: u32) -> Decision
+        requires { self.now.expected < 2 ^ 62 }
+        ensures { result ≡ answering self.now (pdu_of pdu.now) now distance }
+    {
+        if self.expected + u64::from(distance) <= self.answered {
+            return Decision::Drops(DropCause::Answered);
+        }
+        if !self.cs_fits(pdu) {
+            return self.unconfirming(pdu);
+        }
+        if distance != 0 || !self.connection.in_turn() {
+            return Decision::AnswersEarly;
+        }
+        if !self.cts_fits(pdu, now) {
+            return Decision::Leaves(Reason::ProtocolError, Detail::ConfirmedTimestamp);
+        }
+        Decision::AnswersNext
+    }
+
+    /// What becomes of a RetrReq that confirms nothing that awaits it.
+    fn unconfirming(&self, pdu: &SafePdu<'_>) -> Decision
+        ensures { result ≡ unconfirming self.now (pdu_of pdu.now) }
+    {
+        if self.cs_step(pdu) >= 0x8000_0000 {
+            Decision::Drops(DropCause::Below)
+        } else {
+            Decision::Leaves(Reason::RetransmissionImpossible, Detail::Unspecified)
+        }
+    }
+
+    /// A decision under the confirmation tests.
+    fn tested(&self, pdu: &SafePdu<'_>, now: u64, decision: Decision) -> Decision
+        ensures { result ≡ tested self.now (pdu_of pdu.now) now decision }
+    {
+        if !self.cs_fits(pdu) {
+            return Decision::Leaves(Reason::ProtocolError, Detail::ConfirmedNumber);
+        }
+        if !self.cts_fits(pdu, now) {
+            return Decision::Leaves(Reason::ProtocolError, Detail::ConfirmedTimestamp);
+        }
+        decision
+    }
+
+    /// How far a PDU lies ahead of the expected one.
+    pub(crate) fn distance(&self, pdu: &SafePdu<'_>) -> u32
+        ensures { result ≡ distance self.now (pdu_of pdu.now) }
+    {
+        steps_ahead(self.last_sn.wrapping_add(1), pdu.sn)
+    }
+
+    /// Whether it confirms what was made.
+    fn cs_fits(&self, pdu: &SafePdu<'_>) -> bool
+        ensures { result ≡ cs_fits self.now (pdu_of pdu.now) }
+    {
+        u64::from(self.cs_step(pdu)) < self.made.saturating_sub(self.confirmed)
+    }
+
+    /// How many PDUs it confirms beyond those that were confirmed.
+    pub(crate) fn cs_step(&self, pdu: &SafePdu<'_>) -> u32
+        ensures { result ≡ cs_step self.now (pdu_of pdu.now) }
+    {
+        let confirmed = self.first.wrapping_add(low(self.confirmed));
+        steps_ahead(confirmed, pdu.cs)
+    }
+
+    /// Whether it confirms a time that is past.
+    fn cts_fits(&self, pdu: &SafePdu<'_>, now: u64) -> bool
+        ensures { result ≡ cts_fits self.now (pdu_of pdu.now) now }
+    {
+        u64::from(self.cts_step(pdu)) <= now.saturating_sub(self.confirmed_at)
+    }
+
+    /// How far it confirms the own time beyond what was confirmed.
+    pub(crate) fn cts_step(&self, pdu: &SafePdu<'_>) -> u32
+        ensures { result ≡ cts_step self.now (pdu_of pdu.now) }
+    {
+        steps_ahead(low(self.confirmed_at), pdu.cts)
+    }
+
     /// Does what was decided.
     fn carry_out<O: PduOut, U: UnitIn>(
         &mut self,
@@ -138,26 +325,49 @@ impl<A: Allocator> Endpoint<A> {
     }
 
     /// The guard, and then what octets bring that are no PDU.
-    pub(crate) fn arrive_fault<O: PduOut>(
-        &mut self,
-        fault: SafeFault,
-        now: u64,
-        out: &mut O,
-    ) -> Step
+    fn arrive_fault<O: PduOut>(&mut self, fault: SafeFault, now: u64, out: &mut O) -> Step
         requires few { self.old.made < 2 ^ 40 }
         ensures does { Does O.makes (guard now) self.old out.old self.new out.new }
         ensures answer { result ≡ heard_answer (Err fault) now self.old }
     {
-        let leaving = self.overdue(now);
-        if let Some((reason, detail)) = leaving {
-            self.leave(reason, detail, now, out);
-            return Step::Left(reason, detail);
+        match self.overdue(now) {
+            Some((reason, detail)) => {
+                self.leave(reason, detail, now, out);
+                Step::Left(reason, detail)
+            }
+            None if self.connection == ConnectionState::Closed => Step::Nothing,
+            None => Step::Dropped(DropCause::Fault(fault)),
         }
-        if self.connection == ConnectionState::Closed {
-            return Step::Nothing;
-        }
-        Step::Dropped(DropCause::Fault(fault))
     }
+}
+
+/// What an end decides on an arrival.
+#[derive(Clone, Copy, Debug, PartialEq, Eq)]
+pub(crate) enum Decision {
+    /// It is closed.
+    Nothing,
+    /// It drops the PDU.
+    Drops(DropCause),
+    /// It is closed by a DiscReq.
+    Shuts,
+    /// It leaves.
+    Leaves(Reason, Detail),
+    /// It leaves for the version of a ConnReq.
+    Rejects,
+    /// It grants a ConnReq.
+    Accepts,
+    /// It has got its ConnResp.
+    Connects,
+    /// It takes the PDU, and is then in that state.
+    Takes(ConnectionState),
+    /// It asks for a retransmission.
+    Asks,
+    /// It has got the answer.
+    Resumes,
+    /// It answers a RetrReq that is the next PDU.
+    AnswersNext,
+    /// It answers any other RetrReq.
+    AnswersEarly,
 }
 
 impl Decision {
@@ -174,4 +384,115 @@ impl Decision {
             _ => Step::Taken,
         }
     }
+}
+
+/// What a server that waits for a ConnReq decides.
+fn in_down(pdu: &SafePdu<'_>) -> Decision
+    requires { IsBody pdu.now.kind pdu.now.body.now }
+    ensures { result ≡ in_down (pdu_of pdu.now) pdu.now.kind }
+{
+    match pdu.kind {
+        Kind::ConnReq => {
+            if is_ours(pdu.body) {
+                Decision::Accepts
+            } else {
+                Decision::Rejects
+            }
+        }
+        _ => Decision::Drops(DropCause::NotOpened),
+    }
+}
+
+/// Whether the body of a ConnReq or ConnResp has the version of this profile.
+fn is_ours(body: &[u8]) -> bool
+    requires { IsBody Kind.ConnReq body.now }
+    ensures { result ≡ is_ours body.now }
+{
+    read_opening(body).version == VERSION.as_slice()
+}
+
+/// What a cell of the table says.
+#[derive(Clone, Copy, Debug, PartialEq, Eq)]
+pub(crate) enum Cell {
+    /// Take it, and be in that state.
+    Take(ConnectionState),
+    /// Ask for a retransmission.
+    Ask,
+    /// Answer a request.
+    Answer,
+    /// Go on after the answer to the own request.
+    Resume,
+    /// Leave with that reason.
+    Refuse(Reason),
+    /// Drop it.
+    Skip,
+}
+
+/// The table: what an end does with a PDU that is neither out of reach nor a DiscReq, by its state.
+fn cell_of(connection: ConnectionState, next: bool, kind: Kind) -> Cell
+    ensures { result ≡ cell connection next kind }
+{
+    match connection {
+        ConnectionState::Start => start_row(next, kind),
+        ConnectionState::Up => up_row(next, kind),
+        ConnectionState::RetrRun => run_row(next, kind),
+        ConnectionState::RetrReq => request_row(kind),
+        _ => Cell::Skip,
+    }
+}
+
+/// The row of a server in Start.
+fn start_row(next: bool, kind: Kind) -> Cell
+    ensures { result ≡ start_row next kind }
+{
+    match kind {
+        Kind::Heartbeat if next => Cell::Take(ConnectionState::Up),
+        Kind::Heartbeat => Cell::Refuse(Reason::SequenceError),
+        Kind::Data if !next => Cell::Refuse(Reason::SequenceError),
+        _ => Cell::Refuse(Reason::UnexpectedPdu),
+    }
+}
+
+/// The row of Up.
+fn up_row(next: bool, kind: Kind) -> Cell
+    ensures { result ≡ up_row next kind }
+{
+    match kind {
+        Kind::Heartbeat | Kind::Data if next => Cell::Take(ConnectionState::Up),
+        Kind::Heartbeat | Kind::Data => Cell::Ask,
+        Kind::RetrReq => Cell::Answer,
+        _ => Cell::Refuse(Reason::UnexpectedPdu),
+    }
+}
+
+/// The row of RetrRun.
+fn run_row(next: bool, kind: Kind) -> Cell
+    ensures { result ≡ run_row next kind }
+{
+    match kind {
+        Kind::Heartbeat | Kind::Data if next => Cell::Take(ConnectionState::Up),
+        Kind::RetrData if next => Cell::Take(ConnectionState::RetrRun),
+        Kind::Heartbeat | Kind::Data | Kind::RetrData => Cell::Ask,
+        Kind::RetrReq => Cell::Answer,
+        _ => Cell::Refuse(Reason::UnexpectedPdu),
+    }
+}
+
+/// The row of RetrReq.
+fn request_row(kind: Kind) -> Cell
+    ensures { result ≡ request_row kind }
+{
+    match kind {
+        Kind::Heartbeat | Kind::Data | Kind::RetrData => Cell::Skip,
+        Kind::RetrReq => Cell::Answer,
+        Kind::RetrResp => Cell::Resume,
+        _ => Cell::Refuse(Reason::UnexpectedPdu),
+    }
+}
+
+/// How far a 32-bit number lies ahead of another.
+fn steps_ahead(from: u32, to: u32) -> u32
+    ensures { result ≡ ahead from to }
+{
+    to.wrapping_sub(from)
 }

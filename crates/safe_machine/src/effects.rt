@@ -10,7 +10,7 @@ ghost use Rattle.safe_pdu.specs.Bodies.{IsBody, window_of};
 ghost use Rattle.safe_machine.specs.Made.{carries, opening_body};
 ghost use Rattle.safe_machine.specs.State.{State, ask, next_made, reply, resend};
 ghost use Rattle.safe_machine.specs.Decision.{cs_step, cts_step, distance};
-ghost use Rattle.safe_machine.specs.declared.decision.Decision.TheVariants.{Accepts, AnswersEarly, AnswersNext, Connects, Rejects, Resumes, Takes};
+ghost use Rattle.safe_machine.specs.declared.arrival.Decision.TheVariants.{Accepts, AnswersEarly, AnswersNext, Connects, Rejects, Resumes, Takes};
 ghost use Rattle.safe_machine.specs.Step.{beat, carry_out, take_unit, answered_ahead};
 ghost use Rattle.safe_machine.specs.View.{beside};
 ghost use Rattle.safe_machine.specs.inner.Doing.{AllUnits, Does, Hands, Turns};
@@ -46,7 +46,8 @@ impl<A: Allocator> Endpoint<A> {
         self.pass(pdu, 0);
         self.set_window(pdu);
         self.say_opening(Kind::ConnResp, now, out);
-        self.confirm_to(index, now);
+        self.confirmed = index;
+        self.confirmed_at = now;
         self.move_to(ConnectionState::Start);
     }
 
@@ -175,7 +176,7 @@ impl<A: Allocator> Endpoint<A> {
         self.make(Kind::RetrResp, &[], now, out);
         let first = self.made;
         self.resend_all(now, out);
-        self.renumber(first);
+        self.ring.renumber(first);
         self.beat(now, out);
     }
 
@@ -218,14 +219,6 @@ impl<A: Allocator> Endpoint<A> {
         self.ring.get(place).unwrap().1.as_slice()
     }
 
-    /// Numbers the units anew.
-    fn renumber(&mut self, first: u64)
-        requires { first + length self.old.ring ≤ 2 ^ 40 }
-        ensures { self.new ≡ record self.old { ring = renumbered first (octets_of self.old.ring) } }
-    {
-        self.ring.renumber(first);
-    }
-
     /// Notes that a RetrReq at a distance was handled.
     fn note_request(&mut self, distance: u32)
         requires { self.old.expected < 2 ^ 62 }
@@ -254,14 +247,6 @@ impl<A: Allocator> Endpoint<A> {
         ensures left { self.new ≡ record self.old { window = window_of pdu.now.body.now } }
     {
         self.window = u64::from(read_opening(pdu.body).n_sendmax);
-    }
-
-    /// Keeps what was confirmed by the opening.
-    fn confirm_to(&mut self, index: u64, now: u64)
-        ensures { self.new ≡ record self.old { confirmed = index; confirmed_at = now } }
-    {
-        self.confirmed = index;
-        self.confirmed_at = now;
     }
 
     /// Counts what a PDU that passed both tests confirms.
@@ -303,7 +288,8 @@ impl<A: Allocator> Endpoint<A> {
         self.confirmed_at += u64::from(step);
     }
 
-    /// Hands up the unit of a PDU that was taken, if it carries one.
+    /// Hands up the unit of a PDU that was taken, if it carries one, and makes a heartbeat where `mwa` units were taken
+    /// since the last sending.
     fn take_unit<O: PduOut, U: UnitIn>(
         &mut self,
         pdu: &SafePdu<'_>,
@@ -320,26 +306,10 @@ impl<A: Allocator> Endpoint<A> {
     {
         if carries(pdu.kind) {
             units.unit(pdu.body);
-            self.count_unit();
-            self.beat_by_units(now, out);
-        }
-    }
-
-    /// Counts a unit that was handed up.
-    fn count_unit(&mut self)
-        requires { self.old.since < 2 ^ 40 }
-        ensures left { self.new ≡ record self.old { since = self.old.since + 1 } }
-    {
-        self.since += 1;
-    }
-
-    /// Makes a heartbeat where `mwa` units were taken since the last sending.
-    fn beat_by_units<O: PduOut>(&mut self, now: u64, out: &mut O)
-        requires few { self.old.made < 2 ^ 40 }
-        ensures does { Does O.makes (beat now) self.old out.old self.new out.new }
-    {
-        if self.since >= self.config.mwa {
-            self.beat(now, out);
+            self.since += 1;
+            if self.since >= self.config.mwa {
+                self.beat(now, out);
+            }
         }
     }
 }

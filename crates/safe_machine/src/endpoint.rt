@@ -16,7 +16,7 @@ use super::{ConnectionState, Detail, MachineConfig, PduOut, Reason, Role};
 use octets::limits::SAFE_PDU_MAX;
 use octets::places::put_u16;
 use retrans::Unconfirmed;
-use safe_pdu::{CodeRule, Kind, SafePdu, encode};
+use safe_pdu::{Kind, SafePdu, encode};
 use std::alloc::{Allocator, Global};
 use std::marker::Model;
 
@@ -203,13 +203,6 @@ impl<A: Allocator> Endpoint<A> {
         ensures { self.new ≡ record self.old { connection = connection } }
     {
         self.connection = connection;
-    }
-
-    /// The rule of the safety code.
-    pub(crate) fn rule(&self) -> CodeRule
-        ensures { result ≡ self.now.settings.rule }
-    {
-        self.config.rule
     }
 }
 

@@ -8,15 +8,12 @@ ghost use Rattle.std.specs.Prelude.{◌≡◌};
 ghost use Rattle.safe_machine.specs.Leaving.{detail_number, reason_number};
 
 mod arrival;
-mod clock;
-mod decision;
 mod effects;
 mod endpoint;
 mod law;
 mod machine;
 mod opening;
 mod sending;
-mod table;
 
 pub use law::unit_law;
 pub use machine::{Machine, PduOut, UnitIn};

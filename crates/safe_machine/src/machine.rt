@@ -163,7 +163,7 @@ impl<A: Allocator> Machine<A> {
         ensures window { result ≤ self.now.window }
         ensures room { self.now.window ≤ WINDOW_MAX }
     {
-        self.end.kept_units()
+        self.end.ring.len()
     }
 
     /// Whether a unit may be sent: the connection is there, no answer is awaited, and the peer's window is open.

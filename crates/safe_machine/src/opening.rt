@@ -1,7 +1,7 @@
 //! The opening of an end, and the settings that it may have.
 
-ghost use Rattle.std.specs.Prelude.{◌≡◌, ◌<◌, [], length, ◌&&◌, nat_le, nat_lt};
-ghost use Rattle.octets.specs.declared.limits.TheConstants.{WINDOW_MAX, T_MAX_LOWEST, T_MAX_HIGHEST, T_H_LOWEST, MWA_MAX, PDU_LIMIT_LOWEST, PDU_LIMIT_HIGHEST};
+ghost use Rattle.std.specs.Prelude.{◌≡◌, []};
+ghost use Rattle.octets.specs.declared.limits.TheConstants.{WINDOW_MAX};
 ghost use Rattle.std.specs.List.{FoldsTo};
 ghost use Rattle.safe_pdu.specs.Bodies.{IsBody};
 ghost use Rattle.safe_machine.specs.Made.{opening_body};
@@ -36,35 +36,13 @@ pub(crate) fn begin<A: Allocator, O: PduOut>(
         (texts config.rule (opened (settings_of role config) first now).made) out.new }
 {
     match role {
-        Role::Client => begin_client(config, first, now, ring, out),
+        Role::Client => {
+            let mut end = blank(config, role, first, now, ConnectionState::Start, ring);
+            end.say_opening(Kind::ConnReq, now, out);
+            end
+        }
         Role::Server => blank(config, role, first, now, ConnectionState::Down, ring),
     }
-}
-
-/// A client as it is opened.
-fn begin_client<A: Allocator, O: PduOut>(
-    config: MachineConfig,
-    first: u32,
-    now: u64,
-    ring: Unconfirmed<A>,
-    out: &mut O,
-) -> Endpoint<A>
-    requires room { ring ≡ record { room = WINDOW_MAX; units = [] } }
-    requires body { IsBody Kind.ConnReq (opening_body config.n_sendmax) }
-    ensures stands { StandsFor result (opened (settings_of Client config) first now) }
-    ensures made { FoldsTo O.makes out.old
-        (texts config.rule (opened (settings_of Client config) first now).made) out.new }
-{
-    let mut end = blank(
-        config,
-        Role::Client,
-        first,
-        now,
-        ConnectionState::Start,
-        ring,
-    );
-    end.say_opening(Kind::ConnReq, now, out);
-    end
 }
 
 /// An end as it is opened, before it says anything.
@@ -120,30 +98,13 @@ impl MachineConfig {
         // The same in either role.
         ensures { result ≡ in_range (settings_of Client self.now) }
     {
-        self.has_window() && self.has_times() && self.has_limits()
-    }
-
-    fn has_window(&self) -> bool
-        ensures { result ≡ nat_le 1 self.now.n_sendmax && nat_le self.now.n_sendmax WINDOW_MAX }
-    {
-        1 <= self.n_sendmax && usize::from(self.n_sendmax) <= WINDOW_MAX
-    }
-
-    fn has_times(&self) -> bool
-        ensures { result ≡ (nat_le T_MAX_LOWEST self.now.t_max && nat_le self.now.t_max T_MAX_HIGHEST)
-            && (nat_le T_H_LOWEST self.now.t_h && nat_lt self.now.t_h self.now.t_max) }
-    {
-        T_MAX_LOWEST <= self.t_max
+        1 <= self.n_sendmax
+            && usize::from(self.n_sendmax) <= WINDOW_MAX
+            && T_MAX_LOWEST <= self.t_max
             && self.t_max <= T_MAX_HIGHEST
             && T_H_LOWEST <= self.t_h
             && self.t_h < self.t_max
-    }
-
-    fn has_limits(&self) -> bool
-        ensures { result ≡ (nat_le 1 self.now.mwa && nat_le self.now.mwa MWA_MAX)
-            && (nat_le PDU_LIMIT_LOWEST self.now.pdu_limit && nat_le self.now.pdu_limit PDU_LIMIT_HIGHEST) }
-    {
-        1 <= self.mwa
+            && 1 <= self.mwa
             && self.mwa <= u64::from(MWA_MAX)
             && PDU_LIMIT_LOWEST <= self.pdu_limit
             && self.pdu_limit <= PDU_LIMIT_HIGHEST

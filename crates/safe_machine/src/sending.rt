@@ -1,44 +1,32 @@
-//! The sending of a unit, and the units that are unconfirmed.
+//! The sending of a unit and its keeping, and what time does: the guard, the heartbeat, and when they fall due.
 
-ghost use Rattle.std.specs.Prelude.{◌≡◌, ◌<◌, ◌≤◌, ◌^◌, [], ◌∷◌, ◌++◌, length, true};
+ghost use Rattle.std.specs.Prelude.{◌≡◌, ◌+◌, ◌-◌, ◌<◌, ◌≤◌, ◌^◌, [], ◌∷◌, ◌++◌, length, true, Some, ◌&&◌};
 ghost use Rattle.octets.specs.declared.limits.TheConstants.{UNIT_MAX};
 ghost use Rattle.retrans.specs.Units.{above};
 ghost use Rattle.safe_pdu.specs.Bodies.{IsBody};
 ghost use Rattle.safe_machine.specs.State.{State, make};
 ghost use Rattle.safe_machine.specs.Moves.{IsUnitSized};
 ghost use Rattle.safe_machine.specs.Reached.{IsReached};
-ghost use Rattle.safe_machine.specs.Step.{send, has_room, may_send};
+ghost use Rattle.safe_machine.specs.Step.{send, has_room, may_send, guard, heartbeat, tick};
 ghost use Rattle.safe_machine.specs.View.{StandsFor};
 ghost use Rattle.safe_machine.specs.inner.Doing.{AllBelow, Does};
+ghost use Rattle.safe_machine.specs.Deadlines.{deadline_of, timeout_of, beat_due, overdue};
 
-use super::PduOut;
 use super::endpoint::Endpoint;
+use super::{Detail, PduOut, Reason};
 use octets::copy_of;
 use octets::limits::UNIT_MAX;
 use safe_pdu::Kind;
 use std::alloc::Allocator;
+use std::cmp::min;
 
 impl<A: Allocator> Endpoint<A> {
-    /// Whether a unit may be sent.
+    /// Whether a unit may be sent: units go out in turn, and the peer's window is open.
     pub(crate) fn may_send(&self) -> bool
         ensures kept { result ≡ has_room self.now }
         ensures stands { (s : State) → StandsFor self.now s → result ≡ may_send s }
     {
-        self.has_room()
-    }
-
-    /// Whether units go out in turn, and the peer's window is open.
-    fn has_room(&self) -> bool
-        ensures { result ≡ has_room self.now }
-    {
         self.connection.in_turn() && (self.ring.len() as u64) < self.window
-    }
-
-    /// How many units are kept.
-    pub(crate) fn kept_units(&self) -> usize
-        ensures { result ≡ length self.now.ring }
-    {
-        self.ring.len()
     }
 
     /// Sends a unit, where one may be sent.
@@ -78,5 +66,88 @@ impl<A: Allocator> Endpoint<A> {
             ≡ record self.old { ring = self.old.ring ++ record { number = number; octets = unit.now } ∷ [] } }
     {
         let _kept = self.ring.sent(number, copy_of(unit));
+    }
+
+    /// The guard, and then a heartbeat where one is due by time.
+    pub(crate) fn tick<O: PduOut>(&mut self, now: u64, out: &mut O)
+        requires few { self.old.made < 2 ^ 39 }
+        ensures does { Does O.makes (tick now) self.old out.old self.new out.new }
+        ensures few { self.new.made ≤ self.old.made + 2 }
+    {
+        self.guard(now, out);
+        self.beat_by_time(now, out);
+    }
+
+    /// The guard.
+    pub(crate) fn guard<O: PduOut>(&mut self, now: u64, out: &mut O)
+        requires few { self.old.made < 2 ^ 40 }
+        ensures does { Does O.makes (guard now) self.old out.old self.new out.new }
+        ensures few { self.new.made ≤ self.old.made + 1 }
+    {
+        if let Some((reason, detail)) = self.overdue(now) {
+            self.leave(reason, detail, now, out);
+        }
+    }
+
+    /// Why the guard leaves, if it does.
+    pub(crate) fn overdue(&self, now: u64) -> Option<(Reason, Detail)>
+        ensures { result ≡ overdue now self.now }
+    {
+        if !self.connection.is_live() {
+            return None;
+        }
+        if now >= self.confirmed_at && now - self.confirmed_at >= self.config.t_max {
+            return Some((Reason::Timeout, Detail::Unspecified));
+        }
+        if self.made >= self.config.pdu_limit {
+            return Some((Reason::ProtocolError, Detail::Limit));
+        }
+        None
+    }
+
+    /// Makes a heartbeat where one is due by time.
+    fn beat_by_time<O: PduOut>(&mut self, now: u64, out: &mut O)
+        requires few { self.old.made < 2 ^ 40 }
+        ensures does { Does O.makes (heartbeat now) self.old out.old self.new out.new }
+        ensures few { self.new.made ≤ self.old.made + 1 }
+    {
+        if self.beat_due(now) {
+            self.beat(now, out);
+        }
+    }
+
+    /// Whether a heartbeat is due by time.
+    fn beat_due(&self, now: u64) -> bool
+        ensures { result ≡ beat_due now self.now }
+    {
+        self.connection.is_connected()
+            && now >= self.last_made
+            && now - self.last_made >= self.config.t_h
+    }
+
+    /// When the first of the deadlines falls.
+    pub(crate) fn deadline(&self) -> Option<u64>
+        ensures { result ≡ deadline_of self.now }
+    {
+        if !self.connection.is_live() {
+            return None;
+        }
+        if self.connection.is_connected() {
+            return Some(min(
+                self.timeout(),
+                self.last_made.saturating_add(self.config.t_h),
+            ));
+        }
+        Some(self.timeout())
+    }
+
+    /// When the guard leaves.
+    fn timeout(&self) -> u64
+        ensures { result ≡ timeout_of self.now }
+    {
+        if self.made >= self.config.pdu_limit {
+            return 0;
+        }
+        self.confirmed_at.saturating_add(self.config.t_max)
     }
 }

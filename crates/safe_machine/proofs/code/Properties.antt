@@ -10,11 +10,11 @@ use Rattle.safe_machine.specs.declared.ConnectionState.TheVariants.{Up}
 use Rattle.safe_machine.specs.Made.{carries}
 use Rattle.safe_machine.specs.Settings.{Settings}
 use Rattle.safe_machine.specs.State.{State, move_to, pass, opened}
-use Rattle.safe_machine.specs.declared.decision.Decision.{Decision}
+use Rattle.safe_machine.specs.declared.arrival.Decision.{Decision}
 use Rattle.safe_machine.specs.Decision.{decide, distance, is_goodbye, is_stranger, by_table, cts_step}
 use Rattle.safe_machine.specs.Table.{cell}
 use Rattle.safe_machine.specs.Ring.{ring_of}
-use Rattle.safe_machine.specs.declared.decision.Decision.TheVariants.{Nothing, Drops, Shuts, Leaves, Rejects, Accepts, Connects, Takes, Asks, Resumes, AnswersNext, AnswersEarly}
+use Rattle.safe_machine.specs.declared.arrival.Decision.TheVariants.{Nothing, Drops, Shuts, Leaves, Rejects, Accepts, Connects, Takes, Asks, Resumes, AnswersNext, AnswersEarly}
 use Rattle.safe_machine.specs.Step.{carry_out, respond, arrive, guard, take_unit, tests_passed}
 use Rattle.safe_machine.specs.Moves.{moved}
 use Rattle.safe_machine.specs.Reached.{IsReached}

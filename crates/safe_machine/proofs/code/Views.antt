@@ -4,6 +4,7 @@ use Rattle.std.specs.List.{FoldsTo}
 use Rattle.std.proofs.lemmas.List.{drop-append-le, length-drop, take_more}
 use Rattle.std.proofs.lemmas.List.Elements.{All-get_or, All-filter}
 use Rattle.std.proofs.lemmas.Option.{slice_get-get_or}
+use Rattle.std.proofs.lemmas.Bool.{le-leb}
 use Rattle.std.proofs.lemmas.Bool.Decides.{nat_tests}
 use Rattle.octets.proofs.Steps.{FoldsTo-append}
 use Rattle.safe_pdu.specs.declared.Kind.{Kind}
@@ -26,7 +27,7 @@ use Rattle.safe_machine.specs.Made.{leaving_body, opening_body, carries}
 use Rattle.safe_machine.specs.State.{State, next_made, make, move_to, leave, pass, note_request, resend, reply, unconfirmed, hand_up, ask}
 use Rattle.safe_machine.specs.Step.{guard, heartbeat, tests_passed, set_window, carry_out, take_unit, beat, confirm_to, confirm_units, answered_ahead}
 use Rattle.safe_machine.specs.Decision.{distance, cs_step, cts_step}
-use Rattle.safe_machine.specs.declared.decision.Decision.TheVariants.{Rejects, Accepts, Connects, Takes, Resumes, AnswersNext, AnswersEarly}
+use Rattle.safe_machine.specs.declared.arrival.Decision.TheVariants.{Rejects, Accepts, Connects, Takes, Resumes, AnswersNext, AnswersEarly}
 use Rattle.safe_pdu.specs.Bodies.{window_of, IsBody}
 use Rattle.safe_machine.specs.Ring.{after_at, carried_at, ring_of}
 use Rattle.safe_machine.specs.View.{View, beside, StandsFor, texts, HandsOut, kept_of}
@@ -292,6 +293,13 @@ takes-does makes p now to m a b c n o q fits ea eb ec h =
     does-then makes before (take_unit p now) m c n o o q (does-none makes before m c o turned (λ s. refl) (λ s. refl)) h
 
 -- a unit is handed up
+-- where as many units were taken as mwa has, a heartbeat is due
+pub beats-now : {O : Type 0} (makes : O → List ℕ → O → Type 0) (now : ℕ) (m n : View) (o q : O) → m.settings.mwa ≤ m.since →
+    Does makes (make Heartbeat [] now) m o n q → Does makes (beat now) m o n q
+beats-now makes now m n o q due h =
+    does-as makes (make Heartbeat [] now) (beat now) m n o q
+    (λ s k. ap (λ (t : Bool). if t then make Heartbeat [] now s else s) (sym (ap (λ (v : View). nat_le v.settings.mwa v.since) k) ∙ le-leb m.settings.mwa m.since due)) h
+
 pub up-does : {O : Type 0} (makes : O → List ℕ → O → Type 0) (p : Pdu) (now : ℕ) (m a n : View) (o q : O) → carries p.kind ≡ true → a ≡ record m { since = m.since + 1 } →
     Does makes (beat now) a o n q → Does makes (take_unit p now) m o n q
 up-does makes p now m a n o q is ea h =

@@ -13,12 +13,12 @@ use Rattle.safe_machine.specs.declared.Reason.TheVariants.{WrongVersion, Unexpec
 use Rattle.safe_machine.specs.declared.Detail.{Detail}
 use Rattle.safe_machine.specs.declared.Detail.TheVariants.{Unspecified, ConfirmedNumber, ConfirmedTimestamp}
 use Rattle.safe_machine.specs.State.{State, make, move_to, pass, note_request, reply, unconfirmed}
-use Rattle.safe_machine.specs.declared.table.Cell.{Cell}
+use Rattle.safe_machine.specs.declared.arrival.Cell.{Cell}
 use Rattle.safe_machine.specs.Table.{cell, start_row, up_row, run_row, request_row}
-use Rattle.safe_machine.specs.declared.table.Cell.TheVariants.{Take, Ask, Answer, Resume, Refuse, Skip}
-use Rattle.safe_machine.specs.declared.decision.Decision.{Decision}
+use Rattle.safe_machine.specs.declared.arrival.Cell.TheVariants.{Take, Ask, Answer, Resume, Refuse, Skip}
+use Rattle.safe_machine.specs.declared.arrival.Decision.{Decision}
 use Rattle.safe_machine.specs.Decision.{is_stranger, is_goodbye, is_ours, cs_fits, cts_fits, tested, in_down, as_client, in_start, by_cell, by_table, by_connection, by_sender, distance, cs_step}
-use Rattle.safe_machine.specs.declared.decision.Decision.TheVariants.{Nothing, Drops, Shuts, Leaves, Rejects, Accepts, Connects, Takes, Resumes, AnswersNext, AnswersEarly}
+use Rattle.safe_machine.specs.declared.arrival.Decision.TheVariants.{Nothing, Drops, Shuts, Leaves, Rejects, Accepts, Connects, Takes, Resumes, AnswersNext, AnswersEarly}
 use Rattle.safe_machine.specs.Step.{carry_out, guard, respond, tests_passed, confirm_units}
 use Rattle.safe_machine.specs.Moves.{Move, move, GoesOn, HearsNothing, ConnectionsLaw}
 use Rattle.safe_machine.specs.Moves.Move.{Guards, Hears, Ticks, Sends, Leaves as LeavesNow}

@@ -9,9 +9,9 @@ use Rattle.safe_pdu.specs.Bodies.{window_of}
 use Rattle.safe_machine.specs.Made.{units, first_sent, opening_body, leaving_body}
 use Rattle.safe_machine.specs.State.{State, next_made, leave, make, move_to, reply, resend, ask, pass, note_request, unconfirmed, hand_up}
 use Rattle.safe_machine.specs.Step.{guard, respond, tick, send, arrive, may_send, carry_out, tests_passed, set_window, confirm_units}
-use Rattle.safe_machine.specs.declared.decision.Decision.{Decision}
+use Rattle.safe_machine.specs.declared.arrival.Decision.{Decision}
 use Rattle.safe_machine.specs.Decision.{decide, distance, by_sender}
-use Rattle.safe_machine.specs.declared.decision.Decision.TheVariants.{Nothing, Drops, Shuts, Leaves, Rejects, Accepts, Connects, Takes, Asks, Resumes, AnswersNext, AnswersEarly}
+use Rattle.safe_machine.specs.declared.arrival.Decision.TheVariants.{Nothing, Drops, Shuts, Leaves, Rejects, Accepts, Connects, Takes, Asks, Resumes, AnswersNext, AnswersEarly}
 use Rattle.safe_machine.proofs.one.Runs.{units-append}
 use Rattle.safe_machine.specs.declared.Reason.{Reason}
 use Rattle.safe_machine.specs.declared.Reason.TheVariants.{WrongVersion}

@@ -7,9 +7,9 @@ use Rattle.safe_pdu.specs.Pdu.{Pdu}
 use Rattle.safe_machine.specs.declared.ConnectionState.TheVariants.{Down, Start}
 use Rattle.safe_machine.specs.declared.DropCause.TheVariants.{Stranger}
 use Rattle.safe_machine.specs.State.{State}
-use Rattle.safe_machine.specs.declared.decision.Decision.{Decision}
+use Rattle.safe_machine.specs.declared.arrival.Decision.{Decision}
 use Rattle.safe_machine.specs.Decision.{is_stranger, is_ours, in_down, by_connection, by_sender, decide}
-use Rattle.safe_machine.specs.declared.decision.Decision.TheVariants.{Nothing, Drops, Rejects, Accepts}
+use Rattle.safe_machine.specs.declared.arrival.Decision.TheVariants.{Nothing, Drops, Rejects, Accepts}
 use Rattle.safe_machine.specs.Step.{carry_out, guard, respond}
 use Rattle.safe_machine.specs.Moves.{RequestsLaw}
 use Rattle.safe_machine.specs.Moves.Move.{Guards, Hears, Ticks, Sends, Leaves}

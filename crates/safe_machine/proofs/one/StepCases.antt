@@ -9,7 +9,7 @@ use Rattle.safe_machine.specs.declared.Reason.{Reason}
 use Rattle.safe_machine.specs.declared.Reason.TheVariants.{Timeout, ProtocolError}
 use Rattle.safe_machine.specs.declared.Detail.{Detail}
 use Rattle.safe_machine.specs.declared.Detail.TheVariants.{Unspecified, Limit}
-use Rattle.safe_machine.specs.declared.decision.Decision.TheVariants.{AnswersEarly}
+use Rattle.safe_machine.specs.declared.arrival.Decision.TheVariants.{AnswersEarly}
 use Rattle.safe_machine.specs.Connections.{is_live, is_connected, in_turn}
 use Rattle.safe_machine.specs.Made.{carries, last_time, leaving_body}
 use Rattle.safe_machine.specs.State.{State, make, move_to, leave, hand_up, ask, unconfirmed}

@@ -5,9 +5,9 @@ use Rattle.safe_pdu.specs.declared.Kind.TheVariants.{ConnReq, ConnResp, RetrReq,
 use Rattle.safe_machine.specs.declared.ConnectionState.{ConnectionState}
 use Rattle.safe_machine.specs.declared.ConnectionState.TheVariants.{Closed, Down, Start, Up, RetrReq as Requesting, RetrRun}
 use Rattle.safe_machine.specs.Made.{carries, after_pdu, is_answer}
-use Rattle.safe_machine.specs.declared.table.Cell.{Cell}
+use Rattle.safe_machine.specs.declared.arrival.Cell.{Cell}
 use Rattle.safe_machine.specs.Table.{cell, start_row, up_row, run_row, request_row}
-use Rattle.safe_machine.specs.declared.table.Cell.TheVariants.{Take, Ask, Answer, Resume, Refuse, Skip}
+use Rattle.safe_machine.specs.declared.arrival.Cell.TheVariants.{Take, Ask, Answer, Resume, Refuse, Skip}
 use Rattle.safe_machine.proofs.two.Invariant.{room, needs_peer}
 use Rattle.safe_machine.specs.Connections.{in_turn, is_connected}
 

@@ -7,9 +7,9 @@ use Rattle.safe_machine.specs.declared.ConnectionState.{ConnectionState}
 use Rattle.safe_machine.specs.declared.ConnectionState.TheVariants.{Closed, Down, Start, Up}
 use Rattle.safe_machine.specs.Made.{Made, opening_body}
 use Rattle.safe_machine.specs.State.{State, next_made, move_to, pass, hand_up}
-use Rattle.safe_machine.specs.declared.decision.Decision.{Decision}
+use Rattle.safe_machine.specs.declared.arrival.Decision.{Decision}
 use Rattle.safe_machine.specs.Decision.{decide, is_stranger, cs_fits, cts_fits}
-use Rattle.safe_machine.specs.declared.decision.Decision.TheVariants.{Accepts, Connects, Takes}
+use Rattle.safe_machine.specs.declared.arrival.Decision.TheVariants.{Accepts, Connects, Takes}
 use Rattle.safe_machine.specs.Step.{tests_passed, set_window, carry_out, respond}
 use Rattle.safe_machine.specs.InOrder.{client_state, server_state}
 use Rattle.safe_machine.proofs.one.Runs.{every-at, every-from}

@@ -13,10 +13,10 @@ use Rattle.safe_pdu.specs.Pdu.{Pdu}
 use Rattle.safe_machine.specs.Made.{opening_body}
 use Rattle.safe_machine.specs.State.{State}
 use Rattle.safe_machine.specs.Table.{cell}
-use Rattle.safe_machine.specs.declared.table.Cell.TheVariants.{Take}
-use Rattle.safe_machine.specs.declared.decision.Decision.{Decision}
+use Rattle.safe_machine.specs.declared.arrival.Cell.TheVariants.{Take}
+use Rattle.safe_machine.specs.declared.arrival.Decision.{Decision}
 use Rattle.safe_machine.specs.Decision.{is_ours, is_stranger, cs_fits, cts_fits, tested, in_down, as_client, distance, by_cell, by_table, is_goodbye, by_connection, decide}
-use Rattle.safe_machine.specs.declared.decision.Decision.TheVariants.{Nothing, Drops, Shuts, Leaves, Rejects, Accepts, Connects, Takes}
+use Rattle.safe_machine.specs.declared.arrival.Decision.TheVariants.{Nothing, Drops, Shuts, Leaves, Rejects, Accepts, Connects, Takes}
 use Rattle.safe_machine.proofs.two.Invariant.{needs_peer}
 use Rattle.safe_machine.proofs.order.OrderKinds.{is_plain, is_bare}
 use Rattle.safe_machine.specs.Connections.{is_closed}

@@ -9,9 +9,9 @@ use Rattle.safe_machine.specs.declared.ConnectionState.TheVariants.{Closed, Down
 use Rattle.safe_machine.specs.Made.{Made, opening_body}
 use Rattle.safe_machine.specs.State.{State, next_made, make, move_to, pass, hand_up}
 use Rattle.safe_machine.specs.Table.{cell}
-use Rattle.safe_machine.specs.declared.table.Cell.TheVariants.{Take}
+use Rattle.safe_machine.specs.declared.arrival.Cell.TheVariants.{Take}
 use Rattle.safe_machine.specs.Decision.{is_stranger, is_goodbye, by_table, decide, distance, as_client}
-use Rattle.safe_machine.specs.declared.decision.Decision.TheVariants.{Shuts, Takes, Connects, Accepts}
+use Rattle.safe_machine.specs.declared.arrival.Decision.TheVariants.{Shuts, Takes, Connects, Accepts}
 use Rattle.safe_machine.specs.Step.{carry_out, respond, set_window, tests_passed}
 use Rattle.safe_machine.proofs.one.Runs.{Every, every-push}
 use Rattle.safe_machine.proofs.two.Invariant.{needs_peer}

@@ -7,7 +7,7 @@ use Rattle.safe_machine.specs.declared.ConnectionState.TheVariants.{RetrRun}
 use Rattle.safe_machine.specs.Made.{Made, after_pdu, carries, is_request, is_answer}
 use Rattle.safe_machine.specs.State.{State, make, move_to, pass, hand_up, note_request, reply, ask, unconfirmed}
 use Rattle.safe_machine.specs.Decision.{cs_fits, distance, cs_step}
-use Rattle.safe_machine.specs.declared.decision.Decision.TheVariants.{Takes, Resumes, AnswersNext, AnswersEarly}
+use Rattle.safe_machine.specs.declared.arrival.Decision.TheVariants.{Takes, Resumes, AnswersNext, AnswersEarly}
 use Rattle.safe_machine.specs.Step.{tests_passed, carry_out, confirm_units}
 use Rattle.safe_machine.proofs.one.Runs.{requests, answers, count-at, every-at, no_requests, RequestAt}
 use Rattle.safe_machine.proofs.two.Invariant.{room, needs_peer, Told, Sound, Started, SoloOf, Solo, Half, Pair, Few}

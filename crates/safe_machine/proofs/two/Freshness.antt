@@ -10,9 +10,9 @@ use Rattle.safe_machine.specs.Made.{Made, opening_body}
 use Rattle.safe_machine.specs.Numbers.{sn_of}
 use Rattle.safe_machine.specs.Settings.{Settings, is_legal}
 use Rattle.safe_machine.specs.State.{State, unconfirmed, make, move_to, pass, note_request, reply, leave, opened, blank, next_made}
-use Rattle.safe_machine.specs.declared.decision.Decision.{Decision}
+use Rattle.safe_machine.specs.declared.arrival.Decision.{Decision}
 use Rattle.safe_machine.specs.Decision.{decide, distance}
-use Rattle.safe_machine.specs.declared.decision.Decision.TheVariants.{Nothing, Drops, Shuts, Leaves, Rejects, Accepts, Connects, Takes, Asks, Resumes, AnswersNext, AnswersEarly}
+use Rattle.safe_machine.specs.declared.arrival.Decision.TheVariants.{Nothing, Drops, Shuts, Leaves, Rejects, Accepts, Connects, Takes, Asks, Resumes, AnswersNext, AnswersEarly}
 use Rattle.safe_machine.specs.Step.{guard, respond, arrive, carry_out, tick, send, tests_passed, confirm_units}
 use Rattle.safe_machine.specs.World.{World, Event, start, changed, run, event_end, event_time, at_end, Timely, happens, GenuineAt, GenuineEvent, Genuine, as_role, open_il, open_fe, with_il, with_fe}
 use Rattle.safe_machine.specs.World.Event.{Open, Send, Close, Guard, Tick, Arrive}

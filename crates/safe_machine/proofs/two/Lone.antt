@@ -13,7 +13,7 @@ use Rattle.safe_machine.specs.Made.{Made, units, first_sent, after_pdu, leaving_
 use Rattle.safe_machine.specs.Settings.{Settings}
 use Rattle.safe_machine.specs.State.{State, unconfirmed, next_made, make, move_to, leave}
 use Rattle.safe_machine.specs.Decision.{is_stranger, by_connection, by_sender}
-use Rattle.safe_machine.specs.declared.decision.Decision.TheVariants.{Drops, Nothing}
+use Rattle.safe_machine.specs.declared.arrival.Decision.TheVariants.{Drops, Nothing}
 use Rattle.safe_machine.specs.declared.DropCause.TheVariants.{Stranger}
 use Rattle.safe_machine.specs.Step.{guard, respond, arrive, carry_out, heartbeat, tick, send}
 use Rattle.safe_machine.specs.World.{Among, GenuineAt}

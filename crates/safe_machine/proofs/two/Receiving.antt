@@ -10,9 +10,9 @@ use Rattle.safe_pdu.specs.Pdu.{Pdu}
 use Rattle.safe_pdu.specs.Bodies.{window_of}
 use Rattle.safe_machine.specs.Made.{Made, units, after_pdu, is_answer, opening_body, leaving_body}
 use Rattle.safe_machine.specs.State.{State, make, move_to, pass, next_made}
-use Rattle.safe_machine.specs.declared.decision.Decision.{Decision}
+use Rattle.safe_machine.specs.declared.arrival.Decision.{Decision}
 use Rattle.safe_machine.specs.Decision.{cs_fits, distance, decide}
-use Rattle.safe_machine.specs.declared.decision.Decision.TheVariants.{Nothing, Drops, Shuts, Leaves, Rejects, Accepts, Connects, Takes, Asks, Resumes, AnswersNext, AnswersEarly}
+use Rattle.safe_machine.specs.declared.arrival.Decision.TheVariants.{Nothing, Drops, Shuts, Leaves, Rejects, Accepts, Connects, Takes, Asks, Resumes, AnswersNext, AnswersEarly}
 use Rattle.safe_machine.specs.Step.{tests_passed, carry_out, set_window, respond}
 use Rattle.safe_machine.proofs.one.Runs.{Every, every-at, every-push, numbered-push}
 use Rattle.safe_machine.proofs.two.Invariant.{room, needs_peer, is_opening, Sound, NotOpening, Started, Solo, Half, Pair, Few}

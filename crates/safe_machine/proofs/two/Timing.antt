@@ -10,9 +10,9 @@ use Rattle.safe_machine.specs.declared.ConnectionState.TheVariants.{Closed, Star
 use Rattle.safe_pdu.specs.Bodies.{window_of}
 use Rattle.safe_machine.specs.Made.{Made, opening_body, leaving_body}
 use Rattle.safe_machine.specs.State.{State, unconfirmed, next_made, make, move_to, pass, hand_up, note_request, resend, reply, ask, leave}
-use Rattle.safe_machine.specs.declared.decision.Decision.{Decision}
+use Rattle.safe_machine.specs.declared.arrival.Decision.{Decision}
 use Rattle.safe_machine.specs.Decision.{distance, cts_step}
-use Rattle.safe_machine.specs.declared.decision.Decision.TheVariants.{Nothing, Drops, Shuts, Leaves, Rejects, Accepts, Connects, Takes, Asks, Resumes, AnswersNext, AnswersEarly}
+use Rattle.safe_machine.specs.declared.arrival.Decision.TheVariants.{Nothing, Drops, Shuts, Leaves, Rejects, Accepts, Connects, Takes, Asks, Resumes, AnswersNext, AnswersEarly}
 use Rattle.safe_machine.specs.Step.{tests_passed, carry_out, set_window, confirm_to, guard, heartbeat, send, confirm_units}
 use Rattle.safe_machine.proofs.one.Runs.{Every, every-at, every-weaken, at-length}
 use Rattle.safe_machine.proofs.two.Invariant.{Told, Sound, needs_peer, is_opening, Started}

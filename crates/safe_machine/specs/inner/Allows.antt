@@ -1,7 +1,7 @@
 -- What each decision hands up, and what it lets its branch rely on.
 use Rattle.std.specs.Prelude.{◌≡◌, ◌<◌, ◌≤◌, ℕ, ◌-◌, if◌then◌else◌, List, [], ◌∷◌}
-use Rattle.safe_machine.specs.declared.decision.Decision.{Decision}
-use Rattle.safe_machine.specs.declared.decision.Decision.TheVariants.{Accepts, Connects, Takes, Resumes, AnswersNext, AnswersEarly}
+use Rattle.safe_machine.specs.declared.arrival.Decision.{Decision}
+use Rattle.safe_machine.specs.declared.arrival.Decision.TheVariants.{Accepts, Connects, Takes, Resumes, AnswersNext, AnswersEarly}
 use Rattle.safe_pdu.specs.Pdu.{Pdu}
 use Rattle.safe_pdu.specs.Bodies.{IsBody}
 use Rattle.safe_pdu.specs.declared.Kind.TheVariants.{ConnReq}

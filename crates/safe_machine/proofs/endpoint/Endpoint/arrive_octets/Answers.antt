@@ -32,16 +32,16 @@ returns-in-Err-clause-reached g c = reached-move (Guards c.args.now) c.args.self
 pub returns-in-Ok-clause-does : goal.returns-in-Ok-clause-does
 returns-in-Ok-clause-does g c =
     octets-does g.O.PduOut.makes c.args.octets.now c.args.now (Ok (pdu_of c.in-Ok.pdu)) c.args.self.now c.arrive.new.self c.args.out.now c.arrive.new.out
-    (c.in-Ok.ensures.exact ∙ ap (λ r. safe_seen r c.args.octets.now) c.rule-rule.ensures) c.arrive.ensures.does
+    (c.in-Ok.ensures.exact ∙ ap (λ (v : View). safe_seen v.settings.rule c.args.octets.now) c.self.view_is) c.arrive.ensures.does
 
 pub returns-in-Err-clause-does : goal.returns-in-Err-clause-does
 returns-in-Err-clause-does g c =
     octets-does g.O.PduOut.makes c.args.octets.now c.args.now (Err c.in-Err.fault) c.args.self.now c.arrive_fault.new.self c.args.out.now c.arrive_fault.new.out
-    (c.in-Err.ensures.exact ∙ ap (λ r. safe_seen r c.args.octets.now) c.rule-rule.ensures) c.arrive_fault.ensures.does
+    (c.in-Err.ensures.exact ∙ ap (λ (v : View). safe_seen v.settings.rule c.args.octets.now) c.self.view_is) c.arrive_fault.ensures.does
 
 pub returns-in-Err-clause-taken : goal.returns-in-Err-clause-taken
 returns-in-Err-clause-taken g c s h =
-    let rule = c.rule-rule.ensures ∙ ap (λ (v : View). v.settings.rule) h in
+    let rule = ap (λ (v : View). v.settings.rule) (c.self.view_is ∙ h) in
     let seen = c.in-Err.ensures.exact ∙ ap (λ r. safe_seen r c.args.octets.now) rule in
     subst (λ t. HandsUp g.U.UnitIn.takes c.args.units.now s t c.args.units.now) (ap (λ r. move (heard r c.args.now) s) seen) (hands-nothing g.U.UnitIn.takes c.args.units.now c.args.now s)
 
@@ -54,7 +54,7 @@ returns-in-Err-clause-near g c =
 
 pub returns-in-Ok-clause-recent : goal.returns-in-Ok-clause-recent
 returns-in-Ok-clause-recent g c =
-    let seen = c.in-Ok.ensures.exact ∙ ap (λ r. safe_seen r c.args.octets.now) c.rule-rule.ensures in
+    let seen = c.in-Ok.ensures.exact ∙ ap (λ (v : View). safe_seen v.settings.rule c.args.octets.now) c.self.view_is in
     subst (λ r. HandsIf g.U.UnitIn.takes c.args.units.now c.arrive.new.units (IsRecent r c.args.now c.args.self.now)) seen
     (reached-recent g.U.UnitIn.takes c.args.units.now c.arrive.new.units (pdu_of c.in-Ok.pdu) c.args.now c.args.self.now c.requires.reached (λ s h. c.arrive.ensures.taken s h))
 
@@ -62,7 +62,7 @@ pub returns-in-Ok-clause-passes : goal.returns-in-Ok-clause-passes
 returns-in-Ok-clause-passes g c q next =
     let v : View = c.args.self.now in
     let p = pdu_of c.in-Ok.pdu in
-    let seen = c.in-Ok.ensures.exact ∙ ap (λ r. safe_seen r c.args.octets.now) c.rule-rule.ensures in
+    let seen = c.in-Ok.ensures.exact ∙ ap (λ (v : View). safe_seen v.settings.rule c.args.octets.now) c.self.view_is in
     let same : p ≡ q = one-read (safe_seen v.settings.rule c.args.octets.now) p q seen next.reads in
     subst (λ (x : Pdu). FoldsTo g.U.UnitIn.takes c.args.units.now (x.body ∷ []) c.arrive.new.units × (c.arrive.new.self.connection ≡ Up)) same
     (reached-passes g.U.UnitIn.takes c.args.units.now c.arrive.new.units (safe_seen v.settings.rule c.args.octets.now) p c.args.now v c.arrive.new.self c.requires.reached
@@ -72,17 +72,17 @@ returns-in-Ok-clause-passes g c q next =
 pub returns-in-Err-clause-passes : goal.returns-in-Err-clause-passes
 returns-in-Err-clause-passes g c q next =
     let v : View = c.args.self.now in
-    let seen = c.in-Err.ensures.exact ∙ ap (λ r. safe_seen r c.args.octets.now) c.rule-rule.ensures in
+    let seen = c.in-Err.ensures.exact ∙ ap (λ (v : View). safe_seen v.settings.rule c.args.octets.now) c.self.view_is in
     absurd (none-read (safe_seen v.settings.rule c.args.octets.now) c.in-Err.fault q seen next.reads)
 
 pub returns-in-Ok-clause-confirms : goal.returns-in-Ok-clause-confirms
 returns-in-Ok-clause-confirms g c =
-    let seen = c.in-Ok.ensures.exact ∙ ap (λ r. safe_seen r c.args.octets.now) c.rule-rule.ensures in
+    let seen = c.in-Ok.ensures.exact ∙ ap (λ (v : View). safe_seen v.settings.rule c.args.octets.now) c.self.view_is in
     subst (λ r. OnlyConfirms r c.args.self.now c.arrive.new.self) seen
     (reached-stops (pdu_of c.in-Ok.pdu) c.args.now c.args.self.now c.arrive.new.self c.requires.reached (λ s h. (c.arrive.ensures.does s h).0))
 
 pub returns-in-Err-clause-confirms : goal.returns-in-Err-clause-confirms
 returns-in-Err-clause-confirms g c =
-    let seen = c.in-Err.ensures.exact ∙ ap (λ r. safe_seen r c.args.octets.now) c.rule-rule.ensures in
+    let seen = c.in-Err.ensures.exact ∙ ap (λ (v : View). safe_seen v.settings.rule c.args.octets.now) c.self.view_is in
     subst (λ r. OnlyConfirms r c.args.self.now c.arrive_fault.new.self) seen
     (reached-keeps c.args.now c.args.self.now c.arrive_fault.new.self c.requires.reached (λ s h. (c.arrive_fault.ensures.does s h).0))
