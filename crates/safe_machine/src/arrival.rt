@@ -18,8 +18,6 @@ ghost use Rattle.safe_machine.specs.Step.{arrive, arrive_answer, carry_out, guar
 ghost use Rattle.safe_machine.specs.View.{HandsUp, StandsFor};
 ghost use Rattle.safe_machine.specs.inner.Doing.{Does};
 ghost use Rattle.safe_machine.specs.inner.Allows.{Allows, handed_by};
-ghost use Rattle.safe_machine.specs.declared.arrival.Decision.TheVariants.{Accepts, AnswersEarly, Asks, Connects, Rejects, Resumes, Takes};
-ghost use Rattle.safe_machine.specs.declared.Role.TheVariants.{Client};
 
 use super::endpoint::{Endpoint, VERSION, low};
 use super::{ConnectionState, Detail, DropCause, PduOut, Reason, Role, Step, UnitIn};

@@ -2,7 +2,7 @@
 
 ghost use Rattle.std.specs.Prelude.{◌≡◌, ◌+◌, ◌-◌, ◌<◌, ◌≤◌, ◌^◌, List, [], length, Some, slice_get, IfSome};
 ghost use Rattle.octets.specs.declared.limits.TheConstants.{WINDOW_MAX};
-ghost use Rattle.retrans.specs.Units.{Numbered, above, octets_of, renumbered};
+ghost use Rattle.retrans.specs.Units.{Numbered, above, octets_of};
 ghost use Rattle.std.specs.List.{FoldsTo};
 ghost use Rattle.safe_pdu.specs.Pdu.{pdu_of};
 ghost use Rattle.safe_pdu.specs.SafeText.{safe_text};
@@ -11,7 +11,7 @@ ghost use Rattle.safe_machine.specs.Made.{carries, opening_body};
 ghost use Rattle.safe_machine.specs.State.{State, ask, next_made, reply, resend};
 ghost use Rattle.safe_machine.specs.Decision.{cs_step, cts_step, distance};
 ghost use Rattle.safe_machine.specs.declared.arrival.Decision.TheVariants.{Accepts, AnswersEarly, AnswersNext, Connects, Rejects, Resumes, Takes};
-ghost use Rattle.safe_machine.specs.Step.{beat, carry_out, take_unit, answered_ahead};
+ghost use Rattle.safe_machine.specs.Step.{carry_out, take_unit, answered_ahead};
 ghost use Rattle.safe_machine.specs.View.{beside};
 ghost use Rattle.safe_machine.specs.inner.Doing.{AllUnits, Does, Hands, Turns};
 ghost use Rattle.safe_machine.specs.inner.Allows.{carried};

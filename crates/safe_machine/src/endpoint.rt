@@ -6,7 +6,6 @@ ghost use Rattle.safe_pdu.specs.SafeText.{safe_text};
 ghost use Rattle.safe_pdu.specs.Bodies.{IsBody};
 ghost use Rattle.safe_machine.specs.Made.{opening_body, leaving_body};
 ghost use Rattle.safe_machine.specs.State.{State, make, next_made, leave};
-ghost use Rattle.safe_machine.specs.declared.ConnectionState.TheVariants.{Up};
 ghost use Rattle.safe_machine.specs.View.{beside, settings_of};
 ghost use Rattle.safe_machine.specs.inner.Doing.{Does, leaves_units};
 ghost use Rattle.safe_machine.specs.Numbers.{sn_of};

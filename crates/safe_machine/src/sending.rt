@@ -1,8 +1,7 @@
 //! The sending of a unit and its keeping, and what time does: the guard, the heartbeat, and when they fall due.
 
-ghost use Rattle.std.specs.Prelude.{◌≡◌, ◌+◌, ◌-◌, ◌<◌, ◌≤◌, ◌^◌, [], ◌∷◌, ◌++◌, length, true, Some, ◌&&◌};
+ghost use Rattle.std.specs.Prelude.{◌≡◌, ◌+◌, ◌<◌, ◌≤◌, ◌^◌, [], ◌∷◌, ◌++◌, length, true};
 ghost use Rattle.octets.specs.declared.limits.TheConstants.{UNIT_MAX};
-ghost use Rattle.retrans.specs.Units.{above};
 ghost use Rattle.safe_pdu.specs.Bodies.{IsBody};
 ghost use Rattle.safe_machine.specs.State.{State, make};
 ghost use Rattle.safe_machine.specs.Moves.{IsUnitSized};
