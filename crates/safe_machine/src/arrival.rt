@@ -5,7 +5,7 @@ ghost use Rattle.std.specs.List.{FoldsTo};
 ghost use Rattle.safe_pdu.specs.Pdu.{Pdu, pdu_of};
 ghost use Rattle.safe_pdu.specs.Bodies.{IsBody};
 ghost use Rattle.safe_machine.specs.State.{State};
-ghost use Rattle.safe_machine.specs.Decision.{answer_of, decide, cs_step, cts_step, distance, answering, as_client, by_cell, by_connection, by_table, by_sender, in_down, in_start, is_ours, is_foreign, tested, cs_fits, cts_fits, unconfirming};
+ghost use Rattle.safe_machine.specs.Decision.{answer_of, decide, cs_step, cts_step, distance, answering, as_client, by_cell, by_connection, by_table, in_down, is_ours, is_foreign, tested, cs_fits, cts_fits, unconfirming};
 ghost use Rattle.safe_machine.specs.Table.{cell, request_row, run_row, start_row, up_row};
 ghost use Rattle.safe_machine.specs.Numbers.{ahead};
 ghost use Rattle.safe_machine.specs.Octets.{arrive_octets, heard_answer};
@@ -115,15 +115,6 @@ impl<A: Allocator> Endpoint<A> {
         if self.connection == ConnectionState::Closed {
             return Decision::Nothing;
         }
-        self.by_sender(pdu, now)
-    }
-
-    /// What an end that is not closed decides.
-    fn by_sender(&self, pdu: &SafePdu<'_>, now: u64) -> Decision
-        requires body { IsBody pdu.now.kind pdu.now.body.now }
-        requires reach { self.now.expected < 2 ^ 62 }
-        ensures { result ≡ by_sender self.now (pdu_of pdu.now) now }
-    {
         if self.is_foreign(pdu) {
             return Decision::Drops(DropCause::Stranger);
         }
@@ -148,20 +139,8 @@ impl<A: Allocator> Endpoint<A> {
             ConnectionState::Closed => Decision::Nothing,
             ConnectionState::Down => in_down(pdu),
             _ if is_goodbye => Decision::Shuts,
-            ConnectionState::Start => self.in_start(pdu, now),
+            ConnectionState::Start if self.role == Role::Client => self.as_client(pdu, now),
             _ => self.by_table(pdu, now),
-        }
-    }
-
-    /// What an end in Start decides of a PDU that is no DiscReq.
-    fn in_start(&self, pdu: &SafePdu<'_>, now: u64) -> Decision
-        requires body { IsBody pdu.now.kind pdu.now.body.now }
-        requires reach { self.now.expected < 2 ^ 62 }
-        ensures { result ≡ in_start self.now (pdu_of pdu.now) now }
-    {
-        match self.role {
-            Role::Client => self.as_client(pdu, now),
-            Role::Server => self.by_table(pdu, now),
         }
     }
 

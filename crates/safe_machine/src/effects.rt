@@ -261,7 +261,7 @@ impl<A: Allocator> Endpoint<A> {
         } }
     {
         self.confirm_units(pdu);
-        self.confirm_time(pdu, now);
+        self.confirmed_at += u64::from(self.cts_step(pdu));
     }
 
     /// Counts as confirmed what a PDU confirms.
@@ -276,16 +276,6 @@ impl<A: Allocator> Endpoint<A> {
         let step = self.cs_step(pdu);
         self.confirmed += u64::from(step);
         self.ring.confirm(self.confirmed);
-    }
-
-    /// Moves on the own time last confirmed.
-    fn confirm_time(&mut self, pdu: &SafePdu<'_>, now: u64)
-        requires fits { cts_step self.old (pdu_of pdu.now) ≤ now - self.old.confirmed_at }
-        ensures left { self.new
-            ≡ record self.old { confirmed_at = self.old.confirmed_at + cts_step self.old (pdu_of pdu.now) } }
-    {
-        let step = self.cts_step(pdu);
-        self.confirmed_at += u64::from(step);
     }
 
     /// Hands up the unit of a PDU that was taken, if it carries one, and makes a heartbeat where `mwa` units were taken

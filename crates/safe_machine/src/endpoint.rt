@@ -88,11 +88,9 @@ impl<A: Allocator> Endpoint<A> {
         ensures does { Does O.makes (leave reason detail now) self.old out.old self.new out.new }
         ensures few { self.new.made ≤ self.old.made + 1 }
     {
-        if !self.connection.is_live() {
-            self.move_to(ConnectionState::Closed);
-            return;
+        if self.connection.is_live() {
+            self.goodbye(reason, detail, now, out);
         }
-        self.goodbye(reason, detail, now, out);
         self.move_to(ConnectionState::Closed);
     }
 

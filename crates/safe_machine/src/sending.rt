@@ -132,10 +132,8 @@ impl<A: Allocator> Endpoint<A> {
             return None;
         }
         if self.connection.is_connected() {
-            return Some(min(
-                self.timeout(),
-                self.last_made.saturating_add(self.config.t_h),
-            ));
+            let beat = self.last_made.saturating_add(self.config.t_h);
+            return Some(min(self.timeout(), beat));
         }
         Some(self.timeout())
     }

@@ -24,13 +24,16 @@ use Rattle.safe_machine.specs.declared.Reason.TheVariants.{Timeout, ProtocolErro
 use Rattle.safe_machine.specs.declared.Detail.{Detail}
 use Rattle.safe_machine.specs.declared.Detail.TheVariants.{Unspecified, Limit}
 use Rattle.safe_machine.specs.Made.{leaving_body, opening_body, carries}
-use Rattle.safe_machine.specs.State.{State, next_made, make, move_to, leave, pass, note_request, resend, reply, unconfirmed, hand_up, ask}
+use Rattle.safe_machine.specs.State.{State, blank, opened, next_made, make, move_to, leave, pass, note_request, resend, reply, unconfirmed, hand_up, ask}
 use Rattle.safe_machine.specs.Step.{guard, heartbeat, tests_passed, set_window, carry_out, take_unit, beat, confirm_to, confirm_units, answered_ahead}
 use Rattle.safe_machine.specs.Decision.{distance, cs_step, cts_step}
 use Rattle.safe_machine.specs.declared.arrival.Decision.TheVariants.{Rejects, Accepts, Connects, Takes, Resumes, AnswersNext, AnswersEarly}
 use Rattle.safe_pdu.specs.Bodies.{window_of, IsBody}
 use Rattle.safe_machine.specs.Ring.{after_at, carried_at, ring_of}
-use Rattle.safe_machine.specs.View.{View, beside, StandsFor, texts, HandsOut, kept_of}
+use Rattle.safe_machine.specs.View.{View, beside, settings_of, StandsFor, texts, HandsOut, kept_of}
+use Rattle.safe_machine.specs.declared.MachineConfig.{MachineConfig}
+use Rattle.safe_machine.specs.declared.Role.{Role}
+use Rattle.safe_machine.specs.declared.Role.TheVariants.{Client}
 use Rattle.safe_machine.specs.inner.Doing.{Hands, Does, leaves_units, Turns, AllUnits}
 use Rattle.safe_machine.proofs.one.Ring.{carried_at-append, ring-confirm, ring-resend, ring_of-units, octets_of-append}
 use Rattle.safe_machine.specs.Connections.{is_live, in_turn}
@@ -433,6 +436,12 @@ drop-past zero [] h = refl
 drop-past (suc n) [] h = refl
 drop-past zero (m ∷ ms) h = absurd (omega arith)
 drop-past (suc n) (m ∷ ms) h = drop-past n ms (omega arith)
+
+-- the client asks for the connection
+pub client-opened : (role : Role) (config : MachineConfig) (first now : ℕ) → role ≡ Client →
+    make ConnReq (opening_body config.n_sendmax) now (blank (settings_of role config) first now Start) ≡ opened (settings_of role config) first now
+client-opened role config first now e =
+    subst (λ (r : Role). make ConnReq (opening_body config.n_sendmax) now (blank (settings_of r config) first now Start) ≡ opened (settings_of r config) first now) (sym e) refl
 
 pub accepts-does : {O : Type 0} (makes : O → List ℕ → O → Type 0) (p : Pdu) (now : ℕ) (m a b c d n : View) (o q : O) → m.ring ≡ [] →
     a ≡ record m { expected = m.expected + 0 + 1; last_sn = p.sn; last_ts = p.ts } → b ≡ record a { window = window_of p.body } →

@@ -1,4 +1,4 @@
-use Rattle.std.proofs.Common.{ℕ, length, ap, refl, ◌∙◌, arith}
+use Rattle.std.proofs.Common.{ℕ, ap, refl, ◌∙◌}
 use Rattle.retrans.specs.Units.{Kept, renumbered, octets_of}
 use Rattle.safe_machine.specs.View.{View}
 use Rattle.safe_machine.proofs.code.Views.{reply-does}
