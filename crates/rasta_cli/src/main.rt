@@ -1,12 +1,7 @@
 //! The program `rasta`.
 #![tactic(auto)]
 
-mod follow;
-mod program;
-mod runs;
-mod sim;
-
-use program::run_words;
+use rasta_run::run_words;
 use std::process::ExitCode;
 
 fn main(rt: HostRuntime) -> ExitCode {

@@ -1,4 +1,4 @@
-use crate::program::{run, run_words};
+use rasta_run::{run, run_words};
 use rasta_words::{Fault, Status};
 use std::env::{Env, FillError};
 use std::io;

@@ -1,6 +1,6 @@
-use crate::sim::run_sim;
 use crate::sim_cases::{Case, EXAMPLES, LOSSES, OPENINGS, VERSIONS};
 use linked_list_allocator::LocalHeap;
+use rasta_run::run_sim;
 use rasta_words::Status;
 use std::io;
 use std::io::{ErrorKind, Write};

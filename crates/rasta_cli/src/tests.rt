@@ -1,6 +1,6 @@
-use crate::follow::run_follow;
-use crate::runs::{run_md4, run_show};
 use capture_text::Word;
+use rasta_run::run_follow;
+use rasta_show::{run_md4, run_show};
 use rasta_words::{Following, Request, Status, WordsFault, command};
 use safe_pdu::CodeLength;
 use settings_file::Word as Ends;

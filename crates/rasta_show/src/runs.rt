@@ -1,11 +1,11 @@
-//! The program's words, each over the writers that it is given.
+//! What is shown of a datagram, and the digest of octets.
 
 ghost use Rattle.std.specs.Prelude.{◌≡◌, ◌≢◌, ◌⊎◌, true, false, None, Some, Err, IfOk, IfErr, IsErr, OnOk};
 ghost use Rattle.std.specs.Io.KnownBytes.{Appends};
 ghost use Rattle.std.specs.Option.{option_copied};
 ghost use Rattle.pdu_text.specs.HexText.{initial_value_of, octets_of};
-ghost use Rattle.rasta_cli.specs.HexText.{message_of};
-ghost use Rattle.rasta_cli.specs.Shown.{HasDigested, HasShown, digest_line};
+ghost use Rattle.rasta_show.specs.HexText.{message_of};
+ghost use Rattle.rasta_show.specs.Shown.{HasDigested, HasShown, digest_line};
 ghost use Rattle.rasta_words.specs.Status.{status_of};
 
 use pdu_text::{HexFault, hex_octets, initial_value, show, write_hex};
