@@ -1,4 +1,4 @@
-//! What two machines promise over every list of events.
+//! What the machine promises over every list of events.
 
 ghost use Rattle.safe_machine.specs.InOrder.{OneMoreLaw, OrderLaw, StaysLaw};
 ghost use Rattle.safe_machine.specs.Law.{FreshAtLastLaw, FreshLaw, JoinedLaw, LossLaw, UnitLaw};
@@ -6,8 +6,9 @@ ghost use Rattle.safe_machine.specs.Moves.{ConnectionsLaw, IdentifiedLaw, MovesL
 ghost use Rattle.safe_machine.specs.Reached.{FewLaw};
 ghost use Rattle.safe_machine.specs.Ring.{RingLaw};
 
-/// The laws of two machines, which do nothing when they are called: they hold of every genuine list of openings,
-/// sendings, closings, guards, ticks and arrivals of both ends, however often either is opened.
+/// The laws of the machine, which do nothing when they are called. Those of two machines hold of every genuine list of
+/// openings, sendings, closings, guards, ticks and arrivals of both ends, however often either is opened; those of one
+/// machine, which say so, of every move and of every state reached from an opening.
 pub fn unit_law()
     // What an end takes is a beginning of what the end joined to it sent; no interlocking is joined to two field
     // elements; who is joined to none has taken nothing.
@@ -29,32 +30,33 @@ pub fn unit_law()
     // stays as it is.
     ensures moves { MovesLaw }
 
-    // Every move leaves the settings, a PDU of a stranger does no more than the guard before it, and before the
-    // connection is up nothing is taken.
+    // Of one machine: every move leaves the settings, a PDU of a stranger does no more than the guard before it, and
+    // before the connection is up nothing is taken.
     ensures settings { SettingsLaw }
     ensures strangers { StrangersLaw }
     ensures waits { WaitsLaw }
 
-    // A connection stays as it is, closes, starts, comes up, or is up.
+    // Of one machine: a connection stays as it is, closes, starts, comes up, or is up.
     ensures connections { ConnectionsLaw }
 
-    // Who starts a connection has heard a ConnReq with the version of this profile.
+    // Of one machine: who starts a connection has heard a ConnReq with the version of this profile.
     ensures requests { RequestsLaw }
 
-    // Every PDU made bears the identifiers of its end.
+    // Of one machine: every PDU made bears the identifiers of its end.
     ensures identified { IdentifiedLaw }
 
-    // In every state reached from an opening the unconfirmed units are those whose carrier lies behind the last PDU
-    // confirmed, and the units sent end in them.
+    // Of one machine: in every state reached from an opening the unconfirmed units are those whose carrier lies behind
+    // the last PDU confirmed, and the units sent end in them.
     ensures reached { ReachedLaw }
 
-    // The units that the ring of a state holds are its unconfirmed ones.
+    // Of one machine: the units that the ring of a state holds are its unconfirmed ones.
     ensures ring { RingLaw }
 
-    // Each PDU made has a text.
+    // Of one machine: each PDU made has a text.
     ensures texts { TextsLaw }
 
-    // At most as many units are unconfirmed as the greatest window has, and a move makes at most four PDUs more than that.
+    // Of one machine: at most as many units are unconfirmed as the greatest window has, and a move makes at most four PDUs
+    // more than that.
     ensures few { FewLaw }
 
     // Where moreover each end is opened once at most, no guard leaves, and each end hears the peer's PDUs one by one in
