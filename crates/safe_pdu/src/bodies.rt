@@ -1,30 +1,12 @@
-//! The types of the numbers, and the bodies that fit them.
+//! The bodies that fit the types.
 
 ghost use Rattle.std.specs.Prelude.{◌≡◌};
 ghost use Rattle.std.specs.List.{list_all};
 ghost use Rattle.safe_pdu.specs.Bodies.{IsBody, detail_of, reason_of, version_of, window_of, is_body, is_digit, is_opening, is_zero};
-ghost use Rattle.safe_pdu.specs.Places.{kind_of};
 
 use super::{Kind, Leaving, Opening};
 use octets::limits::{LEAVING_BODY, OPENING_BODY, UNIT_MAX, UNIT_MIN, WINDOW_MAX};
 use octets::places::u16_at;
-
-/// The type with a number.
-pub(crate) fn kind_at(number: u16) -> Option<Kind>
-    ensures { result ≡ kind_of number }
-{
-    match number {
-        6200 => Some(Kind::ConnReq),
-        6201 => Some(Kind::ConnResp),
-        6212 => Some(Kind::RetrReq),
-        6213 => Some(Kind::RetrResp),
-        6216 => Some(Kind::DiscReq),
-        6220 => Some(Kind::Heartbeat),
-        6240 => Some(Kind::Data),
-        6241 => Some(Kind::RetrData),
-        _ => None,
-    }
-}
 
 /// Whether a body fits a type.
 pub(crate) fn fits_body(kind: Kind, body: &[u8]) -> bool

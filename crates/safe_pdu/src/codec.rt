@@ -7,7 +7,7 @@ ghost use Rattle.safe_pdu.specs.SafeText.{SafeText, HasNumbers, code_octets, hea
 ghost use Rattle.safe_pdu.specs.Places.{FirstFault, IsAsked, read_as, safe_seen, seen_of};
 ghost use Rattle.safe_pdu.specs.Laws.{AskedLaw, ReadAlikeLaw, ReadAskedLaw, ReadLaw};
 
-use super::bodies::{fits_body, kind_at};
+use super::bodies::fits_body;
 use super::{CodeRule, Kind, SafeFault, SafePdu};
 use octets::limits::{SAFE_FRONT_MAX, SAFE_HEADER};
 use octets::places::{put_octets, put_u16, put_u32, u16_at, u32_at};
@@ -51,7 +51,7 @@ fn read_places<'a>(octets: &'a [u8], rule: &CodeRule) -> Result<SafePdu<'a>, Saf
         return Err(SafeFault::Code);
     }
     let number = u16_at(octets, 2);
-    let Some(kind) = kind_at(number) else {
+    let Some(kind) = Kind::of(number) else {
         return Err(SafeFault::BadType);
     };
     let (_, body) = front.split_at(SAFE_HEADER);

@@ -10,6 +10,7 @@ ghost use Rattle.std.specs.Prelude.{◌≡◌, ◌↔◌, ◌+◌, ◌≤◌, �
 ghost use Rattle.std.specs.Str.{bytes_eq};
 ghost use Rattle.safe_pdu.specs.Names.{kind_name, safe_name, safe_number};
 ghost use Rattle.safe_pdu.specs.Pdu.{kind_number};
+ghost use Rattle.safe_pdu.specs.Places.{kind_of};
 ghost use Rattle.safe_pdu.specs.SafeText.{code_octets, code_over};
 
 use octets::places::put_octets;
@@ -42,6 +43,23 @@ pub enum Kind {
 }
 
 impl Kind {
+    /// The type with a number; `None` for a number that no type has.
+    pub fn of(number: u16) -> Option<Self>
+        ensures { result ≡ kind_of number }
+    {
+        match number {
+            6200 => Some(Kind::ConnReq),
+            6201 => Some(Kind::ConnResp),
+            6212 => Some(Kind::RetrReq),
+            6213 => Some(Kind::RetrResp),
+            6216 => Some(Kind::DiscReq),
+            6220 => Some(Kind::Heartbeat),
+            6240 => Some(Kind::Data),
+            6241 => Some(Kind::RetrData),
+            _ => None,
+        }
+    }
+
     /// The type's number in a PDU.
     pub fn number(self) -> u16
         ensures { result ≡ kind_number self }

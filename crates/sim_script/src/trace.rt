@@ -10,6 +10,7 @@ use octets::limits::{Q_MAX, RED_HEADER, SAFE_HEADER};
 use octets::places::{u16_at, u32_at};
 use red_layer::RedEvent;
 use safe_machine::Step;
+use safe_pdu::Kind;
 use sim_lines::{
     Label, LineFault, Sides, Standing, other, phase_name, red_cause, side_name, state_name,
     step_cause, write_refusal, write_report, write_take,
@@ -196,7 +197,7 @@ impl<W: Write + Drop, A: Allocator + Copy> Trace<W, A> {
         };
         let of_step = step == Step::Taken
             && self.header(part).is_some_and(|came| came.sn == made.cs);
-        if made.kind != HEARTBEAT || of_step {
+        if made.kind != Kind::Heartbeat || of_step {
             return Ok(());
         }
         self.progress.unprinted = first.saturating_add(1);
@@ -256,7 +257,7 @@ impl<W: Write + Drop, A: Allocator + Copy> Trace<W, A> {
         let Some(header) = self.header(label) else {
             return Ok(());
         };
-        let name = kind_name(header.kind);
+        let name = header.kind.name();
         let sn = header.sn;
         let cs = header.cs;
         match header.leaving {
@@ -309,17 +310,11 @@ fn told(answer: io::Result<()>) -> Result<(), LineFault>
     }
 }
 
-/// The type number of a heartbeat.
-const HEARTBEAT: u16 = 6220;
-
-/// The type number of a DiscReq, which says why the end leaves.
-const LEAVING: u16 = 6216;
-
 /// What a line tells of a PDU.
 #[derive(Clone, Copy, Debug)]
 struct Header {
     /// The type.
-    kind: u16,
+    kind: Kind,
     /// The sequence number.
     sn: u32,
     /// The confirmed sequence number.
@@ -333,9 +328,9 @@ impl Header {
     fn of(datagram: &[u8]) -> Option<Self> {
         let (_, pdu) = datagram.split_at_checked(RED_HEADER)?;
         let (header, body) = pdu.split_at_checked(SAFE_HEADER)?;
-        let kind = u16_at(header, 2);
+        let kind = Kind::of(u16_at(header, 2))?;
         let leaving = match body.split_at_checked(4) {
-            Some((front, _)) if kind == LEAVING => Some((u16_at(front, 0), u16_at(front, 2))),
+            Some((front, _)) if kind == Kind::DiscReq => Some((u16_at(front, 0), u16_at(front, 2))),
             _ => None,
         };
         Some(Header {
@@ -344,20 +339,5 @@ impl Header {
             cs: u32_at(header, 16),
             leaving,
         })
-    }
-}
-
-/// The name of a PDU's type.
-fn kind_name(kind: u16) -> &'static str {
-    match kind {
-        6200 => "ConnReq",
-        6201 => "ConnResp",
-        6212 => "RetrReq",
-        6213 => "RetrResp",
-        LEAVING => "DiscReq",
-        HEARTBEAT => "HB",
-        6240 => "Data",
-        6241 => "RetrData",
-        _ => "PDU",
     }
 }
