@@ -1,6 +1,6 @@
 use crate::sim_tests::plays;
 use pdu_text::show;
-use rasta_words::Status;
+use rasta_status::Status;
 use safe_pdu::{CodeLength, CodeRule};
 use std::process::Abort;
 use std::test::Fail;

@@ -1,5 +1,5 @@
 use rasta_run::{run, run_words};
-use rasta_words::{Fault, Status};
+use rasta_status::{Fault, Status};
 use std::env::{Env, FillError};
 use std::io;
 use std::io::{ErrorKind, Write};

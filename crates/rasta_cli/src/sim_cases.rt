@@ -1,4 +1,4 @@
-use rasta_words::Status;
+use rasta_status::Status;
 
 /// A script, and what the word `sim` does with it.
 pub struct Case {

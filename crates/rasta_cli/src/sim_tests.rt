@@ -1,7 +1,7 @@
 use crate::sim_cases::{Case, EXAMPLES, LOSSES, OPENINGS, VERSIONS};
 use linked_list_allocator::LocalHeap;
 use rasta_run::run_sim;
-use rasta_words::Status;
+use rasta_status::Status;
 use std::io;
 use std::io::{ErrorKind, Write};
 use std::process::Abort;

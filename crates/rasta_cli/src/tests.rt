@@ -1,7 +1,8 @@
 use capture_text::Word;
 use rasta_run::run_follow;
 use rasta_show::{run_md4, run_show};
-use rasta_words::{Following, Request, Status, WordsFault, command};
+use rasta_status::Status;
+use rasta_words::{Following, Request, WordsFault, command};
 use safe_pdu::CodeLength;
 use settings_file::Word as Ends;
 use std::test::Fail;

@@ -9,7 +9,7 @@ use crate::ticking::RunClock;
 use crate::turns::Actor;
 use channels::{UdpChannels, UdpFault, Watch};
 use end_settings::Side;
-use rasta_words::{Fault, Status, report};
+use rasta_status::{Fault, Status, report};
 use settings_file::{Ends, Settings, SettingsFault, Word, settings};
 use stack_end::{End, OpenFault};
 use std::alloc::Global;

@@ -1,6 +1,6 @@
 use crate::net::run_net;
 use channels::UdpChannels;
-use rasta_words::Status;
+use rasta_status::Status;
 use settings_file::Word;
 use std::test::Fail;
 

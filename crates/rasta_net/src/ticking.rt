@@ -2,7 +2,7 @@
 
 ghost use Rattle.std.specs.Prelude.{◌≡◌, ◌≤◌, ◌^◌, IfOk, OnErr};
 
-use rasta_words::Fault;
+use rasta_status::Fault;
 use std::time::{Clock, Instant};
 
 /// The greatest time that an end may be handed, in milliseconds.

@@ -5,7 +5,7 @@ ghost use Rattle.std.specs.Prelude.{◌≡◌, ◌≤◌, ◌^◌};
 use channels::Channels;
 use end_settings::Side;
 use pdi_session::{InitFault, Phase, PutFault, Taker};
-use rasta_words::Fault;
+use rasta_status::Fault;
 use settings_file::Put;
 use sim_lines::{Standing, write_refusal, write_report, write_take};
 use stack_end::End;

@@ -6,7 +6,8 @@ ghost use Rattle.pdu_text.specs.HexText.{initial_value_of};
 
 use capture_text::{Asked, FollowStatus};
 use pdu_text::initial_value;
-use rasta_words::{Fault, Following, Status, report};
+use rasta_status::{Fault, Status, report};
+use rasta_words::Following;
 use safe_pdu::CodeRule;
 use std::alloc::Allocator;
 use std::io::{Read, Write};

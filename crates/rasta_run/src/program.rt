@@ -4,14 +4,15 @@ ghost use Rattle.std.specs.Prelude.{◌≡◌, ◌≤◌, [], map, length, IfOk}
 ghost use Rattle.clap.specs.Words.{fault_of};
 ghost use Rattle.rasta_words.specs.CommandLine.{rasta_app};
 ghost use Rattle.rasta_run.specs.Done.{DoneAs};
-ghost use Rattle.rasta_words.specs.Status.{EndsBy};
+ghost use Rattle.rasta_run.specs.Refusal.{EndsBy};
 
 use crate::follow::run_follow;
 use crate::sim::run_sim;
 use clap::error::ErrorKind;
 use rasta_net::run_net;
 use rasta_show::{run_md4, run_show};
-use rasta_words::{Fault, Following, Request, Status, WordsFault, command, report};
+use rasta_status::{Fault, Status, report};
+use rasta_words::{Following, Request, WordsFault, command};
 use settings_file::Word;
 use std::alloc::{AllocError, Global};
 use std::convert::AsStr;

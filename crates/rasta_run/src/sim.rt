@@ -2,7 +2,7 @@
 
 ghost use Rattle.std.specs.Prelude.{◌≢◌};
 
-use rasta_words::Status;
+use rasta_status::Status;
 use sim_lines::SimStatus;
 use std::alloc::Allocator;
 use std::io::{Read, Write};

@@ -6,10 +6,10 @@ ghost use Rattle.std.specs.Option.{option_copied};
 ghost use Rattle.pdu_text.specs.HexText.{initial_value_of, octets_of};
 ghost use Rattle.rasta_show.specs.HexText.{message_of};
 ghost use Rattle.rasta_show.specs.Shown.{HasDigested, HasShown, digest_line};
-ghost use Rattle.rasta_words.specs.Status.{status_of};
+ghost use Rattle.rasta_status.specs.Status.{status_of};
 
 use pdu_text::{HexFault, hex_octets, initial_value, show, write_hex};
-use rasta_words::{Fault, Status, report};
+use rasta_status::{Fault, Status, report};
 use safe_pdu::{CodeLength, CodeRule};
 use std::alloc::Global;
 use std::io;

@@ -4,8 +4,6 @@
 //! docs/SIM.md is the page for those who write scripts.
 #![tactic(auto)]
 
-mod labels;
-mod made;
 mod script;
 mod trace;
 

@@ -1,8 +1,8 @@
 //! Running a script, line by line.
 
-use crate::labels::Labels;
 use crate::trace::{Happening, Trace};
 use end_settings::Side;
+use sim_labels::Labels;
 use sim_lines::{
     Command, Label, LineFault, ScriptFault, ScriptSettings, Sides, SimStatus, Standing, ZEROS_MAX,
     other, read_line,

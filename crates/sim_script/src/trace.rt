@@ -2,7 +2,6 @@
 
 ghost use Rattle.std.specs.Prelude.{◌≡◌, MatchResult, IsOk, IsErr};
 
-use crate::labels::Labels;
 use arrayvec::ArrayVec;
 use channels::Note;
 use end_settings::Side;
@@ -11,6 +10,7 @@ use octets::places::{u16_at, u32_at};
 use red_layer::RedEvent;
 use safe_machine::Step;
 use safe_pdu::Kind;
+use sim_labels::Labels;
 use sim_lines::{
     Label, LineFault, Sides, Standing, other, phase_name, red_cause, side_name, state_name,
     step_cause, write_refusal, write_report, write_take,

@@ -1,0 +1,20 @@
+-- How the program ends where words are no command.
+use Rattle.std.specs.Prelude.{◌≡◌, ◌≢◌, ◌⊎◌}
+use Rattle.clap.specs.Values.{kind_of}
+use Rattle.clap.specs.declared.error.kind.ErrorKind.TheVariants as kind
+use Rattle.rasta_words.specs.declared.command_line.WordsFault.{WordsFault}
+use Rattle.rasta_words.specs.declared.command_line.WordsFault.TheVariants.{Words, BadCode, BadTurns, BadChoice, NotText, Memory}
+use Rattle.rasta_status.specs.declared.Status.{Status}
+use Rattle.rasta_status.specs.declared.Status.TheVariants.{Done, Refused, WrongWords, Failed}
+
+-- help that was asked for is no fault
+abbrev pub EndsBy : WordsFault → Status → Type 0
+EndsBy (Words error) status =
+    (kind_of error ≡ kind.OutOfMemory → status ≡ Refused)
+    × (kind_of error ≢ kind.OutOfMemory → kind_of error ≢ kind.DisplayHelp → kind_of error ≢ kind.DisplayVersion → status ≡ WrongWords)
+    × ((kind_of error ≡ kind.DisplayHelp) ⊎ (kind_of error ≡ kind.DisplayVersion) → (status ≡ Done) ⊎ (status ≡ Failed))
+EndsBy BadCode status = status ≡ WrongWords
+EndsBy BadTurns status = status ≡ WrongWords
+EndsBy BadChoice status = status ≡ WrongWords
+EndsBy NotText status = status ≡ WrongWords
+EndsBy (Memory error) status = status ≡ Refused
