@@ -18,7 +18,7 @@ use Rattle.safe_machine.specs.Made.{carries}
 use Rattle.safe_machine.specs.State.{State, make, move_to, pass, note_request, reply, unconfirmed, leave, ask}
 use Rattle.safe_machine.specs.declared.arrival.Decision.{Decision}
 use Rattle.safe_machine.specs.Decision.{decide, distance, cs_step}
-use Rattle.safe_machine.specs.declared.arrival.Decision.TheVariants.{Nothing, Drops, Shuts, Leaves, Rejects, Accepts, Connects, Takes, Asks, Resumes, AnswersNext, AnswersEarly}
+use Rattle.safe_machine.specs.declared.arrival.Decision.TheVariants.{Leaves, Accepts, Connects, Takes, Resumes, AnswersNext, AnswersEarly}
 use Rattle.safe_machine.specs.Step.{carry_out, respond, arrive, guard, take_unit, tests_passed, confirm_units}
 use Rattle.safe_machine.specs.View.{View, StandsFor, HandsUp, kept_of}
 use Rattle.safe_machine.specs.inner.Doing.{Does}
@@ -36,19 +36,14 @@ passes-from v s p now h t =
     (ltb-true _ (length s.made - s.confirmed) t.cs, leb-true _ (now - s.confirmed_at) t.cts)
 
 pub allowed : (v : View) (s : State) (p : Pdu) (now : ℕ) (d : Decision) → StandsFor v s → IsBody p.kind p.body → (v.connection ≡ Down → v.ring ≡ []) → Fits s p now d → Allows v p now d
-allowed v s p now Nothing h body down f = tt
-allowed v s p now (Drops cause) h body down f = tt
-allowed v s p now Shuts h body down f = tt
-allowed v s p now (Leaves reason detail) h body down f = tt
-allowed v s p now Rejects h body down f = tt
 allowed v s p now Accepts h body down (is_down, is) = (subst (λ k. IsBody k p.body) is body, down (ap (λ (w : View). w.connection) h ∙ is_down))
 allowed v s p now Connects h body down (start, client, is, passed) = (subst (λ k. IsBody k p.body) is body, passes-from v s p now h passed)
 allowed v s p now (Takes to) h body down f = passes-from v s p now h f.passed
-allowed v s p now Asks h body down f = tt
 allowed v s p now Resumes h body down f = passes-from v s p now h f.passed
 allowed v s p now AnswersNext h body down (f, none, turn, cts) = passes-from v s p now h (record { cs = f.cs; cts = cts })
 allowed v s p now AnswersEarly h body down f =
     subst (λ (w : View). cs_step w p < w.made - w.confirmed) (sym h) (ltb-true _ (length s.made - s.confirmed) f.cs)
+allowed v s p now _ h body down f = tt
 
 -- what is handed up
 same-taken : (s t : State) → t.taken ≡ s.taken → t.taken ≡ s.taken ++ []
@@ -63,16 +58,8 @@ unit-taken p now s =
     unit-cases (λ t. t.taken ≡ s.taken ++ carried p) p now s up (λ e _. up e) (λ e. rw e (sym (append-nil s.taken)))
 
 pub decided-taken : (p : Pdu) (now : ℕ) (d : Decision) (s : State) → (carry_out p now d s).taken ≡ s.taken ++ handed_by d p
-decided-taken p now Nothing s = sym (append-nil s.taken)
-decided-taken p now (Drops cause) s = sym (append-nil s.taken)
-decided-taken p now Shuts s = sym (append-nil s.taken)
 decided-taken p now (Leaves reason detail) s = same-taken s (leave reason detail now s) (leave-taken reason detail now s)
-decided-taken p now Rejects s = sym (append-nil s.taken)
-decided-taken p now Accepts s = sym (append-nil s.taken)
-decided-taken p now Connects s = sym (append-nil s.taken)
 decided-taken p now (Takes to) s = unit-taken p now (move_to to (pass p 0 (tests_passed p s)))
-decided-taken p now Asks s = sym (append-nil s.taken)
-decided-taken p now Resumes s = sym (append-nil s.taken)
 decided-taken p now AnswersNext s =
     let z = pass p 0 (note_request 0 (tests_passed p s)) in
     same-taken s (reply now z) (resend-taken (unconfirmed z) now (make RetrResp [] now z))
@@ -81,6 +68,7 @@ decided-taken p now AnswersEarly s =
     let t = reply now z in
     let e : t.taken ≡ s.taken = resend-taken (unconfirmed z) now (make RetrResp [] now z) in
     early-cases (λ u. u.taken ≡ s.taken ++ []) p now s (λ _. same-taken s (ask now t) e) (same-taken s t e)
+decided-taken p now _ s = sym (append-nil s.taken)
 
 pub hands-up : {U : Type 0} (takes : U → List ℕ → U → Type 0) (a b : U) (p : Pdu) (now : ℕ) (d : Decision) (s : State) → decide (kept_of s) p now ≡ d → FoldsTo takes a (handed_by d p) b →
     HandsUp takes a s (respond p now s) b

@@ -8,7 +8,7 @@ use Rattle.safe_machine.specs.Settings.{Settings}
 use Rattle.safe_machine.specs.State.{State, make, move_to, pass, note_request, reply, unconfirmed, leave, opened}
 use Rattle.safe_machine.specs.declared.arrival.Decision.{Decision}
 use Rattle.safe_machine.specs.Decision.{decide, distance}
-use Rattle.safe_machine.specs.declared.arrival.Decision.TheVariants.{Nothing, Drops, Shuts, Leaves, Rejects, Accepts, Connects, Takes, Asks, Resumes, AnswersNext, AnswersEarly}
+use Rattle.safe_machine.specs.declared.arrival.Decision.TheVariants.{Leaves, Takes, Resumes, AnswersNext, AnswersEarly}
 use Rattle.safe_machine.specs.Step.{carry_out, arrive, guard, take_unit, tests_passed, confirm_units}
 use Rattle.safe_machine.specs.Moves.{moved}
 use Rattle.safe_machine.specs.Reached.{IsReached}
@@ -29,15 +29,8 @@ unit-expected : (p : Pdu) (now : ℕ) (s : State) → (take_unit p now s).expect
 unit-expected p now s = unit-cases (λ t. t.expected ≡ s.expected) p now s (λ _. refl) (λ _ _. refl) (λ _. refl)
 
 near-decided : (p : Pdu) (now : ℕ) (d : Decision) (s : State) → s.settings.n_sendmax ≤ 32 → Fits s p now d → (carry_out p now d s).expected ≤ s.expected + index_step
-near-decided p now Nothing s small f = omega arith
-near-decided p now (Drops cause) s small f = omega arith
-near-decided p now Shuts s small f = omega arith
 near-decided p now (Leaves reason detail) s small f = omega (arith, leave-expected reason detail now s)
-near-decided p now Rejects s small f = omega arith
-near-decided p now Accepts s small f = omega arith
-near-decided p now Connects s small f = omega arith
 near-decided p now (Takes to) s small f = omega (arith, unit-expected p now (move_to to (pass p 0 (tests_passed p s))))
-near-decided p now Asks s small f = omega arith
 near-decided p now Resumes s small f = omega (arith, f.table.near, small)
 near-decided p now AnswersNext s small f =
     let y = pass p 0 (note_request 0 (tests_passed p s)) in
@@ -46,6 +39,7 @@ near-decided p now AnswersEarly s small f =
     let y = note_request (distance (kept_of s) p) (confirm_units p s) in
     let still : (reply now y).expected ≡ s.expected = resend-expected (unconfirmed y) now (make RetrResp [] now y) in
     early-cases (λ u. u.expected ≤ s.expected + index_step) p now s (λ _. omega (arith, still)) (omega (arith, still))
+near-decided p now _ s small f = omega arith
 
 near-arrive : (p : Pdu) (now : ℕ) (s : State) → s.settings.n_sendmax ≤ 32 → (arrive p now s).expected ≤ s.expected + index_step
 near-arrive p now s small =

@@ -14,7 +14,7 @@ use Rattle.safe_machine.specs.declared.arrival.Decision.{Decision}
 use Rattle.safe_machine.specs.Decision.{decide, distance, is_goodbye, is_stranger, by_table, cts_step}
 use Rattle.safe_machine.specs.Table.{cell}
 use Rattle.safe_machine.specs.Ring.{ring_of}
-use Rattle.safe_machine.specs.declared.arrival.Decision.TheVariants.{Nothing, Drops, Shuts, Leaves, Rejects, Accepts, Connects, Takes, Asks, Resumes, AnswersNext, AnswersEarly}
+use Rattle.safe_machine.specs.declared.arrival.Decision.TheVariants.{Shuts, Takes}
 use Rattle.safe_machine.specs.Step.{carry_out, respond, arrive, guard, take_unit, tests_passed}
 use Rattle.safe_machine.specs.Moves.{moved}
 use Rattle.safe_machine.specs.Reached.{IsReached}
@@ -33,17 +33,7 @@ use Rattle.safe_machine.proofs.one.StepCases.{unit-cases}
 -- who hands up is live behind its guard
 recent-decided : (p : Pdu) (now : ℕ) (d : Decision) (s : State) → Fits s p now d → handed_by d p ≢ [] → is_live s.connection ≡ true
 recent-decided p now (Takes to) s f h = listens-live s.connection s.settings.client f.table.listens_now
-recent-decided p now Nothing s f h = absurd (h refl)
-recent-decided p now (Drops cause) s f h = absurd (h refl)
-recent-decided p now Shuts s f h = absurd (h refl)
-recent-decided p now (Leaves reason detail) s f h = absurd (h refl)
-recent-decided p now Rejects s f h = absurd (h refl)
-recent-decided p now Accepts s f h = absurd (h refl)
-recent-decided p now Connects s f h = absurd (h refl)
-recent-decided p now Asks s f h = absurd (h refl)
-recent-decided p now Resumes s f h = absurd (h refl)
-recent-decided p now AnswersNext s f h = absurd (h refl)
-recent-decided p now AnswersEarly s f h = absurd (h refl)
+recent-decided p now _ s f h = absurd (h refl)
 
 drop-same : (a b : List (List ℕ)) → b ≡ a → drop (length a) b ≡ []
 drop-same a b e = ap (drop (length a)) (e ∙ sym (append-nil a)) ∙ drop-append_seam a []

@@ -9,7 +9,7 @@ use Rattle.retrans.specs.Units.{Numbered, octets_of}
 use Rattle.safe_machine.specs.Ring.{after_at, carried_at, ring_of}
 use Rattle.safe_machine.proofs.one.Ring.{octets_of-length, ring_of-units}
 use Rattle.safe_pdu.specs.declared.Kind.{Kind}
-use Rattle.safe_pdu.specs.declared.Kind.TheVariants.{ConnReq, ConnResp, RetrReq, RetrResp, DiscReq, Heartbeat, Data, RetrData}
+use Rattle.safe_pdu.specs.declared.Kind.TheVariants.{ConnReq, ConnResp, RetrResp, Heartbeat, Data, RetrData}
 use Rattle.safe_pdu.specs.Pdu.{Pdu}
 use Rattle.safe_pdu.specs.Bodies.{IsBody, window_of, version_of, is_digit, is_zero}
 use Rattle.safe_pdu.specs.SafeText.{HasNumbers}
@@ -20,7 +20,7 @@ use Rattle.safe_machine.specs.Made.{Made, opening_body}
 use Rattle.safe_machine.specs.Settings.{Settings, is_legal}
 use Rattle.safe_machine.specs.declared.arrival.Decision.{Decision}
 use Rattle.safe_machine.specs.Decision.{decide, distance}
-use Rattle.safe_machine.specs.declared.arrival.Decision.TheVariants.{Nothing, Drops, Shuts, Leaves, Rejects, Accepts, Connects, Takes, Asks, Resumes, AnswersNext, AnswersEarly}
+use Rattle.safe_machine.specs.declared.arrival.Decision.TheVariants.{Nothing, Drops, Shuts, Leaves, Takes, Resumes, AnswersNext, AnswersEarly}
 use Rattle.safe_machine.specs.Step.{take_unit, tests_passed, carry_out, guard, respond, heartbeat, send, may_send, confirm_units, has_room}
 use Rattle.safe_machine.specs.Moves.{Move, move, moved, IsUnitSized}
 use Rattle.safe_machine.specs.Moves.Move.{Guards, Hears, Ticks, Sends, Leaves as LeavesNow}
@@ -79,12 +79,7 @@ opening-small body b =
 opening-window : (kind : Kind) (body : List ℕ) → IsBody kind body → 1 ≤ is_opening kind → window_of body ≤ 32
 opening-window ConnReq body b h = opening-small body b
 opening-window ConnResp body b h = opening-small body b
-opening-window RetrReq body b h = absurd (omega arith)
-opening-window RetrResp body b h = absurd (omega arith)
-opening-window DiscReq body b h = absurd (omega arith)
-opening-window Heartbeat body b h = absurd (omega arith)
-opening-window Data body b h = absurd (omega arith)
-opening-window RetrData body b h = absurd (omega arith)
+opening-window _ body b h = absurd (omega arith)
 
 abbrev Waits : State → Type 0
 Waits s = (s.connection ≡ Down → s.made ≡ []) × (s.since < s.settings.mwa)
@@ -117,11 +112,7 @@ waits-decided p now Nothing s f h = h
 waits-decided p now (Drops cause) s f h = h
 waits-decided p now Shuts s f h = (λ e. cc, h.1)
 waits-decided p now (Leaves reason detail) s f h = waits-leave reason detail now s h
-waits-decided p now Rejects s f h = (λ e. cc, omega (arith, h.1))
-waits-decided p now Accepts s f h = (λ e. cc, omega (arith, h.1))
-waits-decided p now Connects s f h = (λ e. cc, omega (arith, h.1))
 waits-decided p now (Takes to) s f h = waits-unit p now (move_to to (pass p 0 (tests_passed p s))) f.connected h.1
-waits-decided p now Asks s f h = (λ e. cc, omega (arith, h.1))
 waits-decided p now Resumes s f h = (λ e. cc, h.1)
 waits-decided p now AnswersNext s (f, none, turn, cts) h = waits-reply now (pass p 0 (note_request 0 (tests_passed p s))) f.connected h.1
 waits-decided p now AnswersEarly s f h =
@@ -129,6 +120,7 @@ waits-decided p now AnswersEarly s f h =
     let t = reply now z in
     let w : Waits t = waits-reply now z f.connected h.1 in
     early-cases Waits p now s (λ _. (λ e. cc, omega (arith, w.1))) w
+waits-decided p now _ s f h = (λ e. cc, omega (arith, h.1))
 
 waits-tick : (now : ℕ) (s : State) → Waits s → Waits (heartbeat now s)
 waits-tick now s h = heartbeat-cases Waits now s (λ connected. waits-made Heartbeat [] now s connected h.1) h
@@ -178,11 +170,9 @@ legal-moved [] s h = h
 legal-moved (m ∷ ms) s h = legal-moved ms (move m s) (kept-move Anything Anything (λ (t : State). is_legal t.settings ≡ true) legal-kept m s (anything m) h)
 
 read-allows : (m : Move) → IsRead m → AllowsMove HasNumbers IsUnitSized m
-read-allows (Guards now) h = tt
 read-allows (Hears p now) h = h.0
-read-allows (Ticks now) h = tt
 read-allows (Sends unit now) h = h
-read-allows (LeavesNow reason detail now) h = tt
+read-allows _ h = tt
 
 texts-moved : (ms : List Move) (s : State) → AreRead ms → Texts s → Texts (moved ms s)
 texts-moved [] s a h = h
@@ -252,11 +242,7 @@ below-after : (kind : Kind) (body : List ℕ) (n : ℕ) (us : List Numbered) →
 below-after Data body n us h = below-push n us body h
 below-after RetrData body n us h = below-push n us body h
 below-after RetrResp body n us h = All-nil (λ (u : Numbered). u.number < n + 1)
-below-after ConnReq body n us h = below-more n (n + 1) us (omega arith) h
-below-after ConnResp body n us h = below-more n (n + 1) us (omega arith) h
-below-after RetrReq body n us h = below-more n (n + 1) us (omega arith) h
-below-after DiscReq body n us h = below-more n (n + 1) us (omega arith) h
-below-after Heartbeat body n us h = below-more n (n + 1) us (omega arith) h
+below-after _ body n us h = below-more n (n + 1) us (omega arith) h
 
 below-carried : (n end : ℕ) (us : List Numbered) (ms : List Made) → n + length ms ≤ end → AllBelow n us → AllBelow end (carried_at n us ms)
 below-carried n end us [] h k = below-more n end us (omega arith) k

@@ -100,14 +100,10 @@ hands-out makes a b s t h =
 
 -- the ring, where what is made leaves the units
 leaves-after : (kind : Kind) (body : List ℕ) (index : ℕ) (run : List Numbered) → leaves_units kind ≡ true → after_at kind body index run ≡ run
-leaves-after ConnReq body index run e = refl
-leaves-after ConnResp body index run e = refl
-leaves-after RetrReq body index run e = refl
-leaves-after DiscReq body index run e = refl
-leaves-after Heartbeat body index run e = refl
 leaves-after RetrResp body index run e = cc
 leaves-after Data body index run e = cc
 leaves-after RetrData body index run e = cc
+leaves-after _ body index run e = refl
 
 plain-carried : (n index : ℕ) (ms : List Made) (m : Made) → leaves_units m.pdu.kind ≡ true → carried_at index [] (drop n (ms ++ m ∷ [])) ≡ carried_at index [] (drop n ms)
 plain-carried zero index ms m e =

@@ -66,11 +66,7 @@ rises-after : (low high : ℕ) (kind : Kind) (body : List ℕ) (cs : List Number
 rises-after low high Data body cs h = rises-push low high body cs h
 rises-after low high RetrData body cs h = rises-push low high body cs h
 rises-after low high RetrResp body cs h = omega (arith, rises-bounds low high cs h)
-rises-after low high ConnReq body cs h = rises-weaken low high cs h
-rises-after low high ConnResp body cs h = rises-weaken low high cs h
-rises-after low high RetrReq body cs h = rises-weaken low high cs h
-rises-after low high DiscReq body cs h = rises-weaken low high cs h
-rises-after low high Heartbeat body cs h = rises-weaken low high cs h
+rises-after low high _ body cs h = rises-weaken low high cs h
 
 rises-carried : (low high : ℕ) (cs : List Numbered) (ms : List Made) → Rises low high cs → Rises low (high + length ms) (carried_at high cs ms)
 rises-carried low high cs [] h = subst (λ (n : ℕ). Rises low n cs) (omega arith) h
@@ -138,54 +134,29 @@ is_new _ = true
 
 new-begins : (kind : Kind) → is_new kind ≡ true → is_resent kind ≡ false
 new-begins RetrData h = cc
-new-begins RetrResp h = refl
-new-begins ConnReq h = refl
-new-begins ConnResp h = refl
-new-begins RetrReq h = refl
-new-begins DiscReq h = refl
-new-begins Heartbeat h = refl
-new-begins Data h = refl
+new-begins _ h = refl
 
 -- what a new PDU carries
 new-carrier : (kind : Kind) (body : List ℕ) (index n : ℕ) (cs : List Numbered) → is_new kind ≡ true → after_carrier kind body index n cs ≡ cs ++ after_at kind body index []
 new-carrier RetrData body index n cs h = cc
 new-carrier RetrResp body index n cs h = cc
 new-carrier Data body index n cs h = refl
-new-carrier ConnReq body index n cs h = sym (append-nil cs)
-new-carrier ConnResp body index n cs h = sym (append-nil cs)
-new-carrier RetrReq body index n cs h = sym (append-nil cs)
-new-carrier DiscReq body index n cs h = sym (append-nil cs)
-new-carrier Heartbeat body index n cs h = sym (append-nil cs)
+new-carrier _ body index n cs h = sym (append-nil cs)
 
 new-ring : (kind : Kind) (body : List ℕ) (index : ℕ) (cs : List Numbered) → is_new kind ≡ true → after_at kind body index cs ≡ cs ++ after_at kind body index []
 new-ring RetrData body index cs h = cc
 new-ring RetrResp body index cs h = cc
 new-ring Data body index cs h = refl
-new-ring ConnReq body index cs h = sym (append-nil cs)
-new-ring ConnResp body index cs h = sym (append-nil cs)
-new-ring RetrReq body index cs h = sym (append-nil cs)
-new-ring DiscReq body index cs h = sym (append-nil cs)
-new-ring Heartbeat body index cs h = sym (append-nil cs)
+new-ring _ body index cs h = sym (append-nil cs)
 
 new-units : (kind : Kind) (body : List ℕ) (index : ℕ) → is_new kind ≡ true → octets_of (after_at kind body index []) ≡ first_sent kind body
 new-units RetrData body index h = cc
 new-units RetrResp body index h = cc
-new-units Data body index h = refl
-new-units ConnReq body index h = refl
-new-units ConnResp body index h = refl
-new-units RetrReq body index h = refl
-new-units DiscReq body index h = refl
-new-units Heartbeat body index h = refl
+new-units _ body index h = refl
 
 new-first : (kind : Kind) (body : List ℕ) → above 0 (after_at kind body 0 []) ≡ []
 new-first RetrData body = refl
-new-first RetrResp body = refl
-new-first Data body = refl
-new-first ConnReq body = refl
-new-first ConnResp body = refl
-new-first RetrReq body = refl
-new-first DiscReq body = refl
-new-first Heartbeat body = refl
+new-first _ body = refl
 
 -- the ring after one PDU more
 ring-push : (confirmed : ℕ) (made : List Made) (m : Made) → confirmed < length made → Ring confirmed (made ++ m ∷ []) ≡ after_at m.pdu.kind m.pdu.body (length made) (Ring confirmed made)
@@ -293,11 +264,7 @@ plain-new : (kind : Kind) → is_plain kind ≡ true → is_new kind ≡ true
 plain-new Heartbeat h = refl
 plain-new RetrReq h = refl
 plain-new DiscReq h = refl
-plain-new ConnReq h = cc
-plain-new ConnResp h = cc
-plain-new RetrResp h = cc
-plain-new Data h = cc
-plain-new RetrData h = cc
+plain-new _ h = cc
 
 replied : (now : ℕ) (s : State) → Carriers s → Carriers (reply now s)
 replied now s h =

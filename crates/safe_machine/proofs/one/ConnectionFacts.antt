@@ -2,24 +2,19 @@
 use Rattle.std.proofs.Common.{◌≡◌, ◌≢◌, ◌⊎◌, inl, inr, true, false, refl, sym, ap, ◌∙◌}
 use Rattle.std.proofs.lemmas.Bool.{false≢true}
 use Rattle.safe_machine.specs.declared.ConnectionState.{ConnectionState}
-use Rattle.safe_machine.specs.declared.ConnectionState.TheVariants.{Closed, Down, Start, Up, RetrReq as Requesting, RetrRun}
+use Rattle.safe_machine.specs.declared.ConnectionState.TheVariants.{Closed, Down, Start, Up, RetrRun}
 use Rattle.safe_machine.specs.Connections.{is_live, is_connected, in_turn}
 
 pub connected-live : (connection : ConnectionState) → is_connected connection ≡ true → is_live connection ≡ true
-connected-live Up e = refl
-connected-live Requesting e = refl
-connected-live RetrRun e = refl
 connected-live Closed e = cc
 connected-live Down e = cc
 connected-live Start e = cc
+connected-live _ e = refl
 
 pub turn-connected : (connection : ConnectionState) → in_turn connection ≡ true → is_connected connection ≡ true
 turn-connected Up e = refl
 turn-connected RetrRun e = refl
-turn-connected Requesting e = cc
-turn-connected Closed e = cc
-turn-connected Down e = cc
-turn-connected Start e = cc
+turn-connected _ e = cc
 
 pub turn-live : (connection : ConnectionState) → in_turn connection ≡ true → is_live connection ≡ true
 turn-live connection e = connected-live connection (turn-connected connection e)
@@ -32,16 +27,8 @@ closed-idle connection e = ap is_live e
 
 pub closed_or : (connection : ConnectionState) → (connection ≡ Closed) ⊎ (connection ≢ Closed)
 closed_or Closed = inl refl
-closed_or Down = inr (λ e. cc)
-closed_or Start = inr (λ e. cc)
-closed_or Up = inr (λ e. cc)
-closed_or Requesting = inr (λ e. cc)
-closed_or RetrRun = inr (λ e. cc)
+closed_or _ = inr (λ e. cc)
 
 pub down_or : (connection : ConnectionState) → (connection ≡ Down) ⊎ (connection ≢ Down)
 down_or Down = inl refl
-down_or Closed = inr (λ e. cc)
-down_or Start = inr (λ e. cc)
-down_or Up = inr (λ e. cc)
-down_or Requesting = inr (λ e. cc)
-down_or RetrRun = inr (λ e. cc)
+down_or _ = inr (λ e. cc)

@@ -3,10 +3,10 @@ use Rattle.std.proofs.Common.{◌≡◌, ◌⊎◌, inl, inr, ◌==◌, ◌+◌,
 use Rattle.std.specs.Prelude.{if◌then◌else◌, ◌&&◌, nat_le}
 use Rattle.octets.specs.declared.limits.TheConstants.{REACH}
 use Rattle.safe_pdu.specs.declared.Kind.{Kind}
-use Rattle.safe_pdu.specs.declared.Kind.TheVariants.{ConnReq, ConnResp, RetrReq, RetrResp, DiscReq, Heartbeat, Data, RetrData}
+use Rattle.safe_pdu.specs.declared.Kind.TheVariants.{ConnReq, ConnResp, RetrResp, Heartbeat, Data}
 use Rattle.safe_pdu.specs.Pdu.{Pdu}
 use Rattle.safe_machine.specs.declared.ConnectionState.{ConnectionState}
-use Rattle.safe_machine.specs.declared.ConnectionState.TheVariants.{Closed, Down, Start, Up, RetrReq as Requesting, RetrRun}
+use Rattle.safe_machine.specs.declared.ConnectionState.TheVariants.{Closed, Down, Start, Up}
 use Rattle.safe_machine.specs.declared.DropCause.TheVariants.{Stranger, Number, Answered, Below}
 use Rattle.safe_machine.specs.declared.Reason.{Reason}
 use Rattle.safe_machine.specs.declared.Reason.TheVariants.{WrongVersion, UnexpectedPdu, SequenceError, ProtocolError, RetransmissionImpossible}
@@ -14,7 +14,7 @@ use Rattle.safe_machine.specs.declared.Detail.{Detail}
 use Rattle.safe_machine.specs.declared.Detail.TheVariants.{Unspecified, ConfirmedNumber, ConfirmedTimestamp}
 use Rattle.safe_machine.specs.State.{State, make, move_to, pass, note_request, reply, unconfirmed}
 use Rattle.safe_machine.specs.declared.arrival.Cell.{Cell}
-use Rattle.safe_machine.specs.Table.{cell, start_row, up_row, run_row, request_row}
+use Rattle.safe_machine.specs.Table.{cell, start_row}
 use Rattle.safe_machine.specs.declared.arrival.Cell.TheVariants.{Take, Ask, Answer, Resume, Refuse, Skip}
 use Rattle.safe_machine.specs.declared.arrival.Decision.{Decision}
 use Rattle.safe_machine.specs.Decision.{is_stranger, is_goodbye, is_ours, cs_fits, cts_fits, tested, in_down, as_client, in_start, by_cell, by_table, by_connection, by_sender, distance, cs_step}
@@ -25,69 +25,11 @@ use Rattle.safe_machine.specs.Moves.Move.{Guards, Hears, Ticks, Sends, Leaves as
 use Rattle.safe_machine.proofs.one.Resending.{resend-connection}
 use Rattle.safe_machine.proofs.one.OneMachine.{send-connection}
 use Rattle.safe_machine.proofs.one.Strangers.{guarded}
+use Rattle.safe_machine.proofs.one.TableLemmas.{Allowed, cell-allowed}
 use Rattle.safe_machine.specs.Connections.{is_closed, in_turn, is_connected}
 use Rattle.safe_machine.specs.View.{kept_of}
 use Rattle.safe_machine.proofs.one.StepCases.{heartbeat-cases, unit-cases, early-cases}
 use Rattle.std.proofs.lemmas.Bool.{cond_both}
-
--- a cell by which an end goes on connected
-abbrev IsGoodCell : Cell → Type 0
-IsGoodCell (Take connection) = is_connected connection ≡ true
-IsGoodCell _ = Unit {0}
-
-up-good : (next : Bool) (kind : Kind) → IsGoodCell (up_row next kind)
-up-good true ConnReq = tt
-up-good true ConnResp = tt
-up-good true RetrReq = tt
-up-good true RetrResp = tt
-up-good true DiscReq = tt
-up-good true Heartbeat = refl
-up-good true Data = refl
-up-good true RetrData = tt
-up-good false ConnReq = tt
-up-good false ConnResp = tt
-up-good false RetrReq = tt
-up-good false RetrResp = tt
-up-good false DiscReq = tt
-up-good false Heartbeat = tt
-up-good false Data = tt
-up-good false RetrData = tt
-
-run-good : (next : Bool) (kind : Kind) → IsGoodCell (run_row next kind)
-run-good true ConnReq = tt
-run-good true ConnResp = tt
-run-good true RetrReq = tt
-run-good true RetrResp = tt
-run-good true DiscReq = tt
-run-good true Heartbeat = refl
-run-good true Data = refl
-run-good true RetrData = refl
-run-good false ConnReq = tt
-run-good false ConnResp = tt
-run-good false RetrReq = tt
-run-good false RetrResp = tt
-run-good false DiscReq = tt
-run-good false Heartbeat = tt
-run-good false Data = tt
-run-good false RetrData = tt
-
-request-good : (kind : Kind) → IsGoodCell (request_row kind)
-request-good ConnReq = tt
-request-good ConnResp = tt
-request-good RetrReq = tt
-request-good RetrResp = tt
-request-good DiscReq = tt
-request-good Heartbeat = tt
-request-good Data = tt
-request-good RetrData = tt
-
-cell-good : (connection : ConnectionState) (next : Bool) (kind : Kind) → is_connected connection ≡ true → IsGoodCell (cell connection next kind)
-cell-good Up next kind on = up-good next kind
-cell-good RetrRun next kind on = run-good next kind
-cell-good Requesting next kind on = request-good kind
-cell-good Closed next kind on = tt
-cell-good Down next kind on = tt
-cell-good Start next kind on = cc
 
 module _ (p : Pdu) (now : ℕ) (s : State) where
   abbrev Q : Decision → Type 0
@@ -111,45 +53,21 @@ module _ (p : Pdu) (now : ℕ) (s : State) where
 
   down-goes : s.connection ≡ Down → (kind : Kind) → Q (in_down p kind)
   down-goes down ConnReq = cond_both (is_ours p.body) Accepts Rejects Q (λ _. inr (inr (inl (down, refl)))) (λ _. inr (inl refl))
-  down-goes down ConnResp = inl refl
-  down-goes down RetrReq = inl refl
-  down-goes down RetrResp = inl refl
-  down-goes down DiscReq = inl refl
-  down-goes down Heartbeat = inl refl
-  down-goes down Data = inl refl
-  down-goes down RetrData = inl refl
+  down-goes down _ = inl refl
 
   client-goes : s.connection ≡ Start → (kind : Kind) → Q (as_client (kept_of s) p now kind)
   client-goes start ConnResp =
       cond_both (is_ours p.body) (tested (kept_of s) p now Connects) (Leaves WrongVersion Unspecified) Q (λ _. tested-goes Connects (inr (inr (inr (inl (start, refl)))))) (λ _. inr (inl refl))
-  client-goes start ConnReq = leaves-goes UnexpectedPdu Unspecified
-  client-goes start RetrReq = leaves-goes UnexpectedPdu Unspecified
-  client-goes start RetrResp = leaves-goes UnexpectedPdu Unspecified
-  client-goes start DiscReq = leaves-goes UnexpectedPdu Unspecified
-  client-goes start Heartbeat = leaves-goes UnexpectedPdu Unspecified
-  client-goes start Data = leaves-goes UnexpectedPdu Unspecified
-  client-goes start RetrData = leaves-goes UnexpectedPdu Unspecified
+  client-goes start _ = leaves-goes UnexpectedPdu Unspecified
 
   start-goes : s.connection ≡ Start → (next : Bool) (kind : Kind) (d : ℕ) → Q (by_cell (kept_of s) p now d (start_row next kind))
-  start-goes start true ConnReq d = leaves-goes UnexpectedPdu Unspecified
-  start-goes start true ConnResp d = leaves-goes UnexpectedPdu Unspecified
-  start-goes start true RetrReq d = leaves-goes UnexpectedPdu Unspecified
-  start-goes start true RetrResp d = leaves-goes UnexpectedPdu Unspecified
-  start-goes start true DiscReq d = leaves-goes UnexpectedPdu Unspecified
   start-goes start true Heartbeat d = tested-goes (Takes Up) (inr (inr (inr (inl (start, takes-is Up)))))
-  start-goes start true Data d = leaves-goes UnexpectedPdu Unspecified
-  start-goes start true RetrData d = leaves-goes UnexpectedPdu Unspecified
-  start-goes start false ConnReq d = leaves-goes UnexpectedPdu Unspecified
-  start-goes start false ConnResp d = leaves-goes UnexpectedPdu Unspecified
-  start-goes start false RetrReq d = leaves-goes UnexpectedPdu Unspecified
-  start-goes start false RetrResp d = leaves-goes UnexpectedPdu Unspecified
-  start-goes start false DiscReq d = leaves-goes UnexpectedPdu Unspecified
   start-goes start false Heartbeat d = leaves-goes SequenceError Unspecified
   start-goes start false Data d = leaves-goes SequenceError Unspecified
-  start-goes start false RetrData d = leaves-goes UnexpectedPdu Unspecified
+  start-goes start _ _ d = leaves-goes UnexpectedPdu Unspecified
 
-  connected-goes : is_connected s.connection ≡ true → (d : ℕ) (c : Cell) → IsGoodCell c → Q (by_cell (kept_of s) p now d c)
-  connected-goes on d (Take connection) good = tested-goes (Takes connection) (inr (inr (inr (inr (on, ap is_connected (takes-is connection) ∙ good)))))
+  connected-goes : is_connected s.connection ≡ true → (d : ℕ) (c : Cell) → Allowed s.connection (d == 0) p.kind c → Q (by_cell (kept_of s) p now d c)
+  connected-goes on d (Take connection) good = tested-goes (Takes connection) (inr (inr (inr (inr (on, ap is_connected (takes-is connection) ∙ good.2)))))
   connected-goes on d Ask good = inr (inr (inr (inr (on, refl))))
   connected-goes on d Answer good =
       let early : Q AnswersEarly =
@@ -170,7 +88,7 @@ module _ (p : Pdu) (now : ℕ) (s : State) where
   on-goes : is_connected s.connection ≡ true → Q (if is_goodbye p.kind then Shuts else by_table (kept_of s) p now (distance (kept_of s) p))
   on-goes on =
       cond_both (is_goodbye p.kind) Shuts (by_table (kept_of s) p now (distance (kept_of s) p)) Q (λ _. inr (inl refl))
-      (λ _. table-goes (λ d. connected-goes on d (cell s.connection (d == 0) p.kind) (cell-good s.connection (d == 0) p.kind on)) (distance (kept_of s) p))
+      (λ _. table-goes (λ d. connected-goes on d (cell s.connection (d == 0) p.kind) (cell-allowed s.connection (d == 0) p.kind)) (distance (kept_of s) p))
 
   by-goes : (connection : ConnectionState) → s.connection ≡ connection → Q (by_connection (kept_of s) p now connection)
   by-goes Closed e = inl refl
@@ -179,9 +97,7 @@ module _ (p : Pdu) (now : ℕ) (s : State) where
       cond_both (is_goodbye p.kind) Shuts (in_start (kept_of s) p now) Q (λ _. inr (inl refl))
       (λ _. cond_both s.settings.client (as_client (kept_of s) p now p.kind) (by_table (kept_of s) p now (distance (kept_of s) p)) Q (λ _. client-goes e p.kind)
       (λ _. table-goes (λ d. subst (λ c. Q (by_cell (kept_of s) p now d (cell c (d == 0) p.kind))) (sym e) (start-goes e (d == 0) p.kind d)) (distance (kept_of s) p)))
-  by-goes Up e = on-goes (ap is_connected e)
-  by-goes Requesting e = on-goes (ap is_connected e)
-  by-goes RetrRun e = on-goes (ap is_connected e)
+  by-goes _ e = on-goes (ap is_connected e)
 
   respond-goes : GoesOn s.connection (respond p now s).connection
   respond-goes =

@@ -3,7 +3,7 @@ use Rattle.std.proofs.Common.{◌≡◌, ℕ, ◌+◌, ◌-◌, ◌<◌, ◌≤�
 use Rattle.std.proofs.lemmas.List.{append-nil, drop-append-le, take-append-drop, drop-drop}
 use Rattle.std.proofs.lemmas.Bool.{ltb-true, false≢true}
 use Rattle.safe_pdu.specs.declared.Kind.{Kind}
-use Rattle.safe_pdu.specs.declared.Kind.TheVariants.{ConnReq, ConnResp, RetrReq, RetrResp, DiscReq, Heartbeat, Data, RetrData}
+use Rattle.safe_pdu.specs.declared.Kind.TheVariants.{ConnResp, RetrReq, RetrResp, DiscReq, Heartbeat, Data, RetrData}
 use Rattle.safe_machine.specs.declared.ConnectionState.{ConnectionState}
 use Rattle.safe_machine.specs.declared.ConnectionState.TheVariants.{Closed, Down, Start, Up, RetrRun}
 use Rattle.safe_pdu.specs.Pdu.{Pdu}
@@ -60,11 +60,7 @@ after_pdu-longer : (kind : Kind) (body : List ℕ) (us vs : List (List ℕ)) →
 after_pdu-longer Data body us vs h = omega (arith, length-append us (body ∷ []), length-append vs (body ∷ []))
 after_pdu-longer RetrData body us vs h = omega (arith, length-append us (body ∷ []), length-append vs (body ∷ []))
 after_pdu-longer RetrResp body us vs h = omega arith
-after_pdu-longer ConnReq body us vs h = h
-after_pdu-longer ConnResp body us vs h = h
-after_pdu-longer RetrReq body us vs h = h
-after_pdu-longer DiscReq body us vs h = h
-after_pdu-longer Heartbeat body us vs h = h
+after_pdu-longer _ body us vs h = h
 
 run_after-longer : (us vs : List (List ℕ)) (ms : List Made) → length us ≤ length vs → length (run_after us ms) ≤ length (run_after vs ms)
 run_after-longer us vs [] h = h

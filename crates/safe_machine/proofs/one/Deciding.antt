@@ -3,7 +3,7 @@ use Rattle.std.proofs.Common.{◌≡◌, ℕ, ◌+◌, ◌*◌, ◌<◌, ◌≤�
 use Rattle.std.specs.Prelude.{if◌then◌else◌, ◌==◌, ◌&&◌, nat_le}
 use Rattle.std.proofs.lemmas.Bool.{leb-true, eqb-true, cond_both, and_parts, leb-false}
 use Rattle.safe_pdu.specs.declared.Kind.{Kind}
-use Rattle.safe_pdu.specs.declared.Kind.TheVariants.{ConnReq, ConnResp, RetrReq, RetrResp, DiscReq, Heartbeat, Data, RetrData}
+use Rattle.safe_pdu.specs.declared.Kind.TheVariants.{ConnReq, ConnResp, RetrReq}
 use Rattle.safe_machine.specs.declared.ConnectionState.{ConnectionState}
 use Rattle.safe_machine.specs.declared.ConnectionState.TheVariants.{Closed, Down, Start, Up, RetrReq as Requesting, RetrRun}
 use Rattle.safe_pdu.specs.Pdu.{Pdu}
@@ -85,12 +85,9 @@ Fits x p now AnswersEarly = AnswerFits x p
 Fits x p now _ = Unit {0}
 
 pub listens-live : (connection : ConnectionState) (client : Bool) → listens connection client ≡ true → is_live connection ≡ true
-listens-live Start client h = refl
-listens-live Up client h = refl
-listens-live Requesting client h = refl
-listens-live RetrRun client h = refl
 listens-live Closed client h = cc
 listens-live Down client h = cc
+listens-live _ client h = refl
 
 fits-tested : (x : State) (p : Pdu) (now : ℕ) (e : Decision) → is_live x.connection ≡ true → (Tested x p now → Fits x p now e) → Fits x p now (tested (kept_of x) p now e)
 fits-tested x p now e live f =
@@ -141,25 +138,13 @@ fits-table x p now l =
 
 fits-down : (x : State) (p : Pdu) (now : ℕ) → x.connection ≡ Down → (kind : Kind) → p.kind ≡ kind → Fits x p now (in_down p kind)
 fits-down x p now down ConnReq is = cond_both (is_ours p.body) Accepts Rejects (Fits x p now) (λ _. (down, is)) (λ _. (down, is))
-fits-down x p now down ConnResp is = tt
-fits-down x p now down RetrReq is = tt
-fits-down x p now down RetrResp is = tt
-fits-down x p now down DiscReq is = tt
-fits-down x p now down Heartbeat is = tt
-fits-down x p now down Data is = tt
-fits-down x p now down RetrData is = tt
+fits-down x p now down _ is = tt
 
 fits-client : (x : State) (p : Pdu) (now : ℕ) → x.connection ≡ Start → is_live x.connection ≡ true → x.settings.client ≡ true → (kind : Kind) → p.kind ≡ kind → Fits x p now (as_client (kept_of x) p now kind)
 fits-client x p now start live client ConnResp is =
     cond_both (is_ours p.body) (tested (kept_of x) p now Connects) (Leaves WrongVersion Unspecified) (Fits x p now)
     (λ _. fits-tested x p now Connects live (λ passed. (start, client, is, passed))) (λ _. live)
-fits-client x p now start live client ConnReq is = live
-fits-client x p now start live client RetrReq is = live
-fits-client x p now start live client RetrResp is = live
-fits-client x p now start live client DiscReq is = live
-fits-client x p now start live client Heartbeat is = live
-fits-client x p now start live client Data is = live
-fits-client x p now start live client RetrData is = live
+fits-client x p now start live client _ is = live
 
 fits-listens : (x : State) (p : Pdu) (now : ℕ) → listens x.connection x.settings.client ≡ true →
     Fits x p now (if is_goodbye p.kind then Shuts else by_table (kept_of x) p now (distance (kept_of x) p))
@@ -174,9 +159,7 @@ fits-connection x p now Start is =
     cond_both x.settings.client (as_client (kept_of x) p now p.kind) (by_table (kept_of x) p now (distance (kept_of x) p)) (Fits x p now)
     (λ client. fits-client x p now is (ap is_live is) client p.kind refl)
     (λ server. fits-table x p now (ap (λ c. listens c x.settings.client) is ∙ ap (listens Start) server)))
-fits-connection x p now Up is = fits-listens x p now (ap (λ c. listens c x.settings.client) is)
-fits-connection x p now Requesting is = fits-listens x p now (ap (λ c. listens c x.settings.client) is)
-fits-connection x p now RetrRun is = fits-listens x p now (ap (λ c. listens c x.settings.client) is)
+fits-connection x p now _ is = fits-listens x p now (ap (λ c. listens c x.settings.client) is)
 
 -- Each decision that is made says this.
 pub decide-fits : (x : State) (p : Pdu) (now : ℕ) → Fits x p now (decide (kept_of x) p now)

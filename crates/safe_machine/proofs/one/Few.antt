@@ -13,7 +13,7 @@ use Rattle.safe_machine.specs.Made.{leaving_body, opening_body}
 use Rattle.safe_machine.specs.State.{State, unconfirmed, make, move_to, pass, hand_up, note_request, resend, reply, leave, opened}
 use Rattle.safe_machine.specs.declared.arrival.Decision.{Decision}
 use Rattle.safe_machine.specs.Decision.{decide, distance, cs_step}
-use Rattle.safe_machine.specs.declared.arrival.Decision.TheVariants.{Nothing, Drops, Shuts, Leaves, Rejects, Accepts, Connects, Takes, Asks, Resumes, AnswersNext, AnswersEarly}
+use Rattle.safe_machine.specs.declared.arrival.Decision.TheVariants.{Leaves, Rejects, Accepts, Connects, Takes, Asks, AnswersNext, AnswersEarly}
 use Rattle.safe_machine.specs.Step.{tests_passed, carry_out, set_window, guard, tick, send, may_send, confirm_units}
 use Rattle.safe_machine.specs.Moves.{Move, move, moved}
 use Rattle.safe_machine.specs.Moves.Move.{Guards, Hears, Ticks, Sends, Leaves as LeavesNow}
@@ -48,9 +48,6 @@ shrinks : (p : Pdu) (s : State) → length (unconfirmed (confirm_units p s)) ≤
 shrinks p s = run_of-shrinks (s.confirmed + 1) (s.confirmed + cs_step (kept_of s) p + 1) s.made (omega arith)
 
 few-carry : (p : Pdu) (now : ℕ) (d : Decision) (s : State) → length (unconfirmed s) ≤ 32 → length (carry_out p now d s).made ≤ length s.made + 35
-few-carry p now Nothing s h = omega arith
-few-carry p now (Drops cause) s h = omega arith
-few-carry p now Shuts s h = omega arith
 few-carry p now (Leaves reason detail) s h = omega (arith, few-leave reason detail now s)
 few-carry p now Rejects s h = omega (arith, length-make DiscReq (leaving_body WrongVersion Unspecified) now (pass p 0 s))
 few-carry p now Accepts s h = omega (arith, length-make ConnResp (opening_body s.settings.n_sendmax) now (set_window (window_of p.body) (pass p 0 s)))
@@ -59,7 +56,6 @@ few-carry p now (Takes to) s h =
     let y = move_to to (pass p 0 (tests_passed p s)) in
     unit-cases (λ t. length t.made ≤ length s.made + 35) p now y (λ _. omega (arith, length-make Heartbeat [] now (hand_up p y))) (λ _ _. omega arith) (λ _. omega arith)
 few-carry p now Asks s h = omega (arith, length-make RetrReq [] now s)
-few-carry p now Resumes s h = omega arith
 few-carry p now AnswersNext s h =
     let y = pass p 0 (note_request 0 (tests_passed p s)) in
     let few : length (unconfirmed y) ≤ length (unconfirmed s) = shrinks p s in
@@ -70,6 +66,7 @@ few-carry p now AnswersEarly s h =
     let few : length (unconfirmed y) ≤ length (unconfirmed s) = shrinks p s in
     let more = reply-length now y in
     early-cases (λ t. length t.made ≤ length s.made + 35) p now s (λ _. omega (arith, length-make RetrReq [] now z)) (omega arith)
+few-carry p now _ s h = omega arith
 
 few-heartbeat : (now : ℕ) (s : State) → length (tick now s).made ≤ length s.made + 2
 few-heartbeat now s =

@@ -57,10 +57,7 @@ Anything x = Unit {0}
 
 pub anything : (m : Move) → AllowsMove Anything Anything m
 anything (Guards now) = tt
-anything (Hears p now) = tt
-anything (Ticks now) = tt
-anything (Sends unit now) = tt
-anything (LeavesNow reason detail now) = tt
+anything _ = tt
 
 module _ (A : Pdu → Type 0) (U : List ℕ → Type 0) (P : State → Type 0) (k : Kept A U P) where
   kept-leave : (reason : Reason) (detail : Detail) (now : ℕ) (s : State) → P s → P (leave reason detail now s)

@@ -1,14 +1,14 @@
 -- Which moves of a machine leave Down, and that none leads back.
 use Rattle.std.proofs.Common.{◌≡◌, ℕ, List, [], true, false, refl, sym, subst, ◌∙◌}
 use Rattle.safe_machine.specs.declared.ConnectionState.{ConnectionState}
-use Rattle.safe_machine.specs.declared.ConnectionState.TheVariants.{Closed, Down, Start, Up, RetrReq as Requesting, RetrRun}
+use Rattle.safe_machine.specs.declared.ConnectionState.TheVariants.{Closed, Down, Start}
 use Rattle.safe_pdu.specs.declared.Kind.TheVariants.{RetrResp}
 use Rattle.safe_pdu.specs.Pdu.{Pdu}
 use Rattle.safe_machine.specs.State.{State, leave, make, move_to, reply, pass, note_request, unconfirmed}
 use Rattle.safe_machine.specs.Step.{guard, tick, send, arrive, heartbeat, carry_out, take_unit, tests_passed, confirm_units}
 use Rattle.safe_machine.specs.declared.arrival.Decision.{Decision}
 use Rattle.safe_machine.specs.Decision.{decide, distance, is_stranger}
-use Rattle.safe_machine.specs.declared.arrival.Decision.TheVariants.{Nothing, Drops, Shuts, Leaves, Rejects, Accepts, Connects, Takes, Asks, Resumes, AnswersNext, AnswersEarly}
+use Rattle.safe_machine.specs.declared.arrival.Decision.TheVariants.{Nothing, Drops, Rejects, Accepts, Takes, AnswersNext, AnswersEarly}
 use Rattle.safe_machine.specs.World.{joins}
 use Rattle.safe_machine.proofs.one.Deciding.{Fits, decide-fits}
 use Rattle.safe_machine.proofs.two.Lone.{arrive-by}
@@ -24,32 +24,15 @@ Quiet a b = (joins a b ≡ false) × (b ≡ Down → a ≡ Down)
 
 pub joins-down : (a b : ConnectionState) → joins a b ≡ true → (a ≡ Down) × (b ≡ Start)
 joins-down Down Start h = (refl, refl)
-joins-down Down Closed h = cc
-joins-down Down Down h = cc
-joins-down Down Up h = cc
-joins-down Down Requesting h = cc
-joins-down Down RetrRun h = cc
-joins-down Closed b h = cc
-joins-down Start b h = cc
-joins-down Up b h = cc
-joins-down Requesting b h = cc
-joins-down RetrRun b h = cc
+joins-down _ _ h = cc
 
 quiet-same : (a : ConnectionState) → Quiet a a
 quiet-same Down = (refl, λ e. e)
-quiet-same Closed = (refl, λ e. e)
-quiet-same Start = (refl, λ e. e)
-quiet-same Up = (refl, λ e. e)
-quiet-same Requesting = (refl, λ e. e)
-quiet-same RetrRun = (refl, λ e. e)
+quiet-same _ = (refl, λ e. e)
 
 quiet-closed : (a : ConnectionState) → Quiet a Closed
 quiet-closed Down = (refl, λ e. cc)
-quiet-closed Closed = (refl, λ e. cc)
-quiet-closed Start = (refl, λ e. cc)
-quiet-closed Up = (refl, λ e. cc)
-quiet-closed Requesting = (refl, λ e. cc)
-quiet-closed RetrRun = (refl, λ e. cc)
+quiet-closed _ = (refl, λ e. cc)
 
 pub quiet-leave : (reason : Reason) (detail : Detail) (now : ℕ) (s : State) → Quiet s.connection (leave reason detail now s).connection
 quiet-leave reason detail now s = quiet-closed s.connection
@@ -72,14 +55,9 @@ take_unit-connection p now y = unit-cases (λ t. t.connection ≡ y.connection) 
 down-decided : (x : State) (p : Pdu) (now : ℕ) (d : Decision) → Fits x p now d → (carry_out p now d x).connection ≡ Down → x.connection ≡ Down
 down-decided x p now Nothing f e = e
 down-decided x p now (Drops cause) f e = e
-down-decided x p now Shuts f e = cc
-down-decided x p now (Leaves reason detail) f e = cc
 down-decided x p now Rejects f e = f.0
 down-decided x p now Accepts f e = f.0
-down-decided x p now Connects f e = cc
 down-decided x p now (Takes to) f e = absurd (connected-up to f.connected (sym (take_unit-connection p now (move_to to (pass p 0 (tests_passed p x)))) ∙ e))
-down-decided x p now Asks f e = cc
-down-decided x p now Resumes f e = cc
 down-decided x p now AnswersNext f e =
     let y = make RetrResp [] now (pass p 0 (note_request 0 (tests_passed p x))) in
     sym (resend-connection (unconfirmed (pass p 0 (note_request 0 (tests_passed p x)))) now y) ∙ e
@@ -88,6 +66,7 @@ down-decided x p now AnswersEarly f e =
     let t = reply now u in
     let is : t.connection ≡ x.connection = resend-connection (unconfirmed u) now (make RetrResp [] now u) in
     early-cases (λ (v : State). v.connection ≡ Down → x.connection ≡ Down) p now x (λ _ no. cc) (λ down. sym is ∙ down) e
+down-decided x p now _ f e = cc
 
 pub arrive-down : (p : Pdu) (now : ℕ) (s : State) → (arrive p now s).connection ≡ Down → s.connection ≡ Down
 arrive-down p now s =

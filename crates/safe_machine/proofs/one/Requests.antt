@@ -2,7 +2,7 @@
 use Rattle.std.proofs.Common.{◌≡◌, ℕ, true, false, cond, refl, sym, ap, subst, ◌∙◌}
 use Rattle.octets.proofs.Choices.{by_cond, by_test}
 use Rattle.safe_pdu.specs.declared.Kind.{Kind}
-use Rattle.safe_pdu.specs.declared.Kind.TheVariants.{ConnReq, ConnResp, RetrReq, RetrResp, DiscReq, Heartbeat, Data, RetrData}
+use Rattle.safe_pdu.specs.declared.Kind.TheVariants.{ConnReq}
 use Rattle.safe_pdu.specs.Pdu.{Pdu}
 use Rattle.safe_machine.specs.declared.ConnectionState.TheVariants.{Down, Start}
 use Rattle.safe_machine.specs.declared.DropCause.TheVariants.{Stranger}
@@ -30,13 +30,7 @@ stays-down p s down e = let no-start : Down ≡ Start = sym down ∙ e in cc
 by-kind : (p : Pdu) (now : ℕ) (s : State) (kind : Kind) → p.kind ≡ kind → s.connection ≡ Down → Starts p now s (in_down p kind)
 by-kind p now s ConnReq k down =
     by_test (λ b. is_ours p.body ≡ b → Starts p now s (cond b Accepts Rejects)) (is_ours p.body) (λ _ ours e. (k, ours)) (λ _ other e. cc) refl
-by-kind p now s ConnResp k down = stays-down p s down
-by-kind p now s RetrReq k down = stays-down p s down
-by-kind p now s RetrResp k down = stays-down p s down
-by-kind p now s DiscReq k down = stays-down p s down
-by-kind p now s Heartbeat k down = stays-down p s down
-by-kind p now s Data k down = stays-down p s down
-by-kind p now s RetrData k down = stays-down p s down
+by-kind p now s _ k down = stays-down p s down
 
 decided : (p : Pdu) (now : ℕ) (s : State) → s.connection ≡ Down → Starts p now s (decide (kept_of s) p now)
 decided p now s down =

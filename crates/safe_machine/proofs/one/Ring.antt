@@ -5,7 +5,7 @@ use Rattle.std.proofs.lemmas.List.{append-nil, drop-drop, take-append-drop, drop
 use Rattle.std.proofs.lemmas.Bool.{lt-ltb}
 use Rattle.std.proofs.lemmas.Bool.Decides.{nat_tests}
 use Rattle.safe_pdu.specs.declared.Kind.{Kind}
-use Rattle.safe_pdu.specs.declared.Kind.TheVariants.{ConnReq, ConnResp, RetrReq, RetrResp, DiscReq, Heartbeat, Data, RetrData}
+use Rattle.safe_pdu.specs.declared.Kind.TheVariants.{RetrResp, Data, RetrData}
 use Rattle.safe_machine.specs.Made.{Made, after_pdu, run_after}
 use Rattle.safe_machine.specs.State.{State, next_made, make, resend, unconfirmed}
 use Rattle.retrans.specs.Units.{Numbered, above, renumbered, octets_of}
@@ -22,12 +22,7 @@ octets_of-length cs = length-map cs (λ (c : Numbered). c.octets)
 after_at-units : (kind : Kind) (body : List ℕ) (index : ℕ) (run : List Numbered) → octets_of (after_at kind body index run) ≡ after_pdu kind body (octets_of run)
 after_at-units Data body index run = octets_of-append run (record { number = index; octets = body } ∷ [])
 after_at-units RetrData body index run = octets_of-append run (record { number = index; octets = body } ∷ [])
-after_at-units RetrResp body index run = refl
-after_at-units ConnReq body index run = refl
-after_at-units ConnResp body index run = refl
-after_at-units RetrReq body index run = refl
-after_at-units DiscReq body index run = refl
-after_at-units Heartbeat body index run = refl
+after_at-units _ body index run = refl
 
 -- the units of the ring are the unconfirmed ones
 pub carried_at-units : (index : ℕ) (run : List Numbered) (ms : List Made) → octets_of (carried_at index run ms) ≡ run_after (octets_of run) ms
@@ -63,12 +58,7 @@ after_at-above Data body index p run h =
     above-append index run (record { number = p; octets = body } ∷ []) ∙ ap (λ cs. above index run ++ cs) (above-one index p body h)
 after_at-above RetrData body index p run h =
     above-append index run (record { number = p; octets = body } ∷ []) ∙ ap (λ cs. above index run ++ cs) (above-one index p body h)
-after_at-above RetrResp body index p run h = refl
-after_at-above ConnReq body index p run h = refl
-after_at-above ConnResp body index p run h = refl
-after_at-above RetrReq body index p run h = refl
-after_at-above DiscReq body index p run h = refl
-after_at-above Heartbeat body index p run h = refl
+after_at-above _ body index p run h = refl
 
 pub carried_at-above : (index p : ℕ) (run : List Numbered) (ms : List Made) → index < p → above index (carried_at p run ms) ≡ carried_at p (above index run) ms
 carried_at-above index p run [] h = refl
@@ -83,11 +73,7 @@ after_at-below Data body index p run h e =
 after_at-below RetrData body index p run h e =
     above-append index run (record { number = p; octets = body } ∷ []) ∙ (ap (λ cs. cs ++ above index (record { number = p; octets = body } ∷ [])) e ∙ below-one index p body h)
 after_at-below RetrResp body index p run h e = refl
-after_at-below ConnReq body index p run h e = e
-after_at-below ConnResp body index p run h e = e
-after_at-below RetrReq body index p run h e = e
-after_at-below DiscReq body index p run h e = e
-after_at-below Heartbeat body index p run h e = e
+after_at-below _ body index p run h e = e
 
 carried_at-below : (index p : ℕ) (run : List Numbered) (ms : List Made) → p + length ms ≤ index + 1 → above index run ≡ [] → above index (carried_at p run ms) ≡ []
 carried_at-below index p run [] h e = e

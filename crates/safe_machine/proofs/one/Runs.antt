@@ -2,7 +2,7 @@
 use Rattle.std.proofs.Common.{◌⊎◌, inl, inr, suc, zero, ◌≡◌, ℕ, ◌+◌, ◌-◌, ◌<◌, ◌≤◌, List, [], ◌∷◌, ◌++◌, length, take, drop, refl, sym, ap, subst, ◌∙◌, arith, append_assoc}
 use Rattle.std.proofs.lemmas.List.{drop-drop, take-append-drop, length-drop}
 use Rattle.safe_pdu.specs.declared.Kind.{Kind}
-use Rattle.safe_pdu.specs.declared.Kind.TheVariants.{ConnReq, ConnResp, RetrReq, RetrResp, DiscReq, Heartbeat, Data, RetrData}
+use Rattle.safe_pdu.specs.declared.Kind.TheVariants.{RetrResp, Data, RetrData}
 use Rattle.safe_machine.specs.Numbers.{sn_of}
 use Rattle.safe_machine.specs.Made.{Made, units, first_sent, after_pdu, run_after, run_of, is_request, is_answer}
 
@@ -36,11 +36,7 @@ pub after_pdu-front : (kind : Kind) (body : List ℕ) (front run : List (List �
 after_pdu-front Data body front run e = append_assoc front run (body ∷ [])
 after_pdu-front RetrData body front run e = append_assoc front run (body ∷ [])
 after_pdu-front RetrResp body front run e = cc
-after_pdu-front ConnReq body front run e = refl
-after_pdu-front ConnResp body front run e = refl
-after_pdu-front RetrReq body front run e = refl
-after_pdu-front DiscReq body front run e = refl
-after_pdu-front Heartbeat body front run e = refl
+after_pdu-front _ body front run e = refl
 
 -- without a RetrResp, what was carried before stays in front
 pub run_after-front : (front run : List (List ℕ)) (ms : List Made) → answers ms ≡ 0 → run_after (front ++ run) ms ≡ front ++ run_after run ms
@@ -54,13 +50,7 @@ run_after-front front run (m ∷ ms) e =
 -- a RetrResp makes what was carried before it of no account
 pub after_answer : (kind : Kind) (body : List ℕ) (run : List (List ℕ)) → 1 ≤ is_answer kind → after_pdu kind body run ≡ []
 after_answer RetrResp body run e = refl
-after_answer Data body run e = absurd (omega arith)
-after_answer RetrData body run e = absurd (omega arith)
-after_answer ConnReq body run e = absurd (omega arith)
-after_answer ConnResp body run e = absurd (omega arith)
-after_answer RetrReq body run e = absurd (omega arith)
-after_answer DiscReq body run e = absurd (omega arith)
-after_answer Heartbeat body run e = absurd (omega arith)
+after_answer _ body run e = absurd (omega arith)
 
 zero_or : (n : ℕ) → (n ≡ 0) ⊎ (1 ≤ n)
 zero_or zero = inl refl

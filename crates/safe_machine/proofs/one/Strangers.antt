@@ -2,7 +2,7 @@
 use Rattle.std.proofs.Common.{◌≡◌, ◌⊎◌, inl, inr, ◌==◌, ◌*◌, ℕ, Bool, true, false, refl, sym, ap, subst, ◌∙◌}
 use Rattle.std.specs.Prelude.{if◌then◌else◌, ◌&&◌, nat_le}
 use Rattle.safe_pdu.specs.declared.Kind.{Kind}
-use Rattle.safe_pdu.specs.declared.Kind.TheVariants.{ConnReq, ConnResp, RetrReq, RetrResp, DiscReq, Heartbeat, Data, RetrData}
+use Rattle.safe_pdu.specs.declared.Kind.TheVariants.{ConnReq, ConnResp, Heartbeat, Data}
 use Rattle.safe_pdu.specs.Pdu.{Pdu}
 use Rattle.safe_machine.specs.declared.ConnectionState.TheVariants.{Closed, Down, Start, Up}
 use Rattle.safe_machine.specs.declared.DropCause.TheVariants.{Stranger, Number}
@@ -53,23 +53,11 @@ module _ (p : Pdu) (now : ℕ) (s : State) where
 
   down-quiet : (kind : Kind) → Q (in_down p kind)
   down-quiet ConnReq = cond_both (is_ours p.body) Accepts Rejects Q (λ _. refl) (λ _. refl)
-  down-quiet ConnResp = refl
-  down-quiet RetrReq = refl
-  down-quiet RetrResp = refl
-  down-quiet DiscReq = refl
-  down-quiet Heartbeat = refl
-  down-quiet Data = refl
-  down-quiet RetrData = refl
+  down-quiet _ = refl
 
   client-quiet : (kind : Kind) → Q (as_client (kept_of s) p now kind)
   client-quiet ConnResp = cond_both (is_ours p.body) (tested (kept_of s) p now Connects) (Leaves WrongVersion Unspecified) Q (λ _. tested-quiet Connects refl) (λ _. leaves-quiet WrongVersion Unspecified)
-  client-quiet ConnReq = leaves-quiet UnexpectedPdu Unspecified
-  client-quiet RetrReq = leaves-quiet UnexpectedPdu Unspecified
-  client-quiet RetrResp = leaves-quiet UnexpectedPdu Unspecified
-  client-quiet DiscReq = leaves-quiet UnexpectedPdu Unspecified
-  client-quiet Heartbeat = leaves-quiet UnexpectedPdu Unspecified
-  client-quiet Data = leaves-quiet UnexpectedPdu Unspecified
-  client-quiet RetrData = leaves-quiet UnexpectedPdu Unspecified
+  client-quiet _ = leaves-quiet UnexpectedPdu Unspecified
 
   heartbeat-quiet : p.kind ≡ Heartbeat → Q (Takes Up)
   heartbeat-quiet is =
@@ -79,20 +67,8 @@ module _ (p : Pdu) (now : ℕ) (s : State) where
   row-quiet : (next : Bool) (kind : Kind) (d : ℕ) → p.kind ≡ kind → Q (by_cell (kept_of s) p now d (start_row next kind))
   row-quiet true Heartbeat d is = tested-quiet (Takes Up) (heartbeat-quiet is)
   row-quiet false Heartbeat d is = leaves-quiet SequenceError Unspecified
-  row-quiet true Data d is = leaves-quiet UnexpectedPdu Unspecified
   row-quiet false Data d is = leaves-quiet SequenceError Unspecified
-  row-quiet true ConnReq d is = leaves-quiet UnexpectedPdu Unspecified
-  row-quiet false ConnReq d is = leaves-quiet UnexpectedPdu Unspecified
-  row-quiet true ConnResp d is = leaves-quiet UnexpectedPdu Unspecified
-  row-quiet false ConnResp d is = leaves-quiet UnexpectedPdu Unspecified
-  row-quiet true RetrReq d is = leaves-quiet UnexpectedPdu Unspecified
-  row-quiet false RetrReq d is = leaves-quiet UnexpectedPdu Unspecified
-  row-quiet true RetrResp d is = leaves-quiet UnexpectedPdu Unspecified
-  row-quiet false RetrResp d is = leaves-quiet UnexpectedPdu Unspecified
-  row-quiet true DiscReq d is = leaves-quiet UnexpectedPdu Unspecified
-  row-quiet false DiscReq d is = leaves-quiet UnexpectedPdu Unspecified
-  row-quiet true RetrData d is = leaves-quiet UnexpectedPdu Unspecified
-  row-quiet false RetrData d is = leaves-quiet UnexpectedPdu Unspecified
+  row-quiet _ _ d is = leaves-quiet UnexpectedPdu Unspecified
 
   table-quiet : s.connection ≡ Start → (d : ℕ) → Q (by_table (kept_of s) p now d)
   table-quiet start d =

@@ -1,9 +1,9 @@
 -- What the table says of each of its cells.
 use Rattle.std.proofs.Common.{◌≡◌, ℕ, List, [], ◌∷◌, Bool, true, false, refl}
 use Rattle.safe_pdu.specs.declared.Kind.{Kind}
-use Rattle.safe_pdu.specs.declared.Kind.TheVariants.{ConnReq, ConnResp, RetrReq, RetrResp, DiscReq, Heartbeat, Data, RetrData}
+use Rattle.safe_pdu.specs.declared.Kind.TheVariants.{RetrReq, RetrResp, Heartbeat, Data, RetrData}
 use Rattle.safe_machine.specs.declared.ConnectionState.{ConnectionState}
-use Rattle.safe_machine.specs.declared.ConnectionState.TheVariants.{Closed, Down, Start, Up, RetrReq as Requesting, RetrRun}
+use Rattle.safe_machine.specs.declared.ConnectionState.TheVariants.{Start, Up, RetrReq as Requesting, RetrRun}
 use Rattle.safe_machine.specs.Made.{carries, after_pdu, is_answer}
 use Rattle.safe_machine.specs.declared.arrival.Cell.{Cell}
 use Rattle.safe_machine.specs.Table.{cell, start_row, up_row, run_row, request_row}
@@ -23,102 +23,52 @@ Allowed connection next kind (Refuse reason) = Unit {0}
 Allowed connection next kind Skip = Unit {0}
 
 start_row-allowed : (next : Bool) (kind : Kind) → Allowed Start next kind (start_row next kind)
-start_row-allowed true ConnReq = tt
-start_row-allowed true ConnResp = tt
-start_row-allowed true RetrReq = tt
-start_row-allowed true RetrResp = tt
-start_row-allowed true DiscReq = tt
 start_row-allowed true Heartbeat = (refl, refl, refl, refl, refl)
-start_row-allowed true Data = tt
-start_row-allowed true RetrData = tt
-start_row-allowed false ConnReq = tt
-start_row-allowed false ConnResp = tt
-start_row-allowed false RetrReq = tt
-start_row-allowed false RetrResp = tt
-start_row-allowed false DiscReq = tt
 start_row-allowed false Heartbeat = tt
-start_row-allowed false Data = tt
-start_row-allowed false RetrData = tt
+start_row-allowed _ _ = tt
 
 up_row-allowed : (next : Bool) (kind : Kind) → Allowed Up next kind (up_row next kind)
-up_row-allowed true ConnReq = tt
-up_row-allowed true ConnResp = tt
-up_row-allowed true RetrReq = (refl, refl)
-up_row-allowed true RetrResp = tt
-up_row-allowed true DiscReq = tt
 up_row-allowed true Heartbeat = (refl, refl, refl, refl, refl)
 up_row-allowed true Data = (refl, refl, refl, refl, refl)
-up_row-allowed true RetrData = tt
-up_row-allowed false ConnReq = tt
-up_row-allowed false ConnResp = tt
-up_row-allowed false RetrReq = (refl, refl)
-up_row-allowed false RetrResp = tt
-up_row-allowed false DiscReq = tt
 up_row-allowed false Heartbeat = (refl, refl, refl)
 up_row-allowed false Data = (refl, refl, refl)
-up_row-allowed false RetrData = tt
+up_row-allowed _ RetrReq = (refl, refl)
+up_row-allowed _ _ = tt
 
 run_row-allowed : (next : Bool) (kind : Kind) → Allowed RetrRun next kind (run_row next kind)
-run_row-allowed true ConnReq = tt
-run_row-allowed true ConnResp = tt
-run_row-allowed true RetrReq = (refl, refl)
-run_row-allowed true RetrResp = tt
-run_row-allowed true DiscReq = tt
 run_row-allowed true Heartbeat = (refl, refl, refl, refl, refl)
 run_row-allowed true Data = (refl, refl, refl, refl, refl)
 run_row-allowed true RetrData = (refl, refl, refl, refl, refl)
-run_row-allowed false ConnReq = tt
-run_row-allowed false ConnResp = tt
-run_row-allowed false RetrReq = (refl, refl)
-run_row-allowed false RetrResp = tt
-run_row-allowed false DiscReq = tt
 run_row-allowed false Heartbeat = (refl, refl, refl)
 run_row-allowed false Data = (refl, refl, refl)
 run_row-allowed false RetrData = (refl, refl, refl)
+run_row-allowed _ RetrReq = (refl, refl)
+run_row-allowed _ _ = tt
 
 request_row-allowed : (next : Bool) (kind : Kind) → Allowed Requesting next kind (request_row kind)
-request_row-allowed next ConnReq = tt
-request_row-allowed next ConnResp = tt
 request_row-allowed next RetrReq = (refl, refl)
 request_row-allowed next RetrResp = (refl, refl, refl)
-request_row-allowed next DiscReq = tt
-request_row-allowed next Heartbeat = tt
-request_row-allowed next Data = tt
-request_row-allowed next RetrData = tt
+request_row-allowed next _ = tt
 
 pub cell-allowed : (connection : ConnectionState) (next : Bool) (kind : Kind) → Allowed connection next kind (cell connection next kind)
 cell-allowed Start next kind = start_row-allowed next kind
 cell-allowed Up next kind = up_row-allowed next kind
 cell-allowed RetrRun next kind = run_row-allowed next kind
 cell-allowed Requesting next kind = request_row-allowed next kind
-cell-allowed Closed next kind = tt
-cell-allowed Down next kind = tt
+cell-allowed _ next kind = tt
 
 -- what a PDU that is no answer adds to the units carried
 pub carries-unit : (kind : Kind) (body : List ℕ) → carries kind ≡ true → after_pdu kind body [] ≡ body ∷ []
-carries-unit ConnReq body e = cc
-carries-unit ConnResp body e = cc
-carries-unit RetrReq body e = cc
-carries-unit RetrResp body e = cc
-carries-unit DiscReq body e = cc
-carries-unit Heartbeat body e = cc
 carries-unit Data body e = refl
 carries-unit RetrData body e = refl
+carries-unit _ body e = cc
 
 pub carries-none : (kind : Kind) (body : List ℕ) → carries kind ≡ false → after_pdu kind body [] ≡ []
-carries-none ConnReq body e = refl
-carries-none ConnResp body e = refl
-carries-none RetrReq body e = refl
-carries-none RetrResp body e = refl
-carries-none DiscReq body e = refl
-carries-none Heartbeat body e = refl
 carries-none Data body e = cc
 carries-none RetrData body e = cc
+carries-none _ body e = refl
 
 pub in_turn-room : (connection : ConnectionState) → in_turn connection ≡ true → (room connection ≡ 0) × (is_connected connection ≡ true)
-in_turn-room Closed e = cc
-in_turn-room Down e = cc
-in_turn-room Start e = cc
 in_turn-room Up e = (refl, refl)
-in_turn-room Requesting e = cc
 in_turn-room RetrRun e = (refl, refl)
+in_turn-room _ e = cc

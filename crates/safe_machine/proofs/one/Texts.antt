@@ -15,7 +15,7 @@ use Rattle.safe_machine.specs.Made.{Made, opening_body, after_pdu, run_after}
 use Rattle.safe_machine.specs.State.{State, next_made, make, resend, reply, unconfirmed, opened, blank}
 use Rattle.safe_machine.specs.Settings.{Settings, is_legal}
 use Rattle.safe_machine.specs.Moves.{Move, moved, move, HasText, HaveTexts, IsUnitSized, AreSoundMoves, IsSoundMove, TextsLaw}
-use Rattle.safe_machine.specs.Moves.Move.{Guards, Hears, Ticks, Sends, Leaves}
+use Rattle.safe_machine.specs.Moves.Move.{Guards}
 use Rattle.safe_machine.specs.declared.ConnectionState.TheVariants.{Start, Down}
 use Rattle.safe_machine.proofs.one.Legal.{legal}
 use Rattle.safe_machine.proofs.two.Receiving.{opening_window}
@@ -97,11 +97,7 @@ sized-after : (kind : Kind) (body : List ℕ) (run : List (List ℕ)) → IsBody
 sized-after Data body run k h = sized-push run body h k
 sized-after RetrData body run k h = sized-push run body h k
 sized-after RetrResp body run k h = tt
-sized-after ConnReq body run k h = h
-sized-after ConnResp body run k h = h
-sized-after RetrReq body run k h = h
-sized-after DiscReq body run k h = h
-sized-after Heartbeat body run k h = h
+sized-after _ body run k h = h
 
 pub sized-run : (run : List (List ℕ)) (ms : List Made) → HaveTexts ms → AllSized run → AllSized (run_after run ms)
 sized-run run [] h k = k
@@ -130,11 +126,7 @@ plain-small : (kind : Kind) (body : List ℕ) → is_plain kind ≡ true → IsB
 plain-small Heartbeat body is fits = omega (arith, eqb-true (length body) 0 fits)
 plain-small RetrReq body is fits = omega (arith, eqb-true (length body) 0 fits)
 plain-small DiscReq body is fits = omega (arith, eqb-true (length body) LEAVING_BODY fits)
-plain-small ConnReq body is fits = cc
-plain-small ConnResp body is fits = cc
-plain-small RetrResp body is fits = cc
-plain-small Data body is fits = cc
-plain-small RetrData body is fits = cc
+plain-small _ body is fits = cc
 
 unit-body : (unit : List ℕ) → IsUnitSized unit → IsBody Data unit
 unit-body unit sized =
@@ -160,10 +152,7 @@ kept-texts =
 
 allowed : (m : Move) → IsSoundMove m → AllowsMove HasNumbers IsUnitSized m
 allowed (Guards now) h = h
-allowed (Hears p now) h = h
-allowed (Ticks now) h = h
-allowed (Sends unit now) h = h
-allowed (Leaves reason detail now) h = h
+allowed _ h = h
 
 texts-moved : (ms : List Move) (s : State) → AreSoundMoves ms → Texts s → Texts (moved ms s)
 texts-moved [] s a h = h

@@ -3,7 +3,7 @@ use Rattle.std.proofs.Common.{◌≡◌, ◌⊎◌, inl, inr, ℕ, ◌*◌, Bool
 use Rattle.std.specs.Prelude.{if◌then◌else◌, nat_le}
 use Rattle.std.proofs.lemmas.Bool.{le-leb}
 use Rattle.safe_pdu.specs.declared.Kind.{Kind}
-use Rattle.safe_pdu.specs.declared.Kind.TheVariants.{ConnReq, ConnResp, RetrReq, RetrResp, DiscReq, Heartbeat, Data, RetrData}
+use Rattle.safe_pdu.specs.declared.Kind.TheVariants.{ConnReq, ConnResp, DiscReq, Heartbeat, Data}
 use Rattle.safe_machine.specs.declared.ConnectionState.{ConnectionState}
 use Rattle.safe_machine.specs.declared.ConnectionState.TheVariants.{Down, Start, Up}
 use Rattle.safe_machine.specs.declared.DropCause.TheVariants.{Stranger, Number}
@@ -61,31 +61,17 @@ table-next s p now Heartbeat is plain h e =
 table-next s p now Data is plain h e =
     let needs : needs_peer p.kind ≡ 1 = ap needs_peer is in
     inr (ap (λ k. if is_goodbye k then Shuts else by_table (kept_of s) p now (distance (kept_of s) p)) is ∙ table-takes s p now (h needs) (ap (λ k. cell s.connection true k) is ∙ e refl), needs)
-table-next s p now ConnReq is plain h e = cc
-table-next s p now ConnResp is plain h e = cc
-table-next s p now RetrReq is plain h e = cc
-table-next s p now RetrResp is plain h e = cc
-table-next s p now RetrData is plain h e = cc
+table-next s p now _ is plain h e = cc
 
-up-cell : (kind : Kind) → is_plain kind ≡ true → is_goodbye kind ≡ false → cell Up true kind ≡ Take Up
+-- what is plain is taken in Up, and what is bare in Start
+pub up-cell : (kind : Kind) → is_plain kind ≡ true → is_goodbye kind ≡ false → cell Up true kind ≡ Take Up
 up-cell Heartbeat plain e = refl
 up-cell Data plain e = refl
-up-cell DiscReq plain e = cc
-up-cell ConnReq plain e = cc
-up-cell ConnResp plain e = cc
-up-cell RetrReq plain e = cc
-up-cell RetrResp plain e = cc
-up-cell RetrData plain e = cc
+up-cell _ plain e = cc
 
-start-cell : (kind : Kind) → is_bare kind ≡ true → is_goodbye kind ≡ false → cell Start true kind ≡ Take Up
+pub start-cell : (kind : Kind) → is_bare kind ≡ true → is_goodbye kind ≡ false → cell Start true kind ≡ Take Up
 start-cell Heartbeat bare e = refl
-start-cell Data bare e = cc
-start-cell DiscReq bare e = cc
-start-cell ConnReq bare e = cc
-start-cell ConnResp bare e = cc
-start-cell RetrReq bare e = cc
-start-cell RetrResp bare e = cc
-start-cell RetrData bare e = cc
+start-cell _ bare e = cc
 
 -- In Up.
 pub decide-up : (s : State) (p : Pdu) (now : ℕ) → s.connection ≡ Up → is_stranger s p ≡ false → is_plain p.kind ≡ true → (needs_peer p.kind ≡ 1 → Passes s p now) →

@@ -46,22 +46,13 @@ Ordinary m = is_repeat m.pdu.kind ≡ false
 pub bare-plain : (kind : Kind) → is_bare kind ≡ true → is_plain kind ≡ true
 bare-plain Heartbeat e = refl
 bare-plain DiscReq e = refl
-bare-plain Data e = cc
-bare-plain ConnReq e = cc
-bare-plain ConnResp e = cc
-bare-plain RetrReq e = cc
-bare-plain RetrResp e = cc
-bare-plain RetrData e = cc
+bare-plain _ e = cc
 
 plain-ordinary : (kind : Kind) → is_plain kind ≡ true → is_repeat kind ≡ false
-plain-ordinary Heartbeat e = refl
-plain-ordinary DiscReq e = refl
-plain-ordinary Data e = refl
-plain-ordinary ConnReq e = refl
-plain-ordinary ConnResp e = refl
 plain-ordinary RetrReq e = cc
 plain-ordinary RetrResp e = cc
 plain-ordinary RetrData e = cc
+plain-ordinary _ e = refl
 
 -- a PDU without a unit may stand anywhere but first
 pub good-bare : (client : Bool) (n i : ℕ) (m : Made) → 1 ≤ i → is_bare m.pdu.kind ≡ true → GoodAt client n i m
@@ -108,13 +99,10 @@ ordinary-asks (m ∷ ms) h = ((λ e. false≢true (sym h.0 ∙ ap is_repeat e)),
 -- Ordinary PDUs carry what they first sent.
 ordinary-after : (kind : Kind) (body : List ℕ) (run : List (List ℕ)) → is_repeat kind ≡ false → after_pdu kind body run ≡ run ++ first_sent kind body
 ordinary-after Data body run e = refl
-ordinary-after Heartbeat body run e = sym (append-nil run)
-ordinary-after DiscReq body run e = sym (append-nil run)
-ordinary-after ConnReq body run e = sym (append-nil run)
-ordinary-after ConnResp body run e = sym (append-nil run)
 ordinary-after RetrReq body run e = cc
 ordinary-after RetrResp body run e = cc
 ordinary-after RetrData body run e = cc
+ordinary-after _ body run e = sym (append-nil run)
 
 ordinary-run : (run : List (List ℕ)) (ms : List Made) → Every Ordinary ms → run_after run ms ≡ run ++ units ms
 ordinary-run run [] h = sym (append-nil run)

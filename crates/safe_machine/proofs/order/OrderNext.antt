@@ -2,21 +2,20 @@
 use Rattle.std.proofs.Common.{◌≡◌, ◌≢◌, ℕ, suc, zero, List, [], Bool, true, false, refl, sym, ap, subst, ◌∙◌, arith}
 use Rattle.std.specs.Prelude.{if◌then◌else◌}
 use Rattle.safe_pdu.specs.declared.Kind.{Kind}
-use Rattle.safe_pdu.specs.declared.Kind.TheVariants.{ConnReq, ConnResp, RetrReq, RetrResp, DiscReq, Heartbeat, Data, RetrData}
+use Rattle.safe_pdu.specs.declared.Kind.TheVariants.{ConnResp, Heartbeat, Data}
 use Rattle.safe_pdu.specs.Pdu.{Pdu}
 use Rattle.safe_pdu.specs.Bodies.{window_of}
 use Rattle.safe_machine.specs.declared.ConnectionState.TheVariants.{Closed, Down, Start, Up}
 use Rattle.safe_machine.specs.Made.{Made, opening_body}
 use Rattle.safe_machine.specs.State.{State, next_made, make, move_to, pass, hand_up}
 use Rattle.safe_machine.specs.Table.{cell}
-use Rattle.safe_machine.specs.declared.arrival.Cell.TheVariants.{Take}
 use Rattle.safe_machine.specs.Decision.{is_stranger, is_goodbye, by_table, decide, distance, as_client}
 use Rattle.safe_machine.specs.declared.arrival.Decision.TheVariants.{Shuts, Takes, Connects, Accepts}
 use Rattle.safe_machine.specs.Step.{carry_out, respond, set_window, tests_passed}
 use Rattle.safe_machine.proofs.one.Runs.{Every, every-push}
 use Rattle.safe_machine.proofs.two.Invariant.{needs_peer}
 use Rattle.safe_machine.proofs.order.OrderKinds.{GoodAt, is_plain, is_bare, bare-plain}
-use Rattle.safe_machine.proofs.order.OrderDecide.{Passes, decided, table-takes, decide-connects, decide-accepts}
+use Rattle.safe_machine.proofs.order.OrderDecide.{Passes, decided, table-takes, up-cell, start-cell, decide-connects, decide-accepts}
 use Rattle.safe_machine.proofs.order.OrderArrivals.{NextIn, next-tests, next-passes}
 use Rattle.safe_machine.specs.Connections.{is_live}
 use Rattle.safe_machine.specs.View.{kept_of}
@@ -47,38 +46,13 @@ takes-open p now x h =
 plain-needs : (kind : Kind) → is_plain kind ≡ true → is_goodbye kind ≡ false → needs_peer kind ≡ 1
 plain-needs Heartbeat plain e = refl
 plain-needs Data plain e = refl
-plain-needs DiscReq plain e = cc
-plain-needs ConnReq plain e = cc
-plain-needs ConnResp plain e = cc
-plain-needs RetrReq plain e = cc
-plain-needs RetrResp plain e = cc
-plain-needs RetrData plain e = cc
-
-up-takes : (kind : Kind) → is_plain kind ≡ true → is_goodbye kind ≡ false → cell Up true kind ≡ Take Up
-up-takes Heartbeat plain e = refl
-up-takes Data plain e = refl
-up-takes DiscReq plain e = cc
-up-takes ConnReq plain e = cc
-up-takes ConnResp plain e = cc
-up-takes RetrReq plain e = cc
-up-takes RetrResp plain e = cc
-up-takes RetrData plain e = cc
-
-start-takes : (kind : Kind) → is_bare kind ≡ true → is_goodbye kind ≡ false → cell Start true kind ≡ Take Up
-start-takes Heartbeat bare e = refl
-start-takes Data bare e = cc
-start-takes DiscReq bare e = cc
-start-takes ConnReq bare e = cc
-start-takes ConnResp bare e = cc
-start-takes RetrReq bare e = cc
-start-takes RetrResp bare e = cc
-start-takes RetrData bare e = cc
+plain-needs _ plain e = cc
 
 decide-takes : (s : State) (p : Pdu) (now : ℕ) → s.connection ≡ Up → is_stranger s p ≡ false → is_plain p.kind ≡ true → is_goodbye p.kind ≡ false → Passes s p now → decide (kept_of s) p now ≡ Takes Up
 decide-takes s p now up meant plain stays h =
     decided s p now Up up meant
     ∙ (ap (λ (b : Bool). if b then Shuts else by_table (kept_of s) p now (distance (kept_of s) p)) stays
-    ∙ table-takes s p now h (ap (λ c. cell c true p.kind) up ∙ up-takes p.kind plain stays))
+    ∙ table-takes s p now h (ap (λ c. cell c true p.kind) up ∙ up-cell p.kind plain stays))
 
 decide-starts : (s : State) (p : Pdu) (now : ℕ) → s.connection ≡ Start → s.settings.client ≡ false → is_stranger s p ≡ false → is_bare p.kind ≡ true → is_goodbye p.kind ≡ false → Passes s p now → decide (kept_of s) p now ≡ Takes Up
 decide-starts s p now start server meant bare stays h =
@@ -86,7 +60,7 @@ decide-starts s p now start server meant bare stays h =
     decided s p now Start start meant
     ∙ (ap (λ (b : Bool). if b then Shuts else if s.settings.client then as_client (kept_of s) p now p.kind else table) stays
     ∙ (ap (λ (b : Bool). if b then as_client (kept_of s) p now p.kind else table) server
-    ∙ table-takes s p now h (ap (λ c. cell c true p.kind) start ∙ start-takes p.kind bare stays)))
+    ∙ table-takes s p now h (ap (λ c. cell c true p.kind) start ∙ start-cell p.kind bare stays)))
 
 by-takes : (x : State) (p : Pdu) (now : ℕ) → decide (kept_of x) p now ≡ Takes Up → IsOpen x → IsOpen (respond p now x)
 by-takes x p now e h = subst (λ d. IsOpen (carry_out p now d x)) (sym e) (takes-open p now x h)

@@ -5,7 +5,7 @@ use Rattle.std.proofs.lemmas.Bool.{ltb-false}
 use Rattle.safe_pdu.specs.declared.Kind.TheVariants.{DiscReq, Heartbeat, Data}
 use Rattle.safe_pdu.specs.Pdu.{Pdu}
 use Rattle.safe_machine.specs.declared.ConnectionState.{ConnectionState}
-use Rattle.safe_machine.specs.declared.ConnectionState.TheVariants.{Closed, Down, Start, Up, RetrReq as Requesting, RetrRun}
+use Rattle.safe_machine.specs.declared.ConnectionState.TheVariants.{Closed, Down, Start, Up, RetrRun}
 use Rattle.safe_machine.specs.declared.Reason.{Reason}
 use Rattle.safe_machine.specs.declared.Detail.{Detail}
 use Rattle.safe_machine.specs.Made.{Made, leaving_body}
@@ -65,10 +65,7 @@ two-later client n k clock other now x y later h = two-makes client n k clock ot
 turn-open : (connection : ConnectionState) → in_turn connection ≡ true → connection ≢ Closed
 turn-open Up turn = λ e. cc
 turn-open RetrRun turn = λ e. cc
-turn-open Closed turn = cc
-turn-open Down turn = cc
-turn-open Start turn = cc
-turn-open Requesting turn = cc
+turn-open _ turn = cc
 
 turn-up : (client : Bool) (n : ℕ) → in_turn (state_of client n) ≡ true → state_of client n ≡ Up
 turn-up true zero turn = cc
@@ -91,11 +88,9 @@ ends-send client n k unit now x y pair h =
 -- an end that says goodbye has made something
 goodbye-started : (connection : ConnectionState) (client : Bool) (expected : ℕ) (made : List Made) → is_live connection ≡ true → Started connection client expected made → 1 ≤ length made
 goodbye-started Start client expected made says h = h.2
-goodbye-started Up client expected made says h = h.1
-goodbye-started Requesting client expected made says h = h.1
-goodbye-started RetrRun client expected made says h = h.1
 goodbye-started Closed client expected made says h = cc
 goodbye-started Down client expected made says h = cc
+goodbye-started _ client expected made says h = h.1
 
 ends-leave : (client : Bool) (n k : ℕ) (reason : Reason) (detail : Detail) (now : ℕ) (x y : State) → Pair x y → Ends client n k x y → Ends client n k (leave reason detail now x) y
 ends-leave client n k reason detail now x y pair h =

@@ -12,7 +12,7 @@ use Rattle.safe_machine.specs.Settings.{Settings, is_legal}
 use Rattle.safe_machine.specs.State.{State, unconfirmed, make, move_to, pass, note_request, reply, leave, opened, blank, next_made}
 use Rattle.safe_machine.specs.declared.arrival.Decision.{Decision}
 use Rattle.safe_machine.specs.Decision.{decide, distance}
-use Rattle.safe_machine.specs.declared.arrival.Decision.TheVariants.{Nothing, Drops, Shuts, Leaves, Rejects, Accepts, Connects, Takes, Asks, Resumes, AnswersNext, AnswersEarly}
+use Rattle.safe_machine.specs.declared.arrival.Decision.TheVariants.{Leaves, Takes, AnswersNext, AnswersEarly}
 use Rattle.safe_machine.specs.Step.{guard, respond, arrive, carry_out, tick, send, tests_passed, confirm_units}
 use Rattle.safe_machine.specs.World.{World, Event, start, changed, run, event_end, event_time, at_end, Timely, happens, GenuineAt, GenuineEvent, Genuine, as_role, open_il, open_fe, with_il, with_fe}
 use Rattle.safe_machine.specs.World.Event.{Open, Send, Close, Guard, Tick, Arrive}
@@ -37,16 +37,8 @@ use Rattle.safe_machine.proofs.one.ConnectionFacts.{down_or}
 
 -- what a decision hands up, and that settings stay
 carry-taken : (p : Pdu) (now : ℕ) (s : State) (e : Decision) → ((to : ConnectionState) × (e ≡ Takes to)) ⊎ ((carry_out p now e s).taken ≡ s.taken)
-carry-taken p now s Nothing = inr refl
-carry-taken p now s (Drops cause) = inr refl
-carry-taken p now s Shuts = inr refl
 carry-taken p now s (Leaves reason detail) = inr (lone-leave reason detail now s).taken
-carry-taken p now s Rejects = inr refl
-carry-taken p now s Accepts = inr refl
-carry-taken p now s Connects = inr refl
 carry-taken p now s (Takes to) = inl (to, refl)
-carry-taken p now s Asks = inr refl
-carry-taken p now s Resumes = inr refl
 carry-taken p now s AnswersNext =
     let z = pass p 0 (note_request 0 (tests_passed p s)) in
     inr (resend-taken (unconfirmed z) now (make RetrResp [] now z))
@@ -54,20 +46,13 @@ carry-taken p now s AnswersEarly =
     let z = note_request (distance (kept_of s) p) (confirm_units p s) in
     let same : (reply now z).taken ≡ s.taken = resend-taken (unconfirmed z) now (make RetrResp [] now z) in
     inr (early-cases (λ u. u.taken ≡ s.taken) p now s (λ _. same) same)
+carry-taken p now s _ = inr refl
 
 carry-settings : (p : Pdu) (now : ℕ) (s : State) (e : Decision) → (carry_out p now e s).settings ≡ s.settings
-carry-settings p now s Nothing = refl
-carry-settings p now s (Drops cause) = refl
-carry-settings p now s Shuts = refl
 carry-settings p now s (Leaves reason detail) = (lone-leave reason detail now s).settings
-carry-settings p now s Rejects = refl
-carry-settings p now s Accepts = refl
-carry-settings p now s Connects = refl
 carry-settings p now s (Takes to) =
     let z = move_to to (pass p 0 (tests_passed p s)) in
     unit-cases (λ u. u.settings ≡ s.settings) p now z (λ _. refl) (λ _ _. refl) (λ _. refl)
-carry-settings p now s Asks = refl
-carry-settings p now s Resumes = refl
 carry-settings p now s AnswersNext =
     let z = pass p 0 (note_request 0 (tests_passed p s)) in
     resend-settings (unconfirmed z) now (make RetrResp [] now z)
@@ -75,6 +60,7 @@ carry-settings p now s AnswersEarly =
     let z = note_request (distance (kept_of s) p) (confirm_units p s) in
     let same : (reply now z).settings ≡ s.settings = resend-settings (unconfirmed z) now (make RetrResp [] now z) in
     early-cases (λ u. u.settings ≡ s.settings) p now s (λ _. same) same
+carry-settings p now s _ = refl
 
 arrive-settings : (p : Pdu) (now : ℕ) (s : State) → (arrive p now s).settings ≡ s.settings
 arrive-settings p now s = let g = guard now s in carry-settings p now g (decide (kept_of g) p now) ∙ (lone-guard now s).settings

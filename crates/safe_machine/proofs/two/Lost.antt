@@ -4,7 +4,7 @@ use Rattle.std.specs.Prelude.{if◌then◌else◌, ◌==◌}
 use Rattle.std.proofs.lemmas.List.{append-nil}
 use Rattle.std.proofs.lemmas.Bool.{eq-eqb}
 use Rattle.safe_pdu.specs.declared.Kind.{Kind}
-use Rattle.safe_pdu.specs.declared.Kind.TheVariants.{ConnReq, ConnResp, RetrReq, RetrResp, DiscReq, Heartbeat, Data, RetrData}
+use Rattle.safe_pdu.specs.declared.Kind.TheVariants.{Data}
 use Rattle.safe_machine.specs.declared.ConnectionState.TheVariants.{Closed}
 use Rattle.safe_machine.specs.Made.{Made, units, first_sent, run_of}
 use Rattle.safe_machine.specs.State.{State, unconfirmed}
@@ -39,14 +39,8 @@ half-owes x y h =
     omega arith
 
 quiet-none : (kind : Kind) (body : List ℕ) → needs_peer kind ≡ 0 → first_sent kind body ≡ []
-quiet-none ConnReq body e = refl
-quiet-none DiscReq body e = refl
-quiet-none ConnResp body e = refl
-quiet-none RetrReq body e = refl
-quiet-none RetrResp body e = refl
-quiet-none Heartbeat body e = refl
-quiet-none RetrData body e = refl
 quiet-none Data body e = absurd (omega arith)
+quiet-none _ body e = refl
 
 pub quiet-units : (ms : List Made) → Every Quiet ms → units ms ≡ []
 quiet-units [] h = refl

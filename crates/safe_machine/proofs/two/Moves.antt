@@ -4,7 +4,7 @@ use Rattle.std.proofs.lemmas.List.{append-nil}
 use Rattle.safe_pdu.specs.declared.Kind.{Kind}
 use Rattle.safe_pdu.specs.declared.Kind.TheVariants.{RetrReq, RetrResp, DiscReq, Heartbeat, Data, RetrData}
 use Rattle.safe_machine.specs.declared.ConnectionState.{ConnectionState}
-use Rattle.safe_machine.specs.declared.ConnectionState.TheVariants.{Closed, Down, Start, Up, RetrReq as Requesting, RetrRun}
+use Rattle.safe_machine.specs.declared.ConnectionState.TheVariants.{Closed, Down, Start, RetrReq as Requesting}
 use Rattle.safe_machine.specs.Made.{Made, units, first_sent, after_pdu, run_of, is_request, is_answer, leaving_body}
 use Rattle.safe_machine.specs.State.{State, next_made, make, move_to, unconfirmed, resend, reply, ask, leave}
 use Rattle.safe_machine.proofs.one.Runs.{requests, answers, count-drop_push, every-push, every-drop_push, RequestAt}
@@ -18,11 +18,7 @@ use Rattle.safe_machine.proofs.one.StepCases.{leave-cases}
 
 pub room-le : (connection : ConnectionState) → room connection ≤ 1
 room-le Closed = omega arith
-room-le Down = omega arith
-room-le Start = omega arith
-room-le Up = omega arith
-room-le Requesting = omega arith
-room-le RetrRun = omega arith
+room-le _ = omega arith
 
 -- closing
 pub pair-closed : (x y : State) → Pair x y → Pair (move_to Closed x) y
@@ -63,20 +59,16 @@ pair-leave reason detail now x y h =
 
 -- an end that is connected has taken something and made something
 pub started-parts : (connection : ConnectionState) (client : Bool) (expected : ℕ) (made : List Made) → is_connected connection ≡ true → Started connection client expected made → (1 ≤ expected) × (1 ≤ length made)
-started-parts Up client expected made c h = h
-started-parts Requesting client expected made c h = h
-started-parts RetrRun client expected made c h = h
 started-parts Closed client expected made c h = cc
 started-parts Down client expected made c h = cc
 started-parts Start client expected made c h = cc
+started-parts _ client expected made c h = h
 
 pub started-from : (connection : ConnectionState) (client : Bool) (expected : ℕ) (made : List Made) → is_connected connection ≡ true → 1 ≤ expected → 1 ≤ length made → Started connection client expected made
-started-from Up client expected made c e m = (e, m)
-started-from Requesting client expected made c e m = (e, m)
-started-from RetrRun client expected made c e m = (e, m)
 started-from Closed client expected made c e m = cc
 started-from Down client expected made c e m = cc
 started-from Start client expected made c e m = cc
+started-from _ client expected made c e m = (e, m)
 
 pub some-push : (ms : List Made) (m : Made) → 1 ≤ length (ms ++ m ∷ [])
 some-push ms m = omega (arith, length-append ms (m ∷ []))

@@ -14,7 +14,7 @@ use Rattle.safe_machine.specs.Moves.{Move, move, HearsOwn}
 use Rattle.safe_machine.specs.Moves.Move.{Guards, Hears, Ticks, Sends, Leaves}
 use Rattle.safe_machine.proofs.one.Leaving.{joins-down}
 use Rattle.safe_machine.proofs.one.MovesLaw.{moves_law_holds}
-use Rattle.safe_machine.specs.Law.{JoinedBelow, next_bound, JoinsFall, IsJoined, is_number, taken_from_il, taken_count, UnitLaw, LossLaw, JoinedLaw}
+use Rattle.safe_machine.specs.Law.{next_bound, JoinsFall, IsJoined, is_number, taken_from_il, taken_count, UnitLaw, LossLaw, JoinedLaw}
 use Rattle.safe_machine.specs.Law as Public
 use Rattle.safe_machine.proofs.two.Inner.{incarnation, TakesBeginnings, AllTakeBeginnings, OnlyJoinedTake, taken_from_fe}
 use Rattle.safe_machine.proofs.two.Worlds.{Inv, inv-run, inv-start}
@@ -231,12 +231,7 @@ among-drop (suc n) p (m ∷ ms) h = inr (among-drop n p ms h)
 joins-event : (w : World) (e : Event) → GenuineEvent w e → Public.JoinsEvent w e
 joins-event w (Arrive Fe p now) g =
     λ down begun. among-drop w.dead_il p w.il.made (g (λ closed. absurd (down-closed (sym down ∙ closed))) ((moves_law_holds (Hears p now) w.fe).starts down begun))
-joins-event w (Arrive Il p now) g = tt
-joins-event w (Open side settings first now) g = tt
-joins-event w (Send side unit now) g = tt
-joins-event w (Close side reason detail now) g = tt
-joins-event w (Guard side now) g = tt
-joins-event w (Tick side now) g = tt
+joins-event w _ g = tt
 
 pub joined_law_holds : JoinedLaw
 joined_law_holds events e genuine = joins-event (run events start) e (genuine-last events e start genuine)

@@ -4,7 +4,7 @@ use Rattle.std.proofs.lemmas.Bool.{false≢true}
 use Rattle.std.proofs.lemmas.List.{append-nil}
 use Rattle.safe_pdu.specs.declared.Kind.TheVariants.{ConnReq, ConnResp, DiscReq}
 use Rattle.safe_machine.specs.declared.ConnectionState.{ConnectionState}
-use Rattle.safe_machine.specs.declared.ConnectionState.TheVariants.{Closed, Down, Start, Up, RetrReq as Requesting, RetrRun}
+use Rattle.safe_machine.specs.declared.ConnectionState.TheVariants.{Closed, Down, Start, Up}
 use Rattle.safe_machine.specs.Numbers.{sn_of}
 use Rattle.safe_pdu.specs.Pdu.{Pdu}
 use Rattle.safe_pdu.specs.Bodies.{window_of}
@@ -118,11 +118,9 @@ pub record Incoming (i : ℕ) (m : Made) (rest : List Made) (x y : State) : Type
 listens-started : (connection : ConnectionState) (client : Bool) (expected : ℕ) (made : List Made) → listens connection client ≡ true → Started connection client expected made → (1 ≤ expected) × (1 ≤ length made)
 listens-started Start false expected made l h = (h.1 refl, h.2)
 listens-started Start true expected made l h = cc
-listens-started Up client expected made l h = h
-listens-started Requesting client expected made l h = h
-listens-started RetrRun client expected made l h = h
 listens-started Closed client expected made l h = cc
 listens-started Down client expected made l h = cc
+listens-started _ client expected made l h = h
 
 pub by_table-started : (x : State) (p : Pdu) → Solo x → ByTable x p → (1 ≤ x.expected) × (1 ≤ length x.made)
 by_table-started x p h t = listens-started x.connection x.settings.client x.expected x.made t.listens_now h.started

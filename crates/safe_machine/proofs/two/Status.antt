@@ -3,13 +3,13 @@ use Rattle.std.proofs.Common.{◌≡◌, ◌≢◌, ◌⊎◌, inl, inr, ℕ, �
 use Rattle.std.proofs.lemmas.Bool.{false≢true}
 use Rattle.safe_pdu.specs.declared.Kind.TheVariants.{DiscReq}
 use Rattle.safe_machine.specs.declared.ConnectionState.{ConnectionState}
-use Rattle.safe_machine.specs.declared.ConnectionState.TheVariants.{Closed, Down, Start, Up, RetrReq as Requesting, RetrRun}
+use Rattle.safe_machine.specs.declared.ConnectionState.TheVariants.{Closed, Down, Start}
 use Rattle.safe_pdu.specs.Pdu.{Pdu}
 use Rattle.safe_machine.specs.Made.{Made, units, leaving_body}
 use Rattle.safe_machine.specs.State.{State, next_made, move_to, leave}
 use Rattle.safe_machine.specs.declared.arrival.Decision.{Decision}
 use Rattle.safe_machine.specs.Decision.{decide}
-use Rattle.safe_machine.specs.declared.arrival.Decision.TheVariants.{Nothing, Drops, Shuts, Leaves, Rejects, Accepts, Connects, Takes, Asks, Resumes, AnswersNext, AnswersEarly}
+use Rattle.safe_machine.specs.declared.arrival.Decision.TheVariants.{Nothing, Drops, Shuts, Leaves, Rejects, Accepts, Connects, AnswersNext, AnswersEarly}
 use Rattle.safe_machine.specs.Step.{guard, respond, arrive, carry_out, tick, send}
 use Rattle.safe_machine.specs.World.{Served, GenuineAt}
 use Rattle.safe_machine.specs.Law.{JoinsFall}
@@ -86,23 +86,15 @@ mute-deaf Start true c h = refl
 mute-deaf Start false c h = cc
 mute-deaf Closed client c h = refl
 mute-deaf Down client c h = refl
-mute-deaf Up client c (inl h) = cc
-mute-deaf Up client c (inr h) = cc
-mute-deaf Requesting client c (inl h) = cc
-mute-deaf Requesting client c (inr h) = cc
-mute-deaf RetrRun client c (inl h) = cc
-mute-deaf RetrRun client c (inr h) = cc
+mute-deaf _ client c (inl h) = cc
+mute-deaf _ client c (inr h) = cc
 
 mute-not_connected : (connection : ConnectionState) → (connection ≡ Start) ⊎ (connection ≡ Closed) → (is_connected connection ≡ false) × (in_turn connection ≡ false)
 mute-not_connected Start h = (refl, refl)
 mute-not_connected Closed h = (refl, refl)
 mute-not_connected Down h = (refl, refl)
-mute-not_connected Up (inl h) = cc
-mute-not_connected Up (inr h) = cc
-mute-not_connected Requesting (inl h) = cc
-mute-not_connected Requesting (inr h) = cc
-mute-not_connected RetrRun (inl h) = cc
-mute-not_connected RetrRun (inr h) = cc
+mute-not_connected _ (inl h) = cc
+mute-not_connected _ (inr h) = cc
 
 pub mute-leave : (reason : Reason) (detail : Detail) (now : ℕ) (s : State) → Mute s → Mute (leave reason detail now s)
 mute-leave reason detail now s h =
@@ -148,11 +140,8 @@ mute-arrive now n p il made h b dead genuine =
     mute-carry p now il s plain h l b Rejects f = absurd (omega (arith, ap is_opening f.1, plain))
     mute-carry p now il s plain h l b Accepts f = absurd (omega (arith, ap is_opening f.1, plain))
     mute-carry p now il s plain h l b Connects f = absurd (omega (arith, ap is_opening f.2, plain))
-    mute-carry p now il s plain h l b (Takes to) f = absurd (false≢true (sym (mute-deaf s.connection s.settings.client h.client h.connection) ∙ f.table.listens_now))
-    mute-carry p now il s plain h l b Asks f = absurd (false≢true (sym (mute-deaf s.connection s.settings.client h.client h.connection) ∙ f.table.listens_now))
-    mute-carry p now il s plain h l b Resumes f = absurd (false≢true (sym (mute-deaf s.connection s.settings.client h.client h.connection) ∙ f.table.listens_now))
     mute-carry p now il s plain h l b AnswersNext f = absurd (false≢true (sym (mute-deaf s.connection s.settings.client h.client h.connection) ∙ f.0.table.listens_now))
-    mute-carry p now il s plain h l b AnswersEarly f = absurd (false≢true (sym (mute-deaf s.connection s.settings.client h.client h.connection) ∙ f.table.listens_now))
+    mute-carry p now il s plain h l b _ f = absurd (false≢true (sym (mute-deaf s.connection s.settings.client h.client h.connection) ∙ f.table.listens_now))
 
 -- a field element that is on, and hears only what a mute interlocking says
 pub deaf-arrive : (now n : ℕ) (p : Pdu) (fe : State) (made : List Made) → fe.connection ≢ Down → Bounded fe → Every Quiet made → GenuineAt fe p (drop n made) →
@@ -182,24 +171,16 @@ deaf-arrive now n p fe made on_fe b quiet genuine =
     deaf-carry p now fe s plain on l b Rejects f = absurd (on f.0)
     deaf-carry p now fe s plain on l b Accepts f = absurd (on f.0)
     deaf-carry p now fe s plain on l b Connects f = absurd (omega (arith, ap needs_peer f.2, plain))
-    deaf-carry p now fe s plain on l b (Takes to) f = absurd (omega (arith, f.needs, plain))
-    deaf-carry p now fe s plain on l b Asks f = absurd (omega (arith, f.needs, plain))
-    deaf-carry p now fe s plain on l b Resumes f = absurd (omega (arith, f.needs, plain))
     deaf-carry p now fe s plain on l b AnswersNext f = absurd (omega (arith, ap needs_peer f.0.request, plain))
     deaf-carry p now fe s plain on l b AnswersEarly f = absurd (omega (arith, ap needs_peer f.request, plain))
+    deaf-carry p now fe s plain on l b _ f = absurd (omega (arith, f.needs, plain))
 
 -- a field element in Down or Closed that hears no opening
 still_deaf : (connection : ConnectionState) (client : Bool) → (connection ≡ Down) ⊎ (connection ≡ Closed) → (listens connection client ≡ false) × (is_live connection ≡ false)
 still_deaf Down client h = (refl, refl)
 still_deaf Closed client h = (refl, refl)
-still_deaf Start client (inl h) = cc
-still_deaf Start client (inr h) = cc
-still_deaf Up client (inl h) = cc
-still_deaf Up client (inr h) = cc
-still_deaf Requesting client (inl h) = cc
-still_deaf Requesting client (inr h) = cc
-still_deaf RetrRun client (inl h) = cc
-still_deaf RetrRun client (inr h) = cc
+still_deaf _ client (inl h) = cc
+still_deaf _ client (inr h) = cc
 
 pub still-arrive : (now n : ℕ) (p : Pdu) (fe : State) (made : List Made) → (fe.connection ≡ Down) ⊎ (fe.connection ≡ Closed) → Bounded fe → Every NotOpening (drop n made) → GenuineAt fe p (drop n made) →
     Lone fe (arrive p now fe) × Bounded (arrive p now fe) × (((arrive p now fe).connection ≡ Down) ⊎ ((arrive p now fe).connection ≡ Closed)) × ((arrive p now fe).made ≡ fe.made) × ((arrive p now fe).confirmed_at ≡ fe.confirmed_at)
@@ -223,8 +204,5 @@ still-arrive now n p fe made still b dead genuine =
     still-carry p now s plain h b Rejects f = absurd (omega (arith, ap is_opening f.1, plain))
     still-carry p now s plain h b Accepts f = absurd (omega (arith, ap is_opening f.1, plain))
     still-carry p now s plain h b Connects f = absurd (omega (arith, ap is_opening f.2, plain))
-    still-carry p now s plain h b (Takes to) f = absurd (false≢true (sym (still_deaf s.connection s.settings.client h).0 ∙ f.table.listens_now))
-    still-carry p now s plain h b Asks f = absurd (false≢true (sym (still_deaf s.connection s.settings.client h).0 ∙ f.table.listens_now))
-    still-carry p now s plain h b Resumes f = absurd (false≢true (sym (still_deaf s.connection s.settings.client h).0 ∙ f.table.listens_now))
     still-carry p now s plain h b AnswersNext f = absurd (false≢true (sym (still_deaf s.connection s.settings.client h).0 ∙ f.0.table.listens_now))
-    still-carry p now s plain h b AnswersEarly f = absurd (false≢true (sym (still_deaf s.connection s.settings.client h).0 ∙ f.table.listens_now))
+    still-carry p now s plain h b _ f = absurd (false≢true (sym (still_deaf s.connection s.settings.client h).0 ∙ f.table.listens_now))

@@ -6,7 +6,7 @@ use Rattle.octets.specs.Lists.{IsBeginning}
 use Rattle.safe_machine.specs.World.Side.{Il, Fe}
 use Rattle.safe_pdu.specs.declared.Kind.TheVariants.{RetrResp, DiscReq}
 use Rattle.safe_machine.specs.declared.ConnectionState.{ConnectionState}
-use Rattle.safe_machine.specs.declared.ConnectionState.TheVariants.{Closed, Down, Start, Up, RetrReq as Requesting, RetrRun}
+use Rattle.safe_machine.specs.declared.ConnectionState.TheVariants.{Closed, Down, Start}
 use Rattle.safe_pdu.specs.Pdu.{Pdu}
 use Rattle.safe_machine.specs.Made.{Made, units, run_of, leaving_body, is_request}
 use Rattle.safe_machine.specs.Settings.{Settings, is_legal}
@@ -180,26 +180,13 @@ il-arrive w p now h genuine = go h.status
 
 -- Steps of the field element in which it takes nothing.
 joins-same : (c d : ConnectionState) → (d ≡ c) ⊎ (d ≡ Closed) → joins c d ≡ false
-joins-same Down Closed h = refl
-joins-same Down Down h = refl
 joins-same Down Start (inl e) = cc
 joins-same Down Start (inr e) = cc
-joins-same Down Up h = refl
-joins-same Down Requesting h = refl
-joins-same Down RetrRun h = refl
-joins-same Closed d h = refl
-joins-same Start d h = refl
-joins-same Up d h = refl
-joins-same Requesting d h = refl
-joins-same RetrRun d h = refl
+joins-same _ _ h = refl
 
 joins-on : (c d : ConnectionState) → c ≢ Down → joins c d ≡ false
 joins-on Down d h = absurd (h refl)
-joins-on Closed d h = refl
-joins-on Start d h = refl
-joins-on Up d h = refl
-joins-on Requesting d h = refl
-joins-on RetrRun d h = refl
+joins-on _ d h = refl
 
 abbrev joined_after : World → State → Option ℕ
 joined_after w t = if joins w.fe.connection t.connection then Some (length w.il_before) else w.joined
