@@ -313,8 +313,5 @@ room-is v s h =
 pub send-sends : (unit : List ℕ) (now : ℕ) (v : View) (s : State) → StandsFor v s → has_room v ≡ true → send unit now s ≡ make Data unit now s
 send-sends unit now v s h e = ap (λ (b : Bool). if b then make Data unit now s else s) (sym (room-is v s h) ∙ e)
 
-pub send-refuses : (unit : List ℕ) (now : ℕ) (v : View) (s : State) → StandsFor v s → has_room v ≡ false → send unit now s ≡ s
-send-refuses unit now v s h e = ap (λ (b : Bool). if b then make Data unit now s else s) (sym (room-is v s h) ∙ e)
-
 pub send-turns : (unit : List ℕ) (now : ℕ) (v w : View) → has_room v ≡ true → Turns (make Data unit now) v w → Turns (send unit now) v w
 send-turns unit now v w e turns s h = subst (λ t. StandsFor w t) (sym (send-sends unit now v s h e)) (turns s h)

@@ -6,7 +6,7 @@ use Rattle.retrans.specs.Units.{above, octets_of, renumbered}
 use Rattle.safe_pdu.specs.Pdu.{Pdu}
 use Rattle.safe_pdu.specs.Bodies.{window_of}
 use Rattle.safe_pdu.specs.declared.Kind.TheVariants.{ConnResp, RetrResp, RetrReq, Heartbeat, DiscReq}
-use Rattle.safe_machine.specs.declared.ConnectionState.TheVariants.{Closed, Down}
+use Rattle.safe_machine.specs.declared.ConnectionState.TheVariants.{Down}
 use Rattle.safe_machine.specs.declared.Reason.{Reason}
 use Rattle.safe_machine.specs.declared.Reason.TheVariants.{WrongVersion}
 use Rattle.safe_machine.specs.declared.Detail.{Detail}
@@ -31,6 +31,7 @@ use Rattle.retrans.proofs.UnitLemmas.{octets-renumbered}
 use Rattle.safe_machine.proofs.code.Views.{plain-ring, ring-step, answer-ring}
 use Rattle.safe_machine.proofs.code.Reaching.{reached-sound}
 use Rattle.safe_machine.proofs.one.StepCases.{leave-cases, guard-cases, unit-cases, early-cases}
+use Rattle.safe_machine.proofs.one.ConnectionFacts.{closed≢down}
 
 abbrev Stops : Pdu → State → State → Type 0
 Stops p s t = (octets_of (ring_of t) ≡ octets_of (ring_of s)) ⊎ (octets_of (ring_of t) ≡ octets_of (above (s.confirmed + cs_step (kept_of s) p) (ring_of s)))
@@ -103,9 +104,6 @@ stops-decided p now AnswersEarly s down f =
     let same = ring-reply now y (omega (arith, fits-within p s f.cs)) in
     early-cases (Stops p s) p now s (λ _. confirmed-stops p s (ask now t) f.cs (ap octets_of (plain-ring RetrReq [] now t refl) ∙ same)) (confirmed-stops p s t f.cs same)
 
-closed-down : Closed ≡ Down → ⊥
-closed-down e = cc
-
 stops-arrive : (p : Pdu) (now : ℕ) (s : State) → (s.connection ≡ Down → ring_of s ≡ []) → Stops p s (arrive p now s)
 stops-arrive p now s down =
     let g = guard now s in
@@ -114,7 +112,7 @@ stops-arrive p now s down =
     let first : g.first ≡ s.first = (first-guard now s) in
     let step : cs_step (kept_of g) p ≡ cs_step (kept_of s) p = ap (λ (n : ℕ). ahead (sn_of n g.confirmed) p.cs) first ∙ ap (λ (n : ℕ). ahead (sn_of s.first n) p.cs) l.confirmed in
     let down_g : g.connection ≡ Down → ring_of g ≡ [] =
-    λ e. ring ∙ down (elim l.connection [ inl same ↦ sym same ∙ e | inr closed ↦ absurd (closed-down (sym closed ∙ e)) ]) in
+    λ e. ring ∙ down (elim l.connection [ inl same ↦ sym same ∙ e | inr closed ↦ absurd (closed≢down (sym closed ∙ e)) ]) in
     let number : g.confirmed + cs_step (kept_of g) p ≡ s.confirmed + cs_step (kept_of s) p = omega (arith, step, l.confirmed) in
     arrive-by (Stops p s) p now s (inl (ap octets_of ring))
     (λ _ _. elim (stops-decided p now (decide (kept_of g) p now) g down_g (decide-fits g p now)) [

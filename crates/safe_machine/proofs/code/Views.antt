@@ -1,8 +1,8 @@
 -- What is kept of a state after a move, by what was kept before it.
-use Rattle.std.proofs.Common.{◌≡◌, ℕ, zero, suc, ◌+◌, ◌-◌, ◌%◌, ◌<◌, ◌≤◌, ◌⊎◌, inl, inr, List, [], ◌∷◌, ◌++◌, length, drop, Bool, true, false, refl, sym, ap, subst, ◌∙◌, arith, append_assoc, append-nil, length-append}
+use Rattle.std.proofs.Common.{◌≡◌, ℕ, zero, suc, ◌+◌, ◌-◌, ◌%◌, ◌<◌, ◌≤◌, List, [], ◌∷◌, ◌++◌, length, drop, Bool, true, false, refl, sym, ap, subst, ◌∙◌, arith, append_assoc, append-nil, length-append}
 use Rattle.std.specs.List.{FoldsTo}
 use Rattle.std.proofs.lemmas.List.{drop-append-le, length-drop, take_more}
-use Rattle.std.proofs.lemmas.List.Elements.{All-get_or, All-filter}
+use Rattle.std.proofs.lemmas.List.Elements.{All-filter}
 use Rattle.std.proofs.lemmas.Option.{slice_get-get_or}
 use Rattle.std.proofs.lemmas.Bool.{le-leb}
 use Rattle.std.proofs.lemmas.Bool.Decides.{nat_tests}
@@ -25,7 +25,7 @@ use Rattle.safe_machine.specs.declared.Detail.{Detail}
 use Rattle.safe_machine.specs.declared.Detail.TheVariants.{Unspecified, Limit}
 use Rattle.safe_machine.specs.Made.{leaving_body, opening_body, carries}
 use Rattle.safe_machine.specs.State.{State, blank, opened, next_made, make, move_to, leave, pass, note_request, resend, reply, unconfirmed, hand_up, ask}
-use Rattle.safe_machine.specs.Step.{guard, heartbeat, tests_passed, set_window, carry_out, take_unit, beat, confirm_to, confirm_units, answered_ahead}
+use Rattle.safe_machine.specs.Step.{guard, tests_passed, set_window, carry_out, take_unit, beat, confirm_to, confirm_units, answered_ahead}
 use Rattle.safe_machine.specs.Decision.{distance, cs_step, cts_step}
 use Rattle.safe_machine.specs.declared.arrival.Decision.TheVariants.{Rejects, Accepts, Connects, Takes, Resumes, AnswersNext, AnswersEarly}
 use Rattle.safe_pdu.specs.Bodies.{window_of, IsBody}
@@ -37,7 +37,7 @@ use Rattle.safe_machine.specs.declared.Role.TheVariants.{Client}
 use Rattle.safe_machine.specs.inner.Doing.{Hands, Does, leaves_units, Turns, AllUnits}
 use Rattle.safe_machine.proofs.one.Ring.{carried_at-append, ring-confirm, ring-resend, ring_of-units, octets_of-append}
 use Rattle.safe_machine.specs.Connections.{is_live, in_turn}
-use Rattle.safe_machine.specs.Deadlines.{overdue, beat_due}
+use Rattle.safe_machine.specs.Deadlines.{overdue}
 
 pub next-number : (first made : ℕ) → (first + made % 4294967296) % 4294967296 ≡ sn_of first made
 unfolding sn_of
@@ -153,14 +153,6 @@ pub does-move : {O : Type 0} (makes : O → List ℕ → O → Type 0) (connecti
 does-move makes connection m n a e =
     does-quiet makes (move_to connection) (λ v. record v { connection = connection }) m n a e (λ s. refl) (λ s. refl) (λ s. refl)
 
--- leaving by its cases
-pub leave-live : (reason : Reason) (detail : Detail) (now : ℕ) (s : State) → is_live s.connection ≡ true →
-    leave reason detail now s ≡ move_to Closed (make DiscReq (leaving_body reason detail) now s)
-leave-live reason detail now s e = ap (λ b. move_to Closed (if b then make DiscReq (leaving_body reason detail) now s else s)) e
-
-pub leave-quiet : (reason : Reason) (detail : Detail) (now : ℕ) (s : State) → is_live s.connection ≡ false → leave reason detail now s ≡ move_to Closed s
-leave-quiet reason detail now s e = ap (λ b. move_to Closed (if b then make DiscReq (leaving_body reason detail) now s else s)) e
-
 -- the guard by what is overdue
 abbrev pub left_by : ℕ → Option (Reason × Detail) → State → State
 left_by now None s = s
@@ -178,9 +170,6 @@ guard-is now m s h =
     two-left now s false true true = refl
     two-left now s false false true = refl
     two-left now s late full false = refl
-
-pub heartbeat-is : (now : ℕ) (m : View) (s : State) → StandsFor m s → heartbeat now s ≡ (if beat_due now m then make Heartbeat [] now s else s)
-heartbeat-is now m s h = ap (λ v. if beat_due now v then make Heartbeat [] now s else s) (sym h)
 
 -- how far numbers lie ahead, by their low 32 bits
 pub ahead-bits : (from to : ℕ) → from < 4294967296 → (to + (4294967296 - from)) % 4294967296 ≡ ahead from to
@@ -248,9 +237,6 @@ note-turn d m n e s h = e ∙ ap (λ (v : View). record v { answered = v.expecte
 pub up-turn : (p : Pdu) (m n : View) → n ≡ record m { since = m.since + 1 } → Turns (hand_up p) m n
 up-turn p m n e s h = e ∙ ap (λ (v : View). record v { since = v.since + 1 }) h
 
-pub turn-then : (f g : State → State) (l m n : View) → Turns f l m → Turns g m n → Turns (λ s. g (f s)) l n
-turn-then f g l m n h k s stands = k (f s) (h s stands)
-
 pub resumes-turn : (p : Pdu) (now d : ℕ) (m a b n : View) → d ≡ distance m p → cs_step m p < m.made - m.confirmed →
     a ≡ record m { confirmed = m.confirmed + cs_step m p; ring = above (m.confirmed + cs_step m p) m.ring; confirmed_at = m.confirmed_at + cts_step m p } →
     b ≡ record a { expected = a.expected + d + 1; last_sn = p.sn; last_ts = p.ts } → n ≡ record b { connection = RetrRun } → Turns (carry_out p now Resumes) m n
@@ -305,10 +291,6 @@ up-does makes p now m a n o q is ea h =
     does-as makes (λ s. beat now (hand_up p s)) (take_unit p now) m n o q (λ s _. ap (λ (t : Bool). if t then beat now (hand_up p s) else s) is)
     (does-then makes (hand_up p) (beat now) m a n o o q (does-none makes (hand_up p) m a o (up-turn p m a ea) (λ s. refl) (λ s. refl)) h)
 
-pub carries-data : (kind : Kind) → (kind ≡ Data) ⊎ (kind ≡ RetrData) → carries kind ≡ true
-carries-data kind (inl e) = ap carries e
-carries-data kind (inr e) = ap carries e
-
 no_unit : Numbered
 no_unit = record { number = 0; octets = [] }
 
@@ -323,10 +305,6 @@ unit-sized ring place octets inside is sized =
 
 pub unit-is : (ring : List Numbered) (place : ℕ) (octets : List ℕ) (u : Numbered) → slice_get ring place ≡ Some u → IfSome (slice_get ring place) (λ v. octets ≡ v.octets) → octets ≡ u.octets
 unit-is ring place octets u there is = subst (λ o. IfSome o (λ v. octets ≡ v.octets)) there is
-
-pub units-sized : (ring : List Numbered) (place : ℕ) → place < length ring → AllUnits ring → IfSome (slice_get ring place) (λ u. IsBody RetrData u.octets)
-units-sized ring place inside all =
-    subst (λ o. IfSome o (λ v. IsBody RetrData v.octets)) (sym (slice_get-get_or ring place no_unit inside)) (All-get_or (λ (u : Numbered). IsBody RetrData u.octets) ring place no_unit inside all)
 
 resend-append : (a b : List (List ℕ)) (now : ℕ) (s : State) → resend (a ++ b) now s ≡ resend b now (resend a now s)
 resend-append [] b now s = refl

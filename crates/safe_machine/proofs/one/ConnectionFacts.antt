@@ -32,3 +32,13 @@ closed_or _ = inr (λ e. cc)
 pub down_or : (connection : ConnectionState) → (connection ≡ Down) ⊎ (connection ≢ Down)
 down_or Down = inl refl
 down_or _ = inr (λ e. cc)
+
+-- states that differ
+pub closed≢down : Closed ≡ Down → ⊥
+closed≢down e = cc
+
+pub down≢closed : Down ≡ Closed → ⊥
+down≢closed e = cc
+
+pub start≢closed : Start ≡ Closed → ⊥
+start≢closed e = cc

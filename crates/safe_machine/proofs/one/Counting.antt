@@ -124,7 +124,7 @@ bounded-leave reason detail now s b =
     (λ _. bounded-closed s b)
 
 -- what is resent
-resend-length : (us : List (List ℕ)) (now : ℕ) (s : State) → length (resend us now s).made ≡ length s.made + length us
+pub resend-length : (us : List (List ℕ)) (now : ℕ) (s : State) → length (resend us now s).made ≡ length s.made + length us
 resend-length [] now s = omega arith
 resend-length (u ∷ us) now s = omega (arith, resend-length us now (make RetrData u now s), length-make RetrData u now s)
 

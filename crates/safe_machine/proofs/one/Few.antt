@@ -2,7 +2,7 @@
 use Rattle.std.proofs.Common.{◌≡◌, ℕ, ◌+◌, ◌≤◌, List, [], ◌∷◌, length, true, sym, ap, ◌∙◌, arith, length-append}
 use Rattle.std.specs.Prelude.{nat_lt}
 use Rattle.std.proofs.lemmas.Bool.{false≢true, cond_both, and_parts}
-use Rattle.safe_pdu.specs.declared.Kind.TheVariants.{ConnResp, RetrReq, RetrResp, DiscReq, Heartbeat, Data, RetrData}
+use Rattle.safe_pdu.specs.declared.Kind.TheVariants.{ConnResp, RetrReq, RetrResp, DiscReq, Heartbeat, Data}
 use Rattle.safe_pdu.specs.Pdu.{Pdu}
 use Rattle.safe_pdu.specs.Bodies.{window_of}
 use Rattle.safe_machine.specs.declared.Reason.{Reason}
@@ -18,7 +18,7 @@ use Rattle.safe_machine.specs.Step.{tests_passed, carry_out, set_window, guard, 
 use Rattle.safe_machine.specs.Moves.{Move, move, moved}
 use Rattle.safe_machine.specs.Moves.Move.{Guards, Hears, Ticks, Sends, Leaves as LeavesNow}
 use Rattle.safe_machine.specs.Reached.{FewLaw}
-use Rattle.safe_machine.proofs.one.Counting.{Bounded, bounded-guard, unconfirmed-make, length-make, run_of-shrinks}
+use Rattle.safe_machine.proofs.one.Counting.{Bounded, bounded-guard, unconfirmed-make, length-make, resend-length, run_of-shrinks}
 use Rattle.safe_machine.proofs.two.Lone.{arrive-by}
 use Rattle.safe_machine.proofs.code.Reaching.{sure-moved, opened-sure}
 use Rattle.safe_machine.specs.Connections.{in_turn}
@@ -32,10 +32,6 @@ few-leave reason detail now s =
 
 few-guard : (now : ℕ) (s : State) → length (guard now s).made ≤ length s.made + 1
 few-guard now s = guard-cases (λ t. length t.made ≤ length s.made + 1) now s (λ reason detail. few-leave reason detail now s) (λ _. omega arith)
-
-resend-length : (us : List (List ℕ)) (now : ℕ) (s : State) → length (resend us now s).made ≡ length s.made + length us
-resend-length [] now s = omega arith
-resend-length (u ∷ us) now s = omega (arith, resend-length us now (make RetrData u now s), length-make RetrData u now s)
 
 reply-length : (now : ℕ) (s : State) → length (reply now s).made ≡ length s.made + 2 + length (unconfirmed s)
 reply-length now s =

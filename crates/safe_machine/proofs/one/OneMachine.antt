@@ -1,14 +1,14 @@
 -- What one machine's moves do to its lists.
-use Rattle.std.proofs.Common.{◌≡◌, ◌⊎◌, inl, inr, ℕ, List, [], ◌∷◌, ◌++◌, true, refl, sym, ap, subst, ◌∙◌, append-nil}
+use Rattle.std.proofs.Common.{◌≡◌, ◌⊎◌, inl, inr, ℕ, List, [], ◌∷◌, ◌++◌, refl, sym, ap, ◌∙◌, append-nil}
 use Rattle.std.specs.Prelude.{if◌then◌else◌}
 use Rattle.safe_pdu.specs.declared.Kind.{Kind}
 use Rattle.safe_machine.specs.declared.ConnectionState.TheVariants.{Closed}
-use Rattle.safe_pdu.specs.declared.Kind.TheVariants.{Heartbeat, Data, RetrResp, RetrData, DiscReq, ConnResp, RetrReq}
+use Rattle.safe_pdu.specs.declared.Kind.TheVariants.{Heartbeat, RetrResp, RetrData, DiscReq, ConnResp, RetrReq}
 use Rattle.safe_pdu.specs.Pdu.{Pdu}
 use Rattle.safe_pdu.specs.Bodies.{window_of}
 use Rattle.safe_machine.specs.Made.{units, first_sent, opening_body, leaving_body}
 use Rattle.safe_machine.specs.State.{State, next_made, leave, make, move_to, reply, resend, ask, pass, note_request, unconfirmed, hand_up}
-use Rattle.safe_machine.specs.Step.{guard, respond, tick, send, arrive, may_send, carry_out, tests_passed, set_window, confirm_units}
+use Rattle.safe_machine.specs.Step.{guard, respond, tick, send, arrive, carry_out, tests_passed, set_window, confirm_units}
 use Rattle.safe_machine.specs.declared.arrival.Decision.{Decision}
 use Rattle.safe_machine.specs.Decision.{decide, distance, by_sender}
 use Rattle.safe_machine.specs.declared.arrival.Decision.TheVariants.{Nothing, Drops, Shuts, Leaves, Rejects, Accepts, Connects, Takes, Asks, Resumes, AnswersNext, AnswersEarly}
@@ -46,10 +46,6 @@ plain-make kind body now s e =
       taken = refl;
       sent = units-append s.made (next_made s kind body now ∷ []) ∙ ap (λ us. units s.made ++ (us ++ [])) e ∙ append-nil (units s.made);
     }
-
-pub sent-data : (unit : List ℕ) (now : ℕ) (s : State) → may_send s ≡ true → units (send unit now s).made ≡ units s.made ++ unit ∷ []
-sent-data unit now s may =
-    subst (λ b. units (if b then make Data unit now s else s).made ≡ units s.made ++ unit ∷ []) (sym may) (units-append s.made (next_made s Data unit now ∷ []))
 
 pub send-taken : (unit : List ℕ) (now : ℕ) (s : State) → (send unit now s).taken ≡ s.taken
 send-taken unit now s = send-cases (λ t. t.taken ≡ s.taken) unit now s (λ _ _. refl) refl
@@ -123,7 +119,7 @@ takes-arrive p now s =
 pub closed-guard : (now : ℕ) (s : State) → s.connection ≡ Closed → guard now s ≡ s
 closed-guard now s e = guard-idle now s (closed-idle s.connection e)
 
-closed-respond : (p : Pdu) (now : ℕ) (s : State) → s.connection ≡ Closed → respond p now s ≡ s
+pub closed-respond : (p : Pdu) (now : ℕ) (s : State) → s.connection ≡ Closed → respond p now s ≡ s
 closed-respond p now s e = ap (λ c. carry_out p now (if is_closed c then Nothing else by_sender (kept_of s) p now) s) e
 
 pub closed-arrive : (p : Pdu) (now : ℕ) (s : State) → s.connection ≡ Closed → arrive p now s ≡ s

@@ -52,7 +52,7 @@ pub after_answer : (kind : Kind) (body : List ℕ) (run : List (List ℕ)) → 1
 after_answer RetrResp body run e = refl
 after_answer _ body run e = absurd (omega arith)
 
-zero_or : (n : ℕ) → (n ≡ 0) ⊎ (1 ≤ n)
+pub zero_or : (n : ℕ) → (n ≡ 0) ⊎ (1 ≤ n)
 zero_or zero = inl refl
 zero_or (suc n) = inr (omega arith)
 
@@ -96,13 +96,6 @@ count-at sort r i ms m rest h e =
     let tail : count sort (drop (i + 1) ms) ≡ count sort rest = ap (count sort) (at-next i ms m rest e) in
     omega arith
 
--- the same at r itself
-pub count-here : (sort : Kind → ℕ) (r : ℕ) (ms : List Made) (m : Made) (rest : List Made) → drop r ms ≡ m ∷ rest → count sort (drop r ms) ≡ sort m.pdu.kind + count sort (drop (r + 1) ms)
-count-here sort r ms m rest e =
-    let whole : count sort (drop r ms) ≡ sort m.pdu.kind + count sort rest = ap (count sort) e in
-    let tail : count sort (drop (r + 1) ms) ≡ count sort rest = ap (count sort) (at-next r ms m rest e) in
-    omega arith
-
 pub count-push : (sort : Kind → ℕ) (ms : List Made) (m : Made) → count sort (ms ++ m ∷ []) ≡ count sort ms + sort m.pdu.kind
 count-push sort ms m = omega (arith, count-append sort ms (m ∷ []))
 
@@ -125,6 +118,10 @@ Every P (m ∷ ms) = P m × Every P ms
 pub every-push : (P : Made → Type 0) (ms : List Made) (m : Made) → Every P ms → P m → Every P (ms ++ m ∷ [])
 every-push P [] m h k = (k, tt)
 every-push P (x ∷ ms) m h k = (h.0, every-push P ms m h.1 k)
+
+pub every-append : (P : Made → Type 0) (a b : List Made) → Every P a → Every P b → Every P (a ++ b)
+every-append P [] b h k = k
+every-append P (m ∷ a) b h k = (h.0, every-append P a b h.1 k)
 
 pub every-drop_push : (P : Made → Type 0) (n : ℕ) (ms : List Made) (m : Made) → Every P (drop n ms) → P m → Every P (drop n (ms ++ m ∷ []))
 every-drop_push P zero ms m h k = every-push P ms m h k

@@ -21,7 +21,7 @@ use Rattle.safe_machine.specs.Step.{carry_out, guard, respond, beat, tests_passe
 use Rattle.safe_machine.specs.Moves.{StrangersLaw, WaitsLaw}
 use Rattle.safe_machine.specs.Moves.Move.{Guards, Hears, Ticks, Sends, Leaves as LeavesNow}
 use Rattle.octets.specs.declared.limits.TheConstants.{REACH}
-use Rattle.safe_machine.proofs.one.OneMachine.{plain-guard, plain-tick, plain-leave, send-taken}
+use Rattle.safe_machine.proofs.one.OneMachine.{plain-guard, plain-tick, plain-leave, send-taken, closed-respond}
 use Rattle.safe_machine.proofs.one.Identified.{settings_law_holds}
 use Rattle.safe_machine.specs.Connections.{is_closed}
 use Rattle.safe_machine.specs.View.{kept_of}
@@ -100,9 +100,6 @@ waits_law_holds (Hears p now) s before =
       | inl closed ↦ ap (λ (t : State). t.taken) (closed-respond p now (guard now s) closed) ∙ (plain-guard now s).taken
       | inr same ↦ ap (λ (t : State). (respond p now t).taken) same ∙ respond-quiet p now s before
     ]
-  where
-    closed-respond : (p : Pdu) (now : ℕ) (s : State) → s.connection ≡ Closed → respond p now s ≡ s
-    closed-respond p now s closed = ap (λ c. carry_out p now (if is_closed c then Nothing else by_sender (kept_of s) p now) s) closed
 waits_law_holds (Ticks now) s before = (plain-tick now s).taken
 waits_law_holds (Sends unit now) s before = send-taken unit now s
 waits_law_holds (LeavesNow reason detail now) s before = (plain-leave reason detail now s).taken

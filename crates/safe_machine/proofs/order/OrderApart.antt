@@ -9,11 +9,12 @@ use Rattle.safe_machine.specs.Step.{arrive}
 use Rattle.safe_machine.specs.World.{Served, GenuineAt}
 use Rattle.safe_machine.specs.InOrder.{NextArrival}
 use Rattle.safe_machine.proofs.one.Runs.{Every, every-at}
+use Rattle.safe_machine.proofs.one.OneMachine.{closed-arrive}
 use Rattle.safe_machine.proofs.two.Invariant.{is_opening, NotOpening}
 use Rattle.safe_machine.proofs.two.Lone.{Lone, among-dropped}
 use Rattle.safe_machine.proofs.two.Status.{Mute}
 use Rattle.safe_machine.proofs.two.Timing.{Makes}
-use Rattle.safe_machine.proofs.two.Worlds.{still-lone, closed-arrive}
+use Rattle.safe_machine.proofs.two.Worlds.{still-lone}
 use Rattle.safe_machine.proofs.two.Freshness.{no_index}
 use Rattle.safe_machine.proofs.one.ConnectionFacts.{closed_or}
 

@@ -24,7 +24,7 @@ use Rattle.safe_machine.proofs.order.OrderKinds.{kinds-none, kinds-push, kinds-o
 use Rattle.safe_machine.proofs.order.OrderEnds.{opposite, Beyond, End, Ends}
 use Rattle.safe_machine.proofs.order.OrderPairs.{Two, two-swap, two-later, two-send, two-leave, two-guard, two-tick, two-arrive, two-all_there}
 use Rattle.safe_machine.proofs.order.OrderApart.{Apart, apart-il, apart-fe, apart-silent, apart-arrive}
-use Rattle.safe_machine.proofs.one.ConnectionFacts.{down_or}
+use Rattle.safe_machine.proofs.one.ConnectionFacts.{down_or, down≢closed}
 
 -- The two have met, or they have not.
 pub data Standing (n k : ℕ) (il : State) (il_before : List State) (fe : State) (fe_before : List Served) (dead_il il_clock fe_clock : ℕ) : Type 0 where
@@ -115,9 +115,6 @@ stands-open_il n k settings first now w ci cf t legal first_time (apart h) =
             dead = λ on. absurd (on closed);
           })
     ]
-  where
-    down≢closed : Down ≡ Closed → ⊥
-    down≢closed e = cc
 
 stands-open_fe : (n k : ℕ) (settings : Settings) (first now : ℕ) (w : World) (ci cf : ℕ) → w.fe_before ≡ [] → StandsAt n k w ci cf → StandsAt n k (open_fe settings first now w) ci now
 stands-open_fe n k settings first now w ci cf first_time (joint h il_opened fe_opened) = absurd (fe_opened first_time)

@@ -20,6 +20,7 @@ use Rattle.safe_machine.proofs.order.OrderArrivals.{NextIn, next-tests, next-pas
 use Rattle.safe_machine.specs.Connections.{is_live}
 use Rattle.safe_machine.specs.View.{kept_of}
 use Rattle.safe_machine.proofs.one.StepCases.{unit-cases}
+use Rattle.safe_machine.proofs.one.ConnectionFacts.{start≢closed}
 
 -- it is no DiscReq
 abbrev pub Remains : Made → Type 0
@@ -34,9 +35,6 @@ open-make kind body now s e h = (h.0, every-push Remains s.made (next_made s kin
 
 up≢closed : Up ≡ Closed → ⊥
 up≢closed e = cc
-
-start≢closed : Start ≡ Closed → ⊥
-start≢closed e = cc
 
 takes-open : (p : Pdu) (now : ℕ) (x : State) → IsOpen x → IsOpen (carry_out p now (Takes Up) x)
 takes-open p now x h =

@@ -19,7 +19,7 @@ use Rattle.safe_machine.proofs.two.Moves.{pair-leave, started-parts}
 use Rattle.safe_machine.proofs.one.Counting.{Bounded}
 use Rattle.safe_machine.proofs.two.Lone.{pair-guard, pair-send, pair-tick, pair-arrive}
 use Rattle.safe_machine.proofs.two.Timing.{Makes, makes-none, makes-leave, makes-guard, makes-send, guard-passed}
-use Rattle.safe_machine.proofs.two.Worlds.{closed-arrive}
+use Rattle.safe_machine.proofs.one.OneMachine.{closed-arrive}
 use Rattle.safe_machine.proofs.two.Freshness.{Both, both-makes, met-arrive, makes-tick}
 use Rattle.safe_machine.proofs.order.InOrder.{all-taken}
 use Rattle.safe_machine.proofs.order.OrderKinds.{good-bare, good-plain}
@@ -131,28 +131,33 @@ two-tick client n k clock other now x y later holds h =
     two-makes client n k clock other now x (tick now x) y later h (pair-tick now x y h.pair) (makes-tick now x)
     (subst (λ (t : State). Ends client n k (heartbeat now t) y) (sym holds) (ends-heartbeat client n k now x y h.pair h.ends))
 
+-- the next PDU in order, as it comes to an end that is not closed
+pub next-in : (client : Bool) (n k clock other now : ℕ) (p : Pdu) (x y : State) → clock ≤ now → Two client n k clock other x y → Bounded x → Bounded y → x.settings.t_max ≤ 60000 →
+    (a : NextArrival x p now n y.made) → x.connection ≢ Closed → NextIn client n k clock now a.made a.later x y
+next-in client n k clock other now p x y later h bounded bounded_peer short a on =
+    let early : is_live x.connection ≡ true → now < x.confirmed_at + x.settings.t_max =
+    subst (λ (t : State). is_live t.connection ≡ true → now < t.confirmed_at + t.settings.t_max) a.holds (guard-passed now x) in
+    record {
+      pair = h.pair;
+      peer = h.peer;
+      few = omega (arith, bounded.few);
+      small = bounded_peer.small;
+      ends = h.ends;
+      timed = h.both.receives;
+      later = later;
+      guarded = λ live. omega (arith, early live);
+      at = a.at;
+      meant = subst (λ (q : Pdu). is_stranger x q ≡ false) (sym a.is) a.ours;
+      on = on;
+    }
+
 ends-arrive : (client : Bool) (n k clock other now : ℕ) (p : Pdu) (x y : State) → clock ≤ now → Two client n k clock other x y → Bounded x → Bounded y → x.settings.t_max ≤ 60000 →
     NextArrival x p now n y.made → Ends client (n + 1) k (arrive p now x) y
 ends-arrive client n k clock other now p x y later h bounded bounded_peer short a =
     elim (closed_or x.connection) [
       | inl closed ↦ subst (λ (t : State). Ends client (n + 1) k t y) (sym (closed-arrive p now x closed)) (ends-closed client n (n + 1) k x y closed h.ends)
       | inr on ↦
-          let early : is_live x.connection ≡ true → now < x.confirmed_at + x.settings.t_max =
-          subst (λ (t : State). is_live t.connection ≡ true → now < t.confirmed_at + t.settings.t_max) a.holds (guard-passed now x) in
-          let next : NextIn client n k clock now a.made a.later x y =
-          record {
-            pair = h.pair;
-            peer = h.peer;
-            few = omega (arith, bounded.few);
-            small = bounded_peer.small;
-            ends = h.ends;
-            timed = h.both.receives;
-            later = later;
-            guarded = λ live. omega (arith, early live);
-            at = a.at;
-            meant = subst (λ (q : Pdu). is_stranger x q ≡ false) (sym a.is) a.ours;
-            on = on;
-          } in
+          let next = next-in client n k clock other now p x y later h bounded bounded_peer short a on in
           let received : Ends client (n + 1) k (respond p now x) y =
           subst (λ (q : Pdu). Ends client (n + 1) k (respond q now x) y) a.is (next-ends client n k clock now a.made a.later x y next) in
           subst (λ (t : State). Ends client (n + 1) k (respond p now t) y) (sym a.holds) received

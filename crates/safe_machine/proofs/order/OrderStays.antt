@@ -1,29 +1,25 @@
 -- Over every list of events in order without a closing by a caller, no end that was opened closes.
-use Rattle.std.proofs.Common.{◌≡◌, ◌≢◌, ℕ, ◌+◌, ◌<◌, ◌≤◌, List, [], ◌∷◌, Bool, true, false, refl, sym, subst, arith}
+use Rattle.std.proofs.Common.{◌≡◌, ◌≢◌, ℕ, ◌≤◌, List, [], ◌∷◌, Bool, true, false, refl, sym, subst, arith}
 use Rattle.std.specs.Prelude.{if◌then◌else◌}
 use Rattle.std.proofs.lemmas.Bool.{false≢true, cond_both}
 use Rattle.safe_pdu.specs.declared.Kind.TheVariants.{Heartbeat, Data}
 use Rattle.safe_pdu.specs.Pdu.{Pdu}
 use Rattle.safe_machine.specs.World.Side.{Il, Fe}
-use Rattle.safe_machine.specs.declared.ConnectionState.TheVariants.{Closed, Down, Start}
 use Rattle.safe_machine.specs.Settings.{Settings, is_legal}
 use Rattle.safe_machine.specs.State.{State, opened}
-use Rattle.safe_machine.specs.Decision.{is_stranger}
 use Rattle.safe_machine.specs.Step.{guard, respond, arrive, heartbeat, tick, send}
 use Rattle.safe_machine.specs.World.{World, Event, start, run, event_end, event_time, at_end, changed, happens, GenuineEvent, Genuine, Timely, as_role, open_il, open_fe}
 use Rattle.safe_machine.specs.World.Event.{Open, Send, Close, Guard, Tick, Arrive}
 use Rattle.safe_machine.specs.InOrder.{GuardHolds, NextArrival, InOrderEvent, InOrder, heard_by_il, heard_by_fe, is_close, has_close, StaysLaw}
 use Rattle.safe_machine.proofs.one.Runs.{every-at}
 use Rattle.safe_machine.proofs.one.Counting.{Bounded}
-use Rattle.safe_machine.proofs.two.Timing.{guard-passed}
 use Rattle.safe_machine.proofs.two.Freshness.{TInv, t-event, t-start}
-use Rattle.safe_machine.proofs.order.OrderArrivals.{NextIn}
-use Rattle.safe_machine.proofs.order.OrderPairs.{Two, two-swap}
+use Rattle.safe_machine.proofs.order.OrderPairs.{Two, two-swap, next-in}
 use Rattle.safe_machine.proofs.order.OrderApart.{apart-silent, apart-deaf}
 use Rattle.safe_machine.proofs.order.OrderLaw.{joint, apart, StandsAt, stands-event, stands-start}
 use Rattle.safe_machine.proofs.order.OrderNext.{Remains, IsOpen, open-make, next-open}
-use Rattle.safe_machine.specs.Connections.{is_live}
 use Rattle.safe_machine.proofs.one.StepCases.{heartbeat-cases, send-cases}
+use Rattle.safe_machine.proofs.one.ConnectionFacts.{start≢closed, down≢closed}
 
 -- each end that was opened is open
 record OpenBoth (w : World) : Type 0 where
@@ -42,35 +38,14 @@ open-tick now s holds h =
     (heartbeat-cases IsOpen now s (λ _. open-make Heartbeat [] now s refl h) h)
 
 open-opened : (client : Bool) (settings : Settings) (first now : ℕ) → IsOpen (opened (as_role client settings) first now)
-open-opened true settings first now = ((λ e. start≢closed e), (refl, tt))
-  where
-    start≢closed : Start ≡ Closed → ⊥
-    start≢closed e = cc
-open-opened false settings first now = ((λ e. down≢closed e), tt)
-  where
-    down≢closed : Down ≡ Closed → ⊥
-    down≢closed e = cc
+open-opened true settings first now = (start≢closed, (refl, tt))
+open-opened false settings first now = (down≢closed, tt)
 
 -- the next PDU of an open peer comes to an open end
 open-arrive : (client : Bool) (n k clock other now : ℕ) (p : Pdu) (x y : State) → clock ≤ now → Two client n k clock other x y → Bounded x → Bounded y → x.settings.t_max ≤ 60000 →
     NextArrival x p now n y.made → IsOpen x → IsOpen y → IsOpen (arrive p now x)
 open-arrive client n k clock other now p x y later h bounded bounded_peer short a own peer =
-    let early : is_live x.connection ≡ true → now < x.confirmed_at + x.settings.t_max =
-    subst (λ (t : State). is_live t.connection ≡ true → now < t.confirmed_at + t.settings.t_max) a.holds (guard-passed now x) in
-    let next : NextIn client n k clock now a.made a.later x y =
-    record {
-      pair = h.pair;
-      peer = h.peer;
-      few = omega (arith, bounded.few);
-      small = bounded_peer.small;
-      ends = h.ends;
-      timed = h.both.receives;
-      later = later;
-      guarded = λ live. omega (arith, early live);
-      at = a.at;
-      meant = subst (λ (q : Pdu). is_stranger x q ≡ false) (sym a.is) a.ours;
-      on = own.0;
-    } in
+    let next = next-in client n k clock other now p x y later h bounded bounded_peer short a own.0 in
     let stays : Remains a.made = every-at Remains 0 n y.made a.made a.later peer.1 (omega arith) a.at in
     let received : IsOpen (respond p now x) =
     subst (λ (q : Pdu). IsOpen (respond q now x)) a.is (next-open client n k clock now a.made a.later x y next stays own.1) in

@@ -1,5 +1,5 @@
 -- What is neither taken nor unconfirmed was not sent.
-use Rattle.std.proofs.Common.{◌≡◌, ◌≢◌, ◌⊎◌, inl, inr, ℕ, zero, suc, ◌+◌, ◌≤◌, List, [], ◌∷◌, ◌++◌, length, drop, Option, Some, None, Bool, true, refl, sym, ap, ◌∙◌, arith, length-append}
+use Rattle.std.proofs.Common.{◌≡◌, ◌≢◌, inl, inr, ℕ, ◌+◌, ◌≤◌, List, [], ◌∷◌, ◌++◌, length, drop, Option, Some, None, Bool, true, refl, sym, ap, ◌∙◌, arith, length-append}
 use Rattle.std.specs.Prelude.{if◌then◌else◌, ◌==◌}
 use Rattle.std.proofs.lemmas.List.{append-nil}
 use Rattle.std.proofs.lemmas.Bool.{eq-eqb}
@@ -11,16 +11,12 @@ use Rattle.safe_machine.specs.State.{State, unconfirmed}
 use Rattle.safe_machine.specs.World.{Served}
 use Rattle.safe_machine.specs.Law.{JoinedBelow, taken_from_il, taken_count}
 use Rattle.safe_machine.proofs.two.Inner.{incarnation, taken_from_fe, LosesNothingOf}
-use Rattle.safe_machine.proofs.one.Runs.{Every}
+use Rattle.safe_machine.proofs.one.Runs.{Every, zero_or}
 use Rattle.safe_machine.proofs.two.Invariant.{needs_peer, Half}
 use Rattle.safe_machine.proofs.one.Counting.{run_of-shrinks}
 use Rattle.safe_machine.proofs.two.Lone.{Lone}
 use Rattle.safe_machine.proofs.two.Incarnations.{latest, earlier}
 use Rattle.safe_machine.proofs.two.Status.{Met, Mute, Quiet}
-
-zero_or : (n : ℕ) → (n ≡ 0) ⊎ (1 ≤ n)
-zero_or zero = inl refl
-zero_or (suc n) = inr (omega arith)
 
 -- one direction
 pub half-owes : (x y : State) → Half x y → length (units x.made) ≤ length y.taken + length (unconfirmed x)

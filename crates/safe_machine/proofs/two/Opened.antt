@@ -2,7 +2,7 @@
 use Rattle.std.proofs.Common.{◌≡◌, ◌≢◌, inl, inr, ℕ, zero, suc, ◌+◌, ◌≤◌, ◌==◌, List, [], ◌∷◌, ◌++◌, length, take, drop, Bool, true, false, Option, Some, None, refl, sym, ap, subst, ◌∙◌, arith}
 use Rattle.std.specs.Prelude.{if◌then◌else◌, MatchOption}
 use Rattle.std.proofs.lemmas.Bool.Decides.{nat_tests}
-use Rattle.safe_machine.specs.declared.ConnectionState.TheVariants.{Closed, Down}
+use Rattle.safe_machine.specs.declared.ConnectionState.TheVariants.{Closed}
 use Rattle.safe_pdu.specs.Pdu.{Pdu}
 use Rattle.safe_machine.specs.Made.{Made, units}
 use Rattle.safe_machine.specs.State.{State, unconfirmed}
@@ -20,6 +20,7 @@ use Rattle.safe_machine.proofs.two.Inner.{incarnation, TakesBeginnings, AllTakeB
 use Rattle.safe_machine.proofs.two.Worlds.{Inv, inv-run, inv-start}
 use Rattle.std.proofs.lemmas.Bool.{cond_both}
 use Rattle.octets.specs.Lists.{IsBeginning}
+use Rattle.safe_machine.proofs.one.ConnectionFacts.{down≢closed}
 
 -- a list without its last entry
 length-front : {A : Type 0} (x : A) (xs : List A) → length (take (length xs) (x ∷ xs)) ≡ length xs
@@ -151,9 +152,6 @@ came _ w = Unit {0}
 starter : (m : Move) (w : World) → joins w.fe.connection (move m w.fe).connection ≡ true → HearsOwn m w.fe
 starter m w e = let k = joins-down w.fe.connection (move m w.fe).connection e in (moves_law_holds m w.fe).starts k.0 k.1
 
-down-closed : Down ≡ Closed → ⊥
-down-closed e = cc
-
 starts-late : (m : Move) (w : World) → Shaped w → came m w → joins w.fe.connection (move m w.fe).connection ≡ true → 1 ≤ length w.il_before
 starts-late (Guards now) w s g e = absurd (starter (Guards now) w e)
 starts-late (Ticks now) w s g e = absurd (starter (Ticks now) w e)
@@ -161,7 +159,7 @@ starts-late (Sends unit now) w s g e = absurd (starter (Sends unit now) w e)
 starts-late (Leaves reason detail now) w s g e = absurd (starter (Leaves reason detail now) w e)
 starts-late (Hears p now) w s g e =
     let k = joins-down w.fe.connection (move (Hears p now) w.fe).connection e in
-    was-opened w.dead_il p w.il w.il_before s.il (g (λ closed. absurd (down-closed (sym k.0 ∙ closed))) (starter (Hears p now) w e))
+    was-opened w.dead_il p w.il w.il_before s.il (g (λ closed. absurd (down≢closed (sym k.0 ∙ closed))) (starter (Hears p now) w e))
 
 fe-moved : (m : Move) (w : World) → Shaped w → came m w → Shaped (with_fe (move m w.fe) w)
 fe-moved m w s g =
@@ -230,7 +228,7 @@ among-drop (suc n) p (m ∷ ms) h = inr (among-drop n p ms h)
 
 joins-event : (w : World) (e : Event) → GenuineEvent w e → Public.JoinsEvent w e
 joins-event w (Arrive Fe p now) g =
-    λ down begun. among-drop w.dead_il p w.il.made (g (λ closed. absurd (down-closed (sym down ∙ closed))) ((moves_law_holds (Hears p now) w.fe).starts down begun))
+    λ down begun. among-drop w.dead_il p w.il.made (g (λ closed. absurd (down≢closed (sym down ∙ closed))) ((moves_law_holds (Hears p now) w.fe).starts down begun))
 joins-event w _ g = tt
 
 pub joined_law_holds : JoinedLaw

@@ -23,6 +23,7 @@ use Rattle.safe_machine.specs.declared.Detail.{Detail}
 use Rattle.safe_machine.specs.Connections.{is_live, in_turn, is_connected}
 use Rattle.safe_machine.specs.View.{kept_of}
 use Rattle.safe_machine.proofs.one.StepCases.{leave-cases, guard-cases, guard-idle, heartbeat-cases, send-cases}
+use Rattle.safe_machine.proofs.one.ConnectionFacts.{closed≢down}
 
 -- a field element that has not joined
 abbrev pub Settled : State → Type 0
@@ -158,9 +159,6 @@ deaf-arrive now n p fe made on_fe b quiet genuine =
     let plain : needs_peer p.kind ≡ 0 = ap (λ (q : Pdu). needs_peer q.kind) (sym r.4) ∙ every-at Quiet 0 r.0 made r.1 r.2 quiet (omega arith) r.3 in
     deaf-carry p now fe s plain on_s ls bs (decide (kept_of s) p now) (decide-fits s p now))
   where
-    closed≢down : Closed ≡ Down → ⊥
-    closed≢down e = cc
-
     deaf-carry : (p : Pdu) (now : ℕ) (fe s : State) → needs_peer p.kind ≡ 0 → s.connection ≢ Down → Lone fe s → Bounded s → (e : Decision) → Fits s p now e →
         ((carry_out p now e s).connection ≢ Down) × Lone fe (carry_out p now e s) × Bounded (carry_out p now e s)
     deaf-carry p now fe s plain on l b Nothing f = (on, l, b)

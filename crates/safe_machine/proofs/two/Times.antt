@@ -3,7 +3,7 @@ use Rattle.std.proofs.Common.{◌≡◌, ◌⊎◌, inl, inr, ℕ, suc, zero, �
 use Rattle.safe_machine.specs.Numbers.{wrap, ahead}
 use Rattle.safe_machine.specs.Made.{Made}
 use Rattle.safe_machine.specs.State.{State}
-use Rattle.safe_machine.proofs.one.Runs.{Every, every-at, every-weaken, at-length}
+use Rattle.safe_machine.proofs.one.Runs.{Every, every-append, every-at, every-weaken, at-length}
 use Rattle.safe_machine.proofs.two.Invariant.{Told}
 
 -- a measure that never falls along a list
@@ -123,10 +123,6 @@ timed-receiver clock now x t y later h s told within =
           elim (at-append (MadeNow now t) k x.made s.new b rb s.fresh eb)
           [ inl old ↦ s.ahead_of k b old.rest old.at l | inr is ↦ omega (arith, s.confirmed_past, is.1.time) ];
     })
-  where
-    every-append : (P : Made → Type 0) (a b : List Made) → Every P a → Every P b → Every P (a ++ b)
-    every-append P [] b h k = k
-    every-append P (m ∷ a) b h k = (h.0, every-append P a b h.1 k)
 
 -- the sender after its step
 pub timed-sender : (clock now : ℕ) (x t y : State) → Timed clock y x → Steps now x t y → Every (Told y.first x.expected) x.made → Timed clock y t

@@ -14,7 +14,7 @@ use Rattle.safe_machine.specs.declared.arrival.Decision.{Decision}
 use Rattle.safe_machine.specs.Decision.{distance, cts_step}
 use Rattle.safe_machine.specs.declared.arrival.Decision.TheVariants.{Nothing, Drops, Shuts, Leaves, Rejects, Accepts, Connects, Takes, Asks, Resumes, AnswersNext, AnswersEarly}
 use Rattle.safe_machine.specs.Step.{tests_passed, carry_out, set_window, confirm_to, guard, heartbeat, send, confirm_units}
-use Rattle.safe_machine.proofs.one.Runs.{Every, every-at, every-weaken, at-length}
+use Rattle.safe_machine.proofs.one.Runs.{Every, every-append, every-at, every-weaken, at-length}
 use Rattle.safe_machine.proofs.two.Invariant.{Told, Sound, needs_peer, is_opening, Started}
 use Rattle.safe_machine.proofs.one.Deciding.{Fits, listens-live}
 use Rattle.safe_machine.proofs.two.Arrivals.{Arrival}
@@ -51,16 +51,12 @@ makes-one kind body now s =
       confirmed_at = refl;
     }
 
-every-both : (P : Made → Type 0) (a b : List Made) → Every P a → Every P b → Every P (a ++ b)
-every-both P [] b h k = k
-every-both P (m ∷ a) b h k = (h.0, every-both P a b h.1 k)
-
 pub makes-then : (now : ℕ) (s t u : State) → Makes now s t → Makes now t u → Makes now s u
 makes-then now s t u a b =
     record {
       new = a.new ++ b.new;
       made = b.made ∙ (ap (λ ms. ms ++ b.new) a.made ∙ append_assoc s.made a.new b.new);
-      fresh = every-both (MadeNow now u) a.new b.new
+      fresh = every-append (MadeNow now u) a.new b.new
           (every-weaken (MadeNow now t) (MadeNow now u) a.new (λ m k. record { time = k.time; stamp = k.stamp; behind = k.behind ∙ sym b.expected; cts = k.cts ∙ sym b.last_ts }) a.fresh)
           b.fresh;
       expected = b.expected ∙ a.expected;
@@ -129,7 +125,7 @@ steps-then now x z t y s a =
     record {
       new = s.new ++ a.new;
       made = a.made ∙ (ap (λ ms. ms ++ a.new) s.made ∙ append_assoc x.made s.new a.new);
-      fresh = every-both (MadeNow now t) s.new a.new
+      fresh = every-append (MadeNow now t) s.new a.new
           (every-weaken (MadeNow now z) (MadeNow now t) s.new (λ m k. record { time = k.time; stamp = k.stamp; behind = k.behind ∙ sym a.expected; cts = k.cts ∙ sym a.last_ts }) s.fresh)
           a.fresh;
       further = omega (arith, s.further, a.expected);

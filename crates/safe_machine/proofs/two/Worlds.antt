@@ -25,8 +25,9 @@ use Rattle.safe_machine.proofs.two.Invariant.{NotOpening, Sound, Told, Started, 
 use Rattle.safe_machine.proofs.two.Moves.{pair-leave}
 use Rattle.safe_machine.proofs.two.Receiving.{opening_window}
 use Rattle.safe_machine.proofs.one.Deciding.{Fits, listens, decide-fits}
+use Rattle.safe_machine.proofs.one.OneMachine.{closed-arrive}
 use Rattle.safe_machine.proofs.one.Counting.{Bounded, bounded-guard, bounded-leave, bounded-send}
-use Rattle.safe_machine.proofs.two.Lone.{Lone, lone-leave, lone-guard, lone-tick, lone-send, pair-guard, pair-send, pair-tick, pair-arrive, bounded-tick, arrive-by, among-dropped, respond-closed}
+use Rattle.safe_machine.proofs.two.Lone.{Lone, lone-leave, lone-guard, lone-tick, lone-send, pair-guard, pair-send, pair-tick, pair-arrive, bounded-tick, arrive-by, among-dropped}
 use Rattle.safe_machine.proofs.two.Incarnations.{linked-latest, takes-other, takes-pushed, takes-il_lone, takes-fe_lone, fall-more, all-takes, only-weaken}
 use Rattle.safe_machine.proofs.two.Status.{Settled, JoinedTo, Met, Mute, IlLater, FeLater, Status, Untouched, mute-leave, mute-guard, mute-tick, mute-send, mute-arrive, deaf-arrive, still-arrive}
 use Rattle.safe_machine.proofs.two.Lost.{met-loses_nothing, mute-loses_nothing, taken-other, taken-pushed, lone-owes}
@@ -37,7 +38,7 @@ use Rattle.safe_machine.proofs.one.Resending.{resend-connection}
 use Rattle.safe_machine.specs.Connections.{is_live}
 use Rattle.safe_machine.specs.View.{kept_of}
 use Rattle.safe_machine.proofs.one.StepCases.{guard-idle, unit-cases, early-cases}
-use Rattle.safe_machine.proofs.one.ConnectionFacts.{connected-up, down_or}
+use Rattle.safe_machine.proofs.one.ConnectionFacts.{connected-up, down_or, closed≢down}
 
 abbrev pub Idle : State → Option ℕ → Type 0
 Idle fe joined = fe.connection ≡ Down → Untouched fe × (joined ≡ None)
@@ -194,9 +195,6 @@ joined_after w t = if joins w.fe.connection t.connection then Some (length w.il_
 kept : (w : World) (t : State) → joins w.fe.connection t.connection ≡ false → joined_after w t ≡ w.joined
 kept w t e = ap (λ (b : Bool). if b then Some (length w.il_before) else w.joined) e
 
-closed≢down : Closed ≡ Down → ⊥
-closed≢down e = cc
-
 idle-lone : (s t : State) (p : Option ℕ) → Lone s t → Idle s p → Idle t p
 idle-lone s t p l h =
     λ e.
@@ -322,11 +320,6 @@ on-arrive : (p : Pdu) (now : ℕ) (s : State) → s.connection ≢ Down → (arr
 on-arrive p now s on =
     let g = guard now s in
     on-carry p now g (on-lone s g (lone-guard now s) on) (decide (kept_of g) p now) (decide-fits g p now)
-
-pub closed-arrive : (p : Pdu) (now : ℕ) (s : State) → s.connection ≡ Closed → arrive p now s ≡ s
-closed-arrive p now s e =
-    let g = guard-idle now s (ap is_live e) in
-    ap (respond p now) g ∙ respond-closed p now s e (λ t. t ≡ s) refl
 
 -- what a field element in Down does
 abbrev AfterDown : ℕ → State → State → Type 0
