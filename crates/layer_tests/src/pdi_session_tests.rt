@@ -84,26 +84,66 @@ fn field(rt: &HostRuntime, list: &[u8], sum: &[u8]) -> Result<Seat, Fail> {
     })
 }
 
-// The connection is up at this end.
-fn up(seat: &mut Seat) -> Option<()> {
-    if seat.waiting.len() >= WAITING_MAX {
-        return None;
-    }
-    seat.session.up(&mut seat.waiting);
-    Some(())
-}
+/// The octets of a message.
+type Message = ArrayVec<u8, 400>;
 
-// Hands a telegram over. None where there is no room for an answer.
-fn hear(seat: &mut Seat, telegram: &Telegram<'_>) -> Option<Result<(), SessionEnd>> {
-    if seat.waiting.len() >= WAITING_MAX {
-        return None;
+// What a session is asked and told, without its long contracts, which no test needs.
+impl Seat {
+    // The connection is up at this end. None where there is no room for what it says.
+    fn up(&mut self) -> Option<()> {
+        if self.waiting.len() >= WAITING_MAX {
+            return None;
+        }
+        self.session.up(&mut self.waiting);
+        Some(())
     }
-    let Seat {
-        session,
-        waiting,
-        log,
-    } = seat;
-    Some(session.arrive(telegram, waiting, log))
+
+    // Hands a telegram over. None where there is no room for an answer.
+    fn hear(&mut self, telegram: &Telegram<'_>) -> Option<Result<(), SessionEnd>> {
+        if self.waiting.len() >= WAITING_MAX {
+            return None;
+        }
+        Some(
+            self.session
+                .arrive(telegram, &mut self.waiting, &mut self.log),
+        )
+    }
+
+    // Hands a message over. None where it is no telegram, or where there is no room for an answer.
+    fn read(&mut self, message: &[u8]) -> Option<Result<(), SessionEnd>> {
+        self.hear(&decode(message).ok()?)
+    }
+
+    fn put(&mut self, kind: u16, payload: &[u8]) -> Result<(), PutFault> {
+        self.session.put(kind, payload, &mut self.waiting)
+    }
+
+    fn init_done(&mut self) -> Result<(), InitFault> {
+        self.session.init_done(&mut self.waiting)
+    }
+
+    fn end(&mut self) {
+        self.session.end();
+    }
+
+    fn phase(&self) -> Phase {
+        self.session.phase()
+    }
+
+    // The first message that waits.
+    fn first(&mut self) -> Option<Message> {
+        let unit = pack(&mut self.waiting, 1)?;
+        let messages = unpack(&unit).ok()?;
+        let mut message = Message::new();
+        message.try_extend_from_slice(messages.get(0)?).ok()?;
+        Some(message)
+    }
+
+    // So many messages wait, and the session is in a phase.
+    fn is(&self, rt: &impl Abort, phase: Phase, waits: usize) {
+        assert_eq!(rt; self.phase(), phase);
+        assert_eq!(rt; self.waiting.len(), waits);
+    }
 }
 
 // Hands a telegram of the peer over. The first name is the peer's.
@@ -120,17 +160,7 @@ fn tell(
         receiver: Name::new(names[1])?,
         payload,
     };
-    let answer = hear(seat, &telegram).ok_or("room")?;
-    Ok(answer.err().map(|end| end.detail))
-}
-
-// Hands the first message that waits at one end to the other.
-fn deliver(from: &mut Waiting, to: &mut Seat) -> Result<Option<Detail>, Fail> {
-    let unit = pack(from, 1).ok_or("a message")?;
-    let messages = unpack(&unit)?;
-    let message = messages.get(0).ok_or("a message")?;
-    let telegram = decode(message)?;
-    let answer = hear(to, &telegram).ok_or("room")?;
+    let answer = seat.hear(&telegram).ok_or("room")?;
     Ok(answer.err().map(|end| end.detail))
 }
 
@@ -140,16 +170,16 @@ fn interlocking_in(rt: &HostRuntime, phase: Phase) -> Result<Seat, Fail> {
     if phase == Phase::Idle {
         return Ok(il);
     }
-    up(&mut il).ok_or("up")?;
+    il.up().ok_or("up")?;
     let way: [(u16, &[u8]); 3] = [(0x25, &[2, 3, 0]), (0x22, &[]), (0x23, &[])];
     for (kind, payload) in way {
-        if il.session.phase() == phase {
+        if il.phase() == phase {
             return Ok(il);
         }
         tell(&mut il, ["FE1", "IL1"], kind, payload)?;
     }
     if phase == Phase::Ended {
-        il.session.end();
+        il.end();
     }
     Ok(il)
 }
@@ -160,24 +190,23 @@ fn field_in(rt: &HostRuntime, phase: Phase) -> Result<Seat, Fail> {
     if phase == Phase::Idle {
         return Ok(fe);
     }
-    up(&mut fe).ok_or("up")?;
+    fe.up().ok_or("up")?;
     if phase == Phase::Refused {
         tell(&mut fe, ["IL1", "FE1"], 0x24, &[5])?;
         return Ok(fe);
     }
     let way: [(u16, &[u8]); 2] = [(0x24, &[3]), (0x21, &[])];
     for (kind, payload) in way {
-        if fe.session.phase() == phase {
+        if fe.phase() == phase {
             return Ok(fe);
         }
         tell(&mut fe, ["IL1", "FE1"], kind, payload)?;
     }
     if phase == Phase::Established {
-        let done = fe.session.init_done(&mut fe.waiting);
-        done.map_err(|_| Fail::from("the end of the initialisation"))?;
+        fe.init_done()?;
     }
     if phase == Phase::Ended {
-        fe.session.end();
+        fe.end();
     }
     Ok(fe)
 }
@@ -240,6 +269,24 @@ fn row_of(rows: &[Row], phase: Phase, place: usize) -> Row {
     )
 }
 
+// A telegram at an end does what its row says.
+fn makes(
+    rt: &impl Abort,
+    seat: &mut Seat,
+    names: [&str; 2],
+    telegram: (u16, &[u8]),
+    row: Row,
+) -> Result<(), Fail> {
+    let (phase, place, _, detail, next, added, taken) = row;
+    assert_eq!(rt; seat.phase(), phase);
+    let before = seat.waiting.len();
+    let (kind, payload) = telegram;
+    assert!(rt; tell(seat, names, kind, payload)? == detail, "{place}");
+    seat.is(rt, next, before.wrapping_add(added));
+    assert_eq!(rt; seat.log.kinds.len(), taken);
+    Ok(())
+}
+
 #[test]
 fn makes_the_table_of_the_interlocking(rt: HostRuntime) -> Result<(), Fail> {
     let rows: [Row; 6] = [
@@ -269,14 +316,8 @@ fn makes_the_table_of_the_interlocking(rt: HostRuntime) -> Result<(), Fail> {
     for phase in phases {
         for (place, (kind, payload)) in TELEGRAMS.iter().enumerate() {
             let mut il = interlocking_in(&rt, phase)?;
-            assert!(rt; il.session.phase() == phase);
-            let before = il.waiting.len();
-            let answer = tell(&mut il, ["FE1", "IL1"], *kind, payload)?;
             let row = row_of(&rows, phase, place);
-            assert!(rt; answer == row.3, "{place}");
-            assert!(rt; il.session.phase() == row.4, "{place}");
-            assert!(rt; il.waiting.len().wrapping_sub(before) == row.5, "{place}");
-            assert!(rt; il.log.kinds.len() == row.6, "{place}");
+            makes(&rt, &mut il, ["FE1", "IL1"], (*kind, payload), row)?;
         }
     }
     Ok(())
@@ -302,14 +343,8 @@ fn makes_the_table_of_the_field_element(rt: HostRuntime) -> Result<(), Fail> {
     for phase in phases {
         for (place, (kind, payload)) in TELEGRAMS.iter().enumerate() {
             let mut fe = field_in(&rt, phase)?;
-            assert!(rt; fe.session.phase() == phase);
-            let before = fe.waiting.len();
-            let answer = tell(&mut fe, ["IL1", "FE1"], *kind, payload)?;
             let row = row_of(&rows, phase, place);
-            assert!(rt; answer == row.3, "{place}");
-            assert!(rt; fe.session.phase() == row.4, "{place}");
-            assert!(rt; fe.waiting.len().wrapping_sub(before) == row.5, "{place}");
-            assert!(rt; fe.log.kinds.len() == row.6, "{place}");
+            makes(&rt, &mut fe, ["IL1", "FE1"], (*kind, payload), row)?;
         }
     }
     Ok(())
@@ -320,16 +355,20 @@ fn makes_the_table_of_the_field_element(rt: HostRuntime) -> Result<(), Fail> {
 fn begins_once(rt: HostRuntime) -> Result<(), Fail> {
     for phase in [Phase::Checking, Phase::Established, Phase::Ended] {
         let mut il = interlocking_in(&rt, phase)?;
-        let before = il.waiting.len();
-        up(&mut il).ok_or("up")?;
-        assert!(rt; il.session.phase() == phase && il.waiting.len() == before);
+        stays(&rt, &mut il, phase)?;
     }
     for phase in [Phase::AwaitCheck, Phase::Refused, Phase::Initialising] {
         let mut fe = field_in(&rt, phase)?;
-        let before = fe.waiting.len();
-        up(&mut fe).ok_or("up")?;
-        assert!(rt; fe.session.phase() == phase && fe.waiting.len() == before);
+        stays(&rt, &mut fe, phase)?;
     }
+    Ok(())
+}
+
+// `up` leaves an end in its phase, and says nothing.
+fn stays(rt: &impl Abort, seat: &mut Seat, phase: Phase) -> Result<(), Fail> {
+    let before = seat.waiting.len();
+    seat.up().ok_or("up")?;
+    seat.is(rt, phase, before);
     Ok(())
 }
 
@@ -354,13 +393,8 @@ fn tests_the_parties_first(rt: HostRuntime) -> Result<(), Fail> {
     for phase in phases {
         for (kind, payload) in TELEGRAMS {
             for pair in names {
-                let mut il = interlocking_in(&rt, phase)?;
-                let answer = tell(&mut il, pair, kind, payload)?;
-                assert!(rt; answer == Some(Detail::NotOfThisPair));
-                assert!(rt; il.session.phase() == Phase::Ended);
-                assert!(rt; il.log.kinds.is_empty());
+                parts(&rt, &mut interlocking_in(&rt, phase)?, pair, kind, payload)?;
             }
-            let mut il = interlocking_in(&rt, phase)?;
             let telegram = Telegram {
                 protocol: 2,
                 kind,
@@ -368,13 +402,36 @@ fn tests_the_parties_first(rt: HostRuntime) -> Result<(), Fail> {
                 receiver: Name::new("IL1")?,
                 payload,
             };
-            let end = SessionEnd {
-                detail: Detail::NotOfThisPair,
-            };
-            assert!(rt; hear(&mut il, &telegram) == Some(Err(end)));
+            ends(
+                &rt,
+                &mut interlocking_in(&rt, phase)?,
+                &telegram,
+                Detail::NotOfThisPair,
+            );
         }
     }
     Ok(())
+}
+
+// A telegram of another pair ends the session of an end, and nothing of it is taken.
+fn parts(
+    rt: &impl Abort,
+    seat: &mut Seat,
+    names: [&str; 2],
+    kind: u16,
+    payload: &[u8],
+) -> Result<(), Fail> {
+    let answer = tell(seat, names, kind, payload)?;
+    assert!(rt; answer == Some(Detail::NotOfThisPair));
+    assert_eq!(rt; seat.phase(), Phase::Ended);
+    assert!(rt; seat.log.kinds.is_empty());
+    Ok(())
+}
+
+// A telegram ends the session of an end.
+fn ends(rt: &impl Abort, seat: &mut Seat, telegram: &Telegram<'_>, detail: Detail) {
+    assert!(rt; seat.hear(telegram) == Some(Err(SessionEnd { detail })));
+    assert_eq!(rt; seat.phase(), Phase::Ended);
 }
 
 // The same at a field element, of a telegram that has a row there or has none.
@@ -392,10 +449,7 @@ fn tests_the_parties_of_a_command_first(rt: HostRuntime) -> Result<(), Fail> {
     for phase in phases {
         for names in [["IL2", "FE1"], ["IL1", "FE2"], ["FE1", "IL1"]] {
             for (kind, payload) in [(0x24, [3].as_slice()), (0x21, &[]), (0x0100, &[])] {
-                let mut fe = field_in(&rt, phase)?;
-                let answer = tell(&mut fe, names, kind, payload)?;
-                assert!(rt; answer == Some(Detail::NotOfThisPair));
-                assert!(rt; fe.session.phase() == Phase::Ended && fe.log.kinds.is_empty());
+                parts(&rt, &mut field_in(&rt, phase)?, names, kind, payload)?;
             }
         }
     }
@@ -422,42 +476,42 @@ fn opens_two_sessions(rt: HostRuntime) -> Result<(), Fail> {
 
 // The telegrams of the set-up, up to the initialisation.
 fn sets_up(rt: &impl Abort, il: &mut Seat, fe: &mut Seat) -> Result<(), Fail> {
-    up(il).ok_or("up")?;
-    assert_eq!(rt; il.session.phase(), Phase::Checking);
-    up(fe).ok_or("up")?;
-    assert_eq!(rt; fe.session.phase(), Phase::AwaitCheck);
+    il.up().ok_or("up")?;
+    assert_eq!(rt; il.phase(), Phase::Checking);
+    fe.up().ok_or("up")?;
+    assert_eq!(rt; fe.phase(), Phase::AwaitCheck);
     let check = b"\x01\x24\x00IL1_________________FE1_________________\x03";
     let answer = b"\x01\x25\x00FE1_________________IL1_________________\x02\x03\x02\xc0\xde";
     let request = b"\x01\x21\x00IL1_________________FE1_________________";
     let start = b"\x01\x22\x00FE1_________________IL1_________________";
     carry(rt, il, fe, check)?;
-    assert_eq!(rt; fe.session.phase(), Phase::AwaitRequest);
+    assert_eq!(rt; fe.phase(), Phase::AwaitRequest);
     carry(rt, fe, il, answer)?;
-    assert_eq!(rt; il.session.phase(), Phase::Requesting);
+    assert_eq!(rt; il.phase(), Phase::Requesting);
     carry(rt, il, fe, request)?;
-    assert_eq!(rt; fe.session.phase(), Phase::Initialising);
+    assert_eq!(rt; fe.phase(), Phase::Initialising);
     carry(rt, fe, il, start)?;
-    assert_eq!(rt; il.session.phase(), Phase::Initialising);
+    assert_eq!(rt; il.phase(), Phase::Initialising);
     Ok(())
 }
 
 // Initial status waits in front of the end of the initialisation, and is taken before it.
 fn initialises(rt: &impl Abort, il: &mut Seat, fe: &mut Seat) -> Result<(), Fail> {
     let done = b"\x01\x23\x00FE1_________________IL1_________________";
-    assert!(rt; fe.session.put(0x0201, &[1, 2], &mut fe.waiting).is_ok());
-    assert!(rt; fe.session.init_done(&mut fe.waiting).is_ok());
-    assert_eq!(rt; fe.session.phase(), Phase::Established);
-    assert!(rt; fe.session.put(0x0202, &[], &mut fe.waiting).is_ok());
-    assert!(rt; il.session.put(0x0100, &[0x0a], &mut il.waiting) == Err(PutFault::NotEstablished));
+    assert!(rt; fe.put(0x0201, &[1, 2]).is_ok());
+    assert!(rt; fe.init_done().is_ok());
+    assert_eq!(rt; fe.phase(), Phase::Established);
+    assert!(rt; fe.put(0x0202, &[]).is_ok());
+    assert!(rt; il.put(0x0100, &[0x0a]) == Err(PutFault::NotEstablished));
     carry(
         rt,
         fe,
         il,
         b"\x01\x01\x02FE1_________________IL1_________________\x01\x02",
     )?;
-    assert_eq!(rt; il.session.phase(), Phase::Initialising);
+    assert_eq!(rt; il.phase(), Phase::Initialising);
     carry(rt, fe, il, done)?;
-    assert_eq!(rt; il.session.phase(), Phase::Established);
+    assert_eq!(rt; il.phase(), Phase::Established);
     carry(
         rt,
         fe,
@@ -469,7 +523,7 @@ fn initialises(rt: &impl Abort, il: &mut Seat, fe: &mut Seat) -> Result<(), Fail
 
 // A command and two statuses are taken, each once.
 fn takes_telegrams(rt: &impl Abort, il: &mut Seat, fe: &mut Seat) -> Result<(), Fail> {
-    assert!(rt; il.session.put(0x0100, &[0x0a], &mut il.waiting).is_ok());
+    assert!(rt; il.put(0x0100, &[0x0a]).is_ok());
     carry(
         rt,
         il,
@@ -490,12 +544,9 @@ fn are_equal(octets: &[u8], others: &[u8]) -> bool {
 
 // Hands the first message over, which has these octets and ends no session.
 fn carry(rt: &impl Abort, from: &mut Seat, to: &mut Seat, octets: &[u8]) -> Result<(), Fail> {
-    let unit = pack(&mut from.waiting, 1).ok_or("a message")?;
-    let messages = unpack(&unit)?;
-    let message = messages.get(0).ok_or("a message")?;
-    assert!(rt; are_equal(message, octets));
-    let answer = hear(to, &decode(message)?).ok_or("room")?;
-    assert!(rt; answer.is_ok());
+    let message = from.first().ok_or("a message")?;
+    assert!(rt; are_equal(message.as_slice(), octets));
+    assert!(rt; to.read(message.as_slice()) == Some(Ok(())));
     Ok(())
 }
 
@@ -506,25 +557,26 @@ fn refuses_another_version(rt: HostRuntime) -> Result<(), Fail> {
     for list in lists {
         let mut il = interlocking(&rt, 3)?;
         let mut fe = field(&rt, list, &[0xc0, 0xde])?;
-        up(&mut il).ok_or("up")?;
-        up(&mut fe).ok_or("up")?;
-        assert_eq!(rt; deliver(&mut il.waiting, &mut fe)?, None);
-        assert_eq!(rt; fe.session.phase(), Phase::Refused);
-        let unit = pack(&mut fe.waiting, 1).ok_or("an answer")?;
-        let messages = unpack(&unit)?;
-        let telegram = decode(messages.get(0).ok_or("an answer")?)?;
-        assert_eq!(rt; telegram.kind, 0x25);
-        assert_eq!(rt; telegram.payload, [1, 4, 0].as_slice());
-        let end = SessionEnd {
-            detail: Detail::VersionDiffers,
-        };
-        assert!(rt; hear(&mut il, &telegram) == Some(Err(end)));
-        assert_eq!(rt; il.session.phase(), Phase::Ended);
-        let refused = il.session.put(0x0100, &[0x0a], &mut il.waiting);
-        assert!(rt; refused == Err(PutFault::NotEstablished));
-        fe.session.end();
-        assert_eq!(rt; fe.session.phase(), Phase::Ended);
+        refuses(&rt, &mut il, &mut fe)?;
     }
+    Ok(())
+}
+
+// The set-up of a session whose versions differ.
+fn refuses(rt: &impl Abort, il: &mut Seat, fe: &mut Seat) -> Result<(), Fail> {
+    il.up().ok_or("up")?;
+    fe.up().ok_or("up")?;
+    let check = il.first().ok_or("a message")?;
+    assert!(rt; fe.read(check.as_slice()) == Some(Ok(())));
+    assert_eq!(rt; fe.phase(), Phase::Refused);
+    let answer = fe.first().ok_or("an answer")?;
+    let telegram = decode(answer.as_slice())?;
+    assert_eq!(rt; telegram.kind, 0x25);
+    assert_eq!(rt; telegram.payload, [1, 4, 0].as_slice());
+    ends(rt, il, &telegram, Detail::VersionDiffers);
+    assert!(rt; il.put(0x0100, &[0x0a]) == Err(PutFault::NotEstablished));
+    fe.end();
+    assert_eq!(rt; fe.phase(), Phase::Ended);
     Ok(())
 }
 
@@ -532,39 +584,31 @@ fn refuses_another_version(rt: HostRuntime) -> Result<(), Fail> {
 // the queue is filled.
 #[test]
 fn refuses_puts(rt: HostRuntime) -> Result<(), Fail> {
-    let mut il = interlocking_in(&rt, Phase::Established)?;
-    let _unit = pack(&mut il.waiting, 3);
+    fills(&rt, &mut interlocking_in(&rt, Phase::Established)?);
+    Ok(())
+}
+
+// An end that is established and has nothing more to say than its request is filled with what it is asked to say.
+fn fills(rt: &impl Abort, il: &mut Seat) {
+    for _ in 0..3 {
+        let _message = il.first();
+    }
     let long = [7; 358];
-    assert_eq!(rt;
-        il.session.put(0x0100, &long[..357], &mut il.waiting),
-        Ok(())
-    );
-    assert_eq!(rt;
-        il.session.put(0x0100, &long, &mut il.waiting),
-        Err(PutFault::TooLong)
-    );
+    assert_eq!(rt; il.put(0x0100, &long[..357]), Ok(()));
+    assert_eq!(rt; il.put(0x0100, &long), Err(PutFault::TooLong));
     for kind in [0x21, 0x22, 0x23, 0x24, 0x25] {
-        let refused = il.session.put(kind, &long, &mut il.waiting);
-        assert_eq!(rt; refused, Err(PutFault::ReservedType));
+        assert_eq!(rt; il.put(kind, &long), Err(PutFault::ReservedType));
     }
     assert_eq!(rt; il.waiting.len(), 1);
     for _ in 0..63 {
-        assert_eq!(rt; il.session.put(0x0100, &[], &mut il.waiting), Ok(()));
+        assert_eq!(rt; il.put(0x0100, &[]), Ok(()));
     }
-    assert_eq!(rt;
-        il.session.put(0x0100, &[], &mut il.waiting),
-        Err(PutFault::Full)
-    );
-    assert_eq!(rt;
-        il.session.put(0x23, &long, &mut il.waiting),
-        Err(PutFault::Full)
-    );
-    assert_eq!(rt; il.waiting.len(), WAITING_MAX);
-    il.session.end();
-    let refused = il.session.put(0x23, &long, &mut il.waiting);
-    assert_eq!(rt; refused, Err(PutFault::NotEstablished));
-    assert_eq!(rt; il.waiting.len(), WAITING_MAX);
-    Ok(())
+    assert_eq!(rt; il.put(0x0100, &[]), Err(PutFault::Full));
+    assert_eq!(rt; il.put(0x23, &long), Err(PutFault::Full));
+    il.is(rt, Phase::Established, WAITING_MAX);
+    il.end();
+    assert_eq!(rt; il.put(0x23, &long), Err(PutFault::NotEstablished));
+    il.is(rt, Phase::Ended, WAITING_MAX);
 }
 
 // In which phases a put and the end of the initialisation are accepted.
@@ -580,18 +624,7 @@ fn accepts_by_phase(rt: HostRuntime) -> Result<(), Fail> {
         Phase::Ended,
     ];
     for phase in phases {
-        let mut fe = field_in(&rt, phase)?;
-        let puts = phase == Phase::Initialising || phase == Phase::Established;
-        assert!(rt; fe.session.put(0x0201, &[], &mut fe.waiting).is_ok() == puts);
-        let before = fe.waiting.len();
-        let done = fe.session.init_done(&mut fe.waiting);
-        if phase == Phase::Initialising {
-            assert!(rt; done.is_ok() && fe.session.phase() == Phase::Established);
-            assert!(rt; fe.waiting.len().wrapping_sub(before) == 1);
-        } else {
-            assert!(rt; done == Err(InitFault::NotInitialising) && fe.session.phase() == phase);
-            assert!(rt; fe.waiting.len() == before);
-        }
+        accepts(&rt, &mut field_in(&rt, phase)?, phase);
     }
     for phase in [
         Phase::Idle,
@@ -599,32 +632,47 @@ fn accepts_by_phase(rt: HostRuntime) -> Result<(), Fail> {
         Phase::Requesting,
         Phase::Initialising,
     ] {
-        let mut il = interlocking_in(&rt, phase)?;
-        let refused = il.session.put(0x0100, &[], &mut il.waiting);
-        assert!(rt; refused == Err(PutFault::NotEstablished));
-        let done = il.session.init_done(&mut il.waiting);
-        assert!(rt; done == Err(InitFault::NotInitialising));
+        accepts_nothing(&rt, &mut interlocking_in(&rt, phase)?);
     }
     Ok(())
 }
 
+// A field element takes status while it initialises and once the session is established, and ends the initialisation once.
+fn accepts(rt: &impl Abort, fe: &mut Seat, phase: Phase) {
+    let puts = phase == Phase::Initialising || phase == Phase::Established;
+    assert!(rt; fe.put(0x0201, &[]).is_ok() == puts);
+    let before = fe.waiting.len();
+    let done = fe.init_done();
+    if phase == Phase::Initialising {
+        assert_eq!(rt; done, Ok(()));
+        fe.is(rt, Phase::Established, before.wrapping_add(1));
+    } else {
+        assert_eq!(rt; done, Err(InitFault::NotInitialising));
+        fe.is(rt, phase, before);
+    }
+}
+
+fn accepts_nothing(rt: &impl Abort, il: &mut Seat) {
+    assert_eq!(rt; il.put(0x0100, &[]), Err(PutFault::NotEstablished));
+    assert_eq!(rt; il.init_done(), Err(InitFault::NotInitialising));
+}
+
 #[test]
 fn refuses_the_end_of_initialisation_while_full(rt: HostRuntime) -> Result<(), Fail> {
-    let mut fe = field_in(&rt, Phase::Initialising)?;
-    for _ in 0..64 {
-        let _put = fe.session.put(0x0201, &[], &mut fe.waiting);
-    }
-    assert_eq!(rt; fe.waiting.len(), WAITING_MAX);
-    assert_eq!(rt; fe.session.init_done(&mut fe.waiting), Err(InitFault::Full));
-    assert_eq!(rt; fe.session.phase(), Phase::Initialising);
-    let _unit = pack(&mut fe.waiting, 1);
-    assert_eq!(rt; fe.session.init_done(&mut fe.waiting), Ok(()));
-    assert_eq!(rt; fe.session.phase(), Phase::Established);
-    assert_eq!(rt;
-        fe.session.init_done(&mut fe.waiting),
-        Err(InitFault::NotInitialising)
-    );
+    ends_initialisation_once(&rt, &mut field_in(&rt, Phase::Initialising)?);
     Ok(())
+}
+
+fn ends_initialisation_once(rt: &impl Abort, fe: &mut Seat) {
+    for _ in 0..64 {
+        let _put = fe.put(0x0201, &[]);
+    }
+    assert_eq!(rt; fe.init_done(), Err(InitFault::Full));
+    fe.is(rt, Phase::Initialising, WAITING_MAX);
+    let _message = fe.first();
+    assert_eq!(rt; fe.init_done(), Ok(()));
+    assert_eq!(rt; fe.phase(), Phase::Established);
+    assert_eq!(rt; fe.init_done(), Err(InitFault::NotInitialising));
 }
 
 #[test]

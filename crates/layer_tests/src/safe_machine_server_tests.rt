@@ -1,12 +1,11 @@
 //! One arrival, and requests for retransmission, at a server that is up.
 
-ghost use Rattle.std.specs.Prelude.{◌≡◌, ◌≤◌, ◌<◌, ◌+◌, ◌^◌, IfOk};
-
-use crate::safe_machine_tests::{RULE, SERVER, Taken, Wire, put};
+use crate::safe_machine_tests::{RULE, SERVER, Seat, Told};
 use octets::limits::SAFE_PDU_MAX;
-use safe_machine::{Detail, DropCause, Machine, MachineFault, Reason, Role, Step};
+use safe_machine::{Detail, DropCause, MachineFault, Reason, Role, Step};
 use safe_pdu::{Kind, SafePdu, encode};
 use std::alloc::Allocator;
+use std::process::Abort;
 use std::test::Fail;
 
 /// A PDU from identifier 1 at the field element: type, number, confirmed number and timestamp, its own timestamp 0.
@@ -20,16 +19,7 @@ struct Heard {
 }
 
 /// Hands it to a machine with identifier 2.
-fn hear<A: Allocator>(
-    machine: &mut Machine<A>,
-    heard: Heard,
-    now: u64,
-    out: &mut Wire,
-    units: &mut Taken,
-) -> Step
-    requires { machine.old.expected < 2 ^ 60 }
-    ensures { machine.new.expected ≤ machine.old.expected + 321 }
-{
+fn hear<A: Allocator>(seat: &mut Seat<A>, heard: Heard, now: u64) -> Step {
     let opening = [0x30, 0x33, 0x30, 0x33, 20, 0, 0, 0, 0, 0, 0, 0, 0, 0];
     let unit = [7; 45];
     let body = match heard.kind {
@@ -50,7 +40,7 @@ fn hear<A: Allocator>(
     };
     let mut buffer = [0; SAFE_PDU_MAX];
     let size = encode(&pdu, &RULE, &mut buffer);
-    machine.arrive(&buffer[..size], now, out, units)
+    seat.hear(&buffer[..size], now)
 }
 
 /// A PDU of the peer.
@@ -65,34 +55,24 @@ fn from_peer(kind: Kind, sn: u32, cs: u32) -> Heard {
 }
 
 /// A server with first number 500 that took ConnReq 100 and HB 101.
-fn server<A: Allocator>(alloc: A, out: &mut Wire) -> Result<Machine<A>, MachineFault>
-    ensures { IfOk result (λ machine. machine.expected ≤ 642) }
-{
-    let mut units = Taken::new();
-    let mut machine = Machine::open(alloc, SERVER, Role::Server, 500, 0, out)?;
-    hear(
-        &mut machine,
-        from_peer(Kind::ConnReq, 100, 0),
-        0,
-        out,
-        &mut units,
-    );
-    hear(
-        &mut machine,
-        from_peer(Kind::Heartbeat, 101, 500),
-        0,
-        out,
-        &mut units,
-    );
-    Ok(machine)
+fn server<A: Allocator>(alloc: A) -> Result<Seat<A>, MachineFault> {
+    let mut seat = Seat::open(alloc, SERVER, Role::Server, 500)?;
+    hear(&mut seat, from_peer(Kind::ConnReq, 100, 0), 0);
+    hear(&mut seat, from_peer(Kind::Heartbeat, 101, 500), 0);
+    Ok(seat)
 }
 
-/// One arrival at a server that is up: what it answers, and what is made.
-fn arrival<A: Allocator>(alloc: A, heard: Heard, now: u64) -> Result<(Step, Wire), MachineFault> {
-    let mut out = Wire::new();
-    let mut machine = server(alloc, &mut out)?;
-    let step = hear(&mut machine, heard, now, &mut out, &mut Taken::new());
-    Ok((step, out))
+/// One arrival at a server that is up is answered so, and these PDUs are made.
+fn arrives<A: Allocator>(
+    rt: &impl Abort,
+    seat: &mut Seat<A>,
+    heard: Heard,
+    now: u64,
+    step: Step,
+    pdus: &[Told],
+) {
+    assert_eq!(rt; hear(seat, heard, now), step);
+    seat.made(rt, 1, pdus);
 }
 
 #[test]
@@ -149,35 +129,25 @@ fn server_up_one_arrival(rt: HostRuntime) -> Result<(), Fail> {
             [].as_slice(),
         ),
     ] {
-        let (found, out) = arrival(rt.alloc(), heard, now)?;
-        assert_eq!(rt; found, step);
-        assert_eq!(rt; out.from(1), pdus);
+        arrives(&rt, &mut server(rt.alloc())?, heard, now, step, pdus);
     }
     Ok(())
 }
 
-/// A request for retransmission at a server that is up and has sent two units, and the same once more.
-fn request<A: Allocator>(alloc: A, sn: u32, cs: u32) -> Result<(Step, Step, Wire), MachineFault> {
-    let mut out = Wire::new();
-    let mut units = Taken::new();
-    let mut machine = server(alloc, &mut out)?;
-    let _ = put(&mut machine, 1, 0, &mut out);
-    let _ = put(&mut machine, 2, 0, &mut out);
-    let first = hear(
-        &mut machine,
-        from_peer(Kind::RetrReq, sn, cs),
-        0,
-        &mut out,
-        &mut units,
-    );
-    let second = hear(
-        &mut machine,
-        from_peer(Kind::RetrReq, sn, cs),
-        0,
-        &mut out,
-        &mut units,
-    );
-    Ok((first, second, out))
+/// A request for retransmission at a server that is up and sends two units, and the same once more, are answered so, and these PDUs
+/// are made.
+fn asks<A: Allocator>(
+    rt: &impl Abort,
+    seat: &mut Seat<A>,
+    request: Heard,
+    steps: (Step, Step),
+    pdus: &[Told],
+) {
+    let _ = seat.send(1);
+    let _ = seat.send(2);
+    assert_eq!(rt; hear(seat, request, 0), steps.0);
+    assert_eq!(rt; hear(seat, request, 0), steps.1);
+    seat.made(rt, 3, pdus);
 }
 
 #[test]
@@ -219,10 +189,8 @@ fn server_answers_requests(rt: HostRuntime) -> Result<(), Fail> {
             .as_slice(),
         ),
     ] {
-        let (first, second, out) = request(rt.alloc(), sn, cs)?;
-        assert_eq!(rt; first, steps.0);
-        assert_eq!(rt; second, steps.1);
-        assert_eq!(rt; out.from(3), pdus);
+        let request = from_peer(Kind::RetrReq, sn, cs);
+        asks(&rt, &mut server(rt.alloc())?, request, steps, pdus);
     }
     Ok(())
 }
