@@ -70,10 +70,14 @@ fn read<R: Read + Drop, A: Allocator + Copy>(
     alloc: A,
     reader: R,
 ) -> Result<String<A>, ScriptFault> {
-    match io::read_to_string(alloc, reader) {
-        Ok(text) => Ok(text),
-        Err(error) if matches!(error.kind(), ErrorKind::OutOfMemory) => Err(ScriptFault::Memory),
-        Err(_) => Err(ScriptFault::File),
+    io::read_to_string(alloc, reader).map_err(fault_of)
+}
+
+/// Why a text can't be read.
+fn fault_of(error: io::Error) -> ScriptFault {
+    match error.kind() {
+        ErrorKind::OutOfMemory => ScriptFault::Memory,
+        _ => ScriptFault::File,
     }
 }
 

@@ -329,15 +329,20 @@ impl Header {
         let (_, pdu) = datagram.split_at_checked(RED_HEADER)?;
         let (header, body) = pdu.split_at_checked(SAFE_HEADER)?;
         let kind = Kind::of(u16_at(header, 2))?;
-        let leaving = match body.split_at_checked(4) {
-            Some((front, _)) if kind == Kind::DiscReq => Some((u16_at(front, 0), u16_at(front, 2))),
-            _ => None,
-        };
         Some(Header {
             kind,
             sn: u32_at(header, 12),
             cs: u32_at(header, 16),
-            leaving,
+            leaving: leaving(kind, body),
         })
     }
+}
+
+/// Detail and reason of a DiscReq; none of any other type.
+fn leaving(kind: Kind, body: &[u8]) -> Option<(u16, u16)> {
+    if kind != Kind::DiscReq {
+        return None;
+    }
+    let (front, _) = body.split_at_checked(4)?;
+    Some((u16_at(front, 0), u16_at(front, 2)))
 }
