@@ -30,11 +30,17 @@ t_max_rule = record (new_rule (codes "t-max")) { long = Some (codes "t-max") }
 abbrev pub file_rule : Rule
 file_rule = record (new_rule (codes "file")) { required = true }
 
+abbrev pub length_app : App
+length_app = with_rule (new_app (codes "follow")) chosen_code_rule
+
 abbrev pub chosen_app : App
-chosen_app = with_rule (with_rule (new_app (codes "follow")) chosen_code_rule) iv_rule
+chosen_app = with_rule length_app iv_rule
+
+abbrev pub only_app : App
+only_app = with_rule chosen_app only_rule
 
 abbrev pub limited_app : App
-limited_app = with_rule (with_rule chosen_app only_rule) t_max_rule
+limited_app = with_rule only_app t_max_rule
 
 abbrev pub telling_app : App
 telling_app = with_rule limited_app messages_rule

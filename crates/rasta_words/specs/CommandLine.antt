@@ -18,8 +18,11 @@ code_rule = record (new_rule (codes "code")) { long = Some (codes "code"); requi
 abbrev pub hex_rule : Rule
 hex_rule = record (new_rule (codes "hex")) { required = true }
 
+abbrev pub code_app : App
+code_app = with_rule (new_app (codes "show")) code_rule
+
 abbrev pub coded_app : App
-coded_app = with_rule (with_rule (new_app (codes "show")) code_rule) iv_rule
+coded_app = with_rule code_app iv_rule
 
 abbrev pub show_app : App
 show_app = with_rule coded_app hex_rule
@@ -44,16 +47,23 @@ ends_word Pair = codes "pair"
 abbrev pub turns_rule : Rule
 turns_rule = record (new_rule (codes "turns")) { long = Some (codes "turns"); required = true }
 
+abbrev pub turns_app : Text → App
+turns_app name = with_rule (new_app name) turns_rule
+
 abbrev pub net_app : Text → App
-net_app name = with_rule (with_rule (new_app name) turns_rule) file_rule
+net_app name = with_rule (turns_app name) file_rule
 
 -- one of the subcommands is required
 abbrev pub bare_app : App
 bare_app = record (new_app (codes "rasta")) { top = record (new_app (codes "rasta")).top { subcommand_required = true } }
 
+-- with `md4`
+abbrev pub digest_app : App
+digest_app = with_subcommand bare_app md4_app.top
+
 -- with the commands that read no file
 abbrev pub plain_app : App
-plain_app = with_subcommand (with_subcommand bare_app md4_app.top) show_app.top
+plain_app = with_subcommand digest_app show_app.top
 
 -- with `sim`
 abbrev pub local_app : App
@@ -63,9 +73,16 @@ local_app = with_subcommand plain_app sim_app.top
 abbrev pub file_app : App
 file_app = with_subcommand local_app follow_app.top
 
+-- with `il`
+abbrev pub il_app : App
+il_app = with_subcommand file_app (net_app (codes "il")).top
+
+-- and with `fe`
+abbrev pub ends_app : App
+ends_app = with_subcommand il_app (net_app (codes "fe")).top
+
 abbrev pub rasta_app : App
-rasta_app =
-    with_subcommand (with_subcommand (with_subcommand file_app (net_app (codes "il")).top) (net_app (codes "fe")).top) (net_app (codes "pair")).top
+rasta_app = with_subcommand ends_app (net_app (codes "pair")).top
 
 -- how a number of turns is written: in decimal digits, before which a plus may stand
 abbrev pub IsTurns : Text → ℕ → Type 0

@@ -4,8 +4,8 @@ ghost use Rattle.std.specs.Prelude.{◌≡◌, ℕ, [], Option, Some, IsOk, IfOk
 ghost use Rattle.std.specs.Option.{option_copied};
 ghost use Rattle.clap.specs.declared.Command.TheViews.{out-Command};
 ghost use Rattle.clap.specs.Words.{app_of, fault_of, first_of, found_of, rows_of, subcommand_of, subcommand_rows_of};
-ghost use Rattle.rasta_words.specs.CommandLine.{Asks, FindsNone, HasEntries, HasNoEntries, IsFaultOf, IsFound, IsTurns, Refuses, coded_app, ends_word, file_app, local_app, md4_app, net_app, plain_app, rasta_app, show_app, sim_app};
-ghost use Rattle.rasta_words.specs.Choices.{HasChoices, HasNoChoices, IsAgeChosen, IsCodeChosen, IsMilliseconds, IsRemarkChosen, chosen_app, code_word, follow_app, is_flagged, limited_app, telling_app};
+ghost use Rattle.rasta_words.specs.CommandLine.{Asks, FindsNone, HasEntries, HasNoEntries, IsFaultOf, IsFound, IsTurns, Refuses, code_app, coded_app, digest_app, ends_app, ends_word, file_app, il_app, local_app, md4_app, net_app, plain_app, rasta_app, show_app, sim_app, turns_app};
+ghost use Rattle.rasta_words.specs.Choices.{HasChoices, HasNoChoices, IsAgeChosen, IsCodeChosen, IsMilliseconds, IsRemarkChosen, chosen_app, code_word, follow_app, is_flagged, length_app, limited_app, only_app, telling_app};
 
 use capture_text::Word as Remarkable;
 use clap::{Arg, ArgAction, ArgMatches, Command};
@@ -277,14 +277,30 @@ fn rasta_command<'a>(alloc: Global) -> Result<Command<'a>, AllocError>
     ensures app { IfOk result (λ command. app_of command ≡ rasta_app) }
     ensures local { IfOk result (λ command. (out-Command command).has_globals ≡ false) }
 {
-    file_command(alloc)?
-        .subcommand(net_command(alloc, "il", "Runs an interlocking over UDP")?)?
-        .subcommand(net_command(alloc, "fe", "Runs a field element over UDP")?)?
-        .subcommand(net_command(
-            alloc,
-            "pair",
-            "Runs an interlocking and a field element over UDP, taking turns in one process",
-        )?)
+    let pair = net_command(
+        alloc,
+        "pair",
+        "Runs an interlocking and a field element over UDP, taking turns in one process",
+    )?;
+    ends_command(alloc)?.subcommand(pair)
+}
+
+/// The program without `pair`.
+fn ends_command<'a>(alloc: Global) -> Result<Command<'a>, AllocError>
+    ensures app { IfOk result (λ command. app_of command ≡ ends_app) }
+    ensures local { IfOk result (λ command. (out-Command command).has_globals ≡ false) }
+{
+    let fe = net_command(alloc, "fe", "Runs a field element over UDP")?;
+    il_command(alloc)?.subcommand(fe)
+}
+
+/// The program with `il` and the commands that use no sockets.
+fn il_command<'a>(alloc: Global) -> Result<Command<'a>, AllocError>
+    ensures app { IfOk result (λ command. app_of command ≡ il_app) }
+    ensures local { IfOk result (λ command. (out-Command command).has_globals ≡ false) }
+{
+    let il = net_command(alloc, "il", "Runs an interlocking over UDP")?;
+    file_command(alloc)?.subcommand(il)
 }
 
 /// The program with the commands that use no sockets.
@@ -308,27 +324,47 @@ fn plain_command<'a>(alloc: Global) -> Result<Command<'a>, AllocError>
     ensures app { IfOk result (λ command. app_of command ≡ plain_app) }
     ensures local { IfOk result (λ command. (out-Command command).has_globals ≡ false) }
 {
+    digest_command(alloc)?.subcommand(show_command(alloc)?)
+}
+
+/// The program with `md4` alone.
+fn digest_command<'a>(alloc: Global) -> Result<Command<'a>, AllocError>
+    ensures app { IfOk result (λ command. app_of command ≡ digest_app) }
+    ensures local { IfOk result (λ command. (out-Command command).has_globals ≡ false) }
+{
     Command::new(alloc, "rasta")
         .about("A proved RaSTA stack: its command line.")
         .after_help(
             "Exit status: 0 done, 1 refused input, 2 wrong words, 3 where a socket, a clock or an output fails.",
         )
         .subcommand_required(true)
-        .subcommand(md4_command(alloc)?)?
-        .subcommand(show_command(alloc)?)
+        .subcommand(md4_command(alloc)?)
 }
 
 fn net_command<'a>(alloc: Global, name: &'a str, about: &'a str) -> Result<Command<'a>, AllocError>
     ensures app { IfOk result (λ command. app_of command ≡ net_app name.entry.now) }
     ensures local { IfOk result (λ command. (out-Command command).has_globals ≡ false) }
 {
-    let turns = Arg::new(alloc, "turns").long("turns").required(true).help(
-        "How many turns to take, 1 to 1,000,000; one lasts at most 5 milliseconds where nothing comes",
-    );
+    let command = turns_command(alloc, name, about)?;
     let file = Arg::new(alloc, "file")
         .required(true)
         .help("The settings file");
-    Command::new(alloc, name).about(about).arg(turns)?.arg(file)
+    command.arg(file)
+}
+
+/// The command of ends over sockets with its turns alone.
+fn turns_command<'a>(
+    alloc: Global,
+    name: &'a str,
+    about: &'a str,
+) -> Result<Command<'a>, AllocError>
+    ensures app { IfOk result (λ command. app_of command ≡ turns_app name.entry.now) }
+    ensures local { IfOk result (λ command. (out-Command command).has_globals ≡ false) }
+{
+    let turns = Arg::new(alloc, "turns").long("turns").required(true).help(
+        "How many turns to take, 1 to 1,000,000; one lasts at most 5 milliseconds where nothing comes",
+    );
+    Command::new(alloc, name).about(about).arg(turns)
 }
 
 fn show_command<'a>(alloc: Global) -> Result<Command<'a>, AllocError>
@@ -347,16 +383,24 @@ fn coded_command<'a>(alloc: Global) -> Result<Command<'a>, AllocError>
     ensures app { IfOk result (λ command. app_of command ≡ coded_app) }
     ensures local { IfOk result (λ command. (out-Command command).has_globals ≡ false) }
 {
-    let code = Arg::new(alloc, "code").long("code").required(true).help(
-        "Octets of safety code at the end of a safety PDU: 0, 8 or 16",
-    );
+    let command = code_command(alloc)?;
     let iv = Arg::new(alloc, "iv").long("iv").help(
         "Initial value of the code as 32 hex digits; without it that of RFC 1320",
     );
+    command.arg(iv)
+}
+
+/// The command `show` with the length of the safety code.
+fn code_command<'a>(alloc: Global) -> Result<Command<'a>, AllocError>
+    ensures app { IfOk result (λ command. app_of command ≡ code_app) }
+    ensures local { IfOk result (λ command. (out-Command command).has_globals ≡ false) }
+{
+    let code = Arg::new(alloc, "code").long("code").required(true).help(
+        "Octets of safety code at the end of a safety PDU: 0, 8 or 16",
+    );
     Command::new(alloc, "show")
         .about("Prints the fields of a captured datagram, or the first fault of each layer")
-        .arg(code)?
-        .arg(iv)
+        .arg(code)
 }
 
 fn follow_command<'a>(alloc: Global) -> Result<Command<'a>, AllocError>
@@ -388,14 +432,23 @@ fn limited_command<'a>(alloc: Global) -> Result<Command<'a>, AllocError>
     ensures app { IfOk result (λ command. app_of command ≡ limited_app) }
     ensures local { IfOk result (λ command. (out-Command command).has_globals ≡ false) }
 {
+    let command = only_command(alloc)?;
+    let t_max = Arg::new(alloc, "t-max").long("t-max").help(
+        "The age of a confirmed timestamp that is remarkable, in milliseconds; without it 1800",
+    );
+    command.arg(t_max)
+}
+
+/// The command `follow` with what it takes of the code, and the remark that lines are chosen by.
+fn only_command<'a>(alloc: Global) -> Result<Command<'a>, AllocError>
+    ensures app { IfOk result (λ command. app_of command ≡ only_app) }
+    ensures local { IfOk result (λ command. (out-Command command).has_globals ≡ false) }
+{
     let command = chosen_command(alloc)?;
     let only = Arg::new(alloc, "only").long("only").help(
         "Prints the lines with this remark alone: opens, repeat, ahead, late, stale, anew, resent, age, reason or fault",
     );
-    let t_max = Arg::new(alloc, "t-max").long("t-max").help(
-        "The age of a confirmed timestamp that is remarkable, in milliseconds; without it 1800",
-    );
-    command.arg(only)?.arg(t_max)
+    command.arg(only)
 }
 
 /// The command `follow` with what it takes of the safety code.
@@ -403,18 +456,26 @@ fn chosen_command<'a>(alloc: Global) -> Result<Command<'a>, AllocError>
     ensures app { IfOk result (λ command. app_of command ≡ chosen_app) }
     ensures local { IfOk result (λ command. (out-Command command).has_globals ≡ false) }
 {
-    let code = Arg::new(alloc, "code").long("code").help(
-        "Octets of safety code at the end of a safety PDU: 0, 8 or 16; without it 8",
-    );
+    let command = length_command(alloc)?;
     let iv = Arg::new(alloc, "iv").long("iv").help(
         "Initial value of the code as 32 hex digits; without it that of RFC 1320",
+    );
+    command.arg(iv)
+}
+
+/// The command `follow` with the length of the safety code.
+fn length_command<'a>(alloc: Global) -> Result<Command<'a>, AllocError>
+    ensures app { IfOk result (λ command. app_of command ≡ length_app) }
+    ensures local { IfOk result (λ command. (out-Command command).has_globals ≡ false) }
+{
+    let code = Arg::new(alloc, "code").long("code").help(
+        "Octets of safety code at the end of a safety PDU: 0, 8 or 16; without it 8",
     );
     Command::new(alloc, "follow")
         .about(
             "Follows a recorded connection: what was lost, repeated and sent again, and who left and why",
         )
-        .arg(code)?
-        .arg(iv)
+        .arg(code)
 }
 
 fn sim_command<'a>(alloc: Global) -> Result<Command<'a>, AllocError>
