@@ -6,6 +6,7 @@ use md4::INITIAL_VALUE;
 use safe_pdu::{CodeLength, CodeRule, Leaving};
 use std::alloc::Allocator;
 use std::io::Write;
+use std::process::Abort;
 use std::test::Fail;
 
 /// A unit of 45 octets, in hex digits.
@@ -93,6 +94,40 @@ fn put<A: Allocator>(
     Ok(())
 }
 
+/// A line: the time in microseconds, the channel, whether it goes back, and its PDU.
+type Line = (u32, u8, bool, Pdu);
+
+/// Follows the lines of PDUs without codes, and compares what is printed.
+fn follows(
+    rt: &(impl AllocGlobal + Abort),
+    lines: &[Line],
+    asked: &Asked,
+    wanted: &str,
+) -> Result<(), Fail> {
+    let mut text = Vec::new(rt.alloc());
+    for (time, channel, back, pdu) in lines {
+        put(&mut text, *time, *channel, *back, *pdu)?;
+    }
+    prints(rt, text.as_slice(), asked, FollowStatus::Done, wanted, "")
+}
+
+/// Follows a text, and compares how that ends and what is printed on both outputs.
+fn prints(
+    rt: &(impl AllocGlobal + Abort),
+    text: &[u8],
+    asked: &Asked,
+    status: FollowStatus,
+    wanted: &str,
+    faults: &str,
+) -> Result<(), Fail> {
+    let mut out = Vec::new(rt.alloc());
+    let mut err = Vec::new(rt.alloc());
+    assert_eq!(rt; run(rt.alloc(), text, asked, &mut out, &mut err), status);
+    assert!(rt; out.as_slice() == wanted.as_bytes());
+    assert!(rt; err.as_slice() == faults.as_bytes());
+    Ok(())
+}
+
 fn asked(length: CodeLength, only: Option<Word>) -> Asked {
     Asked {
         rule: CodeRule {
@@ -118,19 +153,15 @@ fn loses_on_one_channel(rt: HostRuntime) -> Result<(), Fail> {
     );
     let first = heartbeat(1, (101, 500), (1020, 7000));
     let second = heartbeat(2, (102, 500), (1030, 7000));
-    let mut lines = Vec::new(rt.alloc());
-    put(&mut lines, 0, 0, false, opens)?;
-    put(&mut lines, 50, 1, false, opens)?;
-    put(&mut lines, 10_000, 0, true, granted)?;
-    put(&mut lines, 10_060, 1, true, granted)?;
-    put(&mut lines, 20_000, 0, false, first)?;
-    put(&mut lines, 30_000, 0, false, second)?;
-    put(&mut lines, 30_040, 1, false, second)?;
-    let mut out = Vec::new(rt.alloc());
-    let mut err = Vec::new(rt.alloc());
-    let asked = asked(CodeLength::Zero, None);
-    let status = run(rt.alloc(), lines.as_slice(), &asked, &mut out, &mut err);
-    assert_eq!(rt; status, FollowStatus::Done);
+    let lines = [
+        (0, 0, false, opens),
+        (50, 1, false, opens),
+        (10_000, 0, true, granted),
+        (10_060, 1, true, granted),
+        (20_000, 0, false, first),
+        (30_000, 0, false, second),
+        (30_040, 1, false, second),
+    ];
     let wanted = "\
 0.000000 line 1 1->2 ch 1 red 0 ConnReq sn 100 cs 0 ts 1000 cts 0 opens
 0.000050 line 2 1->2 ch 2 red 0 ConnReq sn 100 cs 0 ts 1000 cts 0 all repeat of line 1
@@ -149,9 +180,7 @@ sum 2->1 ch 1 10.0.0.1:8001-10.0.0.2:8002 datagrams 1 PDUs 1 missing 0 repeats 0
 sum 2->1 ch 2 10.0.1.1:8001-10.0.1.2:8002 datagrams 1 PDUs 1 missing 0 repeats 0 stale 0 damaged 0
 sum all PDUs 4 missing 0 repeats 3 damaged 0 forgotten 0 unreadable 0
 ";
-    assert!(rt; out.as_slice() == wanted.as_bytes());
-    assert!(rt; err.is_empty());
-    Ok(())
+    follows(&rt, &lines, &asked(CodeLength::Zero, None), wanted)
 }
 
 // A unit is lost on both channels, asked for and sent again.
@@ -162,18 +191,14 @@ fn asks_again(rt: HostRuntime) -> Result<(), Fail> {
     let request = plain(6212, 30, (601, 200), (8030, 2000), "");
     let answer = plain(6213, 13, (203, 601), (2040, 8030), "");
     let again = plain(6241, 14, (204, 601), (2041, 8030), UNIT);
-    let mut lines = Vec::new(rt.alloc());
-    put(&mut lines, 0, 0, false, unit)?;
-    put(&mut lines, 100, 1, false, unit)?;
-    put(&mut lines, 20_000, 0, false, beat)?;
-    put(&mut lines, 30_000, 0, true, request)?;
-    put(&mut lines, 40_000, 0, false, answer)?;
-    put(&mut lines, 41_000, 0, false, again)?;
-    let mut out = Vec::new(rt.alloc());
-    let mut err = Vec::new(rt.alloc());
-    let asked = asked(CodeLength::Zero, None);
-    let status = run(rt.alloc(), lines.as_slice(), &asked, &mut out, &mut err);
-    assert_eq!(rt; status, FollowStatus::Done);
+    let lines = [
+        (0, 0, false, unit),
+        (100, 1, false, unit),
+        (20_000, 0, false, beat),
+        (30_000, 0, true, request),
+        (40_000, 0, false, answer),
+        (41_000, 0, false, again),
+    ];
     let wanted = "\
 0.000000 line 1 1->2 ch 1 red 10 Data sn 200 cs 600 ts 2000 cts 8000
 0.000100 line 2 1->2 ch 2 red 10 Data sn 200 cs 600 ts 2000 cts 8000 all repeat of line 1
@@ -191,8 +216,7 @@ sum 2->1 ch 1 10.0.0.1:8001-10.0.0.2:8002 datagrams 1 PDUs 1 missing 0 repeats 0
 sum 2->1 ch 2 10.0.1.1:8001-10.0.1.2:8002 datagrams 0 PDUs 0 missing 0 repeats 0 stale 0 damaged 0
 sum all PDUs 5 missing 1 repeats 1 damaged 0 forgotten 0 unreadable 0
 ";
-    assert!(rt; out.as_slice() == wanted.as_bytes());
-    Ok(())
+    follows(&rt, &lines, &asked(CodeLength::Zero, None), wanted)
 }
 
 // Nothing recent is confirmed in time, so an end leaves, and the other opens again; old ages alone are printed.
@@ -203,17 +227,13 @@ fn leaves_and_opens_again(rt: HostRuntime) -> Result<(), Fail> {
     let slow = heartbeat(6, (301, 701), (6801, 9100));
     let leaves = plain(6216, 9, (702, 300), (10_950, 5000), "00000300");
     let opens = plain(6200, 0, (42, 0), (8000, 0), "3033303320000000000000000000");
-    let mut lines = Vec::new(rt.alloc());
-    put(&mut lines, 0, 0, false, beat)?;
-    put(&mut lines, 100_000, 0, true, back)?;
-    put(&mut lines, 1_801_000, 0, false, slow)?;
-    put(&mut lines, 1_850_000, 0, true, leaves)?;
-    put(&mut lines, 3_000_000, 0, false, opens)?;
-    let mut out = Vec::new(rt.alloc());
-    let mut err = Vec::new(rt.alloc());
-    let asked = asked(CodeLength::Zero, Some(Word::Age));
-    let status = run(rt.alloc(), lines.as_slice(), &asked, &mut out, &mut err);
-    assert_eq!(rt; status, FollowStatus::Done);
+    let lines = [
+        (0, 0, false, beat),
+        (100_000, 0, true, back),
+        (1_801_000, 0, false, slow),
+        (1_850_000, 0, true, leaves),
+        (3_000_000, 0, false, opens),
+    ];
     let wanted = "\
 1.850000 line 4 2->1 ch 1 red 9 DiscReq sn 702 cs 300 ts 10950 cts 5000 age 1801 ms reason 3 timeout detail 0
 sum 1->2 opened by ConnReq times 1 PDUs 3 missing 0 repeats 0 stale 0 heartbeats 2 requests 0 resent 0 \
@@ -224,8 +244,12 @@ silence 1.750000 age 1801 of 1800 reached last 1.850000 DiscReq reason 3 timeout
 sum 2->1 ch 1 10.0.0.1:8001-10.0.0.2:8002 datagrams 2 PDUs 2 missing 0 repeats 0 stale 0 damaged 0
 sum all PDUs 5 missing 0 repeats 0 damaged 0 forgotten 0 unreadable 0
 ";
-    assert!(rt; out.as_slice() == wanted.as_bytes());
-    Ok(())
+    follows(
+        &rt,
+        &lines,
+        &asked(CodeLength::Zero, Some(Word::Age)),
+        wanted,
+    )
 }
 
 // A datagram under the code of another one is damaged, and a line that is none is named.
@@ -243,11 +267,6 @@ fn names_what_is_forged(rt: HostRuntime) -> Result<(), Fail> {
         "2c0000000800000024004c18020000000100000066000000f40100000a000000050000000ded786fc4bf93f2"
     )?;
     writeln!(lines, "what")?;
-    let mut out = Vec::new(rt.alloc());
-    let mut err = Vec::new(rt.alloc());
-    let asked = asked(CodeLength::Eight, None);
-    let status = run(rt.alloc(), lines.as_slice(), &asked, &mut out, &mut err);
-    assert_eq!(rt; status, FollowStatus::Refused);
     let wanted = "\
 0.000000 line 1 1->2 ch 1 red 7 HB sn 101 cs 500 ts 10 cts 5
 0.000500 line 2 10.0.0.1:8001->10.0.0.2:8002 red 8 safe fault 3 Code
@@ -259,9 +278,16 @@ silence 0.000000 age 0 of 1800 not heard no DiscReq
 sum 2->1 ch 1 10.0.0.1:8001-10.0.0.2:8002 datagrams 0 PDUs 0 missing 0 repeats 0 stale 0 damaged 0
 sum all PDUs 1 missing 0 repeats 0 damaged 1 forgotten 0 unreadable 1
 ";
-    assert!(rt; out.as_slice() == wanted.as_bytes());
-    assert!(rt; err.as_slice() == b"line 3: unreadable: not six fields\n".as_slice());
-    Ok(())
+    let fault = "line 3: unreadable: not six fields\n";
+    let asked = asked(CodeLength::Eight, None);
+    prints(
+        &rt,
+        lines.as_slice(),
+        &asked,
+        FollowStatus::Refused,
+        wanted,
+        fault,
+    )
 }
 
 // Nothing is said of a PDU that follows as it should, and each remark has its words.
@@ -303,22 +329,23 @@ reason 4 service not allowed detail 3 not of this pair";
 // The telegrams of a datagram stand behind its line, as `show` has them: here a unit of zeros, which is none.
 #[test]
 fn prints_telegrams(rt: HostRuntime) -> Result<(), Fail> {
-    let unit = data(10, (200, 600), (2000, 8000));
-    let beat = heartbeat(11, (201, 600), (2020, 8000));
-    let mut lines = Vec::new(rt.alloc());
-    put(&mut lines, 0, 0, false, unit)?;
-    put(&mut lines, 20_000, 0, false, beat)?;
-    let mut out = Vec::new(rt.alloc());
-    let mut err = Vec::new(rt.alloc());
+    let lines = [
+        (0, 0, false, data(10, (200, 600), (2000, 8000))),
+        (20_000, 0, false, heartbeat(11, (201, 600), (2020, 8000))),
+    ];
     let mut asked = asked(CodeLength::Zero, None);
     asked.messages = true;
-    let status = run(rt.alloc(), lines.as_slice(), &asked, &mut out, &mut err);
-    assert_eq!(rt; status, FollowStatus::Done);
     let wanted = "\
 0.000000 line 1 1->2 ch 1 red 10 Data sn 200 cs 600 ts 2000 cts 8000
 unit fault 2 Length
 0.020000 line 2 1->2 ch 1 red 11 HB sn 201 cs 600 ts 2020 cts 8000
-sum ";
-    assert!(rt; out.as_slice().starts_with(wanted.as_bytes()));
-    Ok(())
+sum 1->2 opening not seen PDUs 2 missing 0 repeats 0 stale 0 heartbeats 1 requests 0 resent 0 \
+silence 0.020000 age 0 of 1800 last 0.020000 no DiscReq
+sum 1->2 ch 1 10.0.0.1:8001-10.0.0.2:8002 datagrams 2 PDUs 2 missing 0 repeats 0 stale 0 damaged 0
+sum 2->1 opening not seen PDUs 0 missing 0 repeats 0 stale 0 heartbeats 0 requests 0 resent 0 \
+silence 0.000000 age 0 of 1800 not heard no DiscReq
+sum 2->1 ch 1 10.0.0.1:8001-10.0.0.2:8002 datagrams 0 PDUs 0 missing 0 repeats 0 stale 0 damaged 0
+sum all PDUs 2 missing 0 repeats 0 damaged 0 forgotten 0 unreadable 0
+";
+    follows(&rt, &lines, &asked, wanted)
 }
