@@ -6,7 +6,6 @@ use capture::{
 };
 use red_pdu::RedFault;
 use safe_pdu::{CodeLength, CodeRule, Kind};
-use std::process::Abort;
 use std::test::Fail;
 
 const HEARTBEAT: &[u8] =
@@ -141,99 +140,61 @@ fn remarks(
     })
 }
 
-/// A line: its number, the time, the channel, whether it goes back, what its datagram says, and what is remarkable in it.
-type Line = (u64, u64, u8, bool, Heard, Option<Remarks>);
-
-/// Hears a line, and tells what is remarkable in its PDU.
-fn heard(
-    all: &mut Following,
-    number: u64,
-    time: u64,
-    channel: u8,
-    back: bool,
-    what: &Heard,
-) -> Option<Remarks> {
-    told(all.hear(number, &record(time, channel, back), what))
-}
-
-/// Hears lines, and compares what is remarkable in each.
-fn follows(rt: &impl Abort, all: &mut Following, lines: &[Line]) {
-    for (number, time, channel, back, what, wanted) in lines {
-        let remarks = heard(all, *number, *time, *channel, *back, what);
-        assert_eq!(rt; remarks, *wanted, "line {number}");
-    }
-}
-
-/// All that was heard has these sums.
-fn sums(rt: &impl Abort, all: &Following, wanted: Totals) {
-    assert_eq!(rt; sum_up(all.connections.as_slice()), wanted);
-}
-
 // Two channels: a copy, a gap that is closed late on the other channel, an answer with its age, and a repeat.
 #[test]
 fn follows_two_channels(rt: HostRuntime) {
-    let first = Some(Judged::First);
-    let ahead = Judged::Ahead(2);
-    let lines = [
-        (
-            1,
-            1000,
-            0,
-            false,
-            pdu(0, (1, 2), 10, (100, 0)),
-            remarks(0, Judged::First, Judged::First, first, None),
-        ),
-        (
-            2,
-            1001,
-            1,
-            false,
-            pdu(0, (1, 2), 10, (100, 0)),
-            remarks(1, Judged::First, Judged::Repeat(1), None, None),
-        ),
-        (
-            3,
-            4000,
-            0,
-            false,
-            pdu(3, (1, 2), 13, (130, 0)),
-            remarks(0, ahead, ahead, Some(ahead), None),
-        ),
-        (
-            4,
-            4100,
-            1,
-            false,
-            pdu(1, (1, 2), 11, (110, 0)),
-            remarks(1, Judged::Next, Judged::Late, Some(Judged::Late), None),
-        ),
-        (
-            5,
-            5000,
-            0,
-            true,
-            pdu(7, (2, 1), 500, (9, 100)),
-            remarks(0, Judged::First, Judged::First, first, Some(30)),
-        ),
-        (
-            6,
-            6000,
-            0,
-            false,
-            pdu(3, (1, 2), 13, (130, 0)),
-            remarks(0, Judged::Repeat(3), Judged::Repeat(3), None, Some(9)),
-        ),
-        (7, 7000, 0, false, Heard::NoRed(RedFault::Length), None),
-    ];
     let mut all = Following::new();
-    follows(&rt, &mut all, &lines);
+    let first = told(all.hear(1, &record(1000, 0, false), &pdu(0, (1, 2), 10, (100, 0))));
+    assert_eq!(rt;
+        first,
+        remarks(0, Judged::First, Judged::First, Some(Judged::First), None)
+    );
+    let copy = told(all.hear(2, &record(1001, 1, false), &pdu(0, (1, 2), 10, (100, 0))));
+    assert_eq!(rt;
+        copy,
+        remarks(1, Judged::First, Judged::Repeat(1), None, None)
+    );
+    let gap = told(all.hear(3, &record(4000, 0, false), &pdu(3, (1, 2), 13, (130, 0))));
+    assert_eq!(rt;
+        gap,
+        remarks(
+            0,
+            Judged::Ahead(2),
+            Judged::Ahead(2),
+            Some(Judged::Ahead(2)),
+            None
+        )
+    );
+    let late = told(all.hear(4, &record(4100, 1, false), &pdu(1, (1, 2), 11, (110, 0))));
+    assert_eq!(rt;
+        late,
+        remarks(1, Judged::Next, Judged::Late, Some(Judged::Late), None)
+    );
+    let answer = told(all.hear(5, &record(5000, 0, true), &pdu(7, (2, 1), 500, (9, 100))));
+    assert_eq!(rt;
+        answer,
+        remarks(
+            0,
+            Judged::First,
+            Judged::First,
+            Some(Judged::First),
+            Some(30)
+        )
+    );
+    let again = told(all.hear(6, &record(6000, 0, false), &pdu(3, (1, 2), 13, (130, 0))));
+    assert_eq!(rt;
+        again,
+        remarks(0, Judged::Repeat(3), Judged::Repeat(3), None, Some(9))
+    );
+    let broken = all.hear(7, &record(7000, 0, false), &Heard::NoRed(RedFault::Length));
+    assert_eq!(rt; broken, Remark::NoRed(RedFault::Length));
     assert_eq!(rt; all.damaged, 1);
     let wanted = Totals {
         heard: 4,
         missing: 1,
         repeats: 2,
     };
-    sums(&rt, &all, wanted);
+    assert_eq!(rt; sum_up(all.connections.as_slice()), wanted);
 }
 
 // The seventeenth connection takes the place of the one that was silent longest.
@@ -241,8 +202,11 @@ fn follows_two_channels(rt: HostRuntime) {
 fn forgets_the_one_silent_longest(rt: HostRuntime) {
     let mut all = Following::new();
     for end in 1..18u32 {
-        let at = end as u64;
-        heard(&mut all, at, at, 0, false, &pdu(0, (end, 100), 1, (1, 0)));
+        let _remark = all.hear(
+            end as u64,
+            &record(end as u64, 0, false),
+            &pdu(0, (end, 100), 1, (1, 0)),
+        );
     }
     let ends = all.connections.as_slice();
     assert_eq!(rt; ends.len(), 16);
@@ -297,54 +261,40 @@ fn opens_again(rt: HostRuntime) {
     let mut all = Following::new();
     for seq in 0..50u32 {
         let at = seq as u64 + 1;
-        heard(&mut all, at, at, 0, false, &pdu(seq, (1, 2), seq, (100, 0)));
+        let _remark = all.hear(at, &record(at, 0, false), &pdu(seq, (1, 2), seq, (100, 0)));
     }
-    let first = Some(Judged::First);
-    let next = Some(Judged::Next);
+    let stale = told(all.hear(51, &record(51, 1, false), &pdu(3, (1, 2), 3, (100, 0))));
+    assert_eq!(rt; stale, remarks(1, Judged::First, Judged::Stale, None, None));
+    let next = told(all.hear(52, &record(52, 0, false), &pdu(50, (1, 2), 50, (150, 0))));
+    assert_eq!(rt;
+        next,
+        remarks(0, Judged::Next, Judged::Next, Some(Judged::Next), None)
+    );
     let fresh = Remarks {
         opens: true,
         route: 0,
-        channel: first,
+        channel: Some(Judged::First),
         together: Judged::First,
-        sequence: first,
+        sequence: Some(Judged::First),
         resent: false,
         age: None,
         leaving: None,
     };
-    let lines = [
-        (
-            51,
-            51,
-            1,
-            false,
-            pdu(3, (1, 2), 3, (100, 0)),
-            remarks(1, Judged::First, Judged::Stale, None, None),
-        ),
-        (
-            52,
-            52,
-            0,
-            false,
-            pdu(50, (1, 2), 50, (150, 0)),
-            remarks(0, Judged::Next, Judged::Next, next, None),
-        ),
-        (53, 53, 0, false, opening(0, 900, 7), Some(fresh)),
-        (
-            54,
-            54,
-            1,
-            false,
-            opening(0, 900, 7),
-            remarks(1, Judged::First, Judged::Repeat(53), None, None),
-        ),
-    ];
-    follows(&rt, &mut all, &lines);
+    assert_eq!(rt;
+        told(all.hear(53, &record(53, 0, false), &opening(0, 900, 7))),
+        Some(fresh)
+    );
+    let copy = told(all.hear(54, &record(54, 1, false), &opening(0, 900, 7)));
+    assert_eq!(rt;
+        copy,
+        remarks(1, Judged::First, Judged::Repeat(53), None, None)
+    );
     let wanted = Totals {
         heard: 52,
         missing: 0,
         repeats: 1,
     };
-    sums(&rt, &all, wanted);
+    assert_eq!(rt; sum_up(all.connections.as_slice()), wanted);
 }
 
 // A client that heard nothing leaves directly behind its ConnReq and confirms nothing; a later DiscReq confirms.
@@ -352,14 +302,20 @@ fn opens_again(rt: HostRuntime) {
 fn ages_no_goodbye_that_confirms_nothing(rt: HostRuntime) {
     let mut all = Following::new();
     let server = Heard::Pdu(9, leaving((2, 1), u32::MAX, (1900, 0)));
-    heard(&mut all, 1, 1, 0, true, &server);
-    heard(&mut all, 2, 2, 0, false, &opening(0, u32::MAX, 1600));
-    let client = Heard::Pdu(1, leaving((1, 2), 0, (1950, 0)));
-    let unheard = heard(&mut all, 3, 3, 0, false, &client);
+    let _remark = all.hear(1, &record(1, 0, true), &server);
+    let _remark = all.hear(2, &record(2, 0, false), &opening(0, u32::MAX, 1600));
+    let unheard = told(all.hear(
+        3,
+        &record(3, 0, false),
+        &Heard::Pdu(1, leaving((1, 2), 0, (1950, 0))),
+    ));
     assert!(rt; unheard.is_some_and(|remarks| remarks.age.is_none()));
-    let client = Heard::Pdu(2, leaving((1, 2), 1, (1960, 0)));
-    let later = heard(&mut all, 4, 4, 0, false, &client);
-    assert!(rt; later.is_some_and(|remarks| remarks.age == Some(1900)));
+    let heard = told(all.hear(
+        4,
+        &record(4, 0, false),
+        &Heard::Pdu(2, leaving((1, 2), 1, (1960, 0))),
+    ));
+    assert!(rt; heard.is_some_and(|remarks| remarks.age == Some(1900)));
 }
 
 /// A DiscReq of an end.
@@ -383,16 +339,16 @@ fn leaving(ends: (u32, u32), sn: u32, stamps: (u32, u32)) -> Header {
 #[test]
 fn counts_damage_by_channel(rt: HostRuntime) {
     let mut all = Following::new();
-    heard(&mut all, 1, 1, 0, false, &pdu(0, (1, 2), 10, (100, 0)));
-    heard(&mut all, 2, 2, 1, true, &pdu(0, (2, 1), 20, (200, 100)));
-    heard(&mut all, 3, 3, 3, false, &pdu(1, (1, 2), 11, (110, 0)));
-    heard(&mut all, 4, 4, 1, true, &pdu(0, (5, 4), 30, (300, 0)));
+    let _remark = all.hear(1, &record(1, 0, false), &pdu(0, (1, 2), 10, (100, 0)));
+    let _remark = all.hear(2, &record(2, 1, true), &pdu(0, (2, 1), 20, (200, 100)));
+    let _remark = all.hear(3, &record(3, 3, false), &pdu(1, (1, 2), 11, (110, 0)));
+    let _remark = all.hear(4, &record(4, 1, true), &pdu(0, (5, 4), 30, (300, 0)));
     let broken = Heard::NoRed(RedFault::Length);
-    heard(&mut all, 5, 5, 0, true, &broken);
-    heard(&mut all, 6, 6, 1, false, &broken);
-    heard(&mut all, 7, 7, 1, false, &broken);
-    heard(&mut all, 8, 8, 2, false, &broken);
-    heard(&mut all, 9, 9, 3, false, &broken);
+    let _remark = all.hear(5, &record(5, 0, true), &broken);
+    let _remark = all.hear(6, &record(6, 1, false), &broken);
+    let _remark = all.hear(7, &record(7, 1, false), &broken);
+    let _remark = all.hear(8, &record(8, 2, false), &broken);
+    let _remark = all.hear(9, &record(9, 3, false), &broken);
     assert_eq!(rt; all.damaged, 5);
     match all.connections.as_slice() {
         [first, second] => {
