@@ -1,8 +1,10 @@
 """What the tests over the built program share: which program is run, and one run of it.
 
-A test takes its own words, and behind `--` the command that is run in place of ./rasta.
+A test takes its own words, and behind `--` the command that is run in place of ./rasta. With other words it prints its usage and ends
+with status 2.
 """
 import os
+import re
 import subprocess
 import sys
 
@@ -10,18 +12,31 @@ TOP = os.path.dirname(os.path.dirname(os.path.abspath(__file__)))
 
 
 def built():
-    """The program's own file: ./rasta looks for newer sources at each start, and says why it can't be built."""
-    if subprocess.run([os.path.join(TOP, 'rasta'), '--help'], stdout=subprocess.DEVNULL).returncode:
+    """The program's own file, proved and built first where it is not."""
+    if subprocess.run([os.path.join(TOP, 'rasta'), '--prove'], stdin=subprocess.DEVNULL).returncode:
         sys.exit(1)
     return [os.path.join(TOP, 'crates', 'rasta_cli', 'out', 'rasta_cli')]
 
 
-def words_and_program(words):
-    """The test's own words, and the command of the program."""
-    if '--' in words:
-        place = words.index('--')
-        return words[:place], words[place + 1:] or built()
-    return words, built()
+def usage(doc):
+    """Stops with the forms that a script's text shows."""
+    forms = re.findall(r'^ {4}((?:tests|tools)/.*?)(?: {4}.*)?$', doc, re.M)
+    print('usage: ' + '\n       '.join(forms), file=sys.stderr)
+    sys.exit(2)
+
+
+def must_fit(doc, words, *patterns):
+    """Stops where there are more words than patterns, or one does not fit its own."""
+    if len(words) > len(patterns) or not all(re.fullmatch(pattern, word) for pattern, word in zip(patterns, words)):
+        usage(doc)
+
+
+def words_and_program(doc, words, *patterns):
+    """The test's own words, of these patterns in turn, and the command of the program."""
+    place = words.index('--') if '--' in words else len(words)
+    own, program = words[:place], words[place + 1:]
+    must_fit(doc, own, *patterns)
+    return own, program or built()
 
 
 def answered(command, timeout=120):

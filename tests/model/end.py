@@ -116,7 +116,7 @@ class End:
         state = self.machine.state
         if state != before:
             self.tell(('state', state))
-        if (before, state) == ('Down', 'Start'):
+        if (before, state) == ('Down', 'Start') and 'notes_no_request' not in self.changes:
             self.request = octets
         if (before, state) == ('Start', 'Up'):
             self.comes_up()

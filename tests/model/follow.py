@@ -13,7 +13,7 @@ from texts import OPENINGS, red_seen, safe_seen  # noqa: E402
 
 KEPT, PASSED_MAX, CHANNELS, CONNECTIONS, WRAP = 32, 65535, 4, 16, 2 ** 32
 LINE_MAX, PAYLOAD_MAX = 8192, 2048
-ONLY = ('opens', 'repeat', 'ahead', 'late', 'stale', 'anew', 'resent', 'age', 'reason', 'fault')
+ONLY = ('opens', 'repeat', 'differs', 'ahead', 'late', 'stale', 'anew', 'resent', 'age', 'reason', 'fault')
 FAULTS = {'red': ('Short', 'Length', 'Reserve'), 'safe': ('Short', 'Length', 'Code', 'Type', 'Body')}
 REASONS = ('closed by user', 'unexpected PDU', 'sequence error', 'timeout', 'service not allowed', 'wrong version',
            'retransmission impossible', 'protocol error')
@@ -22,39 +22,51 @@ DETAILS = {4: ('version differs', 'out of order', 'not of this pair'),
 
 
 class Numbers:
-    """The numbers that were heard of late, the lines in which they were, and how many."""
+    """The numbers that were heard or passed over of late: of each its line and octets, or that it is missing."""
 
     def __init__(self):
-        self.heard = self.missing = self.repeats = self.stale = 0
+        self.heard = self.missing = self.late = self.repeats = self.differing = self.stale = 0
         self.begin()
 
     def begin(self):
-        self.newest, self.lines = None, {}
+        self.newest, self.known = None, {}
 
-    def note(self, number, line):
+    def repeats_as(self, number, octets):
+        """Whether a number is kept with these octets."""
+        return (self.known.get(number) or (0, None))[1] == octets
+
+    def note(self, number, line, octets):
         """How it followed, in words; nothing, where it was the first or the next."""
-        seen = self.lines.get(number % KEPT)
+        if self.known.get(number):
+            first = self.known[number]
+            if first[1] == octets:
+                self.repeats += 1
+                return 'repeat of line %d' % first[0]
+            self.differing += 1
+            return 'differs from line %d' % first[0]
+        if number in self.known:
+            self.missing, self.late, self.known[number] = self.missing - 1, self.late + 1, (line, octets)
+            return 'late'
         steps = 1 if self.newest is None else (number - self.newest) % WRAP
-        if seen and seen[0] == number:
-            self.repeats += 1
-            return 'repeat of line %d' % seen[1]
-        if WRAP // 2 <= steps <= WRAP - KEPT:
+        if steps >= WRAP // 2:
             self.stale += 1
             return 'stale'
         self.heard += 1
-        if steps > WRAP - KEPT:
-            self.missing = max(0, self.missing - 1)
-            self.lines[number % KEPT] = (number, line)
-            return 'late'
-        passed = steps - 1 if 1 < steps <= PASSED_MAX + 1 else 0
-        self.missing += passed
-        if steps > PASSED_MAX + 1:
-            self.lines = {}
-        self.newest, self.lines[number % KEPT] = number, (number, line)
-        return 'anew' if steps > PASSED_MAX + 1 else 'ahead %d' % passed if passed else ''
+        said = 'anew' if steps > PASSED_MAX + 1 else 'ahead %d' % (steps - 1) if steps > 1 else ''
+        if said == 'anew':
+            self.begin()
+        elif said:
+            self.missing += steps - 1
+            self.known.update({(number - back) % WRAP: None for back in range(1, min(steps, KEPT))})
+        self.newest, self.known[number] = number, (line, octets)
+        self.known = {known: first for known, first in self.known.items() if (number - known) % WRAP < KEPT}
+        return said
 
     def sums(self):
-        return 'PDUs %d missing %d repeats %d stale %d' % (self.heard, self.missing, self.repeats, self.stale)
+        return 'PDUs %d missing %d repeats %d late %d differs %d stale %d' % self.counts()
+
+    def counts(self):
+        return self.heard, self.missing, self.repeats, self.late, self.differing, self.stale
 
 
 class Direction:
@@ -72,18 +84,22 @@ class Direction:
         for numbers in self.channels + [self.together, self.sequence]:
             numbers.begin()
 
-    def follow(self, time, line, channel, number, p, peer):
+    def is_copy(self, channel, number, octets):
+        """Whether an opening was heard already, and nothing else of its end on its channel since."""
+        newest = self.channels[channel].newest if channel < CHANNELS else None
+        return self.together.repeats_as(number, octets) and newest in (None, number)
+
+    def follow(self, time, line, channel, number, p, octets, peer):
         """What is remarkable in a PDU; `peer` is the timestamp of the other end's newest."""
         words = []
-        opening = (p.kind, number, p.sn, p.ts) if p.kind in OPENINGS else None
-        if opening and (self.opening is None or opening[1:] != self.opening[1:]):
-            self.opens(opening)
+        if p.kind in OPENINGS and not self.is_copy(channel, number, octets):
+            self.opens((p.kind, p.sn))
             words.append('opens')
         if channel < CHANNELS:
-            words.append(named('channel', self.channels[channel].note(number, line)))
-        together = self.together.note(number, line)
-        is_new = not together.startswith(('repeat', 'stale'))
-        words += [named('all', together), named('sn', self.sequence.note(p.sn, line)) if is_new else '']
+            words.append(named('channel', self.channels[channel].note(number, line, octets)))
+        together = self.together.note(number, line, octets)
+        is_new = not together.startswith(('repeat', 'differs', 'stale'))
+        words += [named('all', together), named('sn', self.sequence.note(p.sn, line, octets)) if is_new else '']
         if is_new and together != 'late':
             self.stamp = p.ts
         age = -1 if peer is None or self.confirms_nothing(p) else (peer - p.cts) % WRAP
@@ -97,7 +113,7 @@ class Direction:
 
     def confirms_nothing(self, p):
         """A ConnReq, and the DiscReq of an end that sent nothing but its ConnReq before."""
-        is_behind = self.opening is not None and self.opening[0] == 'ConnReq' and p.sn == (self.opening[2] + 1) % WRAP
+        is_behind = self.opening is not None and self.opening[0] == 'ConnReq' and p.sn == (self.opening[1] + 1) % WRAP
         return p.kind == 'ConnReq' or p.kind == 'DiscReq' and is_behind
 
     def counts(self, time, kind, age, left):
@@ -154,7 +170,11 @@ class Connection:
             for place, route in enumerate(self.routes):
                 n = direction.channels[place]
                 yield 'sum %d->%d ch %d %s-%s datagrams %d %s damaged %d' % (
-                    sender, receiver, place + 1, *route, n.heard + n.repeats + n.stale, n.sums(), direction.damaged[place])
+                    sender, receiver, place + 1, *route, sum(n.counts()) - n.missing + direction.damaged[place], n.sums(),
+                    direction.damaged[place])
+
+    def counts(self):
+        return [sum(pair) for pair in zip(*(direction.together.counts() for direction in self.directions))]
 
 
 class Follower:
@@ -162,9 +182,11 @@ class Follower:
 
     def __init__(self, rule):
         self.rule, self.connections, self.damaged, self.forgotten, self.unreadable = rule, [], 0, 0, 0
+        self.datagrams, self.gone = 0, [0] * 6
 
     def line(self, time, line, source, destination, octets):
         """What a datagram says, and the words of what is remarkable in it."""
+        self.datagrams += 1
         way, seen = '->'.join((source, destination)), red_seen(octets)
         number, p = (None, None) if isinstance(seen, str) else (seen[0], safe_seen(seen[1], self.rule))
         if p is None or isinstance(p, str):
@@ -174,7 +196,7 @@ class Follower:
         is_from_low = p.sender == connection.ends[0]
         channel = connection.channel(source, destination, is_from_low)
         own, other = connection.directions[::1 if is_from_low else -1]
-        words = own.follow(time, line, channel, number, p, other.stamp)
+        words = own.follow(time, line, channel, number, p, seen[1], other.stamp)
         return '%d->%d ch %s red %d %s sn %d cs %d ts %d cts %d' % (
             p.sender, p.receiver, channel + 1 if channel < CHANNELS else 'other', number, p.kind, p.sn, p.cs, p.ts, p.cts), words
 
@@ -190,7 +212,7 @@ class Follower:
         known = [connection for connection in self.connections if connection.ends == ends]
         if not known and len(self.connections) == CONNECTIONS:
             self.forgotten += 1
-            del self.connections[0]
+            self.gone = [sum(pair) for pair in zip(self.gone, self.connections.pop(0).counts())]
         others = [connection for connection in self.connections if connection not in known]
         self.connections = others + (known or [Connection(ends)])
         return self.connections[-1]
@@ -198,10 +220,10 @@ class Follower:
     def sums(self, first, t_max):
         for connection in self.connections:
             yield from connection.sums(first, t_max)
-        all_numbers = [direction.together for connection in self.connections for direction in connection.directions]
-        yield 'sum all PDUs %d missing %d repeats %d damaged %d forgotten %d unreadable %d' % (
-            sum(n.heard for n in all_numbers), sum(n.missing for n in all_numbers), sum(n.repeats for n in all_numbers),
-            self.damaged, self.forgotten, self.unreadable)
+        counts = [sum(column) for column in zip(self.gone, *(connection.counts() for connection in self.connections))]
+        assert sum(counts) - counts[1] + self.damaged == self.datagrams
+        yield 'sum all datagrams %d PDUs %d missing %d repeats %d late %d differs %d stale %d damaged %d forgotten %d unreadable %d' % (
+            self.datagrams, *counts, self.damaged, self.forgotten, self.unreadable)
 
 
 def fault(layer, name):

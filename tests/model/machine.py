@@ -172,7 +172,10 @@ class Machine:
 
     def move(self, p, distance):
         self.expected += distance + 1
-        self.last_sn, self.last_ts = p.sn, p.ts
+        if 'forgets_the_number_of_a_heartbeat' not in self.changes or p.kind not in ('Heartbeat', 'HB'):
+            self.last_sn = p.sn
+        if 'confirms_the_first_timestamp' not in self.changes or not self.last_ts:
+            self.last_ts = p.ts
 
     def cs_step(self, p):
         return ahead(self.first + self.confirmed, p.cs)

@@ -16,16 +16,16 @@ def headline(pair):
     ils, fes = pair.ends['il'], pair.ends['fe']
     partners = [g for g in pair.joined if g is not None]
     if any(later <= earlier for earlier, later in zip(partners, partners[1:])):
-        return 'headline: later field elements are joined to later interlockings (joined to %s)' % partners
+        return 'headline, joins: later field elements are joined to later interlockings (joined to %s)' % partners
     for f, g in zip(fes, pair.joined):
         if g is None and f.session.taken:
-            return 'headline: a field element that is joined to none took %s' % shown(f.session.taken)
+            return 'headline, joined to none: a field element that is joined to none took %s' % shown(f.session.taken)
         for taker, maker in ((f, ils[g]), (ils[g], f)) if g is not None else ():
             if not is_beginning(taker.session.taken, maker.session.put_in):
-                return 'headline: %s took %s of %s put in' % (taker.side, shown(taker.session.taken), shown(maker.session.put_in))
+                return 'headline, %s: %s took %s of %s put in' % ('commands' if taker is f else 'status', taker.side, shown(taker.session.taken), shown(maker.session.put_in))
     for place, g in enumerate(ils):
         if g.session.taken and place not in partners:
-            return 'headline: an interlocking to which none is joined took %s' % shown(g.session.taken)
+            return 'headline, nobody joined: an interlocking to which none is joined took %s' % shown(g.session.taken)
     return None
 
 
@@ -33,17 +33,29 @@ def freshness(pair):
     """What was taken in the last call came in a PDU made upon one that this end made less than its T_max before."""
     end, peer = pair.present(pair.last), pair.present(other(pair.last))
     for now, part in end.takings:
-        if peer is None or not any(is_fresh(end, now, part, made) for made in peer.machine.made):
-            return 'freshness: %s took at %d what came upon no PDU of its own made after %d' % (end.side, now, now - end.settings.t_max)
+        found = [stale(end, now, part, made) for made in (peer.machine.made if peer else ())]
+        if None not in found:
+            clause = max(found, key=STALE.index, default='made')
+            return 'freshness, %s: %s took at %d what came upon no PDU of its own made after %d' % (clause, end.side, now, now - end.settings.t_max)
     return None
 
 
-def is_fresh(end, now, part, made):
-    """The part is this PDU of the peer, and its basis is recent: it confirms the basis by number and timestamp."""
-    if end.reads(part).seen() != made.seen() or not 1 <= made.behind <= len(end.machine.made):
-        return False
+STALE = ('made', 'basis', 'number', 'stamp', 'recent')
+
+
+def stale(end, now, part, made):
+    """The first of STALE that does not hold: the part is this PDU of the peer, made upon a basis of this end, whose number and
+    timestamp it confirms, and which is recent."""
+    if end.reads(part).seen() != made.seen():
+        return 'made'
+    if not 1 <= made.behind <= len(end.machine.made):
+        return 'basis'
     basis = end.machine.made[made.behind - 1]
-    return (basis.sn, basis.ts) == (made.cs, made.cts) and now < basis.time + end.settings.t_max
+    if basis.sn != made.cs:
+        return 'number'
+    if basis.ts != made.cts:
+        return 'stamp'
+    return None if now < basis.time + end.settings.t_max else 'recent'
 
 
 def items_of(messages):
@@ -105,21 +117,21 @@ def nothing_lost(pair):
     il, fe = pair.present('il'), pair.present('fe')
     for end in (il, fe):
         if end and any(p.kind == 'RetrReq' for p in end.machine.made):
-            return 'nothing lost: %s asked for a retransmission' % end.side
+            return 'nothing lost, asks nothing: %s asked for a retransmission' % end.side
     if il is None or fe is None or not (has_all(il, fe) and has_all(fe, il)):
         return None
     for end, peer in ((il, fe), (fe, il)):
         if not end.is_shut() and end.session.waiting and len(end.machine.unconfirmed()) < end.machine.window:
-            return 'nothing lost: a message waits at %s, and its window is not full' % end.side
+            return 'nothing lost, waits: a message waits at %s, and its window is not full' % end.side
         there = peer.session.taken + items_of(end.session.waiting)
         if end.session.put_in != there:
-            return 'nothing lost: put in at %s %s, taken and waiting %s' % (end.side, shown(end.session.put_in), shown(there))
+            return 'nothing lost, all there: put in at %s %s, taken and waiting %s' % (end.side, shown(end.session.put_in), shown(there))
         if match(il, fe) and end.machine.state != 'Up':
-            return 'nothing lost: %s is %s' % (end.side, end.machine.state)
+            return 'nothing lost, up: %s is %s' % (end.side, end.machine.state)
     phases = (il.session.phase, fe.session.phase)
     wanted = 'Established' if fe.session.was_established else 'Initialising'
     if match(il, fe) and not il.session.waiting and not fe.session.waiting and phases != (wanted, wanted):
-        return 'nothing lost: in phases %s and %s' % phases
+        return 'nothing lost, phases: in phases %s and %s' % phases
     return None
 
 

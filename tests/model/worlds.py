@@ -14,6 +14,7 @@ SAFETY = ('headline', 'confirmed is taken', 'settled')
 BROKEN = {  # the change: the promises that lists were found to break
     # joined, live, what an opening keeps
     'joined_overwritten_by_a_later_request': SAFETY,
+    'notes_no_request': SAFETY,
     'pdus_before_the_later_opening_stay_live': ('headline', 'confirmed is taken'),
     'reopened_end_keeps_its_phase': ('confirmed is taken', 'settled'),
     # redundancy layer
@@ -26,6 +27,8 @@ BROKEN = {  # the change: the promises that lists were found to break
     'deadline_in_tick_only': ('freshness',),
     'takes_strangers': ('headline', 'freshness', 'confirmed is taken', 'settled'),
     'compares_without_wrap': ('nothing lost',),
+    'confirms_the_first_timestamp': ('freshness',),
+    'forgets_the_number_of_a_heartbeat': ('freshness', 'nothing lost'),
     'takes_repeat_again': ('headline', 'freshness', 'confirmed is taken', 'settled'),
     'takes_data_out_of_turn': SAFETY,
     'answers_repeated_request': ('headline',),
@@ -41,6 +44,25 @@ BROKEN = {  # the change: the promises that lists were found to break
     'makes_up_command': SAFETY + ('nothing lost',),
     'holds_back_initial_status': SAFETY + ('nothing lost',),
     'answers_first_version': ('nothing lost',),
+}
+CLAUSES = {  # each clause of a promise, and a change at which lists were found that break it before any other
+    'headline, joins': 'pdus_before_the_later_opening_stay_live',
+    'headline, joined to none': 'notes_no_request',
+    'headline, commands': 'takes_repeat_again',
+    'headline, status': 'takes_repeat_again',
+    'headline, nobody joined': 'notes_no_request',
+    'freshness, made': 'takes_strangers',
+    'freshness, basis': 'forgets_the_number_of_a_heartbeat',
+    'freshness, number': 'forgets_the_number_of_a_heartbeat',
+    'freshness, stamp': 'confirms_the_first_timestamp',
+    'freshness, recent': 'arrivals_test_deadline_by_greater',
+    'confirmed is taken': 'confirms_what_was_sent',
+    'settled': 'confirms_what_was_sent',
+    'nothing lost, asks nothing': 'passes_early_parts',
+    'nothing lost, waits': 'own_window_in_place_of_the_peers',
+    'nothing lost, all there': 'confirms_what_was_sent',
+    'nothing lost, up': 'answers_first_version',
+    'nothing lost, phases': 'compares_without_wrap',
 }
 NOT_BROKEN = {  # the change: which other rule covers it
     'session_judged_on_after_it_ended': 'no row of the tables takes anything in Ended',
@@ -59,12 +81,12 @@ def random_list(maker, changes, promises, seed):
     return made.made(STEPS), made.clause
 
 
-def counterexample(change, promise, lists):
-    """The number of the first list at which the promise is false, the list, and the clause; None where there is none."""
+def counterexample(change, promise, lists, of=''):
+    """The number of the first list at which the promise is false by a clause of this name, the list, and the clause; None where there is none."""
     maker, function = PROMISES[promise]
     for seed in range(lists):
         events, clause = random_list(maker, (change,), (function,), seed)
-        if clause:
+        if clause and clause.startswith(of):
             return None if run(events, (), (function,)) else (seed, events, clause)
     return None
 

@@ -39,7 +39,7 @@ class Crate:
         apart = [file for file in listed('crates', '*_tests', 'src', '*_*.rt') if tested_in(file) == name]
         files = listed('crates', name, 'src', '*.rt') + apart
         code = {file: code_of(read(file)) for file in files}
-        is_test = {file for file in files if file.endswith(('tests.rt', 'sim_cases.rt'))} | set(apart)
+        is_test = {file for file in files if file.endswith('tests.rt')} | set(apart)
         self.name = name
         self.items = [item for file in files if file not in is_test for item in items_of(name, file)]
         self.helpers = [item for file in files if file in is_test for item in items_of(name, file)]
@@ -90,7 +90,7 @@ class Crate:
     def edits(self):
         """The public functions that each edit touches: those that reach the function in which its first text stands."""
         touched = {}
-        for path in listed('crates', self.name, 'must-fail', '*.edit'):
+        for path in sorted(listed('crates', self.name, '*', '*.edit'), key=os.path.basename):
             file, old = EDIT.search(read(path)).groups()
             at = read('crates', self.name, file).find(old.strip())
             items = [item for item in self.items if item.file == f'crates/{self.name}/{file}' and at in item.place]

@@ -1,4 +1,5 @@
 """The names of functions, clauses, definitions and cases in README.md and docs/, and which of them are not there."""
+import os
 import re
 from functions import listed, read
 
@@ -18,6 +19,7 @@ class Documents:
         self.cases = {test for crate in crates.values() for test in crate.tests}
         for path in listed('crates', '*', 'proofs', '**', '*.antt'):
             self.cases.update(re.findall(r'^([\w-]+) :', read(path), re.M))
+        self.cases.update(os.path.basename(path)[:-4] for path in listed('tests', 'scripts', '*.sim') + listed('examples', '*.sim'))
         for path in listed('tests', 'model', '*.py'):
             self.cases.update(re.findall(r"'(\w+)'", read(path)))
         self.types = {(crate, name) for crate in crates for path in listed('crates', crate, 'src', '*.rt')

@@ -53,6 +53,7 @@ impl Channels for Wire {
     ghost told = { λ _. record {
       sent = None;
       answers = None;
+      asked = None;
       failed_sends = 0;
       failed_receives = 0;
       room = λ _. 0;

@@ -6,7 +6,7 @@ use Rattle.safe_pdu.specs.declared.Leaving.{Leaving}
 use Rattle.capture.specs.declared.heard.Header.{Header}
 use Rattle.capture.specs.declared.window.Window.{Window}
 use Rattle.capture.specs.declared.window.Judged.{Judged}
-use Rattle.capture.specs.declared.window.Judged.TheVariants.{Late, Repeat, Stale}
+use Rattle.capture.specs.declared.window.Judged.TheVariants.{Differs, Late, Repeat, Stale}
 use Rattle.capture.specs.declared.direction.TheConstants.{CHANNELS}
 use Rattle.capture.specs.declared.direction.Direction.{Direction}
 use Rattle.capture.specs.declared.direction.Opening.{Opening}
@@ -34,34 +34,39 @@ open_direction =
     }
 
 -- the numbers of a channel that is told apart
-abbrev pub channel_judged : List Window → ℕ → ℕ → Option Judged
-channel_judged ws channel seq = if nat_lt channel CHANNELS then Some (judged (slice_index_or ws channel open_window) seq) else None
+abbrev pub channel_judged : List Window → ℕ → ℕ → ℕ → Option Judged
+channel_judged ws channel seq octets =
+    if nat_lt channel CHANNELS then Some (judged (slice_index_or ws channel open_window) seq octets) else None
 
-abbrev pub channel_noted : List Window → ℕ → ℕ → ℕ → List Window
-channel_noted ws channel seq line =
-    if nat_lt channel CHANNELS then slice_set ws channel (noted (slice_index_or ws channel open_window) seq line) else ws
+abbrev pub channel_noted : List Window → Place → ℕ → ℕ → List Window
+channel_noted ws place seq octets =
+    if nat_lt place.channel CHANNELS
+    then slice_set ws place.channel (noted (slice_index_or ws place.channel open_window) seq place.line octets)
+    else ws
 
 -- a PDU is new where its redundancy number was heard on no channel, and could be told if it had been
 abbrev pub is_new : Judged → Bool
 is_new (Repeat _) = false
+is_new (Differs _) = false
 is_new Stale = false
 is_new _ = true
 
 -- and the newest, where it is no late one
 abbrev pub is_furthest : Judged → Bool
 is_furthest (Repeat _) = false
+is_furthest (Differs _) = false
 is_furthest Stale = false
 is_furthest Late = false
 is_furthest _ = true
 
 -- only a new PDU counts among the sequence numbers
-abbrev pub sequence_judged : Bool → Window → ℕ → Option Judged
-sequence_judged true w sn = Some (judged w sn)
-sequence_judged false w sn = None
+abbrev pub sequence_judged : Bool → Window → Header → Option Judged
+sequence_judged true w h = Some (judged w h.sn h.fingerprint)
+sequence_judged false w h = None
 
-abbrev pub sequence_noted : Bool → Window → ℕ → ℕ → Window
-sequence_noted true w sn line = noted w sn line
-sequence_noted false w sn line = w
+abbrev pub sequence_noted : Bool → Window → ℕ → Header → Window
+sequence_noted true w line h = noted w h.sn line h.fingerprint
+sequence_noted false w line h = w
 
 abbrev pub is_resent : Kind → Bool
 is_resent RetrData = true
@@ -94,23 +99,36 @@ confirms_nothing opening _ sn = false
 abbrev pub age_of : Option Opening → Option ℕ → Header → Option ℕ
 age_of opening stamp h = if confirms_nothing opening h.kind h.sn then None else age_at stamp h.cts
 
--- a ConnReq or ConnResp opens, and its numbers and timestamp tell it from others
+-- a ConnReq or ConnResp opens
 abbrev pub opening_as : Kind → Opening → Option Opening
 opening_as ConnReq opening = Some opening
 opening_as ConnResp opening = Some opening
 opening_as _ opening = None
 
-abbrev pub opening_of : ℕ → Header → Option Opening
-opening_of seq h = opening_as h.kind (record { kind = h.kind; seq = seq; sn = h.sn; ts = h.ts })
+abbrev pub opening_of : Header → Option Opening
+opening_of h = opening_as h.kind (record { kind = h.kind; sn = h.sn })
 
-abbrev pub is_same_opening : Option Opening → Opening → Bool
-is_same_opening None opening = false
-is_same_opening (Some last) opening = (last.seq == opening.seq) && ((last.sn == opening.sn) && (last.ts == opening.ts))
+abbrev pub is_repeat : Judged → Bool
+is_repeat (Repeat _) = true
+is_repeat _ = false
 
--- it begins the numbers anew, unless it is a copy of the last one
-abbrev pub is_opened : Option Opening → Option Opening → Bool
-is_opened last None = false
-is_opened last (Some opening) = not (is_same_opening last opening)
+abbrev pub is_other : Option ℕ → ℕ → Bool
+is_other None seq = false
+is_other (Some newest) seq = not (newest == seq)
+
+-- another number than this is the newest of a channel that is told apart
+abbrev pub has_gone_on : List Window → ℕ → ℕ → Bool
+has_gone_on ws channel seq =
+    if nat_lt channel CHANNELS then is_other (slice_index_or ws channel open_window).newest seq else false
+
+-- an opening is a copy of one that is kept, with the same octets, while nothing else of its end came on its channel
+abbrev pub is_copy : Direction → ℕ → ℕ → ℕ → Bool
+is_copy d channel seq octets = is_repeat (judged d.together seq octets) && not (has_gone_on d.channels channel seq)
+
+-- it begins the numbers anew, unless it is such a copy: so behind other PDUs of its end it opens, whatever its numbers
+abbrev pub is_opened : Direction → Option Opening → ℕ → ℕ → ℕ → Bool
+is_opened d None channel seq octets = false
+is_opened d (Some opening) channel seq octets = not (is_copy d channel seq octets)
 
 abbrev pub tally_opened : Tally → Tally
 tally_opened t = record t { openings = counted t.openings 1; last = 0; leaving = None }
@@ -127,8 +145,9 @@ opened_as true d opening =
     }
 opened_as false d opening = d
 
-abbrev pub opened_with : Direction → Option Opening → Direction
-opened_with d opening = opened_as (is_opened d.opening opening) d opening
+abbrev pub opened_with : Direction → Place → ℕ → Header → Direction
+opened_with d place seq h =
+    opened_as (is_opened d (opening_of h) place.channel seq h.fingerprint) d (opening_of h)
 
 abbrev pub kind_counted : Kind → Tally → Tally
 kind_counted Heartbeat t = record t { heartbeats = counted t.heartbeats 1 }
@@ -168,9 +187,9 @@ remarks_in d opens peer place seq h =
     record {
       opens = opens;
       route = place.channel;
-      channel = channel_judged d.channels place.channel seq;
-      together = judged d.together seq;
-      sequence = sequence_judged (is_new (judged d.together seq)) d.sequence h.sn;
+      channel = channel_judged d.channels place.channel seq h.fingerprint;
+      together = judged d.together seq h.fingerprint;
+      sequence = sequence_judged (is_new (judged d.together seq h.fingerprint)) d.sequence h;
       resent = is_resent h.kind;
       age = age_of d.opening peer h;
       leaving = h.leaving;
@@ -178,18 +197,18 @@ remarks_in d opens peer place seq h =
 
 abbrev pub remarks_of : Direction → Option ℕ → Place → ℕ → Header → Remarks
 remarks_of d peer place seq h =
-    remarks_in (opened_with d (opening_of seq h)) (is_opened d.opening (opening_of seq h)) peer place seq h
+    remarks_in (opened_with d place seq h) (is_opened d (opening_of h) place.channel seq h.fingerprint) peer place seq h
 
 -- what is kept after it
 abbrev pub followed_in : Direction → Option ℕ → Place → ℕ → Header → Direction
 followed_in d peer place seq h =
     record d {
-      channels = channel_noted d.channels place.channel seq place.line;
-      together = noted d.together seq place.line;
-      sequence = sequence_noted (is_new (judged d.together seq)) d.sequence h.sn place.line;
-      stamp = if is_furthest (judged d.together seq) then Some h.ts else d.stamp;
-      tally = tally_after (is_new (judged d.together seq)) d.tally place.time (age_of d.opening peer h) h;
+      channels = channel_noted d.channels place seq h.fingerprint;
+      together = noted d.together seq place.line h.fingerprint;
+      sequence = sequence_noted (is_new (judged d.together seq h.fingerprint)) d.sequence place.line h;
+      stamp = if is_furthest (judged d.together seq h.fingerprint) then Some h.ts else d.stamp;
+      tally = tally_after (is_new (judged d.together seq h.fingerprint)) d.tally place.time (age_of d.opening peer h) h;
     }
 
 abbrev pub followed : Direction → Option ℕ → Place → ℕ → Header → Direction
-followed d peer place seq h = followed_in (opened_with d (opening_of seq h)) peer place seq h
+followed d peer place seq h = followed_in (opened_with d place seq h) peer place seq h

@@ -1,5 +1,5 @@
 -- What a datagram says, by the definitions of its decoders.
-use Rattle.std.specs.Prelude.{ℕ, List, Option, Some, None, Result, Ok, Err}
+use Rattle.std.specs.Prelude.{ℕ, ◌+◌, ◌*◌, ◌%◌, ◌^◌, List, fold, Option, Some, None, Result, Ok, Err}
 use Rattle.red_pdu.specs.declared.RedFault.{RedFault}
 use Rattle.red_pdu.specs.RedText.{red_seen}
 use Rattle.safe_pdu.specs.declared.CodeRule.{CodeRule}
@@ -11,6 +11,7 @@ use Rattle.safe_pdu.specs.Pdu.{Pdu}
 use Rattle.safe_pdu.specs.Bodies.{detail_of, reason_of}
 use Rattle.safe_pdu.specs.Places.{safe_seen}
 use Rattle.capture.specs.declared.heard.Header.{Header}
+use Rattle.capture.specs.declared.heard.TheConstants.{FINGERPRINT_BASE}
 use Rattle.capture.specs.declared.heard.Heard.{Heard}
 use Rattle.capture.specs.declared.heard.Heard.TheVariants as heard
 
@@ -19,8 +20,15 @@ abbrev pub leaving_of : Kind → List ℕ → Option Leaving
 leaving_of DiscReq body = Some (record { detail = detail_of body; reason = reason_of body })
 leaving_of _ body = None
 
-abbrev pub header_of : Pdu → Header
-header_of p =
+-- the number that octets spell to a large base, behind a leading 1 and modulo 2^64
+abbrev pub with_octet : ℕ → ℕ → ℕ
+with_octet fingerprint octet = (fingerprint * FINGERPRINT_BASE % 2 ^ 64 + octet) % 2 ^ 64
+
+abbrev pub fingerprint_of : List ℕ → ℕ
+fingerprint_of octets = fold with_octet 1 octets
+
+abbrev pub header_of : Pdu → ℕ → Header
+header_of p fingerprint =
     record {
       kind = p.kind;
       receiver = p.receiver;
@@ -29,16 +37,17 @@ header_of p =
       cs = p.cs;
       ts = p.ts;
       cts = p.cts;
+      fingerprint = fingerprint;
       leaving = leaving_of p.kind p.body;
     }
 
 -- a redundancy PDU with this number around this upper part
-abbrev pub heard_above : ℕ → Result Pdu SafeFault → Heard
-heard_above seq (Ok p) = heard.Pdu seq (header_of p)
-heard_above seq (Err fault) = heard.NoSafe seq fault
+abbrev pub heard_above : ℕ → List ℕ → Result Pdu SafeFault → Heard
+heard_above seq upper (Ok p) = heard.Pdu seq (header_of p (fingerprint_of upper))
+heard_above seq upper (Err fault) = heard.NoSafe seq fault
 
 abbrev pub heard_with : CodeRule → Result (ℕ × List ℕ) RedFault → Heard
-heard_with rule (Ok p) = heard_above p.0 (safe_seen rule p.1)
+heard_with rule (Ok p) = heard_above p.0 p.1 (safe_seen rule p.1)
 heard_with rule (Err fault) = heard.NoRed fault
 
 -- what a datagram says under a rule of the code

@@ -5,3 +5,4 @@ pub mod Numbers
 pub mod Following
 pub mod Connecting
 pub mod Whole
+pub mod Laws

@@ -1,5 +1,5 @@
 -- A whole capture, datagram by datagram.
-use Rattle.std.specs.Prelude.{ℕ, ◌==◌, ◌&&◌, Bool, List, fold, length, is_none, if◌then◌else◌}
+use Rattle.std.specs.Prelude.{ℕ, ◌==◌, ◌&&◌, Bool, List, fold, length, slice_index_or, is_none, if◌then◌else◌}
 use Rattle.capture.specs.declared.heard.Heard.{Heard}
 use Rattle.capture.specs.declared.heard.Heard.TheVariants as heard
 use Rattle.capture.specs.declared.line.Record.{Record}
@@ -9,8 +9,9 @@ use Rattle.capture.specs.declared.heard.Header.{Header}
 use Rattle.capture.specs.declared.following.Remark.{Remark}
 use Rattle.capture.specs.declared.following.Remark.TheVariants as remark
 use Rattle.capture.specs.declared.following.Totals.{Totals}
+use Rattle.capture.specs.declared.window.Window.{Window}
 use Rattle.capture.specs.Numbers.{counted}
-use Rattle.capture.specs.Connecting.{damage_noted, found, step, step_remarks}
+use Rattle.capture.specs.Connecting.{damage_noted, found, opened, step, step_remarks}
 
 -- what is remarkable in a datagram
 abbrev pub remark_of : List Connection → ℕ → Record → Heard → Remark
@@ -42,17 +43,33 @@ forgotten_after forgotten cs (heard.NoSafe seq fault) = forgotten
 forgotten_after forgotten cs (heard.NoRed fault) = forgotten
 
 abbrev pub no_totals : Totals
-no_totals = record { heard = 0; missing = 0; repeats = 0 }
+no_totals = record { heard = 0; missing = 0; late = 0; repeats = 0; differing = 0; stale = 0 }
 
--- the sums with a connection more, both its directions
-abbrev pub counted_in : Totals → Connection → Totals
-counted_in t c =
+-- the sums with the numbers of a direction more
+abbrev pub window_counted : Totals → Window → Totals
+window_counted t w =
     record {
-      heard = counted (counted t.heard c.from_low.together.heard) c.from_high.together.heard;
-      missing = counted (counted t.missing c.from_low.together.missing) c.from_high.together.missing;
-      repeats = counted (counted t.repeats c.from_low.together.repeats) c.from_high.together.repeats;
+      heard = counted t.heard w.heard;
+      missing = counted t.missing w.missing;
+      late = counted t.late w.late;
+      repeats = counted t.repeats w.repeats;
+      differing = counted t.differing w.differing;
+      stale = counted t.stale w.stale;
     }
 
--- the sums over all connections
-abbrev pub totals_of : List Connection → Totals
-totals_of cs = fold counted_in no_totals cs
+-- and with a connection more, both its directions
+abbrev pub counted_in : Totals → Connection → Totals
+counted_in t c = window_counted (window_counted t c.from_low.together) c.from_high.together
+
+-- the sums over the connections that were forgotten, once a PDU came
+abbrev pub gone_with : Totals → List Connection → Header → Totals
+gone_with gone cs h = if forgets cs h then counted_in gone (slice_index_or cs 0 (opened 0 0)) else gone
+
+abbrev pub gone_after : Totals → List Connection → Heard → Totals
+gone_after gone cs (heard.Pdu seq h) = gone_with gone cs h
+gone_after gone cs (heard.NoSafe seq fault) = gone
+gone_after gone cs (heard.NoRed fault) = gone
+
+-- the sums over all connections, those that were forgotten among them
+abbrev pub totals_of : Totals → List Connection → Totals
+totals_of gone cs = fold counted_in gone cs

@@ -1,11 +1,11 @@
 //! What is remarkable in a PDU, by what was heard before it.
 
 ghost use Rattle.std.specs.Prelude.{◌≡◌, ◌<◌, length, map, true};
-ghost use Rattle.capture.specs.Following.{age_at, age_of, age_within, channel_judged, channel_noted, confirms_nothing, followed, followed_in, is_behind_request, is_furthest, is_new, is_opened, is_request, is_resent, is_same_opening, kind_counted, open_direction, opened_as, opened_with, opening_of, remarks_in, remarks_of, sequence_judged, sequence_noted, tallied, tally_opened};
+ghost use Rattle.capture.specs.Following.{age_at, age_of, age_within, channel_judged, channel_noted, confirms_nothing, followed, followed_in, has_gone_on, is_behind_request, is_copy, is_furthest, is_new, is_opened, is_other, is_repeat, is_request, is_resent, kind_counted, open_direction, opened_as, opened_with, opening_of, remarks_in, remarks_of, sequence_judged, sequence_noted, tallied, tally_opened};
 ghost use Rattle.capture.specs.Numbers.{reopened};
 
 use crate::heard::Header;
-use crate::window::{Judged, Window, note, reopen};
+use crate::window::{Judged, Window, judge, note, reopen};
 use safe_pdu::{Kind, Leaving};
 
 /// How many channels of a connection are told apart.
@@ -30,23 +30,19 @@ pub struct Direction {
     pub tally: Tally,
 }
 
-/// What tells a ConnReq or ConnResp from the others of its end.
+/// A ConnReq or ConnResp by which an end opened.
 #[derive(Clone, Copy, Debug, PartialEq, Eq)]
 pub struct Opening {
     /// Which of the two it is.
     pub kind: Kind,
-    /// The redundancy number.
-    pub seq: u32,
     /// The sequence number (SN).
     pub sn: u32,
-    /// The timestamp (TS) in milliseconds.
-    pub ts: u32,
 }
 
 /// What the PDUs of a direction were, each counted once.
 #[derive(Clone, Copy, Debug, PartialEq, Eq)]
 pub struct Tally {
-    /// Openings: a ConnReq or ConnResp that is no copy of the one before it.
+    /// Openings: a ConnReq or ConnResp that is no copy of the last one.
     pub openings: u64,
     /// Heartbeats.
     pub heartbeats: u64,
@@ -136,8 +132,8 @@ pub fn follow_pdu(
     ensures remarks { result ≡ remarks_of direction.old peer place seq header.now }
     ensures followed { direction.new ≡ followed direction.old peer place seq header.now }
 {
-    let opening = opening_in(seq, header);
-    let opens = begins_anew(direction.opening, opening);
+    let opening = opening_in(header);
+    let opens = begins_anew(direction, opening, place.channel, seq, header.fingerprint);
     if opens {
         open(direction, opening);
     }
@@ -156,10 +152,11 @@ fn follow_opened(
     ensures remarks { result ≡ remarks_in direction.old opens peer place seq header.now }
     ensures followed { direction.new ≡ followed_in direction.old peer place seq header.now }
 {
-    let channel = note_channel(&mut direction.channels, place, seq);
-    let together = note(&mut direction.together, seq, place.line);
+    let octets = header.fingerprint;
+    let channel = note_channel(&mut direction.channels, place, seq, octets);
+    let together = note(&mut direction.together, seq, place.line, octets);
     let is_new = is_first_copy(together);
-    let sequence = note_sequence(&mut direction.sequence, is_new, header.sn, place.line);
+    let sequence = note_sequence(&mut direction.sequence, is_new, place.line, header);
     let age = age(direction.opening, peer, header);
     if is_newest(together) {
         direction.stamp = Some(header.ts);
@@ -179,16 +176,14 @@ fn follow_opened(
     }
 }
 
-/// What tells an opening from others; none of a PDU that is none.
-fn opening_in(seq: u32, header: &Header) -> Option<Opening>
-    ensures { result ≡ opening_of seq header.now }
+/// The opening that a PDU is; none of a PDU that opens nothing.
+fn opening_in(header: &Header) -> Option<Opening>
+    ensures { result ≡ opening_of header.now }
 {
     match header.kind {
         Kind::ConnReq | Kind::ConnResp => Some(Opening {
             kind: header.kind,
-            seq,
             sn: header.sn,
-            ts: header.ts,
         }),
         Kind::RetrReq
         | Kind::RetrResp
@@ -199,22 +194,52 @@ fn opening_in(seq: u32, header: &Header) -> Option<Opening>
     }
 }
 
-/// Whether a PDU opens, and is no copy of the opening before it.
-fn begins_anew(last: Option<Opening>, opening: Option<Opening>) -> bool
-    ensures { result ≡ is_opened last opening }
+/// Whether a PDU opens, and is no copy of the last opening.
+fn begins_anew(
+    direction: &Direction,
+    opening: Option<Opening>,
+    channel: usize,
+    seq: u32,
+    octets: u64,
+) -> bool
+    ensures { result ≡ is_opened direction.now opening channel seq octets }
 {
     match opening {
         None => false,
-        Some(opening) => !is_copy(last, opening),
+        Some(_) => !copies(direction, channel, seq, octets),
     }
 }
 
-fn is_copy(last: Option<Opening>, opening: Opening) -> bool
-    ensures { result ≡ is_same_opening last opening }
+/// Whether an opening is a copy of the last one: that is kept, with the same octets, and on this channel nothing else of
+/// its end came since.
+fn copies(direction: &Direction, channel: usize, seq: u32, octets: u64) -> bool
+    ensures { result ≡ is_copy direction.now channel seq octets }
 {
-    match last {
+    repeats(judge(&direction.together, seq, octets)) && !goes_on(&direction.channels, channel, seq)
+}
+
+fn repeats(judged: Judged) -> bool
+    ensures { result ≡ is_repeat judged }
+{
+    matches!(judged, Judged::Repeat(_))
+}
+
+/// Whether another number than this is the newest of a channel that is told apart.
+fn goes_on(channels: &[Window; CHANNELS], channel: usize, seq: u32) -> bool
+    ensures { result ≡ has_gone_on channels.now channel seq }
+{
+    if channel < CHANNELS {
+        return differs(channels[channel].newest, seq);
+    }
+    false
+}
+
+fn differs(newest: Option<u32>, seq: u32) -> bool
+    ensures { result ≡ is_other newest seq }
+{
+    match newest {
         None => false,
-        Some(last) => last.seq == opening.seq && last.sn == opening.sn && last.ts == opening.ts,
+        Some(newest) => newest != seq,
     }
 }
 
@@ -240,12 +265,17 @@ fn reopen_all(channels: &mut [Window; CHANNELS])
     reopen(&mut channels[3]);
 }
 
-fn note_channel(channels: &mut [Window; CHANNELS], place: Place, seq: u32) -> Option<Judged>
-    ensures judged { result ≡ channel_judged channels.old place.channel seq }
-    ensures noted { channels.new ≡ channel_noted channels.old place.channel seq place.line }
+fn note_channel(
+    channels: &mut [Window; CHANNELS],
+    place: Place,
+    seq: u32,
+    octets: u64,
+) -> Option<Judged>
+    ensures judged { result ≡ channel_judged channels.old place.channel seq octets }
+    ensures noted { channels.new ≡ channel_noted channels.old place seq octets }
 {
     if place.channel < CHANNELS {
-        return Some(note(&mut channels[place.channel], seq, place.line));
+        return Some(note(&mut channels[place.channel], seq, place.line, octets));
     }
     None
 }
@@ -255,7 +285,7 @@ fn is_first_copy(together: Judged) -> bool
     ensures { result ≡ is_new together }
 {
     match together {
-        Judged::Repeat(_) | Judged::Stale => false,
+        Judged::Repeat(_) | Judged::Differs(_) | Judged::Stale => false,
         Judged::First | Judged::Next | Judged::Ahead(_) | Judged::Late | Judged::Anew => true,
     }
 }
@@ -265,17 +295,17 @@ fn is_newest(together: Judged) -> bool
     ensures { result ≡ is_furthest together }
 {
     match together {
-        Judged::Repeat(_) | Judged::Late | Judged::Stale => false,
+        Judged::Repeat(_) | Judged::Differs(_) | Judged::Late | Judged::Stale => false,
         Judged::First | Judged::Next | Judged::Ahead(_) | Judged::Anew => true,
     }
 }
 
-fn note_sequence(window: &mut Window, is_new: bool, sn: u32, line: u64) -> Option<Judged>
-    ensures judged { result ≡ sequence_judged is_new window.old sn }
-    ensures noted { window.new ≡ sequence_noted is_new window.old sn line }
+fn note_sequence(window: &mut Window, is_new: bool, line: u64, header: &Header) -> Option<Judged>
+    ensures judged { result ≡ sequence_judged is_new window.old header.now }
+    ensures noted { window.new ≡ sequence_noted is_new window.old line header.now }
 {
     if is_new {
-        return Some(note(window, sn, line));
+        return Some(note(window, header.sn, line, header.fingerprint));
     }
     None
 }

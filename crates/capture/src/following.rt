@@ -1,12 +1,14 @@
 //! A whole capture: connections, datagrams that say nothing, and the sums over all.
 
 ghost use Rattle.std.specs.Prelude.{◌≡◌, [], fold};
-ghost use Rattle.capture.specs.Whole.{connections_after, counted_in, damaged_after, forgotten_after, forgotten_with, no_totals, remark_of, totals_of};
+ghost use Rattle.capture.specs.Whole.{connections_after, counted_in, damaged_after, forgotten_after, forgotten_with, gone_after, gone_with, no_totals, remark_of, totals_of, window_counted};
+ghost use Rattle.capture.specs.Numbers.{counted};
 
 use crate::connections::{Connection, Connections, follow, has_no_room, note_damage};
 use crate::direction::Remarks;
 use crate::heard::{Header, Heard};
 use crate::line::Record;
+use crate::window::Window;
 use arrayvec::ArrayVec;
 use red_pdu::RedFault;
 use safe_pdu::SafeFault;
@@ -16,8 +18,12 @@ use safe_pdu::SafeFault;
 pub struct Following {
     /// The connections; the one that was heard last stands last.
     pub connections: Connections,
-    /// How many datagrams were no PDU.
+    /// How many datagrams came.
+    pub datagrams: u64,
+    /// How many of them were no PDU.
     pub damaged: u64,
+    /// The sums over the connections that were forgotten.
+    pub gone: Totals,
     /// How many connections were forgotten for want of room.
     pub forgotten: u64,
 }
@@ -33,27 +39,37 @@ pub enum Remark {
     Pdu(u32, Header, Remarks),
 }
 
-/// Sums over directions, each PDU counted once.
+/// Sums over directions: of each datagram with a PDU one of them but `missing` counts, by its redundancy number.
 #[derive(Clone, Copy, Debug, PartialEq, Eq)]
 pub struct Totals {
-    /// PDUs with different redundancy numbers.
+    /// Numbers that were heard in their turn.
     pub heard: u64,
-    /// Redundancy numbers that were heard on no channel.
+    /// Numbers that were passed over, and heard on no channel.
     pub missing: u64,
-    /// Datagrams with a redundancy number that was heard before, on whatever channel.
+    /// Numbers that were passed over, and heard later.
+    pub late: u64,
+    /// Datagrams with a number that was heard before, on whatever channel, and the same octets.
     pub repeats: u64,
+    /// Datagrams with a number that was heard before, and other octets.
+    pub differing: u64,
+    /// Datagrams that came so late that nothing can be said of them.
+    pub stale: u64,
 }
 
 impl Following {
     /// Nothing was heard yet.
     pub fn new() -> Self
         ensures connections { result.connections.items ≡ [] }
+        ensures datagrams { result.datagrams ≡ 0 }
         ensures damaged { result.damaged ≡ 0 }
+        ensures gone { result.gone ≡ no_totals }
         ensures forgotten { result.forgotten ≡ 0 }
     {
         Following {
             connections: ArrayVec::new(),
+            datagrams: 0,
             damaged: 0,
+            gone: none(),
             forgotten: 0,
         }
     }
@@ -63,13 +79,17 @@ impl Following {
         ensures remark { result ≡ remark_of self.old.connections.items line record.now heard.now }
         ensures connections { self.new.connections.items
             ≡ connections_after self.old.connections.items line record.now heard.now }
+        ensures datagrams { self.new.datagrams ≡ counted self.old.datagrams 1 }
         ensures damaged { self.new.damaged ≡ damaged_after self.old.damaged heard.now }
+        ensures gone { self.new.gone ≡ gone_after self.old.gone self.old.connections.items heard.now }
         ensures forgotten { self.new.forgotten
             ≡ forgotten_after self.old.forgotten self.old.connections.items heard.now }
     {
+        self.datagrams = self.datagrams.saturating_add(1);
         match *heard {
             Heard::Pdu(seq, header) => {
                 self.forgotten = count_forgotten(self.forgotten, &self.connections, &header);
+                self.gone = sum_forgotten(self.gone, &self.connections, &header);
                 let remarks = follow(&mut self.connections, line, record, seq, &header);
                 Remark::Pdu(seq, header, remarks)
             }
@@ -97,13 +117,23 @@ fn count_forgotten(forgotten: u64, connections: &Connections, header: &Header) -
     forgotten
 }
 
-/// The sums over all connections.
-pub fn sum_up(connections: &[Connection]) -> Totals
-    ensures { result ≡ totals_of connections.now }
+/// The sums over the connections that are forgotten, once a PDU is taken into account.
+fn sum_forgotten(gone: Totals, connections: &Connections, header: &Header) -> Totals
+    ensures { result ≡ gone_with gone connections.now.items header.now }
+{
+    if has_no_room(connections, header) {
+        return with(gone, &connections.as_slice()[0]);
+    }
+    gone
+}
+
+/// The sums over all connections, those that were forgotten among them.
+pub fn sum_up(gone: Totals, connections: &[Connection]) -> Totals
+    ensures { result ≡ totals_of gone connections.now }
 {
     connections
         .iter()
-        .fold(none(), |totals, connection| with(totals, connection))
+        .fold(gone, |totals, connection| with(totals, connection))
 }
 
 fn none() -> Totals
@@ -112,7 +142,10 @@ fn none() -> Totals
     Totals {
         heard: 0,
         missing: 0,
+        late: 0,
         repeats: 0,
+        differing: 0,
+        stale: 0,
     }
 }
 
@@ -120,20 +153,19 @@ fn none() -> Totals
 fn with(totals: Totals, connection: &Connection) -> Totals
     ensures { result ≡ counted_in totals connection.now }
 {
-    let low = &connection.from_low.together;
-    let high = &connection.from_high.together;
+    let low = count_window(totals, &connection.from_low.together);
+    count_window(low, &connection.from_high.together)
+}
+
+fn count_window(totals: Totals, window: &Window) -> Totals
+    ensures { result ≡ window_counted totals window.now }
+{
     Totals {
-        heard: totals
-            .heard
-            .saturating_add(low.heard)
-            .saturating_add(high.heard),
-        missing: totals
-            .missing
-            .saturating_add(low.missing)
-            .saturating_add(high.missing),
-        repeats: totals
-            .repeats
-            .saturating_add(low.repeats)
-            .saturating_add(high.repeats),
+        heard: totals.heard.saturating_add(window.heard),
+        missing: totals.missing.saturating_add(window.missing),
+        late: totals.late.saturating_add(window.late),
+        repeats: totals.repeats.saturating_add(window.repeats),
+        differing: totals.differing.saturating_add(window.differing),
+        stale: totals.stale.saturating_add(window.stale),
     }
 }

@@ -4,10 +4,13 @@ ghost use Rattle.std.specs.Prelude.{◌≡◌};
 ghost use Rattle.safe_pdu.specs.Bodies.{IsBody};
 ghost use Rattle.safe_pdu.specs.Pdu.{pdu_of};
 ghost use Rattle.safe_pdu.specs.Places.{safe_seen};
-ghost use Rattle.capture.specs.Hearing.{header_of, heard_of, heard_above, leaving_of};
+ghost use Rattle.capture.specs.Hearing.{fingerprint_of, header_of, heard_of, heard_above, leaving_of, with_octet};
 
 use red_pdu::RedFault;
 use safe_pdu::{CodeRule, Kind, Leaving, SafeFault, SafePdu, read_leaving};
+
+/// The base of fingerprints: an odd number with its bits spread, so that each octet reaches the high ones.
+const FINGERPRINT_BASE: u64 = 11_400_714_819_323_198_485;
 
 /// What the decoders answer to a datagram.
 #[derive(Clone, Copy, Debug, PartialEq, Eq)]
@@ -37,6 +40,8 @@ pub struct Header {
     pub ts: u32,
     /// The confirmed timestamp (CTS) in milliseconds.
     pub cts: u32,
+    /// A fingerprint of the PDU's octets, which tells it from others with its numbers.
+    pub fingerprint: u64,
     /// Reason and detail, of a DiscReq.
     pub leaving: Option<Leaving>,
 }
@@ -52,17 +57,17 @@ pub fn hear(octets: &[u8], rule: &CodeRule) -> Heard
 }
 
 fn hear_upper(seq: u32, upper: &[u8], rule: &CodeRule) -> Heard
-    ensures { result ≡ heard_above seq (safe_seen rule.now upper.now) }
+    ensures { result ≡ heard_above seq upper.now (safe_seen rule.now upper.now) }
 {
     match safe_pdu::decode(upper, rule) {
-        Ok(pdu) => Heard::Pdu(seq, read_header(&pdu)),
+        Ok(pdu) => Heard::Pdu(seq, read_header(&pdu, upper)),
         Err(fault) => Heard::NoSafe(seq, fault),
     }
 }
 
-fn read_header(pdu: &SafePdu<'_>) -> Header
+fn read_header(pdu: &SafePdu<'_>, octets: &[u8]) -> Header
     requires { IsBody pdu.now.kind pdu.now.body.now }
-    ensures { result ≡ header_of (pdu_of pdu.now) }
+    ensures { result ≡ header_of (pdu_of pdu.now) (fingerprint_of octets.now) }
 {
     Header {
         kind: pdu.kind,
@@ -72,8 +77,26 @@ fn read_header(pdu: &SafePdu<'_>) -> Header
         cs: pdu.cs,
         ts: pdu.ts,
         cts: pdu.cts,
+        fingerprint: spell(octets),
         leaving: leaving(pdu.kind, pdu.body),
     }
+}
+
+/// The number that octets spell to a large base, behind a leading 1 and modulo 2^64.
+fn spell(octets: &[u8]) -> u64
+    ensures { result ≡ fingerprint_of octets.now }
+{
+    octets
+        .iter()
+        .fold(1, |fingerprint, octet| joined(fingerprint, *octet))
+}
+
+fn joined(fingerprint: u64, octet: u8) -> u64
+    ensures { result ≡ with_octet fingerprint octet }
+{
+    fingerprint
+        .wrapping_mul(FINGERPRINT_BASE)
+        .wrapping_add(octet as u64)
 }
 
 fn leaving(kind: Kind, body: &[u8]) -> Option<Leaving>

@@ -6,12 +6,13 @@ use Rattle.capture.specs.declared.following.Remark.TheVariants.{Pdu, NoRed, NoSa
 use Rattle.capture.specs.declared.window.Judged.{Judged}
 use Rattle.capture.specs.declared.window.Judged.TheVariants as judged
 use Rattle.capture_text.specs.declared.choice.Word.{Word}
-use Rattle.capture_text.specs.declared.choice.Word.TheVariants.{Opens, Repeat, Ahead, Late, Stale, Anew, Resent, Age, Leaving, Fault}
+use Rattle.capture_text.specs.declared.choice.Word.TheVariants.{Opens, Repeat, Differs, Ahead, Late, Stale, Anew, Resent, Age, Leaving, Fault}
 
 -- how a word is written
 abbrev pub word_text : Word → List ℕ
 word_text Opens = codes "opens"
 word_text Repeat = codes "repeat"
+word_text Differs = codes "differs"
 word_text Ahead = codes "ahead"
 word_text Late = codes "late"
 word_text Stale = codes "stale"
@@ -23,6 +24,7 @@ word_text Fault = codes "fault"
 
 abbrev pub is_named : Word → Judged → Bool
 is_named Repeat (judged.Repeat _) = true
+is_named Differs (judged.Differs _) = true
 is_named Ahead (judged.Ahead _) = true
 is_named Late judged.Late = true
 is_named Stale judged.Stale = true

@@ -7,3 +7,4 @@ pub mod SummaryText
 pub mod FaultText
 pub mod Telegrams
 pub mod Steps
+pub mod FrameSteps

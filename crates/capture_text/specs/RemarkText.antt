@@ -6,7 +6,7 @@ use Rattle.capture.specs.declared.direction.Remarks.{Remarks}
 use Rattle.capture.specs.declared.window.Judged.{Judged}
 use Rattle.pdu_text.specs.Lines.{joined}
 use Rattle.capture_text.specs.Reasons.{leaving_words}
-use Rattle.capture.specs.declared.window.Judged.TheVariants.{First, Next, Ahead, Late, Repeat, Stale, Anew}
+use Rattle.capture.specs.declared.window.Judged.TheVariants.{First, Next, Ahead, Late, Repeat, Differs, Stale, Anew}
 
 -- how a number followed; nothing, where it was the first or the next
 abbrev pub judged_text : List ℕ → Judged → List ℕ
@@ -15,6 +15,7 @@ judged_text name Next = []
 judged_text name (Ahead passed) = joined (codes " " ∷ name ∷ codes " ahead " ∷ decimal passed ∷ [])
 judged_text name Late = joined (codes " " ∷ name ∷ codes " late" ∷ [])
 judged_text name (Repeat line) = joined (codes " " ∷ name ∷ codes " repeat of line " ∷ decimal line ∷ [])
+judged_text name (Differs line) = joined (codes " " ∷ name ∷ codes " differs from line " ∷ decimal line ∷ [])
 judged_text name Stale = joined (codes " " ∷ name ∷ codes " stale" ∷ [])
 judged_text name Anew = joined (codes " " ∷ name ∷ codes " anew" ∷ [])
 

@@ -3,13 +3,14 @@ use Rattle.std.specs.Prelude.{ℕ, List, [], ◌++◌, length, if◌then◌else�
 use Rattle.safe_pdu.specs.declared.CodeRule.{CodeRule}
 use Rattle.capture.specs.declared.connections.Connection.{Connection}
 use Rattle.capture.specs.declared.following.Remark.{Remark}
+use Rattle.capture.specs.declared.following.Totals.{Totals}
 use Rattle.capture.specs.declared.heard.Heard.{Heard}
 use Rattle.capture.specs.declared.line.LineFault.{LineFault}
 use Rattle.capture.specs.declared.line.Record.{Record}
 use Rattle.capture.specs.Hearing.{heard_of}
 use Rattle.capture.specs.Lines.{Line}
 use Rattle.capture.specs.Numbers.{counted}
-use Rattle.capture.specs.Whole.{connections_after, damaged_after, forgotten_after, remark_of, totals_of}
+use Rattle.capture.specs.Whole.{connections_after, damaged_after, forgotten_after, gone_after, remark_of, totals_of}
 use Rattle.std.specs.Io.BufRead.{ends_with_byte, strip_last}
 use Rattle.capture_text.specs.Choice.{is_asked}
 use Rattle.capture_text.specs.FaultText.{fault_text}
@@ -46,6 +47,14 @@ found_in cs number (Err fault) = Err fault
 abbrev pub connections_behind : List Connection → ℕ → Result (Record × Heard) LineFault → List Connection
 connections_behind cs number (Ok h) = connections_after cs number h.0 h.1
 connections_behind cs number (Err fault) = cs
+
+abbrev pub datagrams_behind : ℕ → Result (Record × Heard) LineFault → ℕ
+datagrams_behind datagrams (Ok h) = counted datagrams 1
+datagrams_behind datagrams (Err fault) = datagrams
+
+abbrev pub gone_behind : Totals → List Connection → Result (Record × Heard) LineFault → Totals
+gone_behind gone cs (Ok h) = gone_after gone cs h.1
+gone_behind gone cs (Err fault) = gone
 
 abbrev pub damaged_behind : ℕ → Result (Record × Heard) LineFault → ℕ
 damaged_behind damaged (Ok h) = damaged_after damaged h.1
@@ -85,13 +94,14 @@ abbrev pub fault_in : Result (Record × Remark) LineFault → Option LineFault
 fault_in (Ok f) = None
 fault_in (Err fault) = Some fault
 
-abbrev pub counts_of : ℕ → ℕ → ℕ → Counts
-counts_of damaged forgotten unreadable = record { damaged = damaged; forgotten = forgotten; unreadable = unreadable }
+abbrev pub counts_of : ℕ → ℕ → ℕ → ℕ → Counts
+counts_of datagrams damaged forgotten unreadable =
+    record { datagrams = datagrams; damaged = damaged; forgotten = forgotten; unreadable = unreadable }
 
 -- the sums over all lines so far
-abbrev pub course_text : ℕ → Option ℕ → List Connection → Counts → List ℕ
-course_text t_max first cs counts =
-    summary_text (record { first = first_of first 0; t_max = t_max }) cs (totals_of cs) counts
+abbrev pub course_text : ℕ → Option ℕ → Totals → List Connection → Counts → List ℕ
+course_text t_max first gone cs counts =
+    summary_text (record { first = first_of first 0; t_max = t_max }) cs (totals_of gone cs) counts
 
 -- the line of a fault, where there is one
 abbrev pub fault_lines : ℕ → Option LineFault → List ℕ

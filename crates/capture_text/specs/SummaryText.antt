@@ -22,11 +22,14 @@ abbrev pub opening_text : Option Opening → ℕ → List ℕ
 opening_text None times = codes " opening not seen"
 opening_text (Some opening) times = joined (codes " opened by " ∷ kind_name opening.kind ∷ codes " times " ∷ decimal times ∷ [])
 
-unfoldable pub numbers_text : Window → List ℕ
-numbers_text w =
+unfoldable pub others_text : Window → List ℕ
+others_text w =
     joined
-    (codes " PDUs " ∷ decimal w.heard ∷ codes " missing " ∷ decimal w.missing ∷ codes " repeats " ∷ decimal w.repeats
-    ∷ codes " stale " ∷ decimal w.stale ∷ [])
+    (codes " repeats " ∷ decimal w.repeats ∷ codes " late " ∷ decimal w.late ∷ codes " differs " ∷ decimal w.differing ∷ codes " stale "
+    ∷ decimal w.stale ∷ [])
+
+unfoldable pub numbers_text : Window → List ℕ
+numbers_text w = joined (codes " PDUs " ∷ decimal w.heard ∷ codes " missing " ∷ decimal w.missing ∷ []) ++ others_text w
 
 unfoldable pub kinds_text : Tally → List ℕ
 kinds_text t =
@@ -62,14 +65,16 @@ direction_text s from to d =
     codes "sum " ++ ends_text from to ++ opening_text d.opening d.tally.openings ++ numbers_text d.together
     ++ tally_text s d.tally ++ codes "\n"
 
-abbrev pub datagrams_of : Window → ℕ
-datagrams_of w = counted (counted w.heard w.repeats) w.stale
+-- each datagram of a channel is one of these
+abbrev pub datagrams_of : Window → ℕ → ℕ
+datagrams_of w damaged =
+    counted (counted (counted (counted (counted w.heard w.repeats) w.late) w.differing) w.stale) damaged
 
 unfoldable pub route_text : Route → List ℕ
 route_text route = joined (codes " " ∷ address_text route.low ∷ codes "-" ∷ address_text route.high ∷ [])
 
-unfoldable pub datagrams_text : Window → List ℕ
-datagrams_text w = joined (codes " datagrams " ∷ decimal (datagrams_of w) ∷ [])
+unfoldable pub datagrams_text : Window → ℕ → List ℕ
+datagrams_text w damaged = joined (codes " datagrams " ∷ decimal (datagrams_of w damaged) ∷ [])
 
 -- what it sent on a channel
 unfoldable pub sum_text : ℕ → ℕ → ℕ → List ℕ
@@ -80,7 +85,7 @@ damaged_text damaged = joined (codes " damaged " ∷ decimal damaged ∷ codes "
 
 unfoldable pub known_channel_text : ℕ → ℕ → ℕ → Route → Window → ℕ → List ℕ
 known_channel_text from to place route w damaged =
-    sum_text from to place ++ route_text route ++ datagrams_text w ++ numbers_text w ++ damaged_text damaged
+    sum_text from to place ++ route_text route ++ datagrams_text w damaged ++ numbers_text w ++ damaged_text damaged
 
 abbrev pub maybe_channel_text : ℕ → ℕ → ℕ → Option Route → Window → ℕ → List ℕ
 maybe_channel_text from to place None w damaged = []
@@ -106,16 +111,24 @@ abbrev pub connections_text : Scale → List Connection → List ℕ
 connections_text s [] = []
 connections_text s (c ∷ cs) = connection_text s c ++ connections_text s cs
 
+unfoldable pub came_text : ℕ → List ℕ
+came_text datagrams = joined (codes "sum all datagrams " ∷ decimal datagrams ∷ [])
+
+unfoldable pub other_totals_text : Totals → List ℕ
+other_totals_text t =
+    joined
+    (codes " repeats " ∷ decimal t.repeats ∷ codes " late " ∷ decimal t.late ∷ codes " differs " ∷ decimal t.differing ∷ codes " stale "
+    ∷ decimal t.stale ∷ [])
+
 unfoldable pub totals_text : Totals → List ℕ
-totals_text t =
-    joined (codes " PDUs " ∷ decimal t.heard ∷ codes " missing " ∷ decimal t.missing ∷ codes " repeats " ∷ decimal t.repeats ∷ [])
+totals_text t = joined (codes " PDUs " ∷ decimal t.heard ∷ codes " missing " ∷ decimal t.missing ∷ []) ++ other_totals_text t
 
 unfoldable pub counts_text : Counts → List ℕ
 counts_text c =
     joined (codes " damaged " ∷ decimal c.damaged ∷ codes " forgotten " ∷ decimal c.forgotten ∷ codes " unreadable " ∷ decimal c.unreadable ∷ [])
 
 unfoldable pub all_text : Totals → Counts → List ℕ
-all_text t c = codes "sum all" ++ totals_text t ++ counts_text c ++ codes "\n"
+all_text t c = came_text c.datagrams ++ totals_text t ++ counts_text c ++ codes "\n"
 
 abbrev pub summary_text : Scale → List Connection → Totals → Counts → List ℕ
 summary_text s cs t c = connections_text s cs ++ all_text t c

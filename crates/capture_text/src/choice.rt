@@ -10,8 +10,10 @@ use capture::{Judged, Remark, Remarks};
 pub enum Word {
     /// `opens`: an opening that is no copy.
     Opens,
-    /// `repeat`: a number was heard before.
+    /// `repeat`: a number was heard before, with the same octets.
     Repeat,
+    /// `differs`: a number was heard before, with other octets.
+    Differs,
     /// `ahead`: numbers are missing before it.
     Ahead,
     /// `late`: a number that was missing.
@@ -39,6 +41,7 @@ impl Word {
         match text {
             "opens" => Some(Word::Opens),
             "repeat" => Some(Word::Repeat),
+            "differs" => Some(Word::Differs),
             "ahead" => Some(Word::Ahead),
             "late" => Some(Word::Late),
             "stale" => Some(Word::Stale),
@@ -79,8 +82,13 @@ fn is_remarked(word: Word, t_max: u32, remarks: &Remarks) -> bool
         Word::Resent => remarks.resent,
         Word::Age => is_over(t_max, remarks.age),
         Word::Leaving => remarks.leaving.is_some(),
-        Word::Repeat | Word::Ahead | Word::Late | Word::Stale | Word::Anew | Word::Fault =>
-            is_number(word, remarks),
+        Word::Repeat
+        | Word::Differs
+        | Word::Ahead
+        | Word::Late
+        | Word::Stale
+        | Word::Anew
+        | Word::Fault => is_number(word, remarks),
     }
 }
 
@@ -117,6 +125,7 @@ fn is_so(word: Word, judged: Judged) -> bool
 {
     match judged {
         Judged::Repeat(_) => matches!(word, Word::Repeat),
+        Judged::Differs(_) => matches!(word, Word::Differs),
         Judged::Ahead(_) => matches!(word, Word::Ahead),
         Judged::Late => matches!(word, Word::Late),
         Judged::Stale => matches!(word, Word::Stale),

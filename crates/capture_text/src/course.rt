@@ -5,9 +5,9 @@ ghost use Rattle.std.specs.Io.KnownBytes.{Appends};
 ghost use Rattle.capture.specs.Hearing.{heard_of};
 ghost use Rattle.capture.specs.Lines.{line_of};
 ghost use Rattle.capture.specs.Numbers.{counted};
-ghost use Rattle.capture.specs.Whole.{connections_after, damaged_after, forgotten_after, remark_of};
+ghost use Rattle.capture.specs.Whole.{connections_after, damaged_after, forgotten_after, gone_after, no_totals, remark_of};
 ghost use Rattle.capture_text.specs.FaultText.{fault_text, fault_word};
-ghost use Rattle.capture_text.specs.Steps.{asked_telegrams, connections_behind, counts_of, course_text, damaged_behind, fault_in, first_behind, first_of, forgotten_behind, found_in, found_text, heard_line, payload_in, size_in, told_text, unreadable_behind};
+ghost use Rattle.capture_text.specs.Steps.{asked_telegrams, connections_behind, counts_of, course_text, damaged_behind, datagrams_behind, fault_in, first_behind, first_of, forgotten_behind, found_in, found_text, gone_behind, heard_line, payload_in, size_in, told_text, unreadable_behind};
 
 use crate::choice::{Word, is_wanted};
 use crate::record::write_record;
@@ -48,7 +48,9 @@ impl Course {
     /// Nothing was read yet.
     pub fn new() -> Self
         ensures connections { result.following.connections.items ≡ [] }
+        ensures datagrams { result.following.datagrams ≡ 0 }
         ensures damaged { result.following.damaged ≡ 0 }
+        ensures gone { result.following.gone ≡ no_totals }
         ensures forgotten { result.following.forgotten ≡ 0 }
         ensures first { result.first ≡ None }
         ensures lines { result.lines ≡ 0 }
@@ -84,6 +86,11 @@ impl Course {
             (heard_line asked.now.rule (line_of line.now))) }
         ensures connections { self.new.following.connections.items
             ≡ connections_behind self.old.following.connections.items (counted self.old.lines 1)
+            (heard_line asked.now.rule (line_of line.now)) }
+        ensures datagrams { self.new.following.datagrams
+            ≡ datagrams_behind self.old.following.datagrams (heard_line asked.now.rule (line_of line.now)) }
+        ensures gone { self.new.following.gone
+            ≡ gone_behind self.old.following.gone self.old.following.connections.items
             (heard_line asked.now.rule (line_of line.now)) }
         ensures damaged { self.new.following.damaged
             ≡ damaged_behind self.old.following.damaged (heard_line asked.now.rule (line_of line.now)) }
@@ -154,24 +161,32 @@ impl Course {
     /// An error is the writer's; what came before it stays written.
     pub fn sum<W: Write>(&self, t_max: u32, writer: &mut W) -> io::Result<()>
         ensures { OnOk result (Appends (W.contents writer.old) (W.contents writer.new)
-            (course_text t_max self.now.first self.now.following.connections.items
-            (counts_of self.now.following.damaged self.now.following.forgotten self.now.unreadable))) }
+            (course_text t_max self.now.first self.now.following.gone self.now.following.connections.items
+            (counts_of self.now.following.datagrams self.now.following.damaged self.now.following.forgotten
+            self.now.unreadable))) }
     {
         let scale = Scale {
             first: start(self.first, 0),
             t_max,
         };
         let counts = Counts {
+            datagrams: self.following.datagrams,
             damaged: self.following.damaged,
             forgotten: self.following.forgotten,
             unreadable: self.unreadable,
         };
-        write_summary(writer, scale, self.following.connections.as_slice(), counts)
+        write_summary(
+            writer,
+            scale,
+            self.following.gone,
+            self.following.connections.as_slice(),
+            counts,
+        )
     }
 }
 
 /// The time of the first datagram.
-fn start(first: Option<u64>, time: u64) -> u64
+pub(crate) fn start(first: Option<u64>, time: u64) -> u64
     ensures { result ≡ first_of first time }
 {
     match first {
@@ -215,7 +230,10 @@ fn follow(
     ensures found { result ≡ found_in following.old.connections.items number heard }
     ensures connections { following.new.connections.items
         ≡ connections_behind following.old.connections.items number heard }
+    ensures datagrams { following.new.datagrams ≡ datagrams_behind following.old.datagrams heard }
     ensures damaged { following.new.damaged ≡ damaged_behind following.old.damaged heard }
+    ensures gone { following.new.gone
+        ≡ gone_behind following.old.gone following.old.connections.items heard }
     ensures forgotten { following.new.forgotten
         ≡ forgotten_behind following.old.forgotten following.old.connections.items heard }
 {
@@ -228,7 +246,7 @@ fn follow(
     }
 }
 
-fn write_wanted<W: Write>(
+pub(crate) fn write_wanted<W: Write>(
     writer: &mut W,
     asked: &Asked,
     first: u64,

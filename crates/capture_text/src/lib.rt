@@ -3,6 +3,7 @@
 
 mod choice;
 mod course;
+mod frames;
 mod pieces;
 mod reasons;
 mod record;
@@ -13,6 +14,7 @@ mod telegrams;
 
 pub use choice::{Word, is_wanted};
 pub use course::{Asked, Course, write_fault};
+pub use frames::{FrameFault, write_frame_fault};
 pub use record::write_record;
 pub use remarks::write_remarks;
 pub use running::{FollowStatus, run};

@@ -117,6 +117,7 @@ fn write_fields<W: Write>(writer: &mut W, seq: u32, header: &Header) -> io::Resu
         cs,
         ts,
         cts,
+        fingerprint: _,
         leaving: _,
     } = *header;
     write!(

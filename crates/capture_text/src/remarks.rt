@@ -47,6 +47,7 @@ fn write_judged<W: Write>(writer: &mut W, name: &str, judged: Judged) -> io::Res
         Judged::Ahead(passed) => write!(writer, " {name} ahead {passed}"),
         Judged::Late => write!(writer, " {name} late"),
         Judged::Repeat(line) => write!(writer, " {name} repeat of line {line}"),
+        Judged::Differs(line) => write!(writer, " {name} differs from line {line}"),
         Judged::Stale => write!(writer, " {name} stale"),
         Judged::Anew => write!(writer, " {name} anew"),
     }

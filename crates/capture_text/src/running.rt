@@ -1,16 +1,18 @@
 //! Following a capture from a reader to its end.
 
-ghost use Rattle.std.specs.Prelude.{◌≡◌, ◌++◌, ◌+◌, OnOk, IfOk, IfSome, take, vec_len};
+ghost use Rattle.std.specs.Prelude.{◌≡◌, ◌≤◌, ◌<◌, ◌^◌, length, ◌++◌, ◌+◌, OnOk, IfOk, IfSome, take, vec_len};
 ghost use Rattle.std.specs.Io.{StopsAt, appended_bytes};
 ghost use Rattle.std.specs.Io.BufRead.{ends_with_byte, strip_last, take_through};
 ghost use Rattle.std.specs.Io.KnownBytes.{Appends};
 ghost use Rattle.capture.specs.Lines.{line_of};
 ghost use Rattle.capture.specs.Numbers.{counted};
-ghost use Rattle.capture_text.specs.FaultText.{fault_text};
+ghost use Rattle.capture_text.specs.FaultText.{fault_text, frame_text};
 ghost use Rattle.capture_text.specs.Steps.{connections_behind, fault_in, fault_lines, found_in, found_text, heard_line, payload_in, unreadable_behind, without_end};
 
 use crate::course::{Asked, Course, write_fault};
+use crate::frames::{FrameFault, write_frame_fault};
 use capture::{Buffer, LineFault, PAYLOAD_ROOM};
+use recording::{Event, FileFault, Framed, Part, Recording};
 use std::alloc::Allocator;
 use std::io;
 use std::io::{BufRead, BufReader, BufWriter, ErrorKind, Read, Write};
@@ -39,8 +41,9 @@ enum Stop {
     Output,
 }
 
-/// Follows the capture that a reader holds. The lines of its datagrams and the sums go to `out`, the lines that are no
-/// datagrams to `err`.
+/// Follows the capture that a reader holds: a recording (pcap or pcapng) where its first octets are those of one, and else
+/// lines of text. The lines of its datagrams and the sums go to `out`, what is no datagram to `err`. What was read is
+/// written before more is waited for.
 pub fn run<R: Read + Drop, O: Write, E: Write, A: Allocator + Copy>(
     alloc: A,
     reader: R,
@@ -71,30 +74,98 @@ fn ran<R: Read + Drop, O: Write, E: Write, A: Allocator + Copy>(
     out: &mut O,
     err: &mut E,
 ) -> Result<u64, Stop> {
-    let mut reader = BufReader::new(alloc, reader).map_err(|_| Stop::Memory)?;
+    let mut reader = reader;
+    let mut front = [0u8; 4];
+    let size = read_whole(&mut reader, &mut front)?;
     let mut writer = BufWriter::new(alloc, out).map_err(|_| Stop::Memory)?;
-    let mut line = Vec::new(alloc);
-    let mut buffer: Buffer = [0; PAYLOAD_ROOM];
     let mut course = Course::new();
-    for _ in 0..u64::MAX {
-        line.clear();
-        match read_one(&mut reader, &mut line)? {
-            Reading::End => break,
-            Reading::TooLong => take_long(&mut course, err)?,
-            Reading::Line => {
-                let text = without_feed(line.as_slice());
-                take_text(&mut course, asked, text, &mut buffer, &mut writer, err)?;
-            }
+    let mut recording = Recording::new();
+    match recording.take(&front[..size]) {
+        Ok(Event::Nothing) => {
+            let mut rest = BufReader::new(alloc, reader).map_err(|_| Stop::Memory)?;
+            follow_frames(
+                alloc,
+                &mut rest,
+                recording,
+                asked,
+                &mut course,
+                &mut writer,
+                err,
+            )?;
+        }
+        _ => {
+            let all = Read::chain(&front[..size], reader);
+            let mut rest = BufReader::new(alloc, all).map_err(|_| Stop::Memory)?;
+            follow_lines(alloc, &mut rest, asked, &mut course, &mut writer, err)?;
         }
     }
     match course.sum(asked.t_max, &mut writer) {
         Ok(()) => {}
         Err(_) => return Err(Stop::Output),
     }
-    match writer.flush() {
-        Ok(()) => Ok(course.unreadable),
-        Err(_) => Err(Stop::Output),
+    flush(&mut writer)?;
+    Ok(course.unreadable)
+}
+
+/// Follows lines of text to their end.
+fn follow_lines<R: Read + Drop, W: Write, E: Write, A: Allocator + Copy>(
+    alloc: A,
+    reader: &mut BufReader<R, A>,
+    asked: &Asked,
+    course: &mut Course,
+    writer: &mut W,
+    err: &mut E,
+) -> Result<(), Stop> {
+    let mut line = Vec::new(alloc);
+    let mut buffer: Buffer = [0; PAYLOAD_ROOM];
+    for _ in 0..u64::MAX {
+        if reader.buffer().is_empty() {
+            flush(writer)?;
+        }
+        line.clear();
+        match read_one(reader, &mut line)? {
+            Reading::End => return Ok(()),
+            Reading::TooLong => take_long(course, err)?,
+            Reading::Line => {
+                let text = without_feed(line.as_slice());
+                take_text(course, asked, text, &mut buffer, writer, err)?;
+            }
+        }
     }
+    Ok(())
+}
+
+/// Follows the frames of a recording to its end, or to its first fault.
+fn follow_frames<R: Read + Drop, W: Write, E: Write, A: Allocator + Copy>(
+    alloc: A,
+    reader: &mut BufReader<R, A>,
+    recording: Recording,
+    asked: &Asked,
+    course: &mut Course,
+    writer: &mut W,
+    err: &mut E,
+) -> Result<(), Stop> {
+    let mut recording = recording;
+    let mut block = Vec::new(alloc);
+    for _ in 0..u64::MAX {
+        if reader.buffer().is_empty() {
+            flush(writer)?;
+        }
+        let wanted = recording.wants() as usize;
+        block.resize(wanted, 0).map_err(|_| Stop::Memory)?;
+        let size = read_whole(reader, block.as_mut_slice())?;
+        if size < wanted {
+            return end(course, recording.part, size, err);
+        }
+        match recording.take(block.as_slice()) {
+            Ok(Event::Frame(framed)) => {
+                take_framed(course, asked, &framed, block.as_slice(), writer, err)?;
+            }
+            Ok(_) => {}
+            Err(fault) => return give_up(course, name_of_file_fault(fault), err),
+        }
+    }
+    Ok(())
 }
 
 /// Takes a line without its line feed into account. What is printed of it goes to `writer`, and why it is no datagram to
@@ -212,5 +283,98 @@ fn tell<E: Write>(err: &mut E, number: u64, fault: LineFault) -> Result<(), Stop
     match write_fault(err, number, fault) {
         Ok(()) => Ok(()),
         Err(_) => Err(Stop::Output),
+    }
+}
+
+/// Reads until a buffer is full or nothing more comes, and answers how many octets came.
+fn read_whole<R: Read>(reader: &mut R, buffer: &mut [u8]) -> Result<usize, Stop>
+    ensures { IfOk result (λ size. size ≤ length buffer.new) }
+{
+    let mut size = 0;
+    for _ in 0..u64::MAX {
+        if size == buffer.len() {
+            return Ok(size);
+        }
+        match reader.read(&mut buffer[size..]) {
+            Ok(0) => return Ok(size),
+            Ok(more) => size += more,
+            Err(error) => go_on(error)?,
+        }
+    }
+    Ok(size)
+}
+
+/// A reading that was interrupted goes on; any other error stops it.
+fn go_on(error: io::Error) -> Result<(), Stop> {
+    match error.kind() {
+        ErrorKind::Interrupted => Ok(()),
+        _ => Err(stop_of(error)),
+    }
+}
+
+fn flush<W: Write>(writer: &mut W) -> Result<(), Stop> {
+    match writer.flush() {
+        Ok(()) => Ok(()),
+        Err(_) => Err(Stop::Output),
+    }
+}
+
+/// Takes the frame of a block into account, and tells why its datagram is not read.
+fn take_framed<W: Write, E: Write>(
+    course: &mut Course,
+    asked: &Asked,
+    framed: &Framed,
+    block: &[u8],
+    writer: &mut W,
+    err: &mut E,
+) -> Result<(), Stop>
+    requires order { framed.now.start ≤ framed.now.end }
+    requires within { framed.now.end ≤ length block.now }
+    requires size { length block.now < 2 ^ 32 }
+{
+    let octets = &block[framed.start..framed.end];
+    match course.take_frame(asked, framed.link, framed.time, octets, writer) {
+        Ok(None) => Ok(()),
+        Ok(Some(fault)) => tell_frame(err, course.lines, fault),
+        Err(_) => Err(Stop::Output),
+    }
+}
+
+fn tell_frame<E: Write>(err: &mut E, number: u64, fault: FrameFault) -> Result<(), Stop>
+    ensures { OnOk result (Appends (E.contents err.old) (E.contents err.new) (frame_text number fault)) }
+{
+    match write_frame_fault(err, number, fault) {
+        Ok(()) => Ok(()),
+        Err(_) => Err(Stop::Output),
+    }
+}
+
+/// Ends a recording of which no more octets than these came for the next block; within a block that is told.
+fn end<E: Write>(course: &mut Course, part: Part, size: usize, err: &mut E) -> Result<(), Stop> {
+    if size == 0 && matches!(part, Part::Record(_, _) | Part::Block(_)) {
+        return Ok(());
+    }
+    give_up(course, "it ends within a block", err)
+}
+
+/// Tells why a recording does not go on; what was read of it stays.
+fn give_up<E: Write>(course: &mut Course, why: &str, err: &mut E) -> Result<(), Stop> {
+    course.unreadable = course.unreadable.saturating_add(1);
+    let frames = course.lines;
+    match writeln!(err, "recording: unreadable behind frame {frames}: {why}") {
+        Ok(()) => Ok(()),
+        Err(_) => Err(Stop::Output),
+    }
+}
+
+fn name_of_file_fault(fault: FileFault) -> &'static str {
+    match fault {
+        FileFault::Version => "version",
+        FileFault::Length => "length",
+        FileFault::Order => "order of octets",
+        FileFault::Trailer => "second length",
+        FileFault::Interface => "unknown interface",
+        FileFault::Resolution => "unit of times",
+        FileFault::Interfaces => "too many interfaces",
     }
 }

@@ -3,7 +3,7 @@
 ghost use Rattle.std.specs.Prelude.{◌≡◌, ◌<◌, OnOk};
 ghost use Rattle.std.specs.Io.KnownBytes.{Appends};
 ghost use Rattle.capture.specs.Whole.{totals_of};
-ghost use Rattle.capture_text.specs.SummaryText.{all_text, connection_text, connections_text, counts_text, damaged_text, datagrams_of, datagrams_text, direction_text, ending_text, half_text, kinds_text, known_channel_text, last_text, maybe_channel_text, numbers_text, oldest_text, opening_text, place_text, places_text, reached_text, route_text, silence_text, sum_text, summary_text, tally_text, totals_text};
+ghost use Rattle.capture_text.specs.SummaryText.{all_text, came_text, connection_text, connections_text, counts_text, damaged_text, datagrams_of, datagrams_text, direction_text, ending_text, half_text, kinds_text, known_channel_text, last_text, maybe_channel_text, numbers_text, oldest_text, opening_text, other_totals_text, others_text, place_text, places_text, reached_text, route_text, silence_text, sum_text, summary_text, tally_text, totals_text};
 
 use crate::pieces::{channel_name, write_address, write_duration, write_ends, write_since};
 use crate::reasons::write_reasons;
@@ -25,7 +25,9 @@ pub struct Scale {
 /// What is counted beside the connections.
 #[derive(Clone, Copy, Debug, PartialEq, Eq)]
 pub struct Counts {
-    /// Datagrams that were no PDU.
+    /// Datagrams, of whatever connection.
+    pub datagrams: u64,
+    /// Those that were no PDU.
     pub damaged: u64,
     /// Connections that were forgotten for want of room.
     pub forgotten: u64,
@@ -34,7 +36,7 @@ pub struct Counts {
 }
 
 /// Writes the sums: of each connection a line for each direction, with one for each of its channels, and a line for
-/// all.
+/// all, those that were forgotten (`gone`) among them.
 ///
 /// # Errors
 ///
@@ -42,14 +44,15 @@ pub struct Counts {
 pub fn write_summary<W: Write>(
     writer: &mut W,
     scale: Scale,
+    gone: Totals,
     connections: &[Connection],
     counts: Counts,
 ) -> io::Result<()>
     ensures { OnOk result (Appends (W.contents writer.old) (W.contents writer.new)
-        (summary_text scale connections.now (totals_of connections.now) counts)) }
+        (summary_text scale connections.now (totals_of gone connections.now) counts)) }
 {
     write_connections(writer, scale, connections)?;
-    write_all(writer, sum_up(connections), counts)?;
+    write_all(writer, sum_up(gone, connections), counts)?;
     Ok(())
 }
 
@@ -167,11 +170,22 @@ fn write_numbers<W: Write>(writer: &mut W, window: &Window) -> io::Result<()>
 {
     let heard = window.heard;
     let missing = window.missing;
+    write!(writer, " PDUs {heard} missing {missing}")?;
+    write_others(writer, window)
+}
+
+/// Writes how many were heard again, late, or stale.
+#[tactic(auto, unfolding(crate::specs::SummaryText::others_text))]
+fn write_others<W: Write>(writer: &mut W, window: &Window) -> io::Result<()>
+    ensures { OnOk result (Appends (W.contents writer.old) (W.contents writer.new) (others_text window.now)) }
+{
     let repeats = window.repeats;
+    let late = window.late;
+    let differing = window.differing;
     let stale = window.stale;
     write!(
         writer,
-        " PDUs {heard} missing {missing} repeats {repeats} stale {stale}"
+        " repeats {repeats} late {late} differs {differing} stale {stale}"
     )
 }
 
@@ -298,7 +312,7 @@ fn write_channel<W: Write>(
 {
     write_sum(writer, ends, place)?;
     write_route(writer, route)?;
-    write_datagrams(writer, window)?;
+    write_datagrams(writer, window, damaged)?;
     write_numbers(writer, window)?;
     write_damaged(writer, damaged)
 }
@@ -331,55 +345,78 @@ fn write_sum<W: Write>(writer: &mut W, ends: (u32, u32), place: usize) -> io::Re
 }
 
 #[tactic(auto, unfolding(crate::specs::SummaryText::datagrams_text))]
-fn write_datagrams<W: Write>(writer: &mut W, window: &Window) -> io::Result<()>
-    ensures { OnOk result (Appends (W.contents writer.old) (W.contents writer.new) (datagrams_text window.now)) }
+fn write_datagrams<W: Write>(writer: &mut W, window: &Window, damaged: u64) -> io::Result<()>
+    ensures { OnOk result (Appends (W.contents writer.old) (W.contents writer.new)
+        (datagrams_text window.now damaged)) }
 {
-    let count = datagrams(window);
+    let count = datagrams(window, damaged);
     write!(writer, " datagrams {count}")
 }
 
-/// How many datagrams came: those with a number that is new, was heard before, or is stale.
-fn datagrams(window: &Window) -> u64
-    ensures { result ≡ datagrams_of window.now }
+/// How many datagrams came: those with a number that is new, late, was heard before, or is stale, and those that were no
+/// PDU.
+fn datagrams(window: &Window, damaged: u64) -> u64
+    ensures { result ≡ datagrams_of window.now damaged }
 {
     window
         .heard
         .saturating_add(window.repeats)
+        .saturating_add(window.late)
+        .saturating_add(window.differing)
         .saturating_add(window.stale)
+        .saturating_add(damaged)
 }
 
 #[tactic(auto, unfolding(crate::specs::SummaryText::all_text))]
 fn write_all<W: Write>(writer: &mut W, totals: Totals, counts: Counts) -> io::Result<()>
     ensures { OnOk result (Appends (W.contents writer.old) (W.contents writer.new) (all_text totals counts)) }
 {
-    write_text(writer, "sum all")?;
+    write_came(writer, counts.datagrams)?;
     write_totals(writer, totals)?;
     write_counts(writer, counts)?;
     write_text(writer, "\n")?;
     Ok(())
 }
 
+#[tactic(auto, unfolding(crate::specs::SummaryText::came_text))]
+fn write_came<W: Write>(writer: &mut W, datagrams: u64) -> io::Result<()>
+    ensures { OnOk result (Appends (W.contents writer.old) (W.contents writer.new) (came_text datagrams)) }
+{
+    write!(writer, "sum all datagrams {datagrams}")
+}
+
 #[tactic(auto, unfolding(crate::specs::SummaryText::totals_text))]
 fn write_totals<W: Write>(writer: &mut W, totals: Totals) -> io::Result<()>
     ensures { OnOk result (Appends (W.contents writer.old) (W.contents writer.new) (totals_text totals)) }
 {
-    let Totals {
-        heard,
-        missing,
-        repeats,
-    } = totals;
-    write!(writer, " PDUs {heard} missing {missing} repeats {repeats}")
+    let heard = totals.heard;
+    let missing = totals.missing;
+    write!(writer, " PDUs {heard} missing {missing}")?;
+    write_other_totals(writer, totals)
+}
+
+/// Writes how many were heard again, late, or stale.
+#[tactic(auto, unfolding(crate::specs::SummaryText::other_totals_text))]
+fn write_other_totals<W: Write>(writer: &mut W, totals: Totals) -> io::Result<()>
+    ensures { OnOk result (Appends (W.contents writer.old) (W.contents writer.new) (other_totals_text totals)) }
+{
+    let repeats = totals.repeats;
+    let late = totals.late;
+    let differing = totals.differing;
+    let stale = totals.stale;
+    write!(
+        writer,
+        " repeats {repeats} late {late} differs {differing} stale {stale}"
+    )
 }
 
 #[tactic(auto, unfolding(crate::specs::SummaryText::counts_text))]
 fn write_counts<W: Write>(writer: &mut W, counts: Counts) -> io::Result<()>
     ensures { OnOk result (Appends (W.contents writer.old) (W.contents writer.new) (counts_text counts)) }
 {
-    let Counts {
-        damaged,
-        forgotten,
-        unreadable,
-    } = counts;
+    let damaged = counts.damaged;
+    let forgotten = counts.forgotten;
+    let unreadable = counts.unreadable;
     write!(
         writer,
         " damaged {damaged} forgotten {forgotten} unreadable {unreadable}"

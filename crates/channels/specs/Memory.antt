@@ -7,6 +7,7 @@ pub record Kept : Type 0 where
   pub sent : List Sending  -- in order
   pub waiting : List Sending  -- put in and not yet answered, in order
   pub answers : List Answer  -- in order
+  pub asked : ℕ  -- how many octets the last reception could bring, 0 before any
   pub sends_left : ℕ  -- how many more can be kept
   pub answers_left : ℕ
   pub failed_sends : ℕ
@@ -18,6 +19,7 @@ told_of k =
     record {
       sent = Some k.sent;
       answers = Some k.answers;
+      asked = Some k.asked;
       failed_sends = k.failed_sends;
       failed_receives = k.failed_receives;
       room = λ _. 0;
@@ -30,6 +32,7 @@ new_kept room =
       sent = [];
       waiting = [];
       answers = [];
+      asked = 0;
       sends_left = room;
       answers_left = room;
       failed_sends = 0;
@@ -70,6 +73,7 @@ with_reception size k =
     then record k {
       waiting = behind_first k.waiting;
       answers = k.answers ++ first_answer size k.waiting ∷ [];
+      asked = size;
       answers_left = k.answers_left - 1;
     }
-    else record k { failed_receives = counted false k.failed_receives }
+    else record k { asked = size; failed_receives = counted false k.failed_receives }

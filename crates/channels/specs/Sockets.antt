@@ -3,12 +3,22 @@ use Rattle.std.specs.Prelude.{ℕ, Bool, ◌&&◌, ◌==◌, nat_le, None, List,
 use Rattle.octets.specs.declared.limits.TheConstants.{CHANNELS_MAX}
 use Rattle.channels.specs.Told.{Told}
 
--- nothing tells what a socket sends or gives: counts alone
-abbrev pub Counts : Type 0
-Counts = ℕ × ℕ
+-- nothing tells what a socket sends or gives: how many there are, and what failed
+pub record Counts : Type 0 where
+  pub channels : ℕ
+  pub failed_sends : ℕ
+  pub failed_receives : ℕ
 
 abbrev pub told_of : Counts → Told
-told_of (sends, receives) = record { sent = None; answers = None; failed_sends = sends; failed_receives = receives; room = λ _. 0 }
+told_of c =
+    record {
+      sent = None;
+      answers = None;
+      asked = None;
+      failed_sends = c.failed_sends;
+      failed_receives = c.failed_receives;
+      room = λ _. 0;
+    }
 
 -- a remote address for each local one, of 1 to 4
 abbrev pub are_paired : {T : Type 0} → List T → List T → Bool

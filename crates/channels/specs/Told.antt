@@ -14,6 +14,7 @@ Answer = Option (ℕ × List ℕ)
 pub record Told : Type 0 where
   pub sent : Option (List Sending)  -- the datagrams sent, in order, where this is told
   pub answers : Option (List Answer)  -- what was answered to a reception, in order, where this is told
+  pub asked : Option ℕ  -- how many octets the last reception could bring, where this is told
   pub failed_sends : ℕ  -- how many sendings failed, modulo 2^64
   pub failed_receives : ℕ  -- and how many receptions
   pub room : ℕ → ℕ  -- for each channel how many sendings of at most 1,258 octets are sure to go out, 0 where this is not known
@@ -29,6 +30,7 @@ pub record Sends (went : Bool) (before : Told) (x : Sending) (after : Told) : Ty
   pub sure : 1 ≤ before.room x.0 → length x.1 ≤ RED_PDU_MAX → went ≡ true
   pub left : (k : ℕ) → before.room k ≤ after.room k + (if k == x.0 then 1 else 0)
   pub answers : after.answers ≡ before.answers
+  pub asked : after.asked ≡ before.asked
   pub failed_receives : after.failed_receives ≡ before.failed_receives
 
 abbrev pub SendsOne : Told → Sending → Told → Type 0
@@ -46,6 +48,7 @@ after_receive result buffer before =
     record {
       sent = before.sent;
       answers = option_map (λ xs. xs ++ answered result buffer) before.answers;
+      asked = option_map (λ _. length buffer) before.asked;
       failed_sends = before.failed_sends;
       failed_receives = counted (is_ok result) before.failed_receives;
       room = before.room;

@@ -1,6 +1,7 @@
 //! Channels in memory, for tests and simulations: what is sent is kept, and what is to be received is put in before.
 
-ghost use Rattle.std.specs.Prelude.{◌≡◌, ◌≤◌, length, option_map, is_ok, if◌then◌else◌, nat_lt, IfOk, IfSome, slice_get};
+ghost use Rattle.std.specs.Prelude.{◌≡◌, ◌≤◌, length, option_map, is_ok, if◌then◌else◌, nat_lt, IfErr, IfOk, IfSome, slice_get};
+ghost use Rattle.channels.specs.declared.ChannelFault.TheVariants.{Room};
 ghost use Rattle.octets.specs.declared.limits.TheConstants.{RED_PDU_MAX};
 ghost use Rattle.channels.specs.Told.{Sends, after_receive};
 ghost use Rattle.channels.specs.Memory.{told_of, new_kept, with_more_room, with_waiting, goes_out, with_sending, with_reception};
@@ -46,6 +47,8 @@ pub struct MemChannels<A: Allocator = Global> {
     waiting: VecDeque<(usize, Vec<u8, A>), A>,
     /// What each `receive` has answered, in order.
     answers: Vec<Option<(usize, Vec<u8, A>)>, A>,
+    /// How many octets the last `receive` could bring, 0 before any.
+    asked: usize,
     /// How many more sendings there is room for.
     sends_left: usize,
     /// How many more answers there is room for.
@@ -66,6 +69,7 @@ impl<A: Allocator> Model for MemChannels<A> {
       sent = map (λ s. (s.0, s.1.items)) m.sent.items;
       waiting = map (λ s. (s.0, s.1.items)) m.waiting.items;
       answers = map (λ a. option_map (λ s. (s.0, s.1.items)) a) m.answers.items;
+      asked = m.asked;
       sends_left = m.sends_left;
       answers_left = m.answers_left;
       failed_sends = m.failed_sends;
@@ -89,6 +93,7 @@ impl<A: Allocator + Copy> MemChannels<A> {
             sent: Vec::with_capacity(alloc, room)?,
             waiting: VecDeque::new(alloc),
             answers: Vec::with_capacity(alloc, room)?,
+            asked: 0,
             sends_left: room,
             answers_left: room,
             failed_sends: 0,
@@ -154,6 +159,7 @@ impl<A: Allocator> Channels for MemChannels<A> {
         ensures ok { is_ok result ≡ goes_out datagram.now self.old }
         ensures kept { self.new ≡ with_sending (channel, datagram.now) self.old }
         ensures told { Sends (is_ok result) (told_of self.old) (channel, datagram.now) (told_of self.new) }
+        ensures fault { IfErr result (λ why. why ≡ Room) }
     {
         if self.sends_left == 0 || datagram.len() > RED_PDU_MAX {
             self.failed_sends = self.failed_sends.wrapping_add(1);
@@ -170,7 +176,9 @@ impl<A: Allocator> Channels for MemChannels<A> {
         ensures kept { self.new ≡ with_reception (length buffer.old) self.old }
         ensures fits { IfOk result (λ came. IfSome came (λ p. p.1 ≤ length buffer.new)) }
         ensures told { told_of self.new ≡ after_receive result buffer.new (told_of self.old) }
+        ensures fault { IfErr result (λ why. why ≡ Room) }
     {
+        self.asked = buffer.len();
         if self.answers_left == 0 {
             self.failed_receives = self.failed_receives.wrapping_add(1);
             return Err(ChannelFault::Room);

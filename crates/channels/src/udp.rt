@@ -1,10 +1,11 @@
 //! Channels over UDP sockets, which never wait, and a wait for all of them at once.
 
-ghost use Rattle.std.specs.Prelude.{◌≡◌, ◌≢◌, ◌≤◌, ◌⊎◌, false, true, Err, length, is_ok, IfOk, IfSome, MatchOption};
+ghost use Rattle.std.specs.Prelude.{◌≡◌, ◌≢◌, ◌<◌, ◌≤◌, ◌⊎◌, [], false, true, Err, length, is_ok, IfErr, IfOk, IfSome, MatchOption};
 ghost use Rattle.std.specs.Net.Grammar.{IsSocketText};
 ghost use Rattle.channels.specs.Told.{Sends, after_receive};
 ghost use Rattle.channels.specs.Sockets.{told_of, are_paired};
 ghost use Rattle.channels.specs.declared.udp.UdpFault.TheVariants as fault;
+ghost use Rattle.channels.specs.declared.ChannelFault.TheVariants as channel_fault;
 
 use crate::{ChannelFault, Channels};
 use mio::net::UdpSocket;
@@ -57,11 +58,16 @@ pub struct UdpChannels<A: Allocator = Global> {
 }
 
 impl<A: Allocator> Model for UdpChannels<A> {
+    ghost use Rattle.std.specs.Prelude.{length};
     ghost use Rattle.channels.specs.Sockets.{Counts};
 
     ghost Value = { Counts };
 
-    ghost view = { λ c. (c.failed_sends, c.failed_receives) };
+    ghost view = { λ c. record {
+      channels = length c.list.items;
+      failed_sends = c.failed_sends;
+      failed_receives = c.failed_receives;
+    } };
 }
 
 impl<A: Allocator + Copy> UdpChannels<A> {
@@ -76,7 +82,8 @@ impl<A: Allocator + Copy> UdpChannels<A> {
         local: &[S],
         remote: &[S],
     ) -> Result<Self, UdpFault>
-        ensures counts { IfOk result (λ c. c ≡ (0, 0)) }
+        // A socket for each address.
+        ensures counts { IfOk result (λ c. c ≡ record { channels = length local.now; failed_sends = 0; failed_receives = 0 }) }
         ensures ok { IfOk result (λ _. are_paired local.now remote.now ≡ true) }
         ensures unpaired { are_paired local.now remote.now ≡ false
             → (result ≡ Err fault.Memory) ⊎ (result ≡ Err fault.Address) }
@@ -110,7 +117,13 @@ impl<A: Allocator + Copy> UdpChannels<A> {
 impl<A: Allocator> Channels for UdpChannels<A> {
     ghost told = { told_of };
 
-    fn send(&mut self, channel: usize, datagram: &[u8]) -> Result<(), ChannelFault> {
+    /// Sends it from the channel's socket. It keeps all sockets, whatever the system answers.
+    fn send(&mut self, channel: usize, datagram: &[u8]) -> Result<(), ChannelFault>
+        ensures told { Sends (is_ok result) (told_of self.old) (channel, datagram.now) (told_of self.new) }
+        ensures kept { self.new.channels ≡ self.old.channels }
+        // A channel that is not there has no room.
+        ensures room { self.old.channels < channel → result ≡ Err channel_fault.Room }
+    {
         let result = tell(self.list.as_slice(), channel, datagram);
         if result.is_err() {
             self.failed_sends = self.failed_sends.wrapping_add(1);
@@ -118,7 +131,16 @@ impl<A: Allocator> Channels for UdpChannels<A> {
         result
     }
 
-    fn receive(&mut self, buffer: &mut [u8]) -> Result<Option<(usize, usize)>, ChannelFault> {
+    /// Asks one socket after the other. It keeps all of them, whatever the system answers.
+    fn receive(&mut self, buffer: &mut [u8]) -> Result<Option<(usize, usize)>, ChannelFault>
+        ensures fits { IfOk result (λ came. IfSome came (λ p. p.1 ≤ length buffer.new)) }
+        ensures told { told_of self.new ≡ after_receive result buffer.new (told_of self.old) }
+        ensures kept { self.new.channels ≡ self.old.channels }
+        // What comes came on one of its channels.
+        ensures channel { IfOk result (λ came. IfSome came (λ p. (1 ≤ p.0) × (p.0 ≤ self.old.channels))) }
+        // Only the system refuses.
+        ensures fault { IfErr result (λ why. why ≡ channel_fault.System) }
+    {
         let result = ask(self.list.as_slice(), buffer);
         if let Ok(Some(_)) = result {
             self.received = self.received.wrapping_add(1);
@@ -185,7 +207,9 @@ impl<A: Allocator> Watch<A> {
 /// Lists the pairs of addresses that two lists of texts spell, and answers whether the lists are of one length from 1 to 4
 /// and each text spells an address.
 fn pair_all<S: AsStr, A: Allocator>(local: &[S], remote: &[S], pairs: &mut Vec<Pair, A>) -> bool
-    ensures { result ≡ true → are_paired local.now remote.now ≡ true }
+    requires { pairs.old.items ≡ [] }
+    ensures paired { result ≡ true → are_paired local.now remote.now ≡ true }
+    ensures all { result ≡ true → length pairs.new.items ≡ length local.now }
 {
     if local.len() != remote.len() || local.is_empty() || local.len() > CHANNELS_MAX {
         return false;
@@ -208,7 +232,10 @@ fn address(text: &str) -> Option<SocketAddr>
 }
 
 /// Binds a socket at the first address of each pair, and answers whether the system gave all of them.
-fn bind_all<N: Net, A: Allocator>(net: &N, pairs: &[Pair], list: &mut Vec<Channel, A>) -> bool {
+fn bind_all<N: Net, A: Allocator>(net: &N, pairs: &[Pair], list: &mut Vec<Channel, A>) -> bool
+    requires { list.old.items ≡ [] }
+    ensures { result ≡ true → length list.new.items ≡ length pairs.now }
+{
     for (local, remote) in pairs {
         let Ok(socket) = UdpSocket::bind(net, *local) else {
             return false;
@@ -222,7 +249,9 @@ fn bind_all<N: Net, A: Allocator>(net: &N, pairs: &[Pair], list: &mut Vec<Channe
 }
 
 /// Sends a datagram to the remote address of a channel.
-fn tell(list: &[Channel], channel: usize, datagram: &[u8]) -> Result<(), ChannelFault> {
+fn tell(list: &[Channel], channel: usize, datagram: &[u8]) -> Result<(), ChannelFault>
+    ensures { length list.now < channel → result ≡ Err channel_fault.Room }
+{
     let Some(channel) = list.get(channel.wrapping_sub(1)) else {
         return Err(ChannelFault::Room);
     };
@@ -234,7 +263,9 @@ fn tell(list: &[Channel], channel: usize, datagram: &[u8]) -> Result<(), Channel
 
 /// The first datagram of the channels in their order, if one has come.
 fn ask(list: &[Channel], buffer: &mut [u8]) -> Result<Option<(usize, usize)>, ChannelFault>
-    ensures { IfOk result (λ came. IfSome came (λ p. p.1 ≤ length buffer.new)) }
+    ensures fits { IfOk result (λ came. IfSome came (λ p. p.1 ≤ length buffer.new)) }
+    ensures channel { IfOk result (λ came. IfSome came (λ p. (1 ≤ p.0) × (p.0 ≤ length list.now))) }
+    ensures fault { IfErr result (λ why. why ≡ channel_fault.System) }
 {
     for (number, channel) in list.iter().enumerate() {
         match channel.socket.recv_from(buffer) {

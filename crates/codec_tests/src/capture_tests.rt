@@ -107,6 +107,7 @@ fn pdu(seq: u32, ends: (u32, u32), sn: u32, stamps: (u32, u32)) -> Heard {
             cs: 0,
             ts,
             cts,
+            fingerprint: ts as u64,
             leaving: None,
         },
     )
@@ -190,11 +191,15 @@ fn follows_two_channels(rt: HostRuntime) {
     assert_eq!(rt; broken, Remark::NoRed(RedFault::Length));
     assert_eq!(rt; all.damaged, 1);
     let wanted = Totals {
-        heard: 4,
+        heard: 3,
         missing: 1,
+        late: 1,
         repeats: 2,
+        differing: 0,
+        stale: 0,
     };
-    assert_eq!(rt; sum_up(all.connections.as_slice()), wanted);
+    assert_eq!(rt; sum_up(all.gone, all.connections.as_slice()), wanted);
+    assert_eq!(rt; all.datagrams, 7);
 }
 
 // The seventeenth connection takes the place of the one that was silent longest.
@@ -212,30 +217,35 @@ fn forgets_the_one_silent_longest(rt: HostRuntime) {
     assert_eq!(rt; ends.len(), 16);
     assert!(rt; ends.iter().all(|connection| connection.low != 1));
     assert_eq!(rt; all.forgotten, 1);
+    assert_eq!(rt; (all.gone.heard, sum_up(all.gone, ends).heard), (1, 17));
 }
 
 // Numbers go round, and a restart begins them anew without a gap.
 #[test]
 fn goes_round_and_begins_anew(rt: HostRuntime) {
     let mut window = Window::new();
-    assert_eq!(rt; note(&mut window, u32::MAX, 1), Judged::First);
-    assert_eq!(rt; note(&mut window, 0, 2), Judged::Next);
-    assert_eq!(rt; note(&mut window, 65_536, 3), Judged::Ahead(65_535));
-    assert_eq!(rt; note(&mut window, 4_000_000, 4), Judged::Anew);
-    assert_eq!(rt; note(&mut window, 4_000_001, 5), Judged::Next);
-    assert_eq!(rt; note(&mut window, 0, 6), Judged::Stale);
-    assert_eq!(rt; note(&mut window, 4_000_002, 7), Judged::Next);
+    assert_eq!(rt; note(&mut window, u32::MAX, 1, 0), Judged::First);
+    assert_eq!(rt; note(&mut window, 0, 2, 0), Judged::Next);
+    assert_eq!(rt; note(&mut window, 65_536, 3, 0), Judged::Ahead(65_535));
+    assert_eq!(rt; note(&mut window, 4_000_000, 4, 0), Judged::Anew);
+    assert_eq!(rt; note(&mut window, 4_000_001, 5, 0), Judged::Next);
+    assert_eq!(rt; note(&mut window, 0, 6, 0), Judged::Stale);
+    assert_eq!(rt; note(&mut window, 4_000_002, 7, 0), Judged::Next);
     assert_eq!(rt; (window.missing, window.stale), (65_535, 1));
 }
 
-// The 31 numbers before the newest may come late, and none of them takes the newest's place: a copy of that is told.
+// The 31 numbers before the newest may come late if they were passed over, and none of them takes the newest's place: a
+// copy of that is told, and so are other octets under its number.
 #[test]
 fn keeps_the_newest(rt: HostRuntime) -> Result<(), Fail> {
     let mut window = Window::new();
-    assert_eq!(rt; note(&mut window, 100, 1), Judged::First);
-    assert_eq!(rt; judge(&window, 68), Judged::Stale);
-    assert_eq!(rt; note(&mut window, 69, 2), Judged::Late);
-    assert_eq!(rt; judge(&window, 100), Judged::Repeat(1));
+    assert_eq!(rt; note(&mut window, 60, 1, 0), Judged::First);
+    assert_eq!(rt; judge(&window, 59, 0), Judged::Stale);
+    assert_eq!(rt; note(&mut window, 100, 2, 7), Judged::Ahead(39));
+    assert_eq!(rt; judge(&window, 68, 0), Judged::Stale);
+    assert_eq!(rt; note(&mut window, 69, 3, 0), Judged::Late);
+    assert_eq!(rt; judge(&window, 100, 7), Judged::Repeat(2));
+    assert_eq!(rt; judge(&window, 100, 8), Judged::Differs(2));
     Ok(())
 }
 
@@ -250,9 +260,30 @@ fn opening(seq: u32, sn: u32, ts: u32) -> Heard {
             cs: 0,
             ts,
             cts: 0,
+            fingerprint: ts as u64,
             leaving: None,
         },
     )
+}
+
+// A process that was started anew begins with the same octets: behind another PDU of its end on that channel they open.
+#[test]
+fn opens_with_the_same_octets(rt: HostRuntime) {
+    let mut all = Following::new();
+    for line in [1, 3u64] {
+        let first = told(all.hear(line, &record(line, 0, false), &opening(0, 900, 7)));
+        assert!(rt; first.is_some_and(|remarks| remarks.opens));
+        let beat = told(all.hear(
+            line + 1,
+            &record(line, 0, false),
+            &pdu(1, (1, 2), 901, (9, 0)),
+        ));
+        assert!(rt; beat.is_some_and(|remarks| remarks.together == Judged::Next));
+    }
+    let copy = told(all.hear(5, &record(5, 1, false), &opening(0, 900, 7)));
+    assert!(rt;
+        copy.is_some_and(|remarks| !remarks.opens && remarks.together == Judged::Repeat(3))
+    );
 }
 
 // A copy more than 31 numbers late changes nothing; a new ConnReq begins all numbers, and a copy of it does not.
@@ -292,9 +323,12 @@ fn opens_again(rt: HostRuntime) {
     let wanted = Totals {
         heard: 52,
         missing: 0,
+        late: 0,
         repeats: 1,
+        differing: 0,
+        stale: 1,
     };
-    assert_eq!(rt; sum_up(all.connections.as_slice()), wanted);
+    assert_eq!(rt; sum_up(all.gone, all.connections.as_slice()), wanted);
 }
 
 // A client that heard nothing leaves directly behind its ConnReq and confirms nothing; a later DiscReq confirms.
@@ -330,6 +364,7 @@ fn leaving(ends: (u32, u32), sn: u32, stamps: (u32, u32)) -> Header {
         cs: 0,
         ts,
         cts,
+        fingerprint: ts as u64,
         leaving: None,
     }
 }

@@ -1,4 +1,4 @@
-ghost use Rattle.std.specs.Prelude.{◌≡◌, ◌≤◌, ◌^◌};
+ghost use Rattle.std.specs.Prelude.{◌≡◌, ◌≤◌, ◌^◌, None};
 ghost use Rattle.channels.specs.Memory.{told_of};
 
 use crate::stack_end_tests::{Taken, config};
@@ -27,6 +27,7 @@ impl Channels for Faulty {
     ghost told = { λ f. record {
       sent = (told_of f.inner).sent;
       answers = (told_of f.inner).answers;
+      asked = None;
       failed_sends = f.failed_sends;
       failed_receives = f.failed_receives;
       room = λ _. 0;

@@ -124,16 +124,8 @@ impl Station {
         self.end.init_done(self.clock)
     }
 
-    fn close(&mut self) {
-        self.end.close(self.clock);
-    }
-
     fn seen(&self) -> (ConnectionState, Phase) {
         (self.end.state(), self.end.phase())
-    }
-
-    fn hear_again_from(&mut self, place: usize) {
-        self.heard = place;
     }
 
     /// The next datagram that the peer sent on this channel comes here; answers whether there was one.
@@ -216,84 +208,6 @@ impl Line {
         assert!(rt; self.fe.end.settled());
         assert_eq!(rt; self.il.put(0x24, 0), Err(PutFault::ReservedType));
     }
-
-    fn takes_each_once(&mut self, rt: &impl Abort) -> Result<(), Fail> {
-        self.repeats_on([2, 1, 2])?;
-        self.has_taken_both(rt);
-        Ok(())
-    }
-
-    fn repeats_on(&mut self, channels: [usize; 3]) -> Result<(), Fail> {
-        let heard = self.fe.heard;
-        self.il.put(0x100, 1)?;
-        self.il.put(0x100, 2)?;
-        for channel in channels {
-            self.fe.hear_again_from(heard);
-            for _ in 0..4 {
-                let _ = self.fe.next(self.il.end.channels_seen(), channel);
-            }
-        }
-        Ok(())
-    }
-
-    fn takes_what_was_lost(&mut self, rt: &impl Abort) -> Result<(), Fail> {
-        self.loses_the_first(rt)?;
-        self.asks_again(rt);
-        self.has_taken_both(rt);
-        Ok(())
-    }
-
-    fn loses_the_first(&mut self, rt: &impl Abort) -> Result<(), Fail> {
-        self.il.put(0x100, 1)?;
-        self.fe.heard = self.fe.heard.wrapping_add(2);
-        self.il.put(0x100, 2)?;
-        self.flow(1);
-        assert_eq!(rt; self.fe.taken.list.as_slice(), [].as_slice());
-        assert_eq!(rt; self.fe.end.next_deadline(), Some(50));
-        Ok(())
-    }
-
-    fn asks_again(&mut self, rt: &impl Abort) {
-        self.il.later(50);
-        self.fe.later(50);
-        self.fe.tick();
-        assert_eq!(rt; self.fe.end.state(), ConnectionState::RetrReq);
-        self.flow(1);
-        assert_eq!(rt; self.fe.end.state(), ConnectionState::Up);
-    }
-
-    fn has_taken_both(&self, rt: &impl Abort) {
-        assert_eq!(rt;
-            self.fe.taken.list.as_slice(),
-            [(0x100, 1), (0x100, 2)].as_slice()
-        );
-    }
-
-    fn has_ended(&self, rt: &impl Abort) {
-        assert_eq!(rt; self.il.seen(), (ConnectionState::Closed, Phase::Ended));
-        assert_eq!(rt; self.fe.seen(), (ConnectionState::Closed, Phase::Ended));
-    }
-
-    /// Six units are sent, and the field element hears all but the first: four are deferred, the last finds no room.
-    fn fills_the_queue(&mut self, rt: &impl Abort) -> Result<(), Fail> {
-        for octet in 0..6 {
-            self.il.put(0x100, octet)?;
-        }
-        self.fe.heard = self.fe.heard.wrapping_add(2);
-        self.flow(1);
-        assert_eq!(rt; self.fe.taken.list.as_slice(), [].as_slice());
-        self.fe.later(49);
-        self.fe.tick();
-        assert_eq!(rt; self.fe.end.state(), ConnectionState::Up);
-        self.fe.later(1);
-        self.fe.tick();
-        assert_eq!(rt;
-            self.fe.seen(),
-            (ConnectionState::RetrReq, Phase::Established)
-        );
-        assert_eq!(rt; self.fe.taken.list.as_slice(), [].as_slice());
-        Ok(())
-    }
 }
 
 fn established(rt: &(impl AllocGlobal + Abort)) -> Result<Line, Fail> {
@@ -307,47 +221,6 @@ fn established(rt: &(impl AllocGlobal + Abort)) -> Result<Line, Fail> {
 #[test]
 fn sets_up_a_session(rt: HostRuntime) -> Result<(), Fail> {
     established(&rt)?.carries_and_settles(&rt)
-}
-
-// The same datagrams on the second channel change nothing; what is lost on the first is taken from the second.
-#[test]
-fn hears_both_channels(rt: HostRuntime) -> Result<(), Fail> {
-    established(&rt)?.takes_each_once(&rt)
-}
-
-// A unit that is lost on both channels is sent again once the wait for it is over, and taken in its place.
-#[test]
-fn sends_a_lost_unit_again(rt: HostRuntime) -> Result<(), Fail> {
-    established(&rt)?.takes_what_was_lost(&rt)
-}
-
-// Parts behind a lost one are deferred until the table is full; at the deadline of the gap they go up, and the end asks for what it lacks.
-#[test]
-fn defers_until_the_deadline(rt: HostRuntime) -> Result<(), Fail> {
-    established(&rt)?.fills_the_queue(&rt)
-}
-
-// A user closes; the peer follows, and both refuse what is put in.
-#[test]
-fn closes_at_both_ends(rt: HostRuntime) -> Result<(), Fail> {
-    let mut line = established(&rt)?;
-    line.il.close();
-    line.flow(1);
-    line.has_ended(&rt);
-    assert_eq!(rt; line.fe.put(0x200, 1), Err(PutFault::NotEstablished));
-    assert_eq!(rt; line.fe.end.next_deadline(), None);
-    Ok(())
-}
-
-// Another version ends the session at both ends.
-#[test]
-fn ends_with_another_version(rt: HostRuntime) -> Result<(), Fail> {
-    let mut other = config(Side::Interlocking)?;
-    other.versions = Versions::new(&[4]).ok_or("versions")?;
-    let mut line = Line::open(&rt, other)?;
-    line.flow(1);
-    line.has_ended(&rt);
-    Ok(())
 }
 
 impl Line {

@@ -218,3 +218,50 @@ fn refuses_for_want_of_memory(rt: HostRuntime) -> Result<(), Fail> {
     assert_eq!(rt; found, [true; 5]);
     Ok(())
 }
+
+/// How many of the events happen in which a datagram comes to an end on a channel, by `run`.
+fn comes(pair: &mut Pair, side: Side, channel: usize, octets: &[u8]) -> Option<usize> {
+    let event = Event {
+        side,
+        time: 10,
+        doing: Doing::Call(Call::Deliver { channel, octets }),
+    };
+    pair.run(&[event]).ok()
+}
+
+/// How many of three events happen: the field element is ticked before it is opened, then both ends are opened.
+fn opens_both(pair: &mut Pair, il: &EndConfig, fe: &EndConfig) -> Option<usize> {
+    let opening = |side, config: &EndConfig, first_sn| Event {
+        side,
+        time: 10,
+        doing: Doing::Open {
+            config: *config,
+            first_sn,
+        },
+    };
+    let events = [
+        ticking(5),
+        opening(Side::FieldElement, fe, 500),
+        opening(Side::Interlocking, il, 100),
+    ];
+    pair.run(&events).ok()
+}
+
+/// What an end made last comes to the other on both channels.
+fn comes_twice(rt: &(impl AllocGlobal + Abort), pair: &mut Pair, side: Side) -> Result<bool, Fail> {
+    let datagram = made(rt, pair)?;
+    let again = comes(pair, side, 2, datagram.as_slice());
+    let first = comes(pair, side, 1, datagram.as_slice());
+    Ok(again == Some(1) && first == Some(1))
+}
+
+// A run goes on behind a tick of an end that is not open; then a request comes on the second channel and again on the first.
+#[test]
+fn runs_repeats_on_the_second_channel(rt: HostRuntime) -> Result<(), Fail> {
+    let (il, fe) = (config(Side::Interlocking)?, config(Side::FieldElement)?);
+    let mut pair = Pair::new(rt.alloc());
+    assert!(rt; opens_both(&mut pair, &il, &fe) == Some(2));
+    assert!(rt; comes_twice(&rt, &mut pair, Side::FieldElement)?);
+    assert!(rt; pair.history().len() == 4);
+    Ok(())
+}

@@ -1,7 +1,12 @@
--- How long a turn that found nothing waits.
-use Rattle.std.specs.Prelude.{ℕ, ◌-◌, min, Option, Some, None}
+-- How long a turn rests.
+use Rattle.std.specs.Prelude.{ℕ, ◌-◌, Bool, true, false, min, Option, Some, None}
 
--- to the deadline, and no longer than the longest wait; in milliseconds
-abbrev pub pause_of : ℕ → ℕ → Option ℕ → ℕ
-pause_of most now None = most
-pause_of most now (Some deadline) = min (deadline - now) most
+-- the longest rest, in milliseconds: a heartbeat is due after 10 at the least, and no program asks its sockets more often than 250 times a second
+abbrev pub wait_most : ℕ
+wait_most = 4
+
+-- in milliseconds: none behind a turn that found something; else to the deadline, and no longer than the longest
+abbrev pub rest_of : Bool → ℕ → Option ℕ → Option ℕ
+rest_of true _ _ = None
+rest_of false _ None = Some wait_most
+rest_of false now (Some deadline) = Some (min (deadline - now) wait_most)

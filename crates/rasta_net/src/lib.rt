@@ -2,8 +2,6 @@
 #![tactic(auto)]
 
 mod net;
-#[cfg(test)]
-mod net_tests;
 mod ticking;
 mod turns;
 

@@ -3,7 +3,8 @@
 ghost use Rattle.std.specs.Prelude.{◌≡◌, ◌≢◌, ◌≤◌, ◌<◌, ◌^◌, false, is_ok, length, IfOk};
 ghost use Rattle.settings_file.specs.Whole.{ends_of};
 ghost use Rattle.stack_end.specs.Deadlines.{earliest};
-ghost use Rattle.rasta_net.specs.Waiting.{pause_of};
+ghost use Rattle.rasta_net.specs.Reading.{settings_most};
+ghost use Rattle.rasta_net.specs.Waiting.{rest_of};
 
 use crate::ticking::RunClock;
 use crate::turns::Actor;
@@ -42,7 +43,7 @@ pub fn run_net<R: Net + Clock, O: Write, E: Write>(
     err: &mut E,
 ) -> Status
     // A text that is too long, or that says no settings, is refused.
-    ensures long { SETTINGS_MAX < length text.now → result ≡ Status.Refused }
+    ensures long { settings_most < length text.now → result ≡ Status.Refused }
     ensures unread { is_ok (ends_of word text.now) ≡ false → result ≡ Status.Refused }
     ensures words { result ≢ Status.WrongWords }
 {
@@ -101,9 +102,8 @@ fn run_one<R: Net + Clock, O: Write>(
         let now = clock.read(rt)?;
         let before = actor.end.channels_seen().received();
         actor.turn(now, out)?;
-        if actor.end.channels_seen().received() == before {
-            watch.wait(Duration::from_millis(pause(now, actor.end.next_deadline())));
-        }
+        let found = actor.end.channels_seen().received() != before;
+        take_rest(&mut watch, found, now, actor.end.next_deadline());
     }
     actor.report(out)?;
     sent_off(out)
@@ -174,13 +174,12 @@ fn take_turn<O: Write>(
     let before = received_by(interlocking, field_element);
     interlocking.turn(now, out)?;
     field_element.turn(now, out)?;
-    if received_by(interlocking, field_element) == before {
-        let deadline = earlier(
-            interlocking.end.next_deadline(),
-            field_element.end.next_deadline(),
-        );
-        watch.wait(Duration::from_millis(pause(now, deadline)));
-    }
+    let found = received_by(interlocking, field_element) != before;
+    let deadline = earlier(
+        interlocking.end.next_deadline(),
+        field_element.end.next_deadline(),
+    );
+    take_rest(watch, found, now, deadline);
     Ok(())
 }
 
@@ -248,13 +247,22 @@ fn opened<'a>(
     }
 }
 
-/// How long to wait, in milliseconds: to the deadline, and no longer than the longest wait.
-fn pause(now: u64, deadline: Option<u64>) -> u64
-    ensures { result ≡ pause_of WAIT_MAX now deadline }
+/// Waits behind a turn, as long as it is to rest.
+fn take_rest(watch: &mut Watch, found: bool, now: u64, deadline: Option<u64>) {
+    if let Some(pause) = rest(found, now, deadline) {
+        watch.wait(Duration::from_millis(pause));
+    }
+}
+
+/// How long to rest behind a turn, in milliseconds: not at all where it found something; else to the deadline, and no longer than
+/// the longest wait.
+fn rest(found: bool, now: u64, deadline: Option<u64>) -> Option<u64>
+    ensures { result ≡ rest_of found now deadline }
 {
-    match deadline {
-        Some(deadline) => deadline.saturating_sub(now).min(WAIT_MAX),
-        None => WAIT_MAX,
+    match (found, deadline) {
+        (true, _) => None,
+        (false, Some(deadline)) => Some(deadline.saturating_sub(now).min(WAIT_MAX)),
+        (false, None) => Some(WAIT_MAX),
     }
 }
 

@@ -1,6 +1,8 @@
 //! The clock of a run.
 
-ghost use Rattle.std.specs.Prelude.{◌≡◌, ◌≤◌, ◌^◌, IfOk, OnErr};
+ghost use Rattle.std.specs.Prelude.{◌≡◌, ◌≤◌, ◌<◌, IfOk, OnErr, IfErr};
+ghost use Rattle.std.specs.Time.{instant_nanos};
+ghost use Rattle.rasta_net.specs.Ticking.{greatest_time, millis_between, time_at};
 
 use rasta_status::Fault;
 use std::time::{Clock, Instant};
@@ -12,7 +14,7 @@ const TIME_MAX: u64 = 1 << 62;
 #[derive(Clone, Copy, Debug)]
 pub struct RunClock {
     /// When the run began: its clock shows 0 then.
-    began: Instant,
+    pub began: Instant,
     /// The last reading.
     pub last: u64,
 }
@@ -38,13 +40,30 @@ impl RunClock {
     ///
     /// Refused as Clock, where the system gives none or it is above 2^62.
     pub fn read<K: Clock>(&mut self, system: &K) -> Result<u64, Fault>
-        ensures now { IfOk result (λ now. (self.old.last ≤ now) × (now ≤ 2 ^ 62) × (self.new.last ≡ now)) }
-        ensures refused { OnErr result (self.new.last ≡ self.old.last) }
+        ensures now { IfOk result (λ now. (self.old.last ≤ now) × (now ≤ greatest_time) × (self.new.last ≡ now)) }
+        ensures began { self.new.began ≡ self.old.began }
+        ensures refused { OnErr result (self.new ≡ self.old) }
     {
-        let Ok(passed) = self.began.elapsed(system) else {
-            return Err(Fault::Clock);
-        };
-        match u64::try_from(passed.as_millis()) {
+        match Instant::now(system) {
+            Ok(seen) => self.at(seen),
+            Err(_) => Err(Fault::Clock),
+        }
+    }
+
+    /// The time at a reading of the system's clock.
+    ///
+    /// # Errors
+    ///
+    /// Refused as Clock exactly where it is above 2^62.
+    fn at(&mut self, seen: Instant) -> Result<u64, Fault>
+        ensures now { IfOk result (λ now. now ≡ time_at (instant_nanos self.old.began) self.old.last (instant_nanos seen)) }
+        ensures bounded { IfOk result (λ now. now ≤ greatest_time) }
+        ensures kept { IfOk result (λ now. self.new ≡ record self.old { last = now }) }
+        ensures refusal { IfErr result (λ fault. greatest_time
+            < time_at (instant_nanos self.old.began) self.old.last (instant_nanos seen)) }
+        ensures refused { OnErr result (self.new ≡ self.old) }
+    {
+        match u64::try_from(seen.duration_since(self.began).as_millis()) {
             Ok(reading) if reading <= TIME_MAX && self.last <= TIME_MAX => {
                 let now = reading.max(self.last);
                 self.last = now;

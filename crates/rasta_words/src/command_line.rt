@@ -446,7 +446,7 @@ fn only_command<'a>(alloc: Global) -> Result<Command<'a>, AllocError>
 {
     let command = chosen_command(alloc)?;
     let only = Arg::new(alloc, "only").long("only").help(
-        "Prints the lines with this remark alone: opens, repeat, ahead, late, stale, anew, resent, age, reason or fault",
+        "Prints the lines with this remark alone: opens, repeat, differs, ahead, late, stale, anew, resent, age, reason or fault",
     );
     command.arg(only)
 }

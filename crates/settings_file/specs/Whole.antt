@@ -1,5 +1,5 @@
 -- What a whole settings file says.
-use Rattle.std.specs.Prelude.{ℕ, true, ◌==◌, ◌≡◌, ◌||◌, Bool, if◌then◌else◌, List, codes, length, map, string_bytes, bytes_eq, Option, Some, None, Result, Ok, Err}
+use Rattle.std.specs.Prelude.{ℕ, ◌+◌, true, ◌==◌, ◌≡◌, ◌⊎◌, ◌||◌, is_ok, is_some, MatchOption, Bool, if◌then◌else◌, List, codes, count_by, length, map, take, string_bytes, bytes_eq, Option, Some, None, Result, Ok, Err}
 use Rattle.std.specs.Bool.{⊤}
 use Rattle.std.specs.Option.{option_map_or}
 use Rattle.toml.specs.Data.{Data, table, Members, no_members, member, get, as_table}
@@ -20,6 +20,8 @@ use Rattle.end_settings.specs.EndSettings.{EndSettings}
 use Rattle.end_settings.specs.Configured.{settings_of, code_of}
 use Rattle.settings_file.specs.declared.keys.SettingsFault.{SettingsFault}
 use Rattle.settings_file.specs.declared.keys.SettingsFault.TheVariants as fault
+use Rattle.settings_file.specs.declared.keys.ReadFault.{ReadFault}
+use Rattle.settings_file.specs.declared.keys.ReadFault.TheVariants as read_fault
 use Rattle.settings_file.specs.Keys.{◌>>=◌}
 use Rattle.settings_file.specs.Readers.{addresses_at, puts_at}
 use Rattle.settings_file.specs.Groups.{IdentitySeen, BeginningSeen, identity_of, beginning_of, limits_of, put_seen}
@@ -109,6 +111,23 @@ abbrev pub first_unknown : Members → Option (List ℕ)
 first_unknown no_members = None
 first_unknown (member k d ms) = if is_known k then first_unknown ms else Some k
 
+-- What stands in front of addresses and telegrams, for which alone memory is taken.
+abbrev pub front_of : Side → Data → Result Limits KeyFault
+front_of e d = do
+  identity ← identity_of d
+  beginning ← beginning_of e d
+  limits_of d
+
+-- Memory is refused only where all of that is right, or for the text of a key that no end has.
+abbrev pub MemoryInEnd : Side → Data → ReadFault → Type 0
+MemoryInEnd e d (read_fault.Memory refused) = is_ok (front_of e d) ≡ true
+MemoryInEnd e d (read_fault.Key f) = Unit {0}
+
+abbrev pub MemoryInTable : Side → Data → SettingsFault → Type 0
+MemoryInTable e d (fault.Memory refused) =
+    MatchOption (as_table d) ⊥ (λ ms. (is_some (first_unknown ms) ≡ true) ⊎ (is_ok (front_of e d) ≡ true))
+MemoryInTable e d _ = Unit {0}
+
 abbrev pub lifted : {A : Type 0} → Option Side → Result A KeyFault → Result A Wrong
 lifted named (Ok x) = Ok x
 lifted named (Err f) = Err (at named f)
@@ -168,7 +187,7 @@ ends_of word.Il text = read_all il_seen (file_settings side.Interlocking text)
 ends_of word.Fe text = read_all fe_seen (file_settings side.FieldElement text)
 ends_of word.Pair text = read_all (λ both. pair_seen both.0 both.1) (pair_settings text)
 
--- the fault that was told is the one that the definition finds; where memory was refused, nothing is said
+-- The fault that was told is the one that the definition finds. Where memory was refused nothing is said: to read the text takes some, whatever it says.
 abbrev pub IsWrong : {A : Type 0} → Result A Wrong → SettingsFault → Type 0
 IsWrong r (fault.Document line) = r ≡ Err no_document
 IsWrong r (fault.NoTable e) = r ≡ Err (no_table e)
@@ -185,3 +204,7 @@ abbrev pub MakesUnknown : SettingsFault → Option Side → List ℕ → Type 0
 MakesUnknown (fault.Unknown n k) named t = (n ≡ named) × (string_bytes k ≡ t)
 MakesUnknown (fault.Memory e) named t = ⊤
 MakesUnknown _ named t = ⊥
+
+-- the line, from 1, in which an octet of the text stands: one more than the line feeds before it
+abbrev pub line_at : ℕ → List ℕ → ℕ
+line_at place text = 1 + count_by (λ o. o == 10) (take place text)

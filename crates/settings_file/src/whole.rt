@@ -6,10 +6,12 @@ ghost use Rattle.toml.specs.View.{view, table_view};
 ghost use Rattle.settings_file.specs.Readers.{IsFaultOf};
 ghost use Rattle.end_settings.specs.Configured.{settings_of};
 ghost use Rattle.settings_file.specs.Groups.{identity_seen, beginning_seen};
-ghost use Rattle.settings_file.specs.Whole.{end_of, configured_of, settings_seen, is_known, is_end, first_unknown, first_strange, end_settings, file_settings, pair_settings, il_settings, fe_settings, IsWrong, IsNoDocument, MakesUnknown, as_many, names_identity, names_beginning, names_limit, names_list};
+ghost use Rattle.settings_file.specs.Whole.{end_of, configured_of, settings_seen, is_known, is_end, first_unknown, first_strange, end_settings, file_settings, pair_settings, il_settings, fe_settings, IsWrong, IsNoDocument, MakesUnknown, MemoryInEnd, MemoryInTable, line_at, as_many, names_identity, names_beginning, names_limit, names_list};
 ghost use Rattle.settings_file.specs.Readers.{read_as};
+ghost use Rattle.toml.specs.Errors.{IsMemory, span_start};
 ghost use Rattle.toml.specs.Parse.{parse_document};
-ghost use Rattle.std.specs.Prelude.{Some, map, string_bytes};
+ghost use Rattle.settings_file.specs.declared.keys.SettingsFault.TheVariants as settings_fault;
+ghost use Rattle.std.specs.Prelude.{◌==◌, ◌≤◌, Some, alloc_error, count_by, length, map, string_bytes};
 
 use crate::groups::{begun, identified, limited};
 use crate::keys::{Expected, Found, Key, KeyFault, ReadFault, SettingsFault};
@@ -39,6 +41,7 @@ fn matched(local: &[String], remote: Vec<String>) -> Result<Vec<String>, KeyFaul
 fn read(alloc: Global, side: Side, table: &Value) -> Result<Settings, ReadFault>
     ensures ok { IfOk result (λ s. end_of side (view table.now) ≡ Ok (settings_seen s)) }
     ensures err { IfErr result (IsFaultOf (end_of side (view table.now))) }
+    ensures memory { IfErr result (MemoryInEnd side (view table.now)) }
 {
     let identity = identified(table)?;
     let beginning = begun(side, table)?;
@@ -175,6 +178,7 @@ fn of_end(
 ) -> Result<Settings, SettingsFault>
     ensures ok { IfOk result (λ s. end_settings side named (view value.now) ≡ Ok (settings_seen s)) }
     ensures err { IfErr result (IsWrong (end_settings side named (view value.now))) }
+    ensures memory { IfErr result (MemoryInTable side (view value.now)) }
 {
     let Some(table) = value.as_table() else {
         return Err(SettingsFault::NoTable(side));
@@ -195,22 +199,38 @@ fn document(alloc: Global, text: &str) -> Result<Table, SettingsFault>
 {
     match toml::table_from_str(alloc, text) {
         Ok(table) => Ok(table),
-        Err(fault) => match fault.span() {
-            None => Err(SettingsFault::Memory(AllocError)),
-            Some(range) => Err(SettingsFault::Document(line_of(text, range.start))),
-        },
+        Err(fault) => Err(named(text, &fault)),
+    }
+}
+
+/// What a fault of the text is told as: by the line in which it begins.
+fn named(text: &str, fault: &toml::de::Error) -> SettingsFault
+    ensures memory { IsMemory fault.now → result ≡ settings_fault.Memory alloc_error }
+    ensures line { ¬ IsMemory fault.now → result ≡ settings_fault.Document (line_at (span_start fault.now) text.now) }
+{
+    match fault.span() {
+        None => SettingsFault::Memory(AllocError),
+        Some(range) => SettingsFault::Document(line_of(text, range.start)),
     }
 }
 
 /// The line, from 1, in which an octet of the text stands.
-fn line_of(text: &str, place: usize) -> usize {
-    let mut line = 1usize;
-    for octet in text.as_bytes().iter().take(place) {
-        if *octet == b'\n' {
-            line = line.saturating_add(1);
-        }
+#[tactic(auto, using(std::proofs::lemmas::List::take_all))]
+fn line_of(text: &str, place: usize) -> usize
+    ensures { result ≡ line_at place text.now }
+{
+    match text.as_bytes().split_at_checked(place) {
+        Some((before, _)) => feeds(before) + 1,
+        None => feeds(text.as_bytes()) + 1,
     }
-    line
+}
+
+/// How many line feeds there are.
+fn feeds(octets: &[u8]) -> usize
+    ensures feeds { result ≡ count_by (λ o. o == 10) octets.now }
+    ensures few { result ≤ length octets.now }
+{
+    octets.iter().filter(|octet| **octet == b'\n').count()
 }
 
 /// The settings in a file for one end.

@@ -1,14 +1,25 @@
 -- What one poll of an end does: the datagrams that its channels answer are handed in, in order, and then time passes.
-use Rattle.std.specs.Prelude.{◌≡◌, ℕ, ◌<◌, ◌⊎◌, Bool, true, false, Option, Some, None, List, length, take, Result, Ok, Err}
+use Rattle.std.specs.Prelude.{◌≡◌, ℕ, ◌<◌, ◌≤◌, ◌⊎◌, Bool, true, false, Option, Some, None, List, length, take, Result, Ok, Err}
 use Rattle.std.specs.List.{FoldsTo}
 use Rattle.pdi_session.specs.SessionStep.{Item}
 use Rattle.channels.specs.Told.{Told, after_receive}
 use Rattle.channels.specs.declared.ChannelFault.{ChannelFault}
 use Rattle.stack_end.specs.Ends.{EndState, Deliver, Tick, call}
+use Rattle.octets.specs.declared.limits.TheConstants.{RED_PDU_MAX}
+use Rattle.stack_end.specs.Recent.{DatagramRecent, TickRecent}
 use Rattle.stack_end.specs.EndValue.{EndValue, EndDoes, EndStands, channels_of}
 
--- its channels were asked, and nothing else of it changed
+-- How many octets a datagram may have that a poll takes, and how many datagrams it hands in at most, so that it ends whatever comes.
+abbrev pub buffer_size : ℕ
+buffer_size = 2048
+
+abbrev pub most_datagrams : ℕ
+most_datagrams = 64
+
+-- its channels were asked with room for the longest datagram, and nothing else of it changed
 pub record Asked {C A : Type 0} (told : C → Told) (result : Result (Option (ℕ × ℕ)) ChannelFault) (buffer : List ℕ) (v w : EndValue C A) : Type 0 where
+  pub size : length buffer ≡ buffer_size
+  pub longest : RED_PDU_MAX ≤ length buffer
   pub answer : told (channels_of w) ≡ after_receive result buffer (told (channels_of v))
   pub stands : (x : EndState) → EndStands told v x → EndStands told w x
   pub time : w.time ≡ v.time
@@ -17,11 +28,12 @@ pub record Asked {C A : Type 0} (told : C → Told) (result : Result (Option (�
 abbrev pub With : Type 0 → Type 0 → Type 0 → Type 0
 With C A T = EndValue C A × T
 
--- a datagram came on a channel, and was handed in
+-- a datagram came on a channel, and was handed in; what is taken is recent
 abbrev pub Hears : {C A T : Type 0} → (C → Told) → (T → Item → T → Type 0) → ℕ → With C A T → ℕ × List ℕ → With C A T → Type 0
 Hears {C = C} {A = A} told takes now s d t =
     (size : ℕ) × (buffer : List ℕ) × (asked : EndValue C A)
     × (take size buffer ≡ d.1) × Asked told (Ok (Some (d.0, size))) buffer s.0 asked × EndDoes told takes (call (Deliver d.0 d.1 now)) asked s.1 t.0 t.1
+    × ((x : EndState) → EndStands told asked x → DatagramRecent takes now d.1 x s.1 t.1)
 
 -- the channels were asked once more, and had this answer; who takes heard nothing of it
 abbrev pub AskedOnce : {C A T : Type 0} → (C → Told) → Result (Option (ℕ × ℕ)) ChannelFault → With C A T → With C A T → Type 0
@@ -48,3 +60,4 @@ HeardUntilFault {C = C} {A = A} {T = T} told takes most now s t =
 abbrev pub Polled : {C A T : Type 0} → (C → Told) → (T → Item → T → Type 0) → (most now : ℕ) → With C A T → With C A T → Type 0
 Polled {C = C} {A = A} {T = T} told takes most now s t =
     (left : With C A T) × HeardAll told takes most now s left × EndDoes told takes (call (Tick now)) left.0 left.1 t.0 t.1
+    × ((x : EndState) → EndStands told left.0 x → TickRecent takes now x left.1 t.1)

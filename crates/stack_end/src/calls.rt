@@ -32,7 +32,7 @@ impl<C: Channels, A: Allocator> End<C, A> {
         ensures packs { (x : EndState) → EndStands C.told self.new x → can_pack x ≡ false }
         // What is taken is recent.
         ensures recent { (x : EndState) → EndStands C.told self.old x
-            → DatagramRecent now octets.now x taker.old taker.new }
+            → DatagramRecent T.takes now octets.now x taker.old taker.new }
         // The end is left as any other channel would leave it.
         ensures any_channel { (x : EndState) (other : ℕ) → EndStands C.told self.old x
             → EndStands C.told self.new (call (Deliver other octets.now now) x) }
@@ -51,7 +51,7 @@ impl<C: Channels, A: Allocator> End<C, A> {
         // Nothing waits then, or the machine may not send.
         ensures packs { (x : EndState) → EndStands C.told self.new x → can_pack x ≡ false }
         // What is taken is recent.
-        ensures recent { (x : EndState) → EndStands C.told self.old x → TickRecent now x taker.old taker.new }
+        ensures recent { (x : EndState) → EndStands C.told self.old x → TickRecent T.takes now x taker.old taker.new }
         ensures time { self.new.time ≡ now }
     {
         self.layers.tick(now, taker);

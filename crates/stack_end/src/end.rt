@@ -17,9 +17,8 @@ ghost use Rattle.stack_end.specs.Recent.{DatagramRecent, TickRecent};
 ghost use Rattle.stack_end.specs.Bounds.{IsBounded};
 ghost use Rattle.safe_machine.specs.Deadlines.{IsBefore, IsReachedAt};
 ghost use Rattle.stack_end.specs.Deadlines.{HasFallen, IsQuiet, earliest};
-ghost use Rattle.stack_end.specs.Polling.{Asked, AskedOnce, HeardAll, HeardNext, HeardUntilFault, Polled};
+ghost use Rattle.stack_end.specs.Polling.{Asked, AskedOnce, HeardAll, HeardNext, HeardUntilFault, Polled, buffer_size, most_datagrams};
 ghost use Rattle.stack_end.specs.declared.OpenFault.TheVariants.{BadConfig};
-ghost use Rattle.stack_end.specs.declared.TheConstants.{POLL_DATAGRAMS};
 
 use crate::layers::Layers;
 use crate::{OpenFault, POLL_BUFFER, POLL_DATAGRAMS, PollFault, opening};
@@ -99,7 +98,7 @@ impl<C: Channels, A: Allocator> End<C, A> {
         ensures packs { (x : EndState) → EndStands C.told self.new x → can_pack x ≡ false }
         // What is taken is recent.
         ensures recent { (x : EndState) → EndStands C.told self.old x
-            → DatagramRecent now octets.now x taker.old taker.new }
+            → DatagramRecent T.takes now octets.now x taker.old taker.new }
         // The end is left as any other channel would leave it.
         ensures any_channel { (x : EndState) (other : ℕ) → EndStands C.told self.old x
             → EndStands C.told self.new (call (Deliver other octets.now now) x) }
@@ -116,7 +115,7 @@ impl<C: Channels, A: Allocator> End<C, A> {
         // Nothing waits then, or the machine may not send.
         ensures packs { (x : EndState) → EndStands C.told self.new x → can_pack x ≡ false }
         // What is taken is recent.
-        ensures recent { (x : EndState) → EndStands C.told self.old x → TickRecent now x taker.old taker.new }
+        ensures recent { (x : EndState) → EndStands C.told self.old x → TickRecent T.takes now x taker.old taker.new }
         ensures time { self.new.time ≡ now }
     {
         self.let_time_pass(now, taker);
@@ -193,9 +192,11 @@ impl<C: Channels, A: Allocator> End<C, A> {
         requires now { now ≤ 2 ^ 62 }
         requires later { self.old.time ≤ now }
         ensures done { OnOk result
-            (Polled C.told T.takes POLL_DATAGRAMS now (self.old, taker.old) (self.new, taker.new)) }
+            (Polled C.told T.takes most_datagrams now (self.old, taker.old) (self.new, taker.new)) }
         ensures failed { OnErr result
-            (HeardUntilFault C.told T.takes POLL_DATAGRAMS now (self.old, taker.old) (self.new, taker.new)) }
+            (HeardUntilFault C.told T.takes most_datagrams now (self.old, taker.old) (self.new, taker.new)) }
+        // Nothing waits then, or the machine may not send.
+        ensures packs { OnOk result ((x : EndState) → EndStands C.told self.new x → can_pack x ≡ false) }
         ensures time { self.new.time ≤ now }
     {
         let mut buffer = [0; POLL_BUFFER];
@@ -216,11 +217,12 @@ impl<C: Channels, A: Allocator> End<C, A> {
         taker: &mut T,
     ) -> Result<(), ChannelFault>
         requires now { now ≤ 2 ^ 62 }
+        requires room { length buffer.old ≡ buffer_size }
         requires later { self.old.time ≤ now }
         ensures done { OnOk result
-            (HeardAll C.told T.takes POLL_DATAGRAMS now (self.old, taker.old) (self.new, taker.new)) }
+            (HeardAll C.told T.takes most_datagrams now (self.old, taker.old) (self.new, taker.new)) }
         ensures failed { OnErr result
-            (HeardUntilFault C.told T.takes POLL_DATAGRAMS now (self.old, taker.old) (self.new, taker.new)) }
+            (HeardUntilFault C.told T.takes most_datagrams now (self.old, taker.old) (self.new, taker.new)) }
         ensures time { self.new.time ≤ now }
     {
         for _ in 0..POLL_DATAGRAMS {
@@ -241,6 +243,7 @@ impl<C: Channels, A: Allocator> End<C, A> {
         taker: &mut T,
     ) -> Result<bool, ChannelFault>
         requires now { now ≤ 2 ^ 62 }
+        requires room { length buffer.old ≡ buffer_size }
         requires later { self.old.time ≤ now }
         ensures heard { MatchResult result
             (λ came. HeardNext C.told T.takes now came (self.old, taker.old) (self.new, taker.new))
@@ -259,6 +262,7 @@ impl<C: Channels, A: Allocator> End<C, A> {
 
     /// Asks the channels for a datagram.
     fn ask(&mut self, buffer: &mut [u8]) -> Result<Option<(usize, usize)>, ChannelFault>
+        requires { length buffer.old ≡ buffer_size }
         ensures asked { Asked C.told result buffer.new self.old self.new }
         ensures fits { IfOk result (λ came. IfSome came (λ p. p.1 ≤ length buffer.new)) }
     {

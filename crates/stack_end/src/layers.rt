@@ -37,7 +37,7 @@ impl<C: Channels, A: Allocator> Layers<C, A> {
             self.new.red (fields_of C.told self.new.upper) taker.new }
         ensures packs { (x : EndState) → Stands (fields_of C.told self.new.upper) x → can_pack x ≡ false }
         ensures recent { (x : EndState) → BothStand self.old.red (fields_of C.told self.old.upper) x
-            → DatagramRecent now octets.now x taker.old taker.new }
+            → DatagramRecent T.takes now octets.now x taker.old taker.new }
         ensures kept { IsKept self.new }
     {
         match self.upper.machine.state() {
@@ -61,7 +61,7 @@ impl<C: Channels, A: Allocator> Layers<C, A> {
             self.new.red (fields_of C.told self.new.upper) taker.new }
         ensures packs { (x : EndState) → Stands (fields_of C.told self.new.upper) x → can_pack x ≡ false }
         ensures recent { (x : EndState) → BothStand self.old.red (fields_of C.told self.old.upper) x
-            → InputRecent now (Datagram octets.now now) x taker.old taker.new }
+            → InputRecent T.takes now (Datagram octets.now now) x taker.old taker.new }
         ensures kept { IsKept self.new }
     {
         match self.upper.machine.state() {
@@ -82,7 +82,7 @@ impl<C: Channels, A: Allocator> Layers<C, A> {
             self.new.red (fields_of C.told self.new.upper) taker.new }
         ensures packs { (x : EndState) → Stands (fields_of C.told self.new.upper) x → can_pack x ≡ false }
         ensures recent { (x : EndState) → BothStand self.old.red (fields_of C.told self.old.upper) x
-            → TickRecent now x taker.old taker.new }
+            → TickRecent T.takes now x taker.old taker.new }
         ensures kept { IsKept self.new }
     {
         match self.upper.machine.state() {
@@ -106,7 +106,7 @@ impl<C: Channels, A: Allocator> Layers<C, A> {
             self.new.red (fields_of C.told self.new.upper) taker.new }
         ensures packs { (x : EndState) → Stands (fields_of C.told self.new.upper) x → can_pack x ≡ false }
         ensures recent { (x : EndState) → BothStand self.old.red (fields_of C.told self.old.upper) x
-            → InputRecent now (RedTick now) x taker.old taker.new }
+            → InputRecent T.takes now (RedTick now) x taker.old taker.new }
         ensures kept { IsKept self.new }
     {
         match self.upper.machine.state() {

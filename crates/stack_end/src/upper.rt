@@ -462,7 +462,7 @@ impl<C: Channels, A: Allocator> Upper<C, A> {
             red.old (fields_of C.told self.old) taker.old
             red.new (fields_of C.told self.new) taker.new }
         ensures recent { (x : EndState) → BothStand red.old (fields_of C.told self.old) x
-            → TakesRecent now (passed_by (Datagram octets.now now) x.red)
+            → TakesRecent T.takes now (passed_by (Datagram octets.now now) x.red)
             (with_input (Datagram octets.now now) x) taker.old taker.new }
         ensures reach { self.new.machine.expected ≤ 321 * red.new.expected }
         ensures same { self.new.max ≡ self.old.max }
@@ -491,7 +491,7 @@ impl<C: Channels, A: Allocator> Upper<C, A> {
             red.old (fields_of C.told self.old) taker.old
             red.new (fields_of C.told self.new) taker.new }
         ensures recent { (x : EndState) → BothStand red.old (fields_of C.told self.old) x
-            → TakesRecent now (passed_by (RedTick now) x.red) (with_input (RedTick now) x) taker.old taker.new }
+            → TakesRecent T.takes now (passed_by (RedTick now) x.red) (with_input (RedTick now) x) taker.old taker.new }
         ensures reach { self.new.machine.expected ≤ 321 * red.new.expected }
         ensures same { self.new.max ≡ self.old.max }
         ensures few { FewWait self.new.session self.new.waiting }

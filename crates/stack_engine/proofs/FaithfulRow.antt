@@ -20,6 +20,8 @@ use Rattle.stack_end.specs.Dialogue.{phase_in}
 use Rattle.stack_engine.specs.Faithful.{Faithful, FaithfulEvent, AllFaithful, IsNear}
 use Rattle.stack_engine.specs.Headline.{put_at, taken_at}
 use Rattle.stack_engine.specs.Premise.{Genuine, GenuineEvent, AtOpened}
+use Rattle.stack_engine.specs.Premises.{Arrived, FaithfulInstance, OfOpened}
+use Rattle.stack_engine.proofs.PremiseTests.{all-typed, arrived}
 use Rattle.stack_engine.proofs.FaithfulTests.{HasRule, near-opened, faithful-event, same-rule}
 use Rattle.stack_engine.proofs.FaithfulEvents.{events, e1, e2, e3, e4, e5, e6, e7, e8, e9, e10, e11, e12, e13, e14, e15, e16, e17, e18, e19, e20, e21, e22, e23, e24, e25, e26, e27, e28, e29, e30, e31, e32, e33, e34, e35, e36, e37, e38, e39, w1, w2, w3, w4, w5, w6, w7, w8, w9, w10, w11, w12, w13, w14, w15, w16, w17, w18, w19, w20, w21, w22, w23, w24, w25, w26, w27, w28, w29, w30, w31, w32, w33, w34, w35, w36, w37, w38, w39}
 
@@ -617,3 +619,13 @@ window-filled = (refl, refl)
 three-at-once : AtOpened (λ x. length (taken_at x) ≡ 2) (present Fe w36) × AtOpened (λ x. length (taken_at x) ≡ 5) (present Fe w37)
 unfolding w1 w2 w3 w4 w5 w6 w7 w8 w9 w10 w11 w12 w13 w14 w15 w16 w17 w18 w19 w20 w21 w22 w23 w24 w25 w26 w27 w28 w29 w30 w31 w32 w33 w34 w35 w36 w37 sn_of ahead four_steps after_round after_block digest pieces_seen unit_seen tele_seen decoded
 three-at-once = (refl, refl)
+
+whole : OfOpened Arrived (present Il w39) (present Fe w39)
+unfolding w1 w2 w3 w4 w5 w6 w7 w8 w9 w10 w11 w12 w13 w14 w15 w16 w17 w18 w19 w20 w21 w22 w23 w24 w25 w26 w27 w28 w29 w30 w31 w32 w33 w34 w35 w36 w37 w38 w39 sn_of ahead four_steps after_round after_block digest pieces_seen unit_seen tele_seen decoded
+whole = arrived rule (present Il w39) (present Fe w39) il-rule fe-rule refl
+
+pub instance : FaithfulInstance events
+unfolding w1 w2 w3 w4 w5 w6 w7 w8 w9 w10 w11 w12 w13 w14 w15 w16 w17 w18 w19 w20 w21 w22 w23 w24 w25 w26 w27 w28 w29 w30 w31 w32 w33 w34 w35 w36 w37 w38 w39
+instance =
+    let events-typed = all-typed events refl in
+    record { typed = events-typed; faithful = faithful; arrived = whole; nothing_lost = λ law. law events events-typed faithful }

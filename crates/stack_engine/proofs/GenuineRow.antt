@@ -1,19 +1,25 @@
 -- A genuine list of events, computed: a command is lost and sent again, the one behind it is deferred, and status is taken; then both ends are opened
 -- anew, and in the second session both ways are used. At its end both ends are settled.
-use Rattle.std.proofs.Common.{◌≡◌, ℕ, List, [], ◌∷◌, true, refl, Some, None}
+use Rattle.std.proofs.Common.{◌≡◌, List, [], ◌∷◌, true, refl, Some, None}
 use Rattle.md4.specs.Digest.{four_steps, after_round, after_block, digest}
 use Rattle.safe_machine.specs.Numbers.{sn_of, ahead}
 use Rattle.safe_machine.specs.World.Side.{Il, Fe}
 use Rattle.packing.specs.Places.{pieces_seen, unit_seen}
 use Rattle.sci_telegram.specs.Places.{tele_seen}
 use Rattle.red_layer.specs.Redundancy.{decoded}
-use Rattle.stack_end.specs.Ends.{EndState, is_settled}
-use Rattle.stack_engine.specs.Pairs.{start, refusal, present, ends_of, JoinedEnd}
-use Rattle.std.specs.Prelude.{Option, option_map}
-use Rattle.pdi_session.specs.SessionStep.{Item}
-use Rattle.stack_engine.specs.Headline.{put_at, taken_at}
+use Rattle.stack_end.specs.Ends.{is_settled}
+use Rattle.stack_engine.specs.Pairs.{start, refusal, present, ends_of}
+use Rattle.std.specs.Prelude.{option_map, map}
+use Rattle.stack_engine.specs.Faithful.{Faithful, FaithfulEvent}
+use Rattle.stack_engine.specs.Headline.{taken_at}
+use Rattle.stack_engine.specs.Joins.{joins_in}
+use Rattle.stack_engine.specs.Premises.{GenuineInstance}
+use Rattle.stack_engine.proofs.PremiseTests.{all-typed}
 use Rattle.stack_engine.specs.Premise.{Genuine, GenuineEvent}
 use Rattle.stack_engine.proofs.GenuineEvents.{events, e1, e2, e3, e4, e5, e6, e7, e8, e9, e10, e11, e12, e13, e14, e15, e16, e17, e18, e19, e20, e21, e22, e23, e24, e25, e26, e27, e28, e29, e30, e31, e32, e33, e34, e35, e36, e37, e38, e39, e40, e41, w1, w2, w3, w4, w5, w6, w7, w8, w9, w10, w11, w12, w13, w14, w15, w16, w17, w18, w19, w20, w21, w22, w23, w24, w25, w26, w27, w28, w29, w30, w31, w32, w33, w34, w35, w36, w37, w38, w39, w40, w41}
+
+opens : {X : Type 0} {x : X} {xs : List X} → x ∷ xs ≡ [] → ⊥
+opens e = cc
 
 -- each event is genuine, in the world before it
 genuine1 : refusal e1 start ≡ None → GenuineEvent e1 start
@@ -286,32 +292,26 @@ genuine = (
   ),
 )
 
--- of each incarnation, the latest first, what was put in and what was taken
-abbrev Course : Type 0
-Course = List Item × List Item
+-- the field element is opened a second time
+opened-twice : (refusal e23 w22 ≡ None → FaithfulEvent e23 w22) → ⊥
+unfolding w1 w2 w3 w4 w5 w6 w7 w8 w9 w10 w11 w12 w13 w14 w15 w16 w17 w18 w19 w20 w21 w22 sn_of ahead four_steps after_round after_block digest pieces_seen unit_seen tele_seen decoded
+opened-twice h = opens (h refl)
 
-courses : List EndState → List Course
-courses [] = []
-courses (x ∷ before) = (put_at x, taken_at x) ∷ courses before
+unfaithful : Faithful events → ⊥
+unfolding w1 w2 w3 w4 w5 w6 w7 w8 w9 w10 w11 w12 w13 w14 w15 w16 w17 w18 w19 w20 w21 w22
+unfaithful h = opened-twice h.events.1.1.1.1.1.1.1.1.1.1.1.1.1.1.1.1.1.1.1.1.1.1.0
 
-joins : List JoinedEnd → List (Option ℕ)
-joins [] = []
-joins (f ∷ before) = f.joined ∷ joins before
-
-first-commands : List Item
-first-commands = (256, 1 ∷ []) ∷ (256, 2 ∷ []) ∷ []
-
-il-courses : courses w41.ils ≡ ((256, 4 ∷ []) ∷ [], (512, 5 ∷ []) ∷ []) ∷ (first-commands, (512, 3 ∷ []) ∷ []) ∷ []
-unfolding courses first-commands w1 w2 w3 w4 w5 w6 w7 w8 w9 w10 w11 w12 w13 w14 w15 w16 w17 w18 w19 w20 w21 w22 w23 w24 w25 w26 w27 w28 w29 w30 w31 w32 w33 w34 w35 w36 w37 w38 w39 w40 w41 sn_of ahead four_steps after_round after_block digest pieces_seen unit_seen tele_seen decoded
-il-courses = refl
-
-fe-courses : courses (ends_of w41.fes) ≡ ((512, 5 ∷ []) ∷ [], (256, 4 ∷ []) ∷ []) ∷ ((512, 3 ∷ []) ∷ [], first-commands) ∷ []
-unfolding courses first-commands w1 w2 w3 w4 w5 w6 w7 w8 w9 w10 w11 w12 w13 w14 w15 w16 w17 w18 w19 w20 w21 w22 w23 w24 w25 w26 w27 w28 w29 w30 w31 w32 w33 w34 w35 w36 w37 w38 w39 w40 w41 sn_of ahead four_steps after_round after_block digest pieces_seen unit_seen tele_seen decoded
-fe-courses = refl
-
-joined : joins w41.fes ≡ Some 2 ∷ Some 1 ∷ []
-unfolding joins w1 w2 w3 w4 w5 w6 w7 w8 w9 w10 w11 w12 w13 w14 w15 w16 w17 w18 w19 w20 w21 w22 w23 w24 w25 w26 w27 w28 w29 w30 w31 w32 w33 w34 w35 w36 w37 w38 w39 w40 w41 sn_of ahead four_steps after_round after_block digest pieces_seen unit_seen tele_seen decoded
+joined : joins_in w41.fes ≡ Some 2 ∷ Some 1 ∷ []
+unfolding w1 w2 w3 w4 w5 w6 w7 w8 w9 w10 w11 w12 w13 w14 w15 w16 w17 w18 w19 w20 w21 w22 w23 w24 w25 w26 w27 w28 w29 w30 w31 w32 w33 w34 w35 w36 w37 w38 w39 w40 w41 sn_of ahead four_steps after_round after_block digest pieces_seen unit_seen tele_seen decoded
 joined = refl
+
+il-took : map taken_at w41.ils ≡ ((512, 5 ∷ []) ∷ []) ∷ ((512, 3 ∷ []) ∷ []) ∷ []
+unfolding w1 w2 w3 w4 w5 w6 w7 w8 w9 w10 w11 w12 w13 w14 w15 w16 w17 w18 w19 w20 w21 w22 w23 w24 w25 w26 w27 w28 w29 w30 w31 w32 w33 w34 w35 w36 w37 w38 w39 w40 w41 sn_of ahead four_steps after_round after_block digest pieces_seen unit_seen tele_seen decoded
+il-took = refl
+
+fe-took : map taken_at (ends_of w41.fes) ≡ ((256, 4 ∷ []) ∷ []) ∷ ((256, 1 ∷ []) ∷ (256, 2 ∷ []) ∷ []) ∷ []
+unfolding w1 w2 w3 w4 w5 w6 w7 w8 w9 w10 w11 w12 w13 w14 w15 w16 w17 w18 w19 w20 w21 w22 w23 w24 w25 w26 w27 w28 w29 w30 w31 w32 w33 w34 w35 w36 w37 w38 w39 w40 w41 sn_of ahead four_steps after_round after_block digest pieces_seen unit_seen tele_seen decoded
+fe-took = refl
 
 il-settled : option_map is_settled (present Il w41) ≡ Some true
 unfolding w1 w2 w3 w4 w5 w6 w7 w8 w9 w10 w11 w12 w13 w14 w15 w16 w17 w18 w19 w20 w21 w22 w23 w24 w25 w26 w27 w28 w29 w30 w31 w32 w33 w34 w35 w36 w37 w38 w39 w40 w41 sn_of ahead four_steps after_round after_block digest pieces_seen unit_seen tele_seen decoded
@@ -320,3 +320,20 @@ il-settled = refl
 fe-settled : option_map is_settled (present Fe w41) ≡ Some true
 unfolding w1 w2 w3 w4 w5 w6 w7 w8 w9 w10 w11 w12 w13 w14 w15 w16 w17 w18 w19 w20 w21 w22 w23 w24 w25 w26 w27 w28 w29 w30 w31 w32 w33 w34 w35 w36 w37 w38 w39 w40 w41 sn_of ahead four_steps after_round after_block digest pieces_seen unit_seen tele_seen decoded
 fe-settled = refl
+
+pub instance : GenuineInstance events
+unfolding w1 w2 w3 w4 w5 w6 w7 w8 w9 w10 w11 w12 w13 w14 w15 w16 w17 w18 w19 w20 w21 w22 w23 w24 w25 w26 w27 w28 w29 w30 w31 w32 w33 w34 w35 w36 w37 w38 w39 w40 w41
+instance =
+    let events-typed = all-typed events refl in
+    record {
+      typed = events-typed;
+      genuine = genuine;
+      unfaithful = unfaithful;
+      joined = joined;
+      status = il-took;
+      commands = fe-took;
+      headline = λ law. law events events-typed genuine;
+      fresh = λ law. law events events-typed genuine;
+      confirmed = λ law. law events events-typed genuine;
+      settled = λ law. law events events-typed genuine;
+    }

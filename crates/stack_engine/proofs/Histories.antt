@@ -6,10 +6,10 @@ use Rattle.stack_engine.specs.declared.event.Event.{Event as CodeEvent}
 use Rattle.stack_engine.specs.declared.sides.Sides.{Sides}
 use Rattle.stack_engine.specs.Bounds.{FewMoreLaw}
 use Rattle.stack_engine.specs.Events.{event_of}
-use Rattle.stack_engine.specs.PairValue.{events_of, Ran}
+use Rattle.stack_engine.specs.PairValue.{events_of, Ran, RanBefore}
 use Rattle.stack_engine.specs.declared.ApplyFault.{ApplyFault}
 use Rattle.stack_engine.specs.declared.ApplyFault.TheVariants as code
-use Rattle.stack_engine.specs.Openings.{NamesRefusal, is_memory}
+use Rattle.stack_engine.specs.Openings.{IsOfSession, NamesRefusal, is_memory}
 use Rattle.stack_engine.specs.Pairs.{World, Event, Refusal, start, run, accepted, refusal, happens, changed, unless_refused}
 use Rattle.stack_engine.specs.Pairs.Event.{Open, Calls}
 use Rattle.stack_engine.specs.Premise.{AreTyped, IsTyped}
@@ -86,10 +86,6 @@ events-more [] i x lt is = absurd (omega arith)
 events-more (y ∷ items) zero x lt is = ap (λ z. event_of z ∷ []) (sym is)
 events-more (y ∷ items) (suc i) x lt is = ap (λ (es : List Event). event_of y ∷ es) (events-more items i x (omega arith) is)
 
-pub events-length : (items : List CodeEvent) → length (events_of items) ≡ length items
-events-length [] = refl
-events-length (x ∷ items) = ap suc (events-length items)
-
 pub ran-accepted : (old mid new : List Event) (items : List CodeEvent) (i : ℕ) (x : CodeEvent) → i < length items → x ≡ get_or items i x → Ran old (take i (events_of items)) mid
     → refusal (event_of x) (run mid start) ≡ None → new ≡ mid ++ event_of x ∷ [] → Ran old (take (i + 1) (events_of items)) new
 ran-accepted old mid new items i x lt is h none e =
@@ -109,3 +105,32 @@ ran-refused old mid new items i x fault lt is h other why e =
     named code.Clock r other why = ap (λ (q : Option Refusal). is_none q) why
     named (code.Put f) r other why = ap (λ (q : Option Refusal). is_none q) why
     named (code.Init f) r other why = ap (λ (q : Option Refusal). is_none q) why
+
+-- the events are those up to a place, the one there, and the rest
+events-split : (items : List CodeEvent) (i : ℕ) (x : CodeEvent) → i < length items → x ≡ get_or items i x
+    → (rest : List Event) × (events_of items ≡ take i (events_of items) ++ event_of x ∷ rest)
+events-split [] i x lt is = absurd (omega arith)
+events-split (y ∷ items) zero x lt is = (events_of items, ap (λ z. event_of z ∷ events_of items) (sym is))
+events-split (y ∷ items) (suc i) x lt is =
+    let more = events-split items i x (omega arith) is in
+    (more.0, ap (λ (es : List Event). event_of y ∷ es) more.1)
+
+pub ran-before : (old mid new : List Event) (items : List CodeEvent) (i : ℕ) (x : CodeEvent) (fault : ApplyFault) → i < length items → x ≡ get_or items i x → Ran old (take i (events_of items)) mid
+    → is_memory fault ≡ true → NamesRefusal fault (refusal (event_of x) (run mid start)) → new ≡ mid → RanBefore old (events_of items) new
+ran-before old mid new items i x fault lt is h memory why e =
+    let split = events-split items i x lt is in (
+      take i (events_of items),
+      event_of x,
+      split.0,
+      split.1,
+      e ∙ h,
+      subst (λ (es : List Event). IsOfSession (refusal (event_of x) (run es start))) (sym e) (untested fault (refusal (event_of x) (run mid start)) memory why),
+    )
+  where
+    untested : (fault : ApplyFault) (r : Option Refusal) → is_memory fault ≡ true → NamesRefusal fault r → IsOfSession r
+    untested code.Memory r memory why = why
+    untested code.EndNotOpen r memory why = cc
+    untested code.BadConfig r memory why = cc
+    untested code.Clock r memory why = cc
+    untested (code.Put f) r memory why = cc
+    untested (code.Init f) r memory why = cc

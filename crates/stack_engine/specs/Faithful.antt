@@ -104,14 +104,35 @@ InStep il fe =
     ⊎ ((was_established fe.session.history.phases ≡ true) × (phase_in il.session ≡ Established) × (phase_in fe.session ≡ Established))
 
 -- with all arrived
+abbrev pub IlWaits : EndState → EndState → Type 0
+IlWaits il fe = is_shut il ≡ false → WaitsForWindow il
+
+abbrev pub FeWaits : EndState → EndState → Type 0
+FeWaits il fe = is_shut fe ≡ false → WaitsForWindow fe
+
+abbrev pub CommandsThere : EndState → EndState → Type 0
+CommandsThere il fe = put_at il ≡ taken_at fe ++ items_waiting il
+
+abbrev pub StatusThere : EndState → EndState → Type 0
+StatusThere il fe = put_at fe ≡ taken_at il ++ items_waiting fe
+
+abbrev pub IlUp : EndState → EndState → Type 0
+IlUp il fe = Match il fe → il.machine.connection ≡ IsUp
+
+abbrev pub FeUp : EndState → EndState → Type 0
+FeUp il fe = Match il fe → fe.machine.connection ≡ IsUp
+
+abbrev pub Steps : EndState → EndState → Type 0
+Steps il fe = Match il fe → il.session.waiting ≡ [] → fe.session.waiting ≡ [] → InStep il fe
+
 pub record AllThere (il fe : EndState) : Type 0 where
-  pub il_waits : is_shut il ≡ false → WaitsForWindow il
-  pub fe_waits : is_shut fe ≡ false → WaitsForWindow fe
-  pub commands : put_at il ≡ taken_at fe ++ items_waiting il
-  pub status : put_at fe ≡ taken_at il ++ items_waiting fe
-  pub il_up : Match il fe → il.machine.connection ≡ IsUp
-  pub fe_up : Match il fe → fe.machine.connection ≡ IsUp
-  pub in_step : Match il fe → il.session.waiting ≡ [] → fe.session.waiting ≡ [] → InStep il fe
+  pub il_waits : IlWaits il fe
+  pub fe_waits : FeWaits il fe
+  pub commands : CommandsThere il fe
+  pub status : StatusThere il fe
+  pub il_up : IlUp il fe
+  pub fe_up : FeUp il fe
+  pub in_step : Steps il fe
 
 -- asked of an end that is open: what comes to a closed one changes nothing, and is not kept
 abbrev pub IfAllArrived : EndState → EndState → Type 0
@@ -138,8 +159,8 @@ pub record UnitsThere (il fe : EndState) : Type 0 where
   pub fe_taken : fe.machine.taken ≡ units il.machine.made
   pub il_waits : WaitsForWindow il
   pub fe_waits : WaitsForWindow fe
-  pub commands : put_at il ≡ taken_at fe ++ items_waiting il
-  pub status : put_at fe ≡ taken_at il ++ items_waiting fe
+  pub commands : CommandsThere il fe
+  pub status : StatusThere il fe
 
 abbrev pub IfOpen : EndState → EndState → Type 0
 IfOpen il fe = AllArrived il fe → AllArrived fe il → is_shut il ≡ false → is_shut fe ≡ false → UnitsThere il fe

@@ -24,6 +24,7 @@ told_of k =
     record {
       sent = Some (map on_first k.datagrams);
       answers = None;
+      asked = None;
       failed_sends = k.failed_sends;
       failed_receives = 0;
       room = λ channel. if channel == 1 then sure_room k else 0;

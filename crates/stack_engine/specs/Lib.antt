@@ -19,3 +19,6 @@ pub mod Reports
 pub mod PairValue
 pub mod Promises
 pub mod RefusalName
+pub mod Instances
+pub mod LossInstances
+pub mod Premises

@@ -1,9 +1,10 @@
 -- What a pair keeps of its history.
-use Rattle.std.specs.Prelude.{◌≡◌, ◌<◌, ℕ, List, ◌++◌, length, take, map}
+use Rattle.std.specs.Prelude.{◌≡◌, List, ◌∷◌, ◌++◌, map}
 use Rattle.stack_engine.specs.declared.event.Event.{Event as CodeEvent}
 use Rattle.stack_engine.specs.declared.pair.Pair.TheInside.{Inside}
 use Rattle.stack_engine.specs.Events.{event_of}
-use Rattle.stack_engine.specs.Pairs.{Event, accepted, start, run}
+use Rattle.stack_engine.specs.Openings.{IsOfSession}
+use Rattle.stack_engine.specs.Pairs.{Event, accepted, refusal, start, run}
 use Rattle.stack_engine.specs.Premise.{AreTyped}
 use Rattle.stack_engine.specs.Sides.{SidesStand}
 
@@ -22,6 +23,7 @@ pub record IsPair {A : Type 0} (p : Inside A) : Type 0 where
 abbrev pub Ran : List Event → List Event → List Event → Type 0
 Ran before es after = after ≡ before ++ accepted es (run before start)
 
--- one of them was refused for memory: those before it were run
+-- One of them was refused for memory, and for nothing that is tested before memory is asked for: those before it were run.
 abbrev pub RanBefore : List Event → List Event → List Event → Type 0
-RanBefore before es after = (k : ℕ) × (k < length es) × Ran before (take k es) after
+RanBefore before es after =
+    (first : List Event) × (e : Event) × (rest : List Event) × (es ≡ first ++ e ∷ rest) × Ran before first after × IsOfSession (refusal e (run after start))

@@ -4,8 +4,13 @@ ghost use Rattle.stack_engine.specs.Bounds.{FewFirstLaw, FewMoreLaw, QueueLaw};
 ghost use Rattle.stack_engine.specs.Faithful.{NothingLostLaw, OrderlyLaw};
 ghost use Rattle.stack_engine.specs.Freshness.{Freshness};
 ghost use Rattle.stack_engine.specs.Headline.{HeadlineLaw};
+ghost use Rattle.stack_engine.specs.Instances.{Instances};
+ghost use Rattle.stack_engine.specs.LossInstances.{LossInstances};
 ghost use Rattle.stack_engine.specs.Premise.{BreaksLaw};
+ghost use Rattle.stack_engine.specs.Premises.{Premises};
 ghost use Rattle.stack_engine.specs.Settled.{ConfirmedTakenLaw, SettledLaw};
+ghost use Rattle.stack_end.specs.Ends.{EndState};
+ghost use Rattle.safe_machine.specs.Made.{Made};
 
 /// The laws of a pair, which do nothing when they are called: they hold of every genuine list of events, with any number of
 /// openings of either end.
@@ -48,3 +53,13 @@ pub fn pair_law()
     packing::one_spelling();
     pdi_session::session_law();
 }
+
+/// What the promises refuse, and that their premises hold somewhere. It does nothing when it is called.
+pub fn instance_law()
+    // Each clause of a promise refuses a world that its other clauses admit.
+    ensures instances { Instances }
+    ensures loss { (x : EndState) (m : Made) → LossInstances x m }
+
+    // Each premise holds of a list of events over which both ways are used, and the laws are said of that list.
+    ensures premises { Premises }
+{}

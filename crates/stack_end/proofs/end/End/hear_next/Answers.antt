@@ -6,4 +6,4 @@ returns-in-Ok-Some-clause-heard g c =
     let size = c.in-Ok-Some.size in
     let buffer = c.ask.new.buffer in
     let asked = rw c.in-Ok-Some.field-0-is at c.in-Ok-Some.ensures.asked in
-    ((c.in-Ok-Some.channel, take size buffer), (size, buffer, c.ask.new.self, refl, asked, c.take_datagram.ensures.does))
+    ((c.in-Ok-Some.channel, take size buffer), (size, buffer, c.ask.new.self, refl, asked, c.take_datagram.ensures.does, c.take_datagram.ensures.recent))

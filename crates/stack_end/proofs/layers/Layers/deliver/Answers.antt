@@ -16,5 +16,5 @@ returns-in_default-clause-does g c x h =
 
 pub returns-in_default-clause-recent : goal.returns-in_default-clause-recent
 returns-in_default-clause-recent g c x h =
-    open-recent c.args.now (Datagram c.args.octets.now c.args.now) x _ _
+    open-recent g.T.Taker.takes c.args.now (Datagram c.args.octets.now c.args.now) x _ _
     (alive c.state.result x (c.state.ensures.state x.machine h.upper.machine) c.in_default.not-Closed) (c.receive.ensures.recent x h)

@@ -43,6 +43,6 @@ returns-clause-recent g c x h =
     let recent =
     parts-recent g.T.Taker.takes (λ s. fields_of g.C.Channels.told s.upper.now) (λ s. s.taker.now) (λ s. s.now) _ (λ s p u r. (r.2, r.4, r.5)) c.args.now _ _ _ c.arrive-event.ensures.passed refl
     (with_input i x) (noted i _ x h.upper) in
-    let fact = subst (λ (r : Receiver). TakesRecent c.args.now (passed_by i r) (with_input i x) c.args.taker.now c.arrive-event.new.up.taker.now) h.red recent in
+    let fact = subst (λ (r : Receiver). TakesRecent g.T.Taker.takes c.args.now (passed_by i r) (with_input i x) c.args.taker.now c.arrive-event.new.up.taker.now) h.red recent in
     let taker = FoldsTo-keeps (λ s. s.taker.ghost_name) _ (λ s p u r. r.1) _ _ _ c.arrive-event.ensures.passed in
     search (rules, fact, taker)

@@ -1,0 +1,69 @@
+-- The codes that a C caller sees, of what the stack answers.
+use Rattle.std.specs.Prelude.{ℤ, pos, Result, Ok, Err}
+use Rattle.safe_machine.specs.declared.ConnectionState.{ConnectionState}
+use Rattle.safe_machine.specs.declared.ConnectionState.TheVariants as state
+use Rattle.pdi_session.specs.declared.Phase.{Phase}
+use Rattle.pdi_session.specs.declared.Phase.TheVariants as phase
+use Rattle.end_for_callers.specs.declared.CallFault.{CallFault}
+use Rattle.end_for_callers.specs.declared.CallFault.TheVariants as fault
+use Rattle.end_for_callers.specs.declared.Outcome.{Outcome}
+use Rattle.end_for_callers.specs.declared.Outcome.TheVariants as outcome
+use Rattle.end_for_callers.specs.declared.StationFault.{StationFault}
+use Rattle.end_for_callers.specs.declared.StationFault.TheVariants as opening
+use Rattle.pdi_session.specs.declared.PutFault.{PutFault}
+use Rattle.pdi_session.specs.declared.PutFault.TheVariants as put
+use Rattle.pdi_session.specs.declared.InitFault.{InitFault}
+use Rattle.pdi_session.specs.declared.InitFault.TheVariants as init
+use Rattle.bekwidas.specs.declared.codes.TheConstants.{OK, UNSENT, BAD_SETTINGS, ROOMS, NO_MEMORY, TIME, TAKE_FIRST, SEND_FIRST, LOST, NOT_ESTABLISHED, FULL, RESERVED_KIND, TOO_LONG, NOT_INITIALISING}
+
+abbrev pub code_of_outcome : Outcome → ℤ
+code_of_outcome outcome.Whole = OK
+code_of_outcome outcome.Unsent = UNSENT
+code_of_outcome outcome.Lost = LOST
+
+abbrev pub code_of_put : PutFault → ℤ
+code_of_put put.NotEstablished = NOT_ESTABLISHED
+code_of_put put.Full = FULL
+code_of_put put.ReservedType = RESERVED_KIND
+code_of_put put.TooLong = TOO_LONG
+
+abbrev pub code_of_init : InitFault → ℤ
+code_of_init init.NotInitialising = NOT_INITIALISING
+code_of_init init.Full = FULL
+
+abbrev pub code_of_fault : CallFault → ℤ
+code_of_fault fault.Time = TIME
+code_of_fault fault.Lost = LOST
+code_of_fault fault.TakeFirst = TAKE_FIRST
+code_of_fault fault.SendFirst = SEND_FIRST
+code_of_fault (fault.Put why) = code_of_put why
+code_of_fault (fault.Init why) = code_of_init why
+
+abbrev pub code_of_opening : StationFault → ℤ
+code_of_opening opening.Time = TIME
+code_of_opening opening.BadConfig = BAD_SETTINGS
+code_of_opening opening.Rooms = ROOMS
+code_of_opening opening.Memory = NO_MEMORY
+
+abbrev pub code_of_answer : Result Outcome CallFault → ℤ
+code_of_answer (Ok o) = code_of_outcome o
+code_of_answer (Err f) = code_of_fault f
+
+abbrev pub code_of_state : ConnectionState → ℤ
+code_of_state state.Closed = pos 0
+code_of_state state.Down = pos 1
+code_of_state state.Start = pos 2
+code_of_state state.Up = pos 3
+code_of_state state.RetrReq = pos 4
+code_of_state state.RetrRun = pos 5
+
+abbrev pub code_of_phase : Phase → ℤ
+code_of_phase phase.Idle = pos 0
+code_of_phase phase.Checking = pos 1
+code_of_phase phase.Requesting = pos 2
+code_of_phase phase.AwaitCheck = pos 3
+code_of_phase phase.AwaitRequest = pos 4
+code_of_phase phase.Refused = pos 5
+code_of_phase phase.Initialising = pos 6
+code_of_phase phase.Established = pos 7
+code_of_phase phase.Ended = pos 8

@@ -1,0 +1,194 @@
+-- The sums over all connections add up to the datagrams.
+use Rattle.std.proofs.Common.{◌≡◌, ℕ, ◌+◌, ◌-◌, ◌^◌, ◌<◌, ◌==◌, ◌&&◌, Bool, true, false, cond, List, [], ◌∷◌, length, slice_index_or, refl, arith, Option, Some, None, is_none, reverse}
+use Rattle.std.proofs.lemmas.List.{length-reverse}
+use Rattle.std.specs.List.{sum_by, remove}
+use Rattle.std.proofs.lemmas.List.Sums.{sum_by_push, sum_by-remove, sum_by-set, sum_by-cons}
+use Rattle.std.proofs.lemmas.List.Quantifiers.{position-Some}
+use Rattle.capture.specs.declared.connections.Connection.{Connection}
+use Rattle.capture.specs.declared.connections.TheConstants.{CONNECTIONS}
+use Rattle.capture.specs.declared.direction.Direction.{Direction}
+use Rattle.capture.specs.declared.direction.Opening.{Opening}
+use Rattle.capture.specs.declared.direction.Place.{Place}
+use Rattle.capture.specs.declared.following.Totals.{Totals}
+use Rattle.capture.specs.declared.heard.Header.{Header}
+use Rattle.capture.specs.declared.heard.Heard.{Heard}
+use Rattle.capture.specs.declared.heard.Heard.TheVariants.{Pdu, NoSafe, NoRed}
+use Rattle.capture.specs.declared.line.Record.{Record}
+use Rattle.capture.specs.declared.window.Window.{Window}
+use Rattle.capture.specs.Numbers.{judged}
+use Rattle.capture.specs.Following.{followed, is_opened, opened_as, opened_with, opening_of}
+use Rattle.capture.specs.Connecting.{behind_of, connection_after, connection_damaged, damage_at, damage_noted, damaged_by, damaged_on, ends_of, found, is_from_low, is_source_low, known_place_of, left, left_at, opened, place_in, place_of, step, taken, taken_at}
+use Rattle.capture.specs.Whole.{counted_in, gone_with, totals_of, window_counted}
+use Rattle.capture.specs.Laws.{Came, Kept, SumsAddUp, datagrams_in, datagrams_of, kept_after, kept_along, none_came}
+use Rattle.capture.proofs.Sums.{one_noted}
+
+-- how many datagrams a connection has counted, and a list of them
+abbrev pub weight : Connection → ℕ
+weight c = datagrams_in c.from_low.together + datagrams_in c.from_high.together
+
+abbrev pub weights : List Connection → ℕ
+weights cs = sum_by weight cs
+
+opened_same : (b : Bool) (d : Direction) (o : Option Opening) → datagrams_in (opened_as b d o).together ≡ datagrams_in d.together
+opened_same true d o = refl
+opened_same false d o = refl
+
+one_followed : (d : Direction) (peer : Option ℕ) (place : Place) (seq : ℕ) (h : Header) → datagrams_in d.together < 2 ^ 64 - 1
+    → datagrams_in (followed d peer place seq h).together ≡ datagrams_in d.together + 1
+one_followed d peer place seq h room =
+    let same = opened_same (is_opened d (opening_of h) place.channel seq h.fingerprint) d (opening_of h) in
+    let w = (opened_with d place seq h).together in
+    let one =
+    one_noted (judged w seq h.fingerprint) w (record { number = seq; line = place.line; fingerprint = h.fingerprint })
+    (omega (arith, same))
+    in
+    omega (arith, same, one)
+
+either : (b : Bool) (x y : Connection) (n : ℕ) → weight x ≡ n → weight y ≡ n → weight (cond b x y) ≡ n
+either true x y n hx hy = hx
+either false x y n hx hy = hy
+
+one_more : (c : Connection) (line : ℕ) (r : Record) (seq : ℕ) (h : Header) → weight c < 2 ^ 64 - 1
+    → weight (connection_after c line r seq h) ≡ weight c + 1
+one_more c line r seq h room =
+    let low = one_followed c.from_low c.from_high.stamp (place_in c line r) seq h (omega arith) in
+    let high = one_followed c.from_high c.from_low.stamp (place_in c line r) seq h (omega arith) in
+    either (is_from_low c h) _ _ _ (omega (arith, low)) (omega (arith, high))
+
+window_sum : (t : Totals) (w : Window) → datagrams_of t + datagrams_in w < 2 ^ 64
+    → datagrams_of (window_counted t w) ≡ datagrams_of t + datagrams_in w
+window_sum t w room = omega arith
+
+counted_sum : (t : Totals) (c : Connection) → datagrams_of t + weight c < 2 ^ 64 → datagrams_of (counted_in t c) ≡ datagrams_of t + weight c
+counted_sum t c room =
+    let low = window_sum t c.from_low.together (omega arith) in
+    let high = window_sum (window_counted t c.from_low.together) c.from_high.together (omega (arith, low)) in
+    omega (arith, low, high)
+
+-- a connection that is forgotten counts among those that are gone
+none_left : (b : Bool) (cs : List Connection) (gone : Totals) → (b ≡ true → 0 < length cs) → datagrams_of gone + weights cs < 2 ^ 64
+    → datagrams_of (cond b (counted_in gone (slice_index_or cs 0 (opened 0 0))) gone) + weights (cond b (remove cs 0) cs)
+    ≡ datagrams_of gone + weights cs
+none_left true cs gone some room =
+    let less = sum_by-remove weight cs 0 (opened 0 0) (some refl) in
+    let more = counted_sum gone (slice_index_or cs 0 (opened 0 0)) (omega (arith, less)) in
+    omega (arith, less, more)
+none_left false cs gone some room = refl
+
+full : (cs : List Connection) → (length cs == CONNECTIONS) ≡ true → 0 < length cs
+full cs h = grind arith
+
+first_none : (b : Bool) (new : Connection) (cs : List Connection) (gone : Totals) → weight new ≡ 0
+    → datagrams_of (cond b (counted_in gone (slice_index_or cs 0 (opened 0 0))) gone) + weights (cond b (remove cs 0) cs)
+    ≡ datagrams_of gone + weights cs
+    → datagrams_of (cond (b && true) (counted_in gone (slice_index_or cs 0 (opened 0 0))) gone) + weights (cond b (remove cs 0) cs)
+    + weight new ≡ datagrams_of gone + weights cs
+first_none true new cs gone empty kept = omega (arith, kept, empty)
+first_none false new cs gone empty kept = omega (arith, kept, empty)
+
+-- what is taken out and what stays is what was there
+taken_left : (o : Option ℕ) (new : Connection) (cs : List Connection) (gone : Totals) → ((p : ℕ) → o ≡ Some p → p < length cs)
+    → weight new ≡ 0 → datagrams_of gone + weights cs < 2 ^ 64
+    → datagrams_of (cond ((length cs == CONNECTIONS) && is_none o) (counted_in gone (slice_index_or cs 0 (opened 0 0))) gone)
+    + weights (left_at o cs) + weight (taken_at o new cs) ≡ datagrams_of gone + weights cs
+taken_left (Some p) new cs gone within empty room =
+    let less = sum_by-remove weight cs p new (within p refl) in
+    elim (length cs == CONNECTIONS) as (λ b.
+    datagrams_of (cond (b && false) (counted_in gone (slice_index_or cs 0 (opened 0 0))) gone) + weights (remove cs p)
+    + weight (slice_index_or cs p new) ≡ datagrams_of gone + weights cs) [
+      | true ↦ omega (arith, less)
+      | false ↦ omega (arith, less)
+    ]
+taken_left None new cs gone within empty room =
+    let kept = none_left (length cs == CONNECTIONS) cs gone (full cs) room in
+    first_none (length cs == CONNECTIONS) new cs gone empty kept
+
+places : (cs : List Connection) (low high p : ℕ) → place_of low high cs ≡ Some p → p < length cs
+places cs low high p h = (position-Some _ cs p (opened 0 0) h).0
+
+one_stepped : (cs : List Connection) (line : ℕ) (r : Record) (seq : ℕ) (h : Header) (gone : Totals)
+    → datagrams_of gone + weights cs < 2 ^ 64 - 1
+    → datagrams_of (gone_with gone cs h) + weights (step cs line r seq h) ≡ datagrams_of gone + weights cs + 1
+one_stepped cs line r seq h gone room =
+    let low = (ends_of h.sender h.receiver).0 in
+    let high = (ends_of h.sender h.receiver).1 in
+    let same =
+    taken_left (found h.sender h.receiver cs) (opened low high) cs gone (places cs low high) refl (omega arith)
+    in
+    let c = taken h.sender h.receiver cs in
+    let one = one_more c line r seq h (omega (arith, same)) in
+    let push = sum_by_push weight (left h.sender h.receiver cs) (connection_after c line r seq h) in
+    omega (arith, same, one, push)
+
+-- a datagram that is no PDU changes no connection's numbers
+damaged_same : (b : Bool) (c : Connection) (place : ℕ) → weight (damaged_by b c place) ≡ weight c
+damaged_same true c place = refl
+damaged_same false c place = refl
+
+on_same : (o : Option ℕ) (c : Connection) (r : Record) → weight (damaged_on o c r) ≡ weight c
+on_same None c r = refl
+on_same (Some place) c r = damaged_same (is_source_low (slice_index_or c.routes place None) r) c place
+
+at_same : (o : Option ℕ) (cs : List Connection) (r : Record) → ((p : ℕ) → o ≡ Some p → p < length cs)
+    → weights (damage_at o cs r) ≡ weights cs
+at_same None cs r within = refl
+at_same (Some p) cs r within =
+    let some = within p refl in
+    let i = length cs - 1 - p in
+    let c = slice_index_or cs i (opened 0 0) in
+    let same = on_same (known_place_of c.routes r) c r in
+    let set = sum_by-set weight cs i (connection_damaged c r) (opened 0 0) (omega (arith, some)) in
+    omega (arith, same, set)
+
+behind_within : (cs : List Connection) (r : Record) (p : ℕ) → behind_of cs r ≡ Some p → p < length cs
+behind_within cs r p h =
+    let within = (position-Some _ (reverse cs) p (opened 0 0) h).0 in
+    let long = length-reverse cs in
+    omega (arith, within, long)
+
+noted_same : (cs : List Connection) (r : Record) → weights (damage_noted cs r) ≡ weights cs
+noted_same cs r = at_same (behind_of cs r) cs r (behind_within cs r)
+
+-- the sums over all
+pub totals_sum : (cs : List Connection) (gone : Totals) → datagrams_of gone + weights cs < 2 ^ 64
+    → datagrams_of (totals_of gone cs) ≡ datagrams_of gone + weights cs
+totals_sum [] gone room = omega arith
+totals_sum (c ∷ cs) gone room =
+    let more = sum_by-cons weight c cs in
+    let one = counted_sum gone c (omega (arith, more)) in
+    let rest = totals_sum cs (counted_in gone c) (omega (arith, more, one)) in
+    omega (arith, more, one, rest)
+
+-- all datagrams that were counted
+abbrev all_of : Kept → ℕ
+all_of k = datagrams_of k.gone + weights k.connections + k.damaged
+
+one_heard : (k : Kept) (line : ℕ) (r : Record) (x : Heard) → all_of k < 2 ^ 64 - 1
+    → all_of (kept_after k (record { line = line; from = r; heard = x })) ≡ all_of k + 1
+one_heard k line r (Pdu seq h) room =
+    let one = one_stepped k.connections line r seq h k.gone (omega arith) in
+    omega (arith, one)
+one_heard k line r (NoSafe seq fault) room = let same = noted_same k.connections r in omega (arith, same)
+one_heard k line r (NoRed fault) room = let same = noted_same k.connections r in omega (arith, same)
+
+pub all_along : (cs : List Came) (k : Kept) → all_of k + length cs < 2 ^ 64 → all_of (kept_along k cs) ≡ all_of k + length cs
+all_along [] k room = omega arith
+all_along (c ∷ cs) k room =
+    let one = one_heard k c.line c.from c.heard (omega arith) in
+    let rest = all_along cs (kept_after k c) (omega (arith, one)) in
+    omega (arith, one, rest)
+
+pub datagrams_along : (cs : List Came) (k : Kept) → k.datagrams + length cs < 2 ^ 64
+    → (kept_along k cs).datagrams ≡ k.datagrams + length cs
+datagrams_along [] k room = omega arith
+datagrams_along (c ∷ cs) k room =
+    let rest = datagrams_along cs (kept_after k c) (omega arith) in
+    omega (arith, rest)
+
+pub adds_up_law : SumsAddUp
+adds_up_law cs room =
+    let k = kept_along none_came cs in
+    let all = all_along cs none_came (omega arith) in
+    let totals = totals_sum k.connections k.gone (omega (arith, all)) in
+    let count = datagrams_along cs none_came (omega arith) in
+    (omega (arith, all, totals), omega (arith, count))

@@ -1,0 +1,174 @@
+//! A recording, frame by frame.
+
+ghost use Rattle.std.specs.Prelude.{◌≡◌, Some, ◌≤◌, ◌^◌, ◌<◌, length, OnOk, IfOk};
+ghost use Rattle.std.specs.Io.KnownBytes.{Appends};
+ghost use Rattle.capture.specs.Hearing.{heard_of};
+ghost use Rattle.capture.specs.Numbers.{counted};
+ghost use Rattle.capture.specs.Whole.{connections_after, remark_of};
+ghost use Rattle.recording.specs.Frames.{found_in};
+ghost use Rattle.capture_text.specs.FaultText.{frame_text, frame_word};
+ghost use Rattle.capture_text.specs.FrameSteps.{connections_seen, fault_seen, first_seen, frame_seen, payload_at, record_found, seen_found, seen_passed, seen_text, unreadable_seen, IsWithin};
+ghost use Rattle.capture_text.specs.Steps.{first_of, told_text};
+
+use crate::course::{Asked, Course, start, write_wanted};
+use capture::{Record, hear};
+use recording::{Found, Link, Passed, find_datagram};
+use std::io;
+use std::io::Write;
+
+/// Why the datagram of a frame is not read.
+#[derive(Clone, Copy, Debug, PartialEq, Eq)]
+pub enum FrameFault {
+    /// Its link is not known here.
+    Link,
+    /// It ends before what its headers say: the recorder cut it off.
+    Truncated,
+    /// It is a fragment of a datagram. Fragments are not joined.
+    Fragment,
+    /// A length in its headers does not fit the others.
+    Length,
+}
+
+/// What a frame carries.
+#[derive(Clone, Copy, Debug, PartialEq, Eq)]
+pub(crate) enum Seen {
+    /// A datagram, with where its payload begins and ends in the frame.
+    Datagram(Record, usize, usize),
+    /// Something else than UDP over IPv4.
+    Other,
+    /// A datagram that is not read.
+    Unread(FrameFault),
+}
+
+impl Course {
+    /// Takes a frame of a recording into account, and writes what is printed of its datagram; answers why it is not read,
+    /// where it is none. Frames count as lines do, those that carry something else too.
+    ///
+    /// # Errors
+    ///
+    /// An error is the writer's; what came before it stays written, and the frame is taken into account.
+    pub fn take_frame<W: Write>(
+        &mut self,
+        asked: &Asked,
+        link: Option<Link>,
+        time: u64,
+        octets: &[u8],
+        writer: &mut W,
+    ) -> io::Result<Option<FrameFault>>
+        requires { length octets.now < 2 ^ 32 }
+        ensures lines { self.new.lines ≡ counted self.old.lines 1 }
+        ensures first { self.new.first ≡ first_seen self.old.first (frame_seen link time octets.now) }
+        ensures unreadable { self.new.unreadable
+            ≡ unreadable_seen self.old.unreadable (frame_seen link time octets.now) }
+        ensures connections { self.new.following.connections.items
+            ≡ connections_seen asked.now.rule self.old.following.connections.items (counted self.old.lines 1) octets.now
+            (frame_seen link time octets.now) }
+        ensures fault { IfOk result (λ fault. fault ≡ fault_seen (frame_seen link time octets.now)) }
+        ensures written { OnOk result (Appends (W.contents writer.old) (W.contents writer.new)
+            (seen_text asked.now self.old.first self.old.following.connections.items (counted self.old.lines 1) octets.now
+            (frame_seen link time octets.now))) }
+    {
+        self.lines = self.lines.saturating_add(1);
+        match look(link, time, octets) {
+            Seen::Other => Ok(None),
+            Seen::Unread(fault) => {
+                self.unreadable = self.unreadable.saturating_add(1);
+                Ok(Some(fault))
+            }
+            Seen::Datagram(record, start, end) => {
+                self.take_datagram(asked, &record, &octets[start..end], writer)?;
+                Ok(None)
+            }
+        }
+    }
+
+    /// Takes a datagram into account, whose frame was counted.
+    fn take_datagram<W: Write>(
+        &mut self,
+        asked: &Asked,
+        record: &Record,
+        payload: &[u8],
+        writer: &mut W,
+    ) -> io::Result<()>
+        ensures lines { self.new.lines ≡ self.old.lines }
+        ensures unreadable { self.new.unreadable ≡ self.old.unreadable }
+        ensures first { self.new.first ≡ Some (first_of self.old.first «record».now.time) }
+        ensures connections { self.new.following.connections.items
+            ≡ connections_after self.old.following.connections.items self.old.lines «record».now
+            (heard_of asked.now.rule payload.now) }
+        ensures written { OnOk result (Appends (W.contents writer.old) (W.contents writer.new)
+            (told_text asked.now (first_of self.old.first «record».now.time) self.old.lines «record».now
+            (remark_of self.old.following.connections.items self.old.lines «record».now
+            (heard_of asked.now.rule payload.now)) payload.now)) }
+    {
+        let number = self.lines;
+        let heard = hear(payload, &asked.rule);
+        let remark = self.following.hear(number, record, &heard);
+        let first = start(self.first, record.time);
+        self.first = Some(first);
+        write_wanted(writer, asked, first, number, record, &remark, payload)
+    }
+}
+
+/// What a frame carries.
+fn look(link: Option<Link>, time: u64, octets: &[u8]) -> Seen
+    requires { length octets.now < 2 ^ 32 }
+    ensures seen { result ≡ frame_seen link time octets.now }
+    ensures within { IsWithin (length octets.now) result }
+{
+    match link {
+        None => Seen::Unread(FrameFault::Link),
+        Some(link) => match find_datagram(link, octets) {
+            Ok(found) => Seen::Datagram(record_of(time, &found), found.start, found.end),
+            Err(why) => pass(why),
+        },
+    }
+}
+
+fn record_of(time: u64, found: &Found) -> Record
+    requires { found.now.start ≤ found.now.end }
+    ensures { result ≡ record_found time found.now }
+{
+    Record {
+        time,
+        source: found.source,
+        destination: found.destination,
+        size: found.end - found.start,
+    }
+}
+
+fn pass(why: Passed) -> Seen
+    ensures seen { result ≡ seen_passed why }
+    ensures within { IsWithin 0 result }
+{
+    match why {
+        Passed::Other => Seen::Other,
+        Passed::Truncated => Seen::Unread(FrameFault::Truncated),
+        Passed::Fragment => Seen::Unread(FrameFault::Fragment),
+        Passed::Length => Seen::Unread(FrameFault::Length),
+    }
+}
+
+/// Writes why the datagram of a frame is not read.
+///
+/// # Errors
+///
+/// An error is the writer's; what came before it stays written.
+#[tactic(auto, unfolding(crate::specs::FaultText::frame_text))]
+pub fn write_frame_fault<W: Write>(writer: &mut W, number: u64, fault: FrameFault) -> io::Result<()>
+    ensures { OnOk result (Appends (W.contents writer.old) (W.contents writer.new) (frame_text number fault)) }
+{
+    let word = word_of(fault);
+    writeln!(writer, "frame {number}: unreadable: {word}")
+}
+
+fn word_of(fault: FrameFault) -> &'static str
+    ensures { result.now ≡ frame_word fault }
+{
+    match fault {
+        FrameFault::Link => "link",
+        FrameFault::Truncated => "truncated",
+        FrameFault::Fragment => "fragment",
+        FrameFault::Length => "length",
+    }
+}

@@ -1,0 +1,134 @@
+-- What is posted and what comes, by the lists that are told.
+use Rattle.std.proofs.Common.{◌≡◌, ℕ, ◌+◌, ◌≤◌, ◌^◌, ◌%◌, Bool, true, false, not, ◌&&◌, Option, Some, None, List, [], ◌∷◌, ◌++◌, length, cond, refl, sym, ap, ◌∙◌, subst, append_assoc, append-nil, arith}
+use Rattle.std.specs.Prelude.{option_map}
+use Rattle.std.proofs.lemmas.Bool.{false≢true}
+use Rattle.std.specs.List.{FoldsTo}
+use Rattle.pdi_session.specs.SessionStep.{Item}
+use Rattle.channels.specs.Told.{Sending, Sends, SendsOne, Told}
+use Rattle.end_for_callers.specs.Boxes.{Came, Incoming, Outgoing, Posted, takes_of, told_of}
+use Rattle.end_for_callers.specs.Queues.{fits, with_piece}
+use Rattle.end_for_callers.specs.Calls.{Does, StationValue, outbox_of}
+use Rattle.stack_end.specs.Datagrams.{sendings}
+use Rattle.stack_end.specs.Ends.{EndState}
+use Rattle.stack_end.specs.EndValue.{EndDoes, EndDoesAlone}
+
+-- Sendings of which so many failed: the count has moved by so many, and where none failed all are told.
+record Counted (a : Told) (xs : List Sending) (b : Told) : Type 0 where
+  failed : ℕ
+  few : failed ≤ length xs
+  count : b.failed_sends % 2 ^ 64 ≡ (a.failed_sends + failed) % 2 ^ 64
+  sent : failed ≡ 0 → b.sent ≡ option_map (λ ys. ys ++ xs) a.sent
+
+map-nil : (o : Option (List Sending)) → o ≡ option_map (λ ys. ys ++ []) o
+map-nil None = refl
+map-nil (Some ys) = ap Some (sym (append-nil ys))
+
+map-one : (o : Option (List Sending)) (x : Sending) (xs : List Sending) → option_map (λ ys. ys ++ xs) (option_map (λ ys. ys ++ x ∷ []) o) ≡ option_map (λ ys. ys ++ x ∷ xs) o
+map-one None x xs = refl
+map-one (Some ys) x xs = ap Some (append_assoc ys (x ∷ []) xs)
+
+counted-one : (a m b : Told) (x : Sending) (xs : List Sending) (went : Bool) → Sends went a x m → Counted m xs b → Counted a (x ∷ xs) b
+counted-one a m b x xs true h k =
+    record {
+      failed = k.failed;
+      few = omega (arith, k.few);
+      count = k.count ∙ ap (λ n. (n + k.failed) % 2 ^ 64) h.failed;
+      sent = λ none. k.sent none ∙ (ap (λ o. option_map (λ ys. ys ++ xs) o) h.sent ∙ map-one a.sent x xs);
+    }
+counted-one a m b x xs false h k =
+    record {
+      failed = k.failed + 1;
+      few = omega (arith, k.few);
+      count = let is : m.failed_sends ≡ (a.failed_sends + 1) % 2 ^ 64 = h.failed in omega (arith, k.count, is);
+      sent = λ none. absurd (omega (arith, none));
+    }
+
+counted-all : (a : Told) (xs : List Sending) (b : Told) → FoldsTo SendsOne a xs b → Counted a xs b
+counted-all a [] b e =
+    record {
+      failed = 0;
+      few = omega arith;
+      count = let same : b.failed_sends ≡ a.failed_sends = ap (λ t. t.failed_sends) (sym e) in omega (arith, same);
+      sent = λ _. ap (λ t. t.sent) (sym e) ∙ map-nil a.sent;
+    }
+counted-all a (x ∷ xs) b (m, (went, one), rest) = counted-one a m b x xs went one (counted-all m xs b rest)
+
+some-is : {X : Type 0} (x y : X) → Some x ≡ Some y → x ≡ y
+some-is x y e = cc
+
+pub posted : (o : Outgoing) (xs : List Sending) (p : Outgoing) → FoldsTo SendsOne (told_of o) xs (told_of p) → Posted o xs p
+posted o xs p h =
+    record {
+      each = h;
+      all = λ few same.
+          let k = counted-all (told_of o) xs (told_of p) h in
+          let none : k.failed ≡ 0 = omega (arith, few, same, k.few, k.count) in
+          some-is p.queue.waiting (o.queue.waiting ++ xs) (k.sent none);
+    }
+
+-- once one found no room none is added
+lost-adds : (n : Incoming) (items : List Item) (m : Incoming) → n.lost ≡ true → FoldsTo takes_of n items m → (m.lost ≡ true) × (m.queue.waiting ≡ n.queue.waiting)
+lost-adds n [] m lost e = (ap (λ k. k.lost) (sym e) ∙ lost, ap (λ k. k.queue.waiting) (sym e))
+lost-adds n (i ∷ items) m lost (mid, one, rest) =
+    let is : mid ≡ record n { lost = true } = one ∙ ap (λ l. cond (not l && fits (length i.1) n.queue) (record n { queue = with_piece i n.queue }) (record n { lost = true })) lost in
+    let later = lost-adds mid items m (ap (λ k. k.lost) is) rest in
+    (later.0, later.1 ∙ ap (λ k. k.queue.waiting) is)
+
+came-one : (n mid m : Incoming) (i : Item) (items : List Item) (room : Bool) → mid ≡ cond room (record n { queue = with_piece i n.queue }) (record n { lost = true }) → FoldsTo takes_of mid items m → Came mid items m → Came n (i ∷ items) m
+came-one n mid m i items true is rest k =
+    record {
+      added = i ∷ k.added;
+      waiting = k.waiting ∙ (ap (λ x. x.queue.waiting ++ k.added) is ∙ append_assoc n.queue.waiting (i ∷ []) k.added);
+      beginning = (k.beginning.0, ap (λ xs. i ∷ xs) k.beginning.1);
+      all = λ none. ap (λ xs. i ∷ xs) (k.all none);
+    }
+came-one n mid m i items false is rest k =
+    let later = lost-adds mid items m (ap (λ x. x.lost) is) rest in
+    record {
+      added = [];
+      waiting = later.1 ∙ (ap (λ x. x.queue.waiting) is ∙ sym (append-nil n.queue.waiting));
+      beginning = (i ∷ items, refl);
+      all = λ none. absurd (false≢true (sym none ∙ later.0));
+    }
+
+pub came : (n : Incoming) (items : List Item) (m : Incoming) → FoldsTo takes_of n items m → Came n items m
+came n [] m e =
+    record {
+      added = [];
+      waiting = ap (λ k. k.queue.waiting) (sym e) ∙ sym (append-nil n.queue.waiting);
+      beginning = ([], refl);
+      all = λ _. refl;
+    }
+came n (i ∷ items) m (mid, one, rest) = came-one n mid m i items (not n.lost && fits (length i.1) n.queue) one rest (came mid items m rest)
+
+pub came-none : (n : Incoming) → Came n [] n
+came-none n = came n [] n refl
+
+-- a call by its end
+pub does-all : (step : EndState → EndState) (s t : StationValue) → EndDoes told_of takes_of step s.end s.inbox t.end t.inbox → Does step s t
+does-all step s t h x stands =
+    let w = h x stands in
+    record {
+      stands = w.stands;
+      settings = w.settings;
+      made = w.sent.more;
+      makes = w.sent.grown;
+      datagrams = posted (outbox_of s) (sendings x.settings (length x.machine.made) w.sent.more) (outbox_of t) w.sent.sent;
+      taken = w.took.more;
+      takes = w.took.grown;
+      telegrams = came s.inbox w.took.more t.inbox w.took.handed;
+    }
+
+pub does-alone : (step : EndState → EndState) (s t : StationValue) → EndDoesAlone told_of step s.end t.end → t.inbox ≡ s.inbox → Does step s t
+does-alone step s t h same x stands =
+    let w = h x stands in
+    record {
+      stands = w.stands;
+      settings = w.settings;
+      made = w.sent.more;
+      makes = w.sent.grown;
+      datagrams = posted (outbox_of s) (sendings x.settings (length x.machine.made) w.sent.more) (outbox_of t) w.sent.sent;
+      taken = [];
+      takes = w.took_none ∙ sym (append-nil x.session.history.taken);
+      telegrams = subst (λ i. Came s.inbox [] i) (sym same) (came-none s.inbox);
+    }

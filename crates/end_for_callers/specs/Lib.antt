@@ -1,0 +1,4 @@
+pub mod Queues
+pub mod Pieces
+pub mod Boxes
+pub mod Calls

@@ -1,0 +1,158 @@
+use capture_text::Word;
+use rasta_words::{Following, Request, WordsFault, command};
+use safe_pdu::CodeLength;
+use settings_file::Word as Ends;
+use std::test::Fail;
+
+const HEARTBEAT: &str = "24000000000000001c004c18020000000100000065000000f40100000a00000005000000";
+
+const OWN_VALUE: &str = "01000000020000000300000004000000";
+
+#[test]
+fn accepts_the_words_of_show(rt: HostRuntime) -> Result<(), Fail> {
+    let lengths = [
+        ("0", CodeLength::Zero),
+        ("8", CodeLength::Eight),
+        ("16", CodeLength::Sixteen),
+    ];
+    for (word, code) in lengths {
+        let words = ["rasta", "show", "--code", word, HEARTBEAT];
+        let found = command(rt.alloc(), &words).map_err(|_| "refused")?;
+        assert_eq!(rt;
+            found,
+            Request::Show {
+                code,
+                iv: None,
+                hex: HEARTBEAT
+            }
+        );
+        let words = [
+            "rasta", "show", "--code", word, "--iv", OWN_VALUE, HEARTBEAT,
+        ];
+        let found = command(rt.alloc(), &words).map_err(|_| "refused")?;
+        assert_eq!(rt;
+            found,
+            Request::Show {
+                code,
+                iv: Some(OWN_VALUE),
+                hex: HEARTBEAT
+            }
+        );
+    }
+    Ok(())
+}
+
+#[test]
+fn accepts_the_words_of_md4(rt: HostRuntime) -> Result<(), Fail> {
+    for hex in ["empty", "616263"] {
+        let words = ["rasta", "md4", hex];
+        let found = command(rt.alloc(), &words).map_err(|_| "refused")?;
+        assert_eq!(rt; found, Request::Digest { hex });
+    }
+    Ok(())
+}
+
+// What `follow` takes where nothing is chosen, each choice, and choices that are none.
+#[test]
+fn accepts_the_words_of_follow(rt: HostRuntime) -> Result<(), Fail> {
+    let plain = Following {
+        code: CodeLength::Eight,
+        iv: None,
+        messages: false,
+        only: None,
+        t_max: 1800,
+        file: "night.tsv",
+    };
+    let words = ["rasta", "follow", "night.tsv"];
+    let found = command(rt.alloc(), &words).map_err(|_| "refused")?;
+    assert_eq!(rt; found, Request::Follow(plain));
+    let words = [
+        "rasta",
+        "follow",
+        "--messages",
+        "--code",
+        "16",
+        "--only",
+        "age",
+        "--t-max",
+        "900",
+        "--iv",
+        OWN_VALUE,
+        "-",
+    ];
+    let found = command(rt.alloc(), &words).map_err(|_| "refused")?;
+    assert_eq!(rt;
+        found,
+        Request::Follow(Following {
+            code: CodeLength::Sixteen,
+            iv: Some(OWN_VALUE),
+            messages: true,
+            only: Some(Word::Age),
+            t_max: 900,
+            file: "-",
+        })
+    );
+    for (choice, text) in [
+        ("--code", "9"),
+        ("--only", "lost"),
+        ("--t-max", "0"),
+        ("--t-max", "4294967296"),
+    ] {
+        let words = ["rasta", "follow", choice, text, "night.tsv"];
+        let refused = matches!(command(rt.alloc(), &words), Err(WordsFault::BadChoice));
+        assert!(rt; refused, "at {choice} {text}");
+    }
+    Ok(())
+}
+
+#[test]
+fn accepts_the_words_of_the_ends(rt: HostRuntime) -> Result<(), Fail> {
+    for (name, word) in [("il", Ends::Il), ("fe", Ends::Fe), ("pair", Ends::Pair)] {
+        for (text, turns) in [("1", 1), ("200", 200), ("1000000", 1_000_000)] {
+            let words = ["rasta", name, "ends.toml", "--turns", text];
+            let found = command(rt.alloc(), &words).map_err(|_| "refused")?;
+            let file = "ends.toml";
+            assert_eq!(rt; found, Request::Net { word, file, turns });
+        }
+        for text in ["0", "1000001", "4294967297", "", "1e3", "1,000", "-1"] {
+            let words = ["rasta", name, "ends.toml", "--turns", text];
+            assert!(rt; command(rt.alloc(), &words).is_err(), "at {text}");
+        }
+    }
+    let zero = ["rasta", "il", "ends.toml", "--turns", "0"];
+    assert!(rt; matches!(command(rt.alloc(), &zero), Err(WordsFault::BadTurns)));
+    Ok(())
+}
+
+// Words that are no command, or that ask for help, are refused by a fault of their own.
+#[test]
+fn refuses_other_words(rt: HostRuntime) -> Result<(), Fail> {
+    let nine = ["rasta", "show", "--code", "9", "00"];
+    assert!(rt; matches!(command(rt.alloc(), &nine), Err(WordsFault::BadCode)));
+    let lists: [&[&str]; 10] = [
+        &["rasta"],
+        &["rasta", "shew"],
+        &["rasta", "show", "00"],
+        &["rasta", "show", "--code", "0", "--vi", "00", "00"],
+        &["rasta", "show", "--code", "0"],
+        &["rasta", "md4"],
+        &["rasta", "md4", "00", "00"],
+        &["rasta", "il", "ends.toml"],
+        &["rasta", "fe", "--turns", "1"],
+        &["rasta", "pair", "--turns", "1", "il.toml", "fe.toml"],
+    ];
+    for words in lists {
+        assert!(rt; tells(command(rt.alloc(), words), true), "at {words:?}");
+    }
+    let help = ["rasta", "--help"];
+    assert!(rt; tells(command(rt.alloc(), &help), false));
+    Ok(())
+}
+
+/// Whether words are answered by a text alone: of a fault, on standard error, or of help.
+fn tells(answer: Result<Request, WordsFault>, is_fault: bool) -> bool {
+    match answer {
+        Err(WordsFault::Words(error)) => error.use_stderr() == is_fault,
+        _ => false,
+    }
+}

@@ -1,0 +1,14 @@
+-- The clock of a run: whole milliseconds since it began, which never fall.
+use Rattle.std.specs.Prelude.{ℕ, ◌-◌, ◌/◌, ◌^◌, max}
+
+-- the greatest time that an end may be handed, in milliseconds
+abbrev pub greatest_time : ℕ
+greatest_time = 2 ^ 62
+
+-- the milliseconds from one reading of the system's clock to another, both in nanoseconds
+abbrev pub millis_between : ℕ → ℕ → ℕ
+millis_between began seen = (seen - began) / 1_000_000
+
+-- the time at a reading; one below the last counts as the last
+abbrev pub time_at : ℕ → ℕ → ℕ → ℕ
+time_at began last seen = max (millis_between began seen) last
