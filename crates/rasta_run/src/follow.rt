@@ -17,6 +17,8 @@ use std::io::{Read, Write};
 ///
 /// It ends as done where each line was a datagram, as refused where one was none, the reader failed or memory was refused, and as
 /// failed where an output failed.
+// (its connections take 200 KiB of stack, which no other word is to need)
+#[inline(never)]
 pub fn run_follow<R: Read + Drop, O: Write, E: Write, A: Allocator + Copy>(
     alloc: A,
     reader: R,
