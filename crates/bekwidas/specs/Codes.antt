@@ -1,5 +1,6 @@
 -- The codes that a C caller sees, of what the stack answers.
-use Rattle.std.specs.Prelude.{ℤ, pos, Result, Ok, Err}
+use Rattle.std.specs.Prelude.{ℕ, ℤ, pos, ◌==◌, not, if◌then◌else◌, Result, Ok, Err}
+use Rattle.std.specs.Option.{option_map_or}
 use Rattle.safe_machine.specs.declared.ConnectionState.{ConnectionState}
 use Rattle.safe_machine.specs.declared.ConnectionState.TheVariants as state
 use Rattle.pdi_session.specs.declared.Phase.{Phase}
@@ -14,7 +15,11 @@ use Rattle.pdi_session.specs.declared.PutFault.{PutFault}
 use Rattle.pdi_session.specs.declared.PutFault.TheVariants as put
 use Rattle.pdi_session.specs.declared.InitFault.{InitFault}
 use Rattle.pdi_session.specs.declared.InitFault.TheVariants as init
-use Rattle.bekwidas.specs.declared.codes.TheConstants.{OK, UNSENT, BAD_SETTINGS, ROOMS, NO_MEMORY, TIME, TAKE_FIRST, SEND_FIRST, LOST, NOT_ESTABLISHED, FULL, RESERVED_KIND, TOO_LONG, NOT_INITIALISING}
+use Rattle.end_for_callers.specs.Calls.{refusal_to_open}
+use Rattle.end_for_callers.specs.Plain.{opening_of}
+use Rattle.end_for_callers.specs.declared.plain.PlainSettings.{PlainSettings}
+use Rattle.end_for_callers.specs.declared.plain.TheConstants.{PLAIN_SETTINGS_SIZE}
+use Rattle.bekwidas.specs.declared.codes.TheConstants.{OK, UNSENT, SETTINGS_SIZE, BAD_SETTINGS, ROOMS, NO_MEMORY, TIME, TAKE_FIRST, SEND_FIRST, LOST, NOT_ESTABLISHED, FULL, RESERVED_KIND, TOO_LONG, NOT_INITIALISING}
 
 abbrev pub code_of_outcome : Outcome → ℤ
 code_of_outcome outcome.Whole = OK
@@ -44,6 +49,12 @@ code_of_opening opening.Time = TIME
 code_of_opening opening.BadConfig = BAD_SETTINGS
 code_of_opening opening.Rooms = ROOMS
 code_of_opening opening.Memory = NO_MEMORY
+
+-- of an opening for which there is memory
+abbrev pub code_to_open : PlainSettings → ℕ → ℤ
+code_to_open s now =
+    if not (s.size == PLAIN_SETTINGS_SIZE) then SETTINGS_SIZE
+    else option_map_or (λ o. option_map_or code_of_opening (refusal_to_open o.side o.config o.rooms now) OK) (opening_of s) BAD_SETTINGS
 
 abbrev pub code_of_answer : Result Outcome CallFault → ℤ
 code_of_answer (Ok o) = code_of_outcome o

@@ -3,13 +3,13 @@ use base.Fml.{Fml, ftrue}
 use base.Stored.{Coded}
 use Rattle.std.specs.Coded.{coded_option}
 use denote.RawPtr.{Ptr}
-use Rattle.std.specs.Prelude.{ℕ, Option, Some, None}
-use Rattle.stack_end.specs.Ends.{opened_end}
+use Rattle.std.specs.Prelude.{◌≡◌, ℕ, Option, Some, None}
+use Rattle.stack_end.specs.Ends.{new_end}
 use Rattle.stack_end.specs.EndValue.{EndStands}
 use Rattle.end_for_callers.specs.Boxes.{told_of}
-use Rattle.bekwidas.specs.Read.{Reads}
-use Rattle.bekwidas.specs.declared.settings.Settings.{Settings}
-use Rattle.bekwidas.specs.declared.settings.Read.{Read}
+use Rattle.end_settings.specs.Configured.{side_of}
+use Rattle.end_for_callers.specs.Plain.{OpeningSeen, opening_of}
+use Rattle.end_for_callers.specs.declared.plain.PlainSettings.{PlainSettings}
 use Rattle.std.specs.Box.Ownership.{box_owns}
 use Rattle.std.specs.Global.{Global}
 use Rattle.std_heap.specs.contracts.GlobalAllocator.TheImpl.{ghosts}
@@ -32,7 +32,7 @@ Became R (Some s) None = ⊥
 Became R None after = ⊥
 
 -- it stands for an end that was just opened, with what the settings say
-abbrev pub IsOpened : Settings → ℕ → Option Held → Type 0
+abbrev pub IsOpened : PlainSettings → ℕ → Option Held → Type 0
 IsOpened settings now None = ⊥
 IsOpened settings now (Some s) =
-    (o : Read) × Reads settings o × EndStands told_of s.end (opened_end o.side o.config o.first_sn now)
+    (o : OpeningSeen) × (opening_of settings ≡ Some o) × EndStands told_of s.end (new_end (side_of o.side) o.config o.first_sn now)

@@ -1,23 +1,22 @@
 //! What C calls.
 
-ghost use Rattle.std.specs.Prelude.{◌≡◌, ◌⊎◌, drop, if◌then◌else◌, length, pos};
+ghost use Rattle.std.specs.Prelude.{◌≡◌, ◌≢◌, ◌⊎◌, IfErr, IfOk, MatchResult, Some, drop, if◌then◌else◌, length, pos};
 ghost use Rattle.pdi_session.specs.declared.Phase.{Phase};
 ghost use Rattle.stack_end.specs.Dialogue.{phase_in};
 ghost use Rattle.stack_end.specs.Ends.{Call, Close, Deliver, InitDone, Put, call, is_settled};
 ghost use Rattle.end_for_callers.specs.Calls.{Does, outbox_of};
-ghost use Rattle.bekwidas.specs.Codes.{code_of_phase, code_of_state};
+ghost use Rattle.bekwidas.specs.Codes.{code_of_phase, code_of_state, code_to_open};
 ghost use Rattle.bekwidas.specs.Held.{Became, IsOpened};
 ghost use Rattle.bekwidas.specs.Slots.{DoesWhole, IsRefusal, Same, NoDatagram, NoTelegram, QuietBefore, StaysDatagram, StaysTelegram, Tells, TookDatagram, TookTelegram};
 ghost use Rattle.bekwidas.specs.declared.exports.TheConstants.{VERSION};
-ghost use Rattle.bekwidas.specs.declared.codes.TheConstants.{NOTHING, NOT_OPEN, OK, TOO_SMALL, UNSENT};
+ghost use Rattle.bekwidas.specs.declared.codes.TheConstants.{ALREADY_OPEN, NO_MEMORY, NOTHING, NOT_OPEN, OK, TOO_SMALL, UNSENT};
 
 use crate::codes::{
     ALREADY_OPEN, BAD_SETTINGS, NO_MEMORY, NOT_OPEN, NOTHING, OK, SETTINGS_SIZE, TOO_SMALL,
     of_call, of_opening, of_phase, of_state, text_of,
 };
 use crate::handle::Slot;
-use crate::settings::{SIZE, Settings, opening};
-use end_for_callers::{Station, TooSmall};
+use end_for_callers::{PLAIN_SETTINGS_SIZE, PlainSettings, Station, TooSmall};
 use std::alloc::Global;
 
 /// Major, minor and patch.
@@ -46,34 +45,51 @@ pub extern "C" fn bekr_version() -> u32
 
 /// Opens an end.
 #[unsafe(no_mangle)]
-pub extern "C" fn bekr_open(alloc: Global, slot: &mut Slot, settings: &Settings, now: u64) -> i32
+pub extern "C" fn bekr_open(alloc: Global, slot: &mut Slot, settings: &PlainSettings, now: u64) -> i32
+    ensures full { slot.old.is_open ≡ 1 → result ≡ ALREADY_OPEN }
+    ensures answer { slot.old.is_open ≢ 1 → (result ≡ code_to_open settings.now now)
+        ⊎ ((code_to_open settings.now now ≡ OK) × (result ≡ NO_MEMORY)) }
     ensures opened { result ≡ OK → IsOpened settings.now now slot.new.handle.held }
+    ensures refused { result ≢ OK → slot.new ≡ slot.old }
 {
     if slot.is_open() {
         return ALREADY_OPEN;
     }
-    if settings.size != SIZE {
-        return SETTINGS_SIZE;
+    match opened(alloc, settings, now) {
+        Ok(station) => {
+            slot.put(station);
+            OK
+        }
+        Err(code) => code,
     }
-    let Some(read) = opening(settings) else {
-        return BAD_SETTINGS;
+}
+
+/// The station of an end that was opened by these settings, or the answer of the refusal.
+fn opened(alloc: Global, settings: &PlainSettings, now: u64) -> Result<Box<Station>, i32>
+    ensures answer { MatchResult result (λ _. code_to_open settings.now now ≡ OK) (λ code. (code ≡ code_to_open settings.now now)
+        ⊎ ((code_to_open settings.now now ≡ OK) × (code ≡ NO_MEMORY))) }
+    ensures stands { IfOk result (λ station. IsOpened settings.now now (Some station.value)) }
+    ensures refused { IfErr result (λ code. code ≢ OK) }
+{
+    if settings.size != PLAIN_SETTINGS_SIZE {
+        return Err(SETTINGS_SIZE);
+    }
+    let Some(opening) = settings.opening() else {
+        return Err(BAD_SETTINGS);
     };
     match Station::open(
         alloc,
-        &read.config,
-        read.side,
-        read.first_sn,
-        read.rooms,
+        &opening.config,
+        opening.side,
+        opening.first_sn,
+        opening.rooms,
         now,
     ) {
         Ok(station) => match Box::new(alloc, station) {
-            Ok(station) => {
-                slot.put(station);
-                OK
-            }
-            Err(_) => NO_MEMORY,
+            Ok(station) => Ok(station),
+            Err(_) => Err(NO_MEMORY),
         },
-        Err(fault) => of_opening(fault),
+        Err(fault) => Err(of_opening(fault)),
     }
 }
 

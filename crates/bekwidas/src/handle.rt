@@ -1,6 +1,6 @@
 //! What C holds of an end: a pointer to a station, of which it sees nothing.
 
-ghost use Rattle.std.specs.Prelude.{◌≡◌, ◌≢◌, IsSome, IfSome, IfNone, Some, None, Option};
+ghost use Rattle.std.specs.Prelude.{◌≡◌, ◌≢◌, ◌==◌, IsSome, IfSome, IfNone, Some, None, Option};
 ghost use Rattle.bekwidas.specs.Held.{Held, holds, held_coded};
 
 mod parts;
@@ -72,7 +72,9 @@ pub struct Slot {
 
 impl Slot {
     /// Whether it holds a station.
-    pub fn is_open(&self) -> bool {
+    pub fn is_open(&self) -> bool
+        ensures { result ≡ (self.now.is_open == 1) }
+    {
         self.is_open == 1
     }
 

@@ -9,4 +9,3 @@
 mod codes;
 mod exports;
 mod handle;
-mod settings;

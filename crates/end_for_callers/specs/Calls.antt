@@ -16,9 +16,8 @@ use Rattle.end_for_callers.specs.declared.StationFault.{StationFault}
 use Rattle.end_for_callers.specs.declared.StationFault.TheVariants as opening
 use Rattle.end_for_callers.specs.declared.station.Rooms.{Rooms}
 use Rattle.end_for_callers.specs.declared.TheConstants.{CALL_TELEGRAMS, PART_PDUS}
-use Rattle.end_settings.specs.EndSettings.{are_fit}
-use Rattle.end_settings.specs.Configured.{settings_of, side_of}
-use Rattle.end_settings.specs.declared.EndConfig.{EndConfig}
+use Rattle.end_settings.specs.EndSettings.{EndSettings, are_fit}
+use Rattle.end_settings.specs.Configured.{side_of}
 use Rattle.end_settings.specs.declared.Side.{Side}
 use Rattle.end_for_callers.specs.Boxes.{Came, Incoming, Outgoing, Posted, told_of}
 use Rattle.end_for_callers.specs.Queues.{Queued}
@@ -37,15 +36,15 @@ abbrev pub is_time : ℕ → StationValue → Bool
 is_time now s = nat_le s.time now && nat_le now (2 ^ 62)
 
 -- before a call there must be room for so many datagrams: on each channel what one part makes, and a retransmission of a full window
-abbrev pub reserve_of : EndConfig → ℕ
-reserve_of config = (config.n_sendmax + PART_PDUS) * config.channels
+abbrev pub reserve_of : EndSettings → ℕ
+reserve_of s = (s.connection.n_sendmax + PART_PDUS) * s.channels
 
 -- why no end is opened, but for want of memory
-abbrev pub refusal_to_open : Side → EndConfig → Rooms → ℕ → Option StationFault
-refusal_to_open side config rooms now =
+abbrev pub refusal_to_open : Side → EndSettings → Rooms → ℕ → Option StationFault
+refusal_to_open side settings rooms now =
     if not (nat_le now (2 ^ 62)) then Some opening.Time
-    else if not (are_fit (side_of side) (settings_of config)) then Some opening.BadConfig
-    else if not (nat_le CALL_TELEGRAMS rooms.telegrams && nat_le (reserve_of config) rooms.datagrams) then Some opening.Rooms
+    else if not (are_fit (side_of side) settings) then Some opening.BadConfig
+    else if not (nat_le CALL_TELEGRAMS rooms.telegrams && nat_le (reserve_of settings) rooms.datagrams) then Some opening.Rooms
     else None
 
 -- for so many pieces of this size

@@ -2,3 +2,4 @@ pub mod Queues
 pub mod Pieces
 pub mod Boxes
 pub mod Calls
+pub mod Plain

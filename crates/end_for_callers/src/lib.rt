@@ -6,10 +6,12 @@
 
 mod inbox;
 mod outbox;
+mod plain;
 mod queue;
 mod station;
 
 use pdi_session::{InitFault, PutFault};
+pub use plain::{Opening, PLAIN_SETTINGS_SIZE, PlainSettings};
 pub use queue::{Queue, QueueFull, TooSmall};
 pub use station::{Rooms, Station};
 

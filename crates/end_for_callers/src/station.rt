@@ -79,9 +79,9 @@ impl Station {
         rooms: Rooms,
         now: u64,
     ) -> Result<Station, StationFault>
-        ensures answer { MatchResult result (λ _. refusal_to_open side config.now rooms now ≡ None)
-            (λ f. (refusal_to_open side config.now rooms now ≡ Some f)
-            ⊎ ((refusal_to_open side config.now rooms now ≡ None) × (f ≡ fault.Memory))) }
+        ensures answer { MatchResult result (λ _. refusal_to_open side (settings_of config.now) rooms now ≡ None)
+            (λ f. (refusal_to_open side (settings_of config.now) rooms now ≡ Some f)
+            ⊎ ((refusal_to_open side (settings_of config.now) rooms now ≡ None) × (f ≡ fault.Memory))) }
         ensures stands { IfOk result (λ s. EndStands told_of s.end (opened_end side config.now first_sn now)) }
         // What it sends at once waits, and no telegram does.
         ensures sent { IfOk result (λ s. Posted (record { queue = new_queue rooms.datagrams (rooms.datagrams * RED_PDU_MAX); unsent = 0 })
@@ -388,7 +388,7 @@ fn has_room<T: Copy>(queue: &Queue<T>, count: usize, size: usize) -> bool
 
 /// For how many datagrams there must be room before a call: on each channel what one part makes, and a retransmission of a full window.
 fn reserve_of(config: &EndConfig) -> u64
-    ensures { result ≡ min (reserve_of config.now) (2 ^ 64 - 1) }
+    ensures { result ≡ min (reserve_of (settings_of config.now)) (2 ^ 64 - 1) }
 {
     config
         .n_sendmax

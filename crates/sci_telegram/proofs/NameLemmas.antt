@@ -23,7 +23,7 @@ character_plain c h = grind (arith, nat_tests)
 character_ascii : (c : ℕ) → is_character c ≡ true → c < 128
 character_ascii c h = grind (arith, nat_tests)
 
-HasCharacters-ascii : (text : List ℕ) → HasCharacters text → IsAscii text
+pub HasCharacters-ascii : (text : List ℕ) → HasCharacters text → IsAscii text
 HasCharacters-ascii [] h = IsAscii-nil
 HasCharacters-ascii (c ∷ cs) h =
     let parts = and_parts (is_character c) (list_all is_character cs) h in
@@ -56,7 +56,7 @@ name_size-append (c ∷ cs) rest h none =
     rw (plain, inner) (omega arith)
 
 -- the text is a name and is read as it, or has a fault
-read_cases : (text : List ℕ) → ((name_read text ≡ Ok text) × IsName text) ⊎ ((f : NameFault) × (name_read text ≡ Err f))
+pub read_cases : (text : List ℕ) → ((name_read text ≡ Ok text) × IsName text) ⊎ ((f : NameFault) × (name_read text ≡ Err f))
 read_cases text =
     elim (cases_Bool (length text == 0)) [
       | inl none ↦ inr (Empty, rw none refl)
@@ -69,7 +69,7 @@ read_cases text =
       ]
     ]
 
-name_read-ok : (text : List ℕ) → IsName text → name_read text ≡ Ok text
+pub name_read-ok : (text : List ℕ) → IsName text → name_read text ≡ Ok text
 name_read-ok text h =
     let some = ne_eqb (length text) 0 (omega (arith, h.0)) in
     let short = le-ltb NAME_LENGTH (length text) h.1 in

@@ -15,7 +15,8 @@ use end_settings::Side;
 pub use keys::{Expected, Found, Key, KeyFault, SettingsFault};
 use std::alloc::Global;
 pub use values::{Ends, Put, Settings};
-use whole::{pair, single};
+use whole::pair;
+pub use whole::single;
 
 /// The words of the program that read a settings file, each with the ends that its file is for.
 #[derive(Clone, Copy, Debug, PartialEq, Eq)]

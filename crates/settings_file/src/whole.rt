@@ -233,7 +233,11 @@ fn feeds(octets: &[u8]) -> usize
     octets.iter().filter(|octet| **octet == b'\n').count()
 }
 
-/// The settings in a file for one end.
+/// Reads the text of a settings file for one end, as `settings` does for the word of its side.
+///
+/// # Errors
+///
+/// Refused as by `settings`.
 pub fn single(alloc: Global, side: Side, text: &str) -> Result<Settings, SettingsFault>
     ensures ok { IfOk result (λ s. file_settings side text.now ≡ Ok (settings_seen s)) }
     ensures err { IfErr result (IsWrong (file_settings side text.now)) }
