@@ -1,5 +1,5 @@
 -- What a caller in C is told of a settings file.
-use Rattle.std.specs.Prelude.{◌≡◌, ◌≢◌, ℕ, ◌-◌, ◌==◌, false, is_ok, if◌then◌else◌, slice_get, List, Option, None, Some, Ok}
+use Rattle.std.specs.Prelude.{◌≡◌, ℕ, ◌-◌, ◌==◌, false, is_ok, if◌then◌else◌, slice_get, List, Option, None, Some, Ok}
 use Rattle.std.specs.Bool.{⊤}
 use Rattle.bekwidas_toml.specs.declared.Unread.{Unread}
 use Rattle.bekwidas_toml.specs.declared.Unread.TheVariants as unread

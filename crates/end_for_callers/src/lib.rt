@@ -9,6 +9,7 @@ mod outbox;
 mod plain;
 mod queue;
 mod station;
+mod writing;
 
 use pdi_session::{InitFault, PutFault};
 pub use plain::{Opening, PLAIN_SETTINGS_SIZE, PlainSettings};

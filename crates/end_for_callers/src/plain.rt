@@ -6,8 +6,6 @@ ghost use Rattle.end_settings.specs.Lists.{checksum_in, versions_in};
 ghost use Rattle.sci_telegram.specs.Tele.{owned_characters};
 ghost use Rattle.end_for_callers.specs.Plain.{config_with, front_of, lists_in, lists_seen, name_in, opening_of, opening_seen, side_in, text_size};
 
-mod writing;
-
 use crate::station::Rooms;
 use end_settings::{Checksum, EndConfig, Side, Versions};
 use octets::places::u32_at;

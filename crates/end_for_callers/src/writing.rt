@@ -5,7 +5,7 @@ ghost use Rattle.end_settings.specs.Configured.{settings_of};
 ghost use Rattle.sci_telegram.specs.Tele.{owned_characters};
 ghost use Rattle.end_for_callers.specs.Plain.{are_plain, name_in, opening_of, side_in, words_of};
 
-use super::{PLAIN_SETTINGS_SIZE, PlainSettings};
+use crate::plain::{PLAIN_SETTINGS_SIZE, PlainSettings};
 use crate::station::Rooms;
 use byteorder::{ByteOrder, LittleEndian};
 use end_settings::{EndConfig, Side};

@@ -1,7 +1,7 @@
 use Rattle.std.proofs.Common.{◌∙◌, ap, Some, List, ℕ}
 use Rattle.sci_telegram.specs.Names.{IsName}
 use Rattle.end_for_callers.proofs.Rows.{named_row}
-use Rattle.end_for_callers.proofs.plain.writing.named.Goals as goal
+use Rattle.end_for_callers.proofs.writing.named.Goals as goal
 
 pub returns : goal.returns
 returns c =
