@@ -7,7 +7,12 @@
 #include <string.h>
 #include <time.h>
 
-enum { RUNS = 20001, CALLS = 1000, PAYLOAD = 90 };
+enum { RUNS = 20001, CALLS = 1000, PAYLOAD = 90, BATCH = 8 };
+
+#ifdef ALIGNED
+extern void *__libc_memalign(size_t alignment, size_t size);
+void *malloc(size_t size) { return __libc_memalign(64, size); }
+#endif
 
 static bek_end il = BEK_END_INIT, fe = BEK_END_INIT;
 static double each[RUNS];
@@ -34,15 +39,41 @@ static int carry(bek_end *from, bek_end *to, uint64_t now) {
     return some;
 }
 
+/* Puts of one octet each, what they send on the first channel heard, and the copies on the second: the times of a batch each. */
+static double sendings[RUNS], arrivals[RUNS], copies[RUNS];
+
+static void batch(int run, uint64_t now) {
+    static uint8_t octets[2 * BATCH][BEK_DATAGRAM_MAX];
+    uint8_t payload[1] = {7}, taken[BEK_PAYLOAD_MAX];
+    uint32_t channels[2 * BATCH], channel;
+    size_t lengths[2 * BATCH], length;
+    uint16_t kind;
+    int at;
+    double start = nanoseconds();
+    for (at = 0; at < BATCH; at++) must(bek_put(&il, 0x0100, payload, sizeof payload, now) == BEK_OK);
+    sendings[run] = nanoseconds() - start;
+    for (at = 0; at < 2 * BATCH; at++) must(bek_next_datagram(&il, &channels[at], octets[at], sizeof octets[at], &lengths[at]) == BEK_OK);
+    for (channel = 1; channel <= 2; channel++) {
+        start = nanoseconds();
+        for (at = 0; at < 2 * BATCH; at++)
+            if (channels[at] == channel) must(bek_arrive(&fe, channel, octets[at], lengths[at], now) == BEK_OK);
+        (channel == 1 ? arrivals : copies)[run] = nanoseconds() - start;
+    }
+    for (at = 0; at < BATCH; at++) must(bek_take(&fe, &kind, taken, sizeof taken, &length) == BEK_OK);
+    while (carry(&fe, &il, now) | carry(&il, &fe, now)) {}
+}
+
 static int compare(const void *a, const void *b) {
     double x = *(const double *)a, y = *(const double *)b;
     return (x > y) - (x < y);
 }
 
-static void print(const char *what, int calls) {
-    qsort(each, RUNS, sizeof *each, compare);
-    printf("%s: least %.1f ns, median %.1f ns\n", what, each[0] / calls, each[RUNS / 2] / calls);
+static void print_of(double *times, const char *what, int calls) {
+    qsort(times, RUNS, sizeof *times, compare);
+    printf("%s: least %.1f ns, median %.1f ns\n", what, times[0] / calls, times[RUNS / 2] / calls);
 }
+
+static void print(const char *what, int calls) { print_of(each, what, calls); }
 
 int main(void) {
     uint8_t payload[PAYLOAD] = {0}, taken[BEK_PAYLOAD_MAX];
@@ -94,6 +125,10 @@ int main(void) {
         carry(&fe, &il, now);
     }
     print("a payload of 90 octets from put to take, over two channels, the clock's two calls in it", 1);
+    for (run = 0; run < RUNS; run++) batch(run, ++now);
+    print_of(sendings, "bek_put of one octet, on two channels", BATCH);
+    print_of(arrivals, "bek_arrive of its datagram", BATCH);
+    print_of(copies, "bek_arrive of the second copy", BATCH);
     bek_free(&il);
     bek_free(&fe);
     return 0;
