@@ -1,5 +1,5 @@
 -- The UDP datagram of an IP packet, by places.
-use Rattle.std.specs.Prelude.{ℕ, ◌+◌, ◌*◌, ◌/◌, ◌%◌, ◌==◌, ◌||◌, Bool, not, nat_eq, nat_lt, List, length, if◌then◌else◌, Option, Some, None, Result, Ok, Err}
+use Rattle.std.specs.Prelude.{ℕ, ◌+◌, ◌*◌, ◌/◌, ◌%◌, ◌==◌, ◌||◌, Bool, not, nat_eq, nat_lt, List, length, if◌then◌else◌, Option, Some, Result, Ok, Err}
 use Rattle.capture.specs.declared.line.Address.{Address}
 use Rattle.capture.specs.declared.line.Host.{Host}
 use Rattle.capture.specs.declared.line.Host.TheVariants.{V4, V6}
