@@ -9,6 +9,7 @@ use crate::line::Host;
 use std::net::Ipv6Addr;
 
 const POINT: u8 = 46;
+
 const COLON: u8 = 58;
 
 /// The latest second that a line may name: the year 33658.

@@ -1,8 +1,8 @@
 //! Lines and datagrams with values from outside.
 
 use capture::{
-    Address, Following, Header, Heard, Host, Judged, LineFault, PAYLOAD_ROOM, Record, Remark, Remarks,
-    Totals, Window, hear, judge, note, read_line, sum_up,
+    Address, Following, Header, Heard, Host, Judged, LineFault, PAYLOAD_ROOM, Record, Remark,
+    Remarks, Totals, Window, hear, judge, note, read_line, sum_up,
 };
 use red_pdu::RedFault;
 use safe_pdu::{CodeLength, CodeRule, Kind};

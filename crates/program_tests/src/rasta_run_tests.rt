@@ -77,7 +77,8 @@ fn tells_what_stops_a_capture(rt: HostRuntime) -> Result<(), Fail> {
         t_max: 1800,
         file: "-",
     };
-    let line: &[u8] = b"1.000000\t10.0.0.1\t1\t10.0.0.2\t2\t24000000000000001c004c18020000000100000065000000f40100000a00000005000000\n";
+    let line: &[u8] =
+        b"1.000000\t10.0.0.1\t1\t10.0.0.2\t2\t24000000000000001c004c18020000000100000065000000f40100000a00000005000000\n";
     let said = "0.000000 line 1 1->2 ch 1 red 0 HB sn 101 cs 500 ts 10 cts 5\n";
     let mut out = Vec::new(rt.alloc());
     let mut err = Vec::new(rt.alloc());

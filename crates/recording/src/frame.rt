@@ -66,6 +66,7 @@ pub enum Passed {
 }
 
 const IPV4: u16 = 0x0800;
+
 const IPV6: u16 = 0x86dd;
 
 /// A packet behind the header of its link.
@@ -292,7 +293,13 @@ fn read_ipv6(octets: &[u8], place: usize) -> Result<Found, Passed>
         return Err(Passed::Other);
     }
     let (source, destination) = (Host::V6(source), Host::V6(destination));
-    read_udp(octets, source, destination, upper.place, start + size as usize)
+    read_udp(
+        octets,
+        source,
+        destination,
+        upper.place,
+        start + size as usize,
+    )
 }
 
 /// What stands behind a header of an IPv6 packet.
