@@ -4,6 +4,7 @@
     tests/model/follow.py follow [--code 0|8|16] [--only WORD] [--t-max MS] FILE
 """
 import argparse
+import ipaddress
 import re
 import sys
 
@@ -248,8 +249,22 @@ def time(text):
 
 
 def address(host, port):
-    octets, port = [number(word, 255) for word in host.split('.')], number(port, 65535)
-    return None if len(octets) != 4 or None in octets or port is None else '%d.%d.%d.%d:%d' % (*octets, port)
+    seen, port = host_v6(host) if ':' in host else host_v4(host), number(port, 65535)
+    return None if seen is None or port is None else '%s:%d' % (seen, port)
+
+
+def host_v4(host):
+    octets = [number(word, 255) for word in host.split('.')]
+    return None if len(octets) != 4 or None in octets else '%d.%d.%d.%d' % tuple(octets)
+
+
+def host_v6(host):
+    """As RFC 5952 has it, in brackets; an IPv4 address in it stands with points."""
+    try:
+        seen = ipaddress.IPv6Address(host if re.fullmatch('[0-9a-fA-F:.]*', host) else '')
+    except ValueError:
+        return None
+    return '[%s]' % ('::ffff:%s' % seen.ipv4_mapped if seen.ipv4_mapped else seen.compressed)
 
 
 def read(raw):

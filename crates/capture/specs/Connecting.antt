@@ -4,6 +4,8 @@ use Rattle.std.specs.List.{position, remove}
 use Rattle.std.specs.Str.{bytes_eq}
 use Rattle.capture.specs.declared.heard.Header.{Header}
 use Rattle.capture.specs.declared.line.Address.{Address}
+use Rattle.capture.specs.declared.line.Host.{Host}
+use Rattle.capture.specs.declared.line.Host.TheVariants.{V4, V6}
 use Rattle.capture.specs.declared.line.Record.{Record}
 use Rattle.capture.specs.declared.direction.TheConstants.{CHANNELS}
 use Rattle.capture.specs.declared.direction.Direction.{Direction}
@@ -59,8 +61,13 @@ taken sender receiver cs =
 abbrev pub left : ℕ → ℕ → List Connection → List Connection
 left sender receiver cs = left_at (found sender receiver cs) cs
 
+abbrev pub is_same_host : Host → Host → Bool
+is_same_host (V4 a) (V4 b) = bytes_eq a b
+is_same_host (V6 a) (V6 b) = bytes_eq a b
+is_same_host _ _ = false
+
 abbrev pub is_same_address : Address → Address → Bool
-is_same_address a b = (a.port == b.port) && bytes_eq a.host b.host
+is_same_address a b = (a.port == b.port) && is_same_host a.host b.host
 
 -- the channel between these addresses, whichever is the source
 abbrev pub is_between : Route → Record → Bool

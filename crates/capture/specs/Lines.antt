@@ -3,6 +3,7 @@ use Rattle.std.specs.Prelude.{ℕ, ◌*◌, nat_lt, nat_eq, List, length, take, 
 use Rattle.hex.specs.Hex.{decode_of}
 use Rattle.hex.specs.declared.error.FromHexError.{FromHexError}
 use Rattle.capture.specs.declared.line.Address.{Address}
+use Rattle.capture.specs.declared.line.Host.{Host}
 use Rattle.capture.specs.declared.line.Record.{Record}
 use Rattle.capture.specs.declared.line.LineFault.{LineFault}
 use Rattle.capture.specs.declared.line.LineFault.TheVariants.{Fields, Time, Source, Destination, Long, Payload}
@@ -16,7 +17,7 @@ pub record Line : Type 0 where
   pub destination : Address
   pub payload : List ℕ
 
-abbrev pub address_with : Option (List ℕ) → Option ℕ → Option Address
+abbrev pub address_with : Option Host → Option ℕ → Option Address
 address_with (Some host) (Some port) = Some (record { host = host; port = port })
 address_with _ _ = None
 

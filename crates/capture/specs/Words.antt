@@ -3,6 +3,10 @@ use Rattle.std.specs.Prelude.{ℕ, ◌+◌, ◌*◌, ◌==◌, ◌&&◌, nat_le,
 use Rattle.std.specs.List.{list_all, position}
 use Rattle.std.specs.Char.{is_ascii_digit}
 use Rattle.std.specs.Str.Parse.{digits_value}
+use Rattle.std.specs.Net.Addr.{octets_of}
+use Rattle.std.specs.Net.Reader.{read_ipv6, whole_value}
+use Rattle.capture.specs.declared.line.Host.{Host}
+use Rattle.capture.specs.declared.line.Host.TheVariants.{V4, V6}
 
 -- where the first mark stands
 abbrev pub place_of : ℕ → List ℕ → Option ℕ
@@ -43,12 +47,32 @@ four (Some a) (Some b) (Some c) (Some d) = Some (a ∷ b ∷ c ∷ d ∷ [])
 four _ _ _ _ = None
 
 -- an IPv4 address: the four octets, parted by points
-abbrev pub host_of : List ℕ → Option (List ℕ)
-host_of text =
+abbrev pub four_of : List ℕ → Option (List ℕ)
+four_of text =
     if nat_eq (marks 46 text) 3 then
     four (number_of 255 (before 46 text)) (number_of 255 (before 46 (behind 46 text)))
     (number_of 255 (before 46 (behind 46 (behind 46 text)))) (number_of 255 (behind 46 (behind 46 (behind 46 text))))
     else None
+
+-- an IPv6 address: the sixteen octets of eight groups, as RFC 4291 has them (2.2); std's reader reads exactly its `IsColonHex`
+abbrev pub octets_with : Option (List ℕ) → Option (List ℕ)
+octets_with (Some groups) = Some (octets_of groups)
+octets_with None = None
+
+abbrev pub sixteen_of : List ℕ → Option (List ℕ)
+sixteen_of text = octets_with (whole_value (read_ipv6 text))
+
+abbrev pub as_v4 : Option (List ℕ) → Option Host
+as_v4 (Some octets) = Some (V4 octets)
+as_v4 None = None
+
+abbrev pub as_v6 : Option (List ℕ) → Option Host
+as_v6 (Some octets) = Some (V6 octets)
+as_v6 None = None
+
+-- a host: an IPv6 address where there is a colon, and else an IPv4 address
+abbrev pub host_of : List ℕ → Option Host
+host_of text = if nat_eq (marks 58 text) 0 then as_v4 (four_of text) else as_v6 (sixteen_of text)
 
 -- six to nine digits behind a point
 abbrev pub is_fraction : List ℕ → Bool

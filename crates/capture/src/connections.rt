@@ -3,11 +3,11 @@
 ghost use Rattle.std.specs.Prelude.{◌≡◌, ◌<◌, ◌≤◌, ◌++◌, ◌∷◌, [], length, IfSome, reverse};
 ghost use Rattle.arrayvec.specs.ArrayVec.{array_vec_len};
 ghost use Rattle.capture.specs.Whole.{forgets};
-ghost use Rattle.capture.specs.Connecting.{behind_of, channel_of, connection_after, connection_damaged, connection_remarks, damage_noted, damaged_at, ends_of, has_channel, is_between, is_from_low, is_held, is_known, is_same_address, is_source_low, known_place_of, left, opened, place_of, room_made, route_from, route_place_of, routes_after, step, step_remarks, taken};
+ghost use Rattle.capture.specs.Connecting.{behind_of, channel_of, connection_after, connection_damaged, connection_remarks, damage_noted, damaged_at, ends_of, has_channel, is_between, is_from_low, is_held, is_known, is_same_address, is_same_host, is_source_low, known_place_of, left, opened, place_of, room_made, route_from, route_place_of, routes_after, step, step_remarks, taken};
 
 use crate::direction::{CHANNELS, Direction, Place, Remarks, follow_pdu};
 use crate::heard::Header;
-use crate::line::{Address, Record};
+use crate::line::{Address, Host, Record};
 use arrayvec::ArrayVec;
 
 /// How many connections are followed at most.
@@ -314,5 +314,15 @@ fn count_damage(direction: &mut Direction, place: usize)
 fn is_same(one: Address, other: Address) -> bool
     ensures { result ≡ is_same_address one other }
 {
-    one.port == other.port && one.host.as_slice() == other.host.as_slice()
+    one.port == other.port && is_host(one.host, other.host)
+}
+
+fn is_host(one: Host, other: Host) -> bool
+    ensures { result ≡ is_same_host one other }
+{
+    match (one, other) {
+        (Host::V4(one), Host::V4(other)) => one.as_slice() == other.as_slice(),
+        (Host::V6(one), Host::V6(other)) => one.as_slice() == other.as_slice(),
+        _ => false,
+    }
 }

@@ -18,5 +18,5 @@ pub use direction::{CHANNELS, Direction, Opening, Place, Remarks, Tally, follow_
 pub use following::{Following, Remark, Totals, sum_up};
 pub use heard::{Header, Heard, hear};
 pub use law::sums_law;
-pub use line::{Address, Buffer, LineFault, PAYLOAD_ROOM, Record, read_line};
+pub use line::{Address, Buffer, Host, LineFault, PAYLOAD_ROOM, Record, read_line};
 pub use window::{Judged, KEPT, LATE_MAX, PASSED_MAX, Seen, Window, judge, note};

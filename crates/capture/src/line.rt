@@ -11,11 +11,20 @@ pub const PAYLOAD_ROOM: usize = 2048;
 /// Where the octets of a payload are put.
 pub type Buffer = [u8; PAYLOAD_ROOM];
 
+/// The address of a host, most significant octet first.
+#[derive(Clone, Copy, Debug, PartialEq, Eq)]
+pub enum Host {
+    /// The four octets of an IPv4 address.
+    V4([u8; 4]),
+    /// The sixteen octets of an IPv6 address.
+    V6([u8; 16]),
+}
+
 /// Where a datagram comes from or goes to.
 #[derive(Clone, Copy, Debug, PartialEq, Eq)]
 pub struct Address {
-    /// The four octets of the IPv4 address.
-    pub host: [u8; 4],
+    /// The address of the host.
+    pub host: Host,
     /// The UDP port.
     pub port: u16,
 }
@@ -40,7 +49,8 @@ pub enum LineFault {
     Fields,
     /// The time is not seconds, a point, and six to nine digits.
     Time,
-    /// The source is not four numbers of at most 255 parted by points, or its port none of at most 65,535.
+    /// The source is no IPv4 address (four numbers of at most 255 parted by points) and no IPv6 address (RFC 4291, 2.2), or
+    /// its port no number of at most 65,535.
     Source,
     /// The destination is none in the same way.
     Destination,

@@ -3,9 +3,14 @@
 ghost use Rattle.std.specs.Prelude.{◌≡◌, ◌≤◌, ◌^◌, ◌==◌, ◌<◌, length, IfSome, nat_eq, count_by};
 ghost use Rattle.std.specs.List.{list_all};
 ghost use Rattle.std.specs.Char.{is_ascii_digit};
-ghost use Rattle.capture.specs.Words.{before, behind, host_of, is_numeral, micros_of, number_of, place_of, time_of};
+ghost use Rattle.capture.specs.Words.{before, behind, four_of, host_of, is_numeral, micros_of, number_of, place_of, sixteen_of, time_of};
+
+use crate::line::Host;
+use std::net::Ipv6Addr;
 
 const POINT: u8 = 46;
+
+const COLON: u8 = 58;
 
 /// The latest second that a line may name: the year 33658.
 const SECONDS_MAX: u64 = 999_999_999_999;
@@ -65,9 +70,31 @@ fn micros(fraction: &[u8]) -> Option<u64>
     number(front, 999_999)
 }
 
-/// The four octets that four numbers of at most 255, parted by points, spell.
-pub(crate) fn host(text: &[u8]) -> Option<[u8; 4]>
+/// The host that a text spells: an IPv6 address where it has a colon, and else an IPv4 address.
+pub(crate) fn host(text: &[u8]) -> Option<Host>
     ensures { result ≡ host_of text.now }
+{
+    if are_parted_by(text, COLON, 0) {
+        let octets = four(text)?;
+        return Some(Host::V4(octets));
+    }
+    let octets = sixteen(text)?;
+    Some(Host::V6(octets))
+}
+
+/// The sixteen octets that a text spells as RFC 4291 has it (2.2).
+fn sixteen(text: &[u8]) -> Option<[u8; 16]>
+    ensures { result ≡ sixteen_of text.now }
+{
+    match Ipv6Addr::parse_ascii(text) {
+        Ok(address) => Some(address.octets()),
+        Err(_) => None,
+    }
+}
+
+/// The four octets that four numbers of at most 255, parted by points, spell.
+fn four(text: &[u8]) -> Option<[u8; 4]>
+    ensures { result ≡ four_of text.now }
 {
     if !are_parted_by(text, POINT, 3) {
         return None;

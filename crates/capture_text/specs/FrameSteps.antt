@@ -22,7 +22,7 @@ abbrev pub record_found : ℕ → Found → Record
 record_found time f =
     record { time = time; source = f.source; destination = f.destination; size = f.end - f.start }
 
--- what carries no UDP over IPv4 is passed over, the rest is told
+-- what carries no UDP over IP is passed over, the rest is told
 abbrev pub seen_passed : Passed → Seen
 seen_passed passed.Other = Other
 seen_passed passed.Truncated = Unread Truncated

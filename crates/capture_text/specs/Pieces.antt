@@ -1,8 +1,12 @@
 -- What lines are made of: times, addresses and channels.
 use Rattle.std.specs.Prelude.{ℕ, ◌+◌, ◌-◌, ◌/◌, ◌%◌, nat_lt, nat_eq, List, [], ◌∷◌, ◌++◌, codes, slice_index, if◌then◌else◌}
 use Rattle.std.specs.Fmt.{decimal}
+use Rattle.std.specs.Net.Addr.{segments_of}
+use Rattle.std.specs.Net.Text.{ipv6_text}
 use Rattle.pdu_text.specs.Lines.{joined}
 use Rattle.capture.specs.declared.line.Address.{Address}
+use Rattle.capture.specs.declared.line.Host.{Host}
+use Rattle.capture.specs.declared.line.Host.TheVariants.{V4, V6}
 
 -- the decimal digit of this weight: 1 of the last, 10 of the one before it
 abbrev pub digit : ℕ → ℕ → ℕ
@@ -20,13 +24,24 @@ unfoldable pub since_text : ℕ → ℕ → List ℕ
 since_text first time =
     if nat_lt time first then codes "-" ++ duration_text (first - time) else duration_text (time - first)
 
-abbrev pub octet_of : Address → ℕ → List ℕ
-octet_of a place = decimal (slice_index a.host place)
+abbrev pub octet_of : List ℕ → ℕ → List ℕ
+octet_of host place = decimal (slice_index host place)
 
-unfoldable pub address_text : Address → List ℕ
-address_text a =
+unfoldable pub v4_text : List ℕ → ℕ → List ℕ
+v4_text host port =
     joined
-    (octet_of a 0 ∷ codes "." ∷ octet_of a 1 ∷ codes "." ∷ octet_of a 2 ∷ codes "." ∷ octet_of a 3 ∷ codes ":" ∷ decimal a.port ∷ [])
+    (octet_of host 0 ∷ codes "." ∷ octet_of host 1 ∷ codes "." ∷ octet_of host 2 ∷ codes "." ∷ octet_of host 3 ∷ codes ":" ∷ decimal port ∷ [])
+
+-- an IPv6 address as RFC 5952 has it, in brackets
+unfoldable pub v6_text : List ℕ → ℕ → List ℕ
+v6_text host port = joined (codes "[" ∷ ipv6_text (segments_of host) ∷ codes "]:" ∷ decimal port ∷ [])
+
+abbrev pub host_text : Host → ℕ → List ℕ
+host_text (V4 host) port = v4_text host port
+host_text (V6 host) port = v6_text host port
+
+abbrev pub address_text : Address → List ℕ
+address_text a = host_text a.host a.port
 
 -- from one end to the other, by their identifiers
 unfoldable pub ends_text : ℕ → ℕ → List ℕ

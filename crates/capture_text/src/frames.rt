@@ -34,7 +34,7 @@ pub enum FrameFault {
 pub(crate) enum Seen {
     /// A datagram, with where its payload begins and ends in the frame.
     Datagram(Record, usize, usize),
-    /// Something else than UDP over IPv4.
+    /// Something else than UDP over IP.
     Other,
     /// A datagram that is not read.
     Unread(FrameFault),

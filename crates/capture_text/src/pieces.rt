@@ -2,11 +2,12 @@
 
 ghost use Rattle.std.specs.Prelude.{◌≡◌, OnOk};
 ghost use Rattle.std.specs.Io.KnownBytes.{Appends};
-ghost use Rattle.capture_text.specs.Pieces.{address_text, channel_text, duration_text, ends_text, since_text, six_digits};
+ghost use Rattle.capture_text.specs.Pieces.{address_text, channel_text, duration_text, ends_text, since_text, six_digits, v4_text, v6_text};
 
-use capture::Address;
+use capture::{Address, Host};
 use std::io;
 use std::io::Write;
+use std::net::Ipv6Addr;
 
 /// Writes a time as seconds since the first one.
 #[tactic(auto, unfolding(crate::specs::Pieces::since_text))]
@@ -45,16 +46,32 @@ fn spell(number: u64) -> [u8; 6]
     ]
 }
 
-#[tactic(auto, unfolding(crate::specs::Pieces::address_text))]
 pub(crate) fn write_address<W: Write>(writer: &mut W, address: Address) -> io::Result<()>
     ensures { OnOk result (Appends (W.contents writer.old) (W.contents writer.new) (address_text address)) }
 {
-    let port = address.port;
-    let a = address.host[0];
-    let b = address.host[1];
-    let c = address.host[2];
-    let d = address.host[3];
+    match address.host {
+        Host::V4(host) => write_v4(writer, host, address.port),
+        Host::V6(host) => write_v6(writer, host, address.port),
+    }
+}
+
+#[tactic(auto, unfolding(crate::specs::Pieces::v4_text))]
+fn write_v4<W: Write>(writer: &mut W, host: [u8; 4], port: u16) -> io::Result<()>
+    ensures { OnOk result (Appends (W.contents writer.old) (W.contents writer.new) (v4_text host port)) }
+{
+    let a = host[0];
+    let b = host[1];
+    let c = host[2];
+    let d = host[3];
     write!(writer, "{a}.{b}.{c}.{d}:{port}")
+}
+
+#[tactic(auto, unfolding(crate::specs::Pieces::v6_text))]
+fn write_v6<W: Write>(writer: &mut W, host: [u8; 16], port: u16) -> io::Result<()>
+    ensures { OnOk result (Appends (W.contents writer.old) (W.contents writer.new) (v6_text host port)) }
+{
+    let address = Ipv6Addr::from_octets(host);
+    write!(writer, "[{address}]:{port}")
 }
 
 /// Writes which end sends to which.

@@ -25,10 +25,14 @@ const LINE_MAX: u64 = 8192;
 pub enum FollowStatus {
     /// All lines were datagrams.
     Done,
-    /// A line was no datagram, the reader failed, or memory was refused.
-    Refused,
+    /// A line was no datagram, or a recording does not go on as one; each is told.
+    Unreadable,
+    /// Memory was refused.
+    Memory,
+    /// The reader failed.
+    File,
     /// An output failed.
-    Failed,
+    Output,
 }
 
 /// What stops a run.
@@ -43,7 +47,7 @@ enum Stop {
 
 /// Follows the capture that a reader holds: a recording (pcap or pcapng) where its first octets are those of one, and else
 /// lines of text. The lines of its datagrams and the sums go to `out`, what is no datagram to `err`. What was read is
-/// written before more is waited for.
+/// written before more is waited for. What stops a run before the end of its capture is its caller's to tell.
 pub fn run<R: Read + Drop, O: Write, E: Write, A: Allocator + Copy>(
     alloc: A,
     reader: R,
@@ -53,17 +57,11 @@ pub fn run<R: Read + Drop, O: Write, E: Write, A: Allocator + Copy>(
 ) -> FollowStatus {
     match ran(alloc, reader, asked, out, err) {
         Ok(0) => FollowStatus::Done,
-        Ok(_) => FollowStatus::Refused,
-        Err(Stop::Output) => FollowStatus::Failed,
-        Err(Stop::Memory) => refuse(err, "fault: memory"),
-        Err(Stop::File) => refuse(err, "fault: file"),
+        Ok(_) => FollowStatus::Unreadable,
+        Err(Stop::Memory) => FollowStatus::Memory,
+        Err(Stop::File) => FollowStatus::File,
+        Err(Stop::Output) => FollowStatus::Output,
     }
-}
-
-fn refuse<E: Write>(err: &mut E, why: &str) -> FollowStatus {
-    // Where this output fails too, the status alone tells.
-    let _ = writeln!(err, "{why}");
-    FollowStatus::Refused
 }
 
 /// Follows the capture, and answers how many lines were no datagrams.

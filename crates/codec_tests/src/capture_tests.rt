@@ -1,8 +1,8 @@
 //! Lines and datagrams with values from outside.
 
 use capture::{
-    Address, Following, Header, Heard, Judged, LineFault, PAYLOAD_ROOM, Record, Remark, Remarks,
-    Totals, Window, hear, judge, note, read_line, sum_up,
+    Address, Following, Header, Heard, Host, Judged, LineFault, PAYLOAD_ROOM, Record, Remark,
+    Remarks, Totals, Window, hear, judge, note, read_line, sum_up,
 };
 use red_pdu::RedFault;
 use safe_pdu::{CodeLength, CodeRule, Kind};
@@ -18,11 +18,11 @@ fn reads_a_heartbeat(rt: HostRuntime) {
     let wanted = Record {
         time: 1_700_000_000_123_456,
         source: Address {
-            host: [10, 0, 0, 1],
+            host: Host::V4([10, 0, 0, 1]),
             port: 8001,
         },
         destination: Address {
-            host: [192, 168, 7, 255],
+            host: Host::V4([192, 168, 7, 255]),
             port: 65535,
         },
         size: 36,
@@ -78,11 +78,11 @@ fn names_what_is_wrong(rt: HostRuntime) {
 /// A datagram on a channel, from one end or from the other.
 fn record(time: u64, channel: u8, back: bool) -> Record {
     let near = Address {
-        host: [10, 0, channel, 1],
+        host: Host::V4([10, 0, channel, 1]),
         port: 8001,
     };
     let far = Address {
-        host: [10, 0, channel, 2],
+        host: Host::V4([10, 0, channel, 2]),
         port: 8002,
     };
     let (source, destination) = if back { (far, near) } else { (near, far) };

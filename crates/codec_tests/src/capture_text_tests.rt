@@ -284,7 +284,7 @@ sum all datagrams 2 PDUs 1 missing 0 repeats 0 late 0 differs 0 stale 0 damaged 
         &rt,
         lines.as_slice(),
         &asked,
-        FollowStatus::Refused,
+        FollowStatus::Unreadable,
         wanted,
         fault,
     )

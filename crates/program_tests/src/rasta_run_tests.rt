@@ -1,8 +1,10 @@
-use rasta_run::{run, run_words};
+use rasta_run::{run, run_follow, run_words};
 use rasta_status::{Fault, Status};
+use rasta_words::Following;
+use safe_pdu::CodeLength;
 use std::env::{Env, FillError};
 use std::io;
-use std::io::{ErrorKind, Write};
+use std::io::{ErrorKind, Read, Write};
 use std::test::Fail;
 
 const HEARTBEAT: &str = "24000000000000001c004c18020000000100000065000000f40100000a00000005000000";
@@ -50,6 +52,45 @@ fn tells_a_failed_output(rt: HostRuntime) -> Result<(), Fail> {
         Status::WrongWords
     );
     assert!(rt; out.is_empty());
+    Ok(())
+}
+
+/// A reader that fails.
+#[derive(Drop)]
+struct Broken;
+
+impl Read for Broken {
+    fn read(&mut self, _octets: &mut [u8]) -> io::Result<usize> {
+        Err(io::Error::from(ErrorKind::TimedOut))
+    }
+}
+
+// A capture that can't be read to its end is a fault of the file, behind what was read; one that can't be printed is one of the
+// output.
+#[test]
+fn tells_what_stops_a_capture(rt: HostRuntime) -> Result<(), Fail> {
+    let following = Following {
+        code: CodeLength::Zero,
+        iv: None,
+        messages: false,
+        only: None,
+        t_max: 1800,
+        file: "-",
+    };
+    let line: &[u8] =
+        b"1.000000\t10.0.0.1\t1\t10.0.0.2\t2\t24000000000000001c004c18020000000100000065000000f40100000a00000005000000\n";
+    let said = "0.000000 line 1 1->2 ch 1 red 0 HB sn 101 cs 500 ts 10 cts 5\n";
+    let mut out = Vec::new(rt.alloc());
+    let mut err = Vec::new(rt.alloc());
+    let reader = Read::chain(line, Broken);
+    let ended = run_follow(rt.alloc(), reader, &following, &mut out, &mut err);
+    assert_eq!(rt; ended, Status::Refused);
+    assert_eq!(rt; out.as_slice(), said.as_bytes());
+    assert_eq!(rt; err.as_slice(), b"fault: file\n".as_slice());
+    err.clear();
+    let ended = run_follow(rt.alloc(), line, &following, &mut Closed, &mut err);
+    assert_eq!(rt; ended, Status::Failed);
+    assert_eq!(rt; err.as_slice(), b"fault: output\n".as_slice());
     Ok(())
 }
 

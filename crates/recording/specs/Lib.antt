@@ -1,4 +1,5 @@
 pub mod Places
+pub mod Packets
 pub mod Frames
 pub mod Times
 pub mod Files

@@ -1,11 +1,12 @@
 //! A frame of a recording, and the UDP datagram in it: Ethernet with VLAN tags (IEEE 802.3, 802.1Q), the cooked headers of
-//! Linux, raw IP and loopback; IPv4 (RFC 791) and UDP (RFC 768).
+//! Linux, raw IP and loopback; IPv4 (RFC 791), IPv6 (RFC 8200) and UDP (RFC 768).
 
 ghost use Rattle.std.specs.Prelude.{◌≡◌, ◌≤◌, ◌<◌, ◌^◌, ◌+◌, length, IfOk, IfSome};
-ghost use Rattle.recording.specs.Frames.{behind_tag, family_kind, found_in, in_ipv4, in_udp, is_fragment, is_tag, kind_at, link_of, loopback_at, packet_of, raw_at, tagged, udp_between, version_kind};
+ghost use Rattle.recording.specs.Frames.{behind_tag, family_kind, found_in, in_packet, is_family, is_tag, kind_at, link_of, loopback_at, packet_of, raw_at, tagged, version_kind};
+ghost use Rattle.recording.specs.Packets.{behind_fragment, behind_header, behind_options, in_ipv4, in_ipv6, in_udp, is_fragment, is_passed, is_piece, udp_between, upper_of};
 
-use crate::places::{big, four, octet};
-use capture::Address;
+use crate::places::{big, four, octet, sixteen};
+use capture::{Address, Host};
 
 /// How a frame begins.
 #[derive(Clone, Copy, Debug, PartialEq, Eq)]
@@ -56,7 +57,7 @@ pub struct Found {
 pub enum Passed {
     /// It ends before what its headers say.
     Truncated,
-    /// It carries something else than UDP over IPv4.
+    /// It carries something else than UDP over IP, or has more than five headers before it.
     Other,
     /// It is a fragment of a datagram. Fragments are not joined.
     Fragment,
@@ -65,6 +66,8 @@ pub enum Passed {
 }
 
 const IPV4: u16 = 0x0800;
+
+const IPV6: u16 = 0x86dd;
 
 /// A packet behind the header of its link.
 #[derive(Clone, Copy, Debug, PartialEq, Eq)]
@@ -88,13 +91,20 @@ pub fn find_datagram(link: Link, octets: &[u8]) -> Result<Found, Passed>
 {
     match find_packet(link, octets) {
         None => Err(Passed::Truncated),
-        Some(packet) => {
-            if packet.kind == IPV4 {
-                read_ipv4(octets, packet.place)
-            } else {
-                Err(Passed::Other)
-            }
-        }
+        Some(packet) => read_packet(octets, packet),
+    }
+}
+
+fn read_packet(octets: &[u8], packet: Packet) -> Result<Found, Passed>
+    requires near { packet.place < 2 ^ 33 }
+    ensures found { result ≡ in_packet octets.now packet }
+    ensures fits { IfOk result (λ found. found.end ≤ length octets.now) }
+    ensures order { IfOk result (λ found. found.start ≤ found.end) }
+{
+    match packet.kind {
+        IPV4 => read_ipv4(octets, packet.place),
+        IPV6 => read_ipv6(octets, packet.place),
+        _ => Err(Passed::Other),
     }
 }
 
@@ -165,7 +175,7 @@ fn of_version(version: u8) -> u16
 {
     match version {
         4 => IPV4,
-        6 => 0x86dd,
+        6 => IPV6,
         _ => 0,
     }
 }
@@ -184,11 +194,21 @@ fn loopback(octets: &[u8]) -> Option<Packet>
 fn of_family(high: u16, low: u16) -> u16
     ensures { result ≡ family_kind high low }
 {
-    if high == 0 && low == 2 || high == 0x0200 && low == 0 {
+    if stands(high, low, 2) {
         IPV4
+    } else if stands(high, low, 24) || stands(high, low, 28) || stands(high, low, 30) {
+        IPV6
     } else {
         0
     }
+}
+
+/// Whether a family stands in four octets, in either order.
+fn stands(high: u16, low: u16, family: u16) -> bool
+    requires { family < 256 }
+    ensures { result ≡ is_family high low family }
+{
+    high == 0 && low == family || high == family * 256 && low == 0
 }
 
 /// Reads the IPv4 packet at a place.
@@ -228,8 +248,8 @@ fn read_ipv4(octets: &[u8], place: usize) -> Result<Found, Passed>
     }
     read_udp(
         octets,
-        source,
-        destination,
+        Host::V4(source),
+        Host::V4(destination),
         place + header,
         place + total as usize,
     )
@@ -242,11 +262,148 @@ fn has_parts(flags: u16) -> bool
     flags % 0x4000 != 0
 }
 
+/// Reads the IPv6 packet at a place.
+fn read_ipv6(octets: &[u8], place: usize) -> Result<Found, Passed>
+    requires near { place < 2 ^ 33 }
+    ensures found { result ≡ in_ipv6 octets.now place }
+    ensures fits { IfOk result (λ found. found.end ≤ length octets.now) }
+    ensures order { IfOk result (λ found. found.start ≤ found.end) }
+{
+    let Some(first) = octet(octets, place) else {
+        return Err(Passed::Truncated);
+    };
+    let Some(size) = big(octets, place + 4) else {
+        return Err(Passed::Truncated);
+    };
+    let Some(kind) = octet(octets, place + 6) else {
+        return Err(Passed::Truncated);
+    };
+    let Some(source) = sixteen(octets, place + 8) else {
+        return Err(Passed::Truncated);
+    };
+    let Some(destination) = sixteen(octets, place + 24) else {
+        return Err(Passed::Truncated);
+    };
+    if first / 16 != 6 {
+        return Err(Passed::Length);
+    }
+    let start = place + 40;
+    let upper = find_upper(octets, Upper { kind, place: start })?;
+    if upper.kind != UDP {
+        return Err(Passed::Other);
+    }
+    let (source, destination) = (Host::V6(source), Host::V6(destination));
+    read_udp(
+        octets,
+        source,
+        destination,
+        upper.place,
+        start + size as usize,
+    )
+}
+
+/// What stands behind a header of an IPv6 packet.
+#[derive(Clone, Copy, Debug, PartialEq, Eq)]
+pub(crate) struct Upper {
+    /// Its number, as in the field *next header*.
+    pub kind: u8,
+    /// Where it begins in the frame.
+    pub place: usize,
+}
+
+const UDP: u8 = 17;
+
+/// What stands behind up to five headers, of which a packet has at most so many (RFC 8200, 4.1).
+fn find_upper(octets: &[u8], first: Upper) -> Result<Upper, Passed>
+    requires near { first.place < 2 ^ 33 + 2 ^ 12 }
+    ensures upper { result ≡ upper_of octets.now first }
+    ensures near { IfOk result (λ upper. upper.place < 2 ^ 33 + 2 ^ 14) }
+{
+    let second = pass_header(octets, first)?;
+    let third = pass_header(octets, second)?;
+    let fourth = pass_header(octets, third)?;
+    let fifth = pass_header(octets, fourth)?;
+    pass_header(octets, fifth)
+}
+
+/// What stands behind a header, or that itself where it is none that is passed over.
+fn pass_header(octets: &[u8], upper: Upper) -> Result<Upper, Passed>
+    requires near { upper.place < 2 ^ 34 }
+    ensures upper { result ≡ behind_header octets.now upper }
+    ensures near { IfOk result (λ next. next.place ≤ upper.place + 2048) }
+{
+    if is_option(upper.kind) {
+        pass_options(octets, upper.place)
+    } else if upper.kind == FRAGMENT {
+        pass_fragment(octets, upper.place)
+    } else {
+        Ok(upper)
+    }
+}
+
+const FRAGMENT: u8 = 44;
+
+/// Whether a header is passed over: options hop by hop, a route, options for the destination.
+fn is_option(kind: u8) -> bool
+    ensures { result ≡ is_passed kind }
+{
+    kind == 0 || kind == 43 || kind == 60
+}
+
+/// What stands behind options: they tell their length in eights of octets, the first not counted.
+fn pass_options(octets: &[u8], place: usize) -> Result<Upper, Passed>
+    requires near { place < 2 ^ 34 }
+    ensures upper { result ≡ behind_options octets.now place }
+    ensures near { IfOk result (λ next. next.place ≤ place + 2048) }
+{
+    let Some(kind) = octet(octets, place) else {
+        return Err(Passed::Truncated);
+    };
+    let Some(eights) = octet(octets, place + 1) else {
+        return Err(Passed::Truncated);
+    };
+    Ok(Upper {
+        kind,
+        place: place + 8 + eights as usize * 8,
+    })
+}
+
+/// What stands behind the header of a fragment that is the whole of its packet (RFC 6946).
+fn pass_fragment(octets: &[u8], place: usize) -> Result<Upper, Passed>
+    requires near { place < 2 ^ 34 }
+    ensures upper { result ≡ behind_fragment octets.now place }
+    ensures near { IfOk result (λ next. next.place ≤ place + 2048) }
+{
+    let Some(kind) = octet(octets, place) else {
+        return Err(Passed::Truncated);
+    };
+    let Some(part) = big(octets, place + 2) else {
+        return Err(Passed::Truncated);
+    };
+    if !is_part(part) {
+        return Ok(Upper {
+            kind,
+            place: place + 8,
+        });
+    }
+    if kind == UDP || is_option(kind) {
+        return Err(Passed::Fragment);
+    }
+    Err(Passed::Other)
+}
+
+/// Whether a fragment is one of several: more follow, or it does not begin at the front.
+fn is_part(part: u16) -> bool
+    ensures { result ≡ is_piece part }
+{
+    part / 8 != 0 || part % 2 == 1
+}
+
 /// Reads the UDP datagram between two places.
 fn read_udp(
     octets: &[u8],
-    source: [u8; 4],
-    destination: [u8; 4],
+    source: Host,
+    destination: Host,
     place: usize,
     end: usize,
 ) -> Result<Found, Passed>

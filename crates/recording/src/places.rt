@@ -1,7 +1,7 @@
 //! Numbers at places in octets, where there are enough of them.
 
 ghost use Rattle.std.specs.Prelude.{◌≡◌, ◌≤◌, ◌+◌, length, IfSome};
-ghost use Rattle.recording.specs.Places.{big_at, four_at, long_at, octet_at, short_at};
+ghost use Rattle.recording.specs.Places.{big_at, four_at, long_at, octet_at, short_at, sixteen_at};
 
 use byteorder::{BigEndian, ByteOrder, LittleEndian};
 
@@ -38,6 +38,18 @@ pub(crate) fn four(octets: &[u8], place: usize) -> Option<[u8; 4]>
         ]);
     }
     None
+}
+
+/// The sixteen octets from a place on.
+pub(crate) fn sixteen(octets: &[u8], place: usize) -> Option<[u8; 16]>
+    ensures { result ≡ sixteen_at place octets.now }
+{
+    if octets.len() < 16 || place > octets.len() - 16 {
+        return None;
+    }
+    let mut found = [0; 16];
+    found.copy_from_slice(&octets[place..place + 16]);
+    Some(found)
 }
 
 /// The number in the two octets from a place on, in either order.
