@@ -152,7 +152,10 @@ fn put(pair: &mut Pair) -> Result<(), ApplyFault> {
     pair.apply(&Event {
         side: Side::Interlocking,
         time: 10,
-        doing: Doing::Call(Call::Put { kind, payload: &[7] }),
+        doing: Doing::Call(Call::Put {
+            kind,
+            payload: &[7],
+        }),
     })
 }
 

@@ -15,15 +15,10 @@ use std::io::{Read, Write};
 /// Runs `follow` over the capture that a reader holds. The lines of its datagrams and the sums go to `out`, lines that are no
 /// datagrams to `err`. A text for the initial value that is none is `fault: hex`.
 ///
-<<<<<<< HEAD
-/// It ends as done where each line was a datagram, as refused where one was none, the reader failed or memory was refused, and as
-/// failed where an output failed.
-// (its connections take 200 KiB of stack, which no other word is to need)
-#[inline(never)]
-=======
 /// It ends as done where each line was a datagram, as refused where one was none, and else by the fault that stopped it: of the
 /// file, of memory, of an output.
->>>>>>> h-follow
+// (its connections take 200 KiB of stack, which no other word is to need)
+#[inline(never)]
 pub fn run_follow<R: Read + Drop, O: Write, E: Write, A: Allocator + Copy>(
     alloc: A,
     reader: R,
