@@ -45,7 +45,12 @@ pub extern "C" fn bekr_version() -> u32
 
 /// Opens an end.
 #[unsafe(no_mangle)]
-pub extern "C" fn bekr_open(alloc: Global, slot: &mut Slot, settings: &PlainSettings, now: u64) -> i32
+pub extern "C" fn bekr_open(
+    alloc: Global,
+    slot: &mut Slot,
+    settings: &PlainSettings,
+    now: u64,
+) -> i32
     ensures full { slot.old.is_open ≡ 1 → result ≡ ALREADY_OPEN }
     ensures answer { slot.old.is_open ≢ 1 → (result ≡ code_to_open settings.now now)
         ⊎ ((code_to_open settings.now now ≡ OK) × (result ≡ NO_MEMORY)) }

@@ -67,8 +67,13 @@ words_back (a ∷ b ∷ c ∷ d ∷ []) octets long fits e =
     let after_c : List ℕ = little_bytes 4 d ++ [] in
     let after_b : List ℕ = little_bytes 4 c ++ after_c in
     let after_a : List ℕ = little_bytes 4 b ++ after_b in
-    rw (e, field_reads 4 a (little_bytes 4 a ++ after_a) after_a (fits 0) refl, field_reads 4 b after_a after_b (fits 1) refl,
-    field_reads 4 c after_b after_c (fits 2) refl, field_reads 4 d after_c [] (fits 3) refl)
+    rw (
+      e,
+      field_reads 4 a (little_bytes 4 a ++ after_a) after_a (fits 0) refl,
+      field_reads 4 b after_a after_b (fits 1) refl,
+      field_reads 4 c after_b after_c (fits 2) refl,
+      field_reads 4 d after_c [] (fits 3) refl,
+    )
     refl
 words_back (a ∷ b ∷ c ∷ d ∷ f ∷ ws) octets long fits e = absurd (omega (arith, long))
 
