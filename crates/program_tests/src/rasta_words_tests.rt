@@ -1,5 +1,6 @@
 use capture_text::Word;
-use rasta_words::{Following, Request, WordsFault, command};
+use rasta_status::LogLevel;
+use rasta_words::{Following, Request, Running, WordsFault, command};
 use safe_pdu::CodeLength;
 use settings_file::Word as Ends;
 use std::test::Fail;
@@ -112,7 +113,14 @@ fn accepts_the_words_of_the_ends(rt: HostRuntime) -> Result<(), Fail> {
             let words = ["rasta", name, "ends.toml", "--turns", text];
             let found = command(rt.alloc(), &words).map_err(|_| "refused")?;
             let file = "ends.toml";
-            assert_eq!(rt; found, Request::Net { word, file, turns });
+            let running = Running {
+                word,
+                file,
+                turns,
+                log: LogLevel::Off,
+                expected: None,
+            };
+            assert_eq!(rt; found, Request::Net(running));
         }
         for text in ["0", "1000001", "4294967297", "", "1e3", "1,000", "-1"] {
             let words = ["rasta", name, "ends.toml", "--turns", text];

@@ -1,8 +1,9 @@
 //! Ends over sockets: the words `il`, `fe` and `pair` of the program, turn by turn.
 #![tactic(auto)]
 
+mod logging;
 mod net;
 mod ticking;
 mod turns;
 
-pub use net::run_net;
+pub use net::{Run, run_net};

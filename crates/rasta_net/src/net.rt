@@ -1,16 +1,18 @@
 //! Ends over sockets: the words il, fe and pair.
 
-ghost use Rattle.std.specs.Prelude.{◌≡◌, ◌≢◌, ◌≤◌, ◌<◌, ◌^◌, false, is_ok, length, IfOk};
+ghost use Rattle.std.specs.Prelude.{◌≡◌, ◌≢◌, ◌≤◌, ◌<◌, ◌^◌, false, true, is_ok, length, IfOk, None};
 ghost use Rattle.settings_file.specs.Whole.{ends_of};
 ghost use Rattle.stack_end.specs.Deadlines.{earliest};
 ghost use Rattle.rasta_net.specs.Reading.{settings_most};
 ghost use Rattle.rasta_net.specs.Waiting.{rest_of};
 
+use crate::logging::Log;
 use crate::ticking::RunClock;
 use crate::turns::Actor;
 use channels::{UdpChannels, UdpFault, Watch};
 use end_settings::Side;
-use rasta_status::{Fault, Status, report};
+use overheard::{Ear, Overheard};
+use rasta_status::{Expected, Fault, LogLevel, Status, report};
 use settings_file::{Ends, Settings, SettingsFault, Word, settings};
 use stack_end::{End, OpenFault};
 use std::alloc::Global;
@@ -28,40 +30,55 @@ const SETTINGS_MAX: usize = 1_048_576;
 /// The longest wait of a turn that found nothing, in milliseconds; the system may wait one longer.
 const WAIT_MAX: u64 = 4;
 
-/// Runs `il`, `fe` or `pair` for `turns` turns over the sockets that the text of a settings file names, prints each
-/// telegram that an end takes, and at last how each end stands.
+/// How ends are run.
+#[derive(Clone, Copy, Debug, PartialEq, Eq)]
+pub struct Run {
+    /// The ends that run.
+    pub word: Word,
+    /// How many turns they are given.
+    pub turns: u32,
+    /// What is told on standard error.
+    pub log: LogLevel,
+    /// How they are to stand at the end.
+    pub expected: Option<Expected>,
+}
+
+/// Runs `il`, `fe` or `pair` for its turns over the sockets that the text of a settings file names, prints each
+/// telegram that an end takes, and at last how each end stands. What the log tells goes to `err`.
 ///
 /// A text that is no settings is `fault: settings`, and behind it stands the key and what is wrong with it; a text of more than
-/// 1,048,576 octets is none.
+/// 1,048,576 octets is none. Where an end does not stand as it was expected to, the status says so.
 pub fn run_net<R: Net + Clock, O: Write, E: Write>(
     rt: &R,
     alloc: Global,
-    word: Word,
+    run: &Run,
     text: &str,
-    turns: u32,
     out: &mut O,
     err: &mut E,
 ) -> Status
     // A text that is too long, or that says no settings, is refused.
     ensures long { settings_most < length text.now → result ≡ Status.Refused }
-    ensures unread { is_ok (ends_of word text.now) ≡ false → result ≡ Status.Refused }
+    ensures unread { is_ok (ends_of run.now.word text.now) ≡ false → result ≡ Status.Refused }
     ensures words { result ≢ Status.WrongWords }
+    // Where nothing is expected, ends may stand as they do.
+    ensures expected { run.now.expected ≡ None → result ≢ Status.Unexpected }
 {
     if text.len() > SETTINGS_MAX {
         return refuse(&TooLong(text.len()), err);
     }
-    let ends = match settings(alloc, word, text) {
+    let ends = match settings(alloc, run.word, text) {
         Ok(ends) => ends,
         Err(SettingsFault::Memory(_)) => return report(err, Fault::Memory),
         Err(fault) => return refuse(&fault, err),
     };
     let done = match &ends {
-        Ends::Il(il) => run_one(rt, alloc, Side::Interlocking, il, turns, out),
-        Ends::Fe(fe) => run_one(rt, alloc, Side::FieldElement, fe, turns, out),
-        Ends::Pair(il, fe) => run_two(rt, alloc, il, fe, turns, out),
+        Ends::Il(il) => run_one(rt, alloc, Side::Interlocking, il, run, out, err),
+        Ends::Fe(fe) => run_one(rt, alloc, Side::FieldElement, fe, run, out, err),
+        Ends::Pair(il, fe) => run_two(rt, alloc, il, fe, run, out, err),
     };
     match done {
-        Ok(()) => Status::Done,
+        Ok(true) => Status::Done,
+        Ok(false) => Status::Unexpected,
         Err(Fault::Settings) => refuse(&NoAddress, err),
         Err(fault) => report(err, fault),
     }
@@ -86,84 +103,102 @@ struct TooLong(usize);
 #[error("local, remote: an address and a port expected, another text found")]
 struct NoAddress;
 
-fn run_one<R: Net + Clock, O: Write>(
+fn run_one<R: Net + Clock, O: Write, E: Write>(
     rt: &R,
     alloc: Global,
     side: Side,
     settings: &Settings,
-    turns: u32,
+    run: &Run,
     out: &mut O,
-) -> Result<(), Fault> {
+    err: &mut E,
+) -> Result<bool, Fault>
+    ensures { run.now.expected ≡ None → IfOk result (λ met. met ≡ true) }
+{
     let mut watch = watch(rt, alloc)?;
     let channels = bound(rt, alloc, settings, &watch)?;
     let mut clock = RunClock::start(rt)?;
-    let mut actor = opened(alloc, channels, side, settings, clock.read(rt)?)?;
-    'turns: for _ in 0..turns {
+    let now = clock.read(rt)?;
+    let mut actor = opened(alloc, channels, side, settings, run, now)?;
+    actor.tell_opened(settings, now, err);
+    'turns: for _ in 0..run.turns {
         let now = clock.read(rt)?;
-        let before = actor.end.channels_seen().received();
-        actor.turn(now, out)?;
-        let found = actor.end.channels_seen().received() != before;
+        let before = actor.received();
+        actor.turn(now, out, err)?;
+        let found = actor.received() != before;
         take_rest(&mut watch, found, now, actor.end.next_deadline());
     }
     actor.report(out)?;
-    sent_off(out)
+    sent_off(out)?;
+    Ok(actor.conclude(clock.last, run.expected, err))
 }
 
-fn run_two<R: Net + Clock, O: Write>(
+fn run_two<R: Net + Clock, O: Write, E: Write>(
     rt: &R,
     alloc: Global,
     il: &Settings,
     fe: &Settings,
-    turns: u32,
+    run: &Run,
     out: &mut O,
-) -> Result<(), Fault> {
+    err: &mut E,
+) -> Result<bool, Fault>
+    ensures { run.now.expected ≡ None → IfOk result (λ met. met ≡ true) }
+{
     let mut watch = watch(rt, alloc)?;
     let il_channels = bound(rt, alloc, il, &watch)?;
     let fe_channels = bound(rt, alloc, fe, &watch)?;
     let mut clock = RunClock::start(rt)?;
     let now = clock.read(rt)?;
-    let mut field_element = opened(alloc, fe_channels, Side::FieldElement, fe, now)?;
-    let mut interlocking = opened(alloc, il_channels, Side::Interlocking, il, now)?;
+    let mut field_element = opened(alloc, fe_channels, Side::FieldElement, fe, run, now)?;
+    field_element.tell_opened(fe, now, err);
+    let mut interlocking = opened(alloc, il_channels, Side::Interlocking, il, run, now)?;
+    interlocking.tell_opened(il, now, err);
     take_turns(
         rt,
         &mut clock,
         &mut watch,
         &mut interlocking,
         &mut field_element,
-        turns,
+        run,
         out,
+        err,
     )
 }
 
-/// Both ends take their turns; then how they stand is printed.
-fn take_turns<R: Clock, O: Write>(
+/// Both ends take their turns; then how they stand is printed. Answers whether both stand as they were expected to.
+fn take_turns<R: Clock, O: Write, E: Write>(
     rt: &R,
     clock: &mut RunClock,
     watch: &mut Watch,
     interlocking: &mut Actor<'_, UdpChannels>,
     field_element: &mut Actor<'_, UdpChannels>,
-    turns: u32,
+    run: &Run,
     out: &mut O,
-) -> Result<(), Fault>
+    err: &mut E,
+) -> Result<bool, Fault>
     requires il { interlocking.old.end.time ≤ clock.old.last }
     requires fe { field_element.old.end.time ≤ clock.old.last }
+    ensures { run.now.expected ≡ None → IfOk result (λ met. met ≡ true) }
 {
-    'turns: for _ in 0..turns {
+    'turns: for _ in 0..run.turns {
         let now = clock.read(rt)?;
-        take_turn(watch, interlocking, field_element, now, out)?;
+        take_turn(watch, interlocking, field_element, now, out, err)?;
     }
     interlocking.report(out)?;
     field_element.report(out)?;
-    sent_off(out)
+    sent_off(out)?;
+    let il_met = interlocking.conclude(clock.last, run.expected, err);
+    let fe_met = field_element.conclude(clock.last, run.expected, err);
+    Ok(il_met && fe_met)
 }
 
 /// One turn of both ends. Where neither found anything, it waits.
-fn take_turn<O: Write>(
+fn take_turn<O: Write, E: Write>(
     watch: &mut Watch,
     interlocking: &mut Actor<'_, UdpChannels>,
     field_element: &mut Actor<'_, UdpChannels>,
     now: u64,
     out: &mut O,
+    err: &mut E,
 ) -> Result<(), Fault>
     requires now { now ≤ 2 ^ 62 }
     requires il { interlocking.old.end.time ≤ now }
@@ -171,24 +206,16 @@ fn take_turn<O: Write>(
     ensures il { interlocking.new.end.time ≤ now }
     ensures fe { field_element.new.end.time ≤ now }
 {
-    let before = received_by(interlocking, field_element);
-    interlocking.turn(now, out)?;
-    field_element.turn(now, out)?;
-    let found = received_by(interlocking, field_element) != before;
+    let before = (interlocking.received(), field_element.received());
+    interlocking.turn(now, out, err)?;
+    field_element.turn(now, out, err)?;
+    let found = (interlocking.received(), field_element.received()) != before;
     let deadline = earlier(
         interlocking.end.next_deadline(),
         field_element.end.next_deadline(),
     );
     take_rest(watch, found, now, deadline);
     Ok(())
-}
-
-/// How many datagrams either end received.
-fn received_by(first: &Actor<'_, UdpChannels>, second: &Actor<'_, UdpChannels>) -> (u64, u64) {
-    (
-        first.end.channels_seen().received(),
-        second.end.channels_seen().received(),
-    )
 }
 
 fn watch<R: Net>(rt: &R, alloc: Global) -> Result<Watch, Fault> {
@@ -223,25 +250,33 @@ fn fault_of(fault: UdpFault) -> Fault {
     }
 }
 
+/// An end that is opened on its channels, which are listened to where anything may have to be told.
 fn opened<'a>(
     alloc: Global,
     channels: UdpChannels,
     side: Side,
     settings: &'a Settings,
+    run: &Run,
     now: u64,
 ) -> Result<Actor<'a, UdpChannels>, Fault>
     requires { now ≤ 2 ^ 62 }
     ensures { IfOk result (λ actor. actor.end.time ≤ now) }
 {
+    let listens = run.log != LogLevel::Off || run.expected.is_some();
+    let overheard = Overheard {
+        inner: channels,
+        ear: Ear::new(listens),
+    };
+    let log = Log::new(side, run.log, settings, now);
     match End::open(
         alloc,
-        channels,
+        overheard,
         settings.config,
         side,
         settings.first_sn,
         now,
     ) {
-        Ok(end) => Ok(Actor::new(end, side, settings.puts.as_slice())),
+        Ok(end) => Ok(Actor::new(end, side, settings.puts.as_slice(), log)),
         Err((OpenFault::Memory, _channels)) => Err(Fault::Memory),
         Err((OpenFault::BadConfig, _channels)) => Err(Fault::Settings),
     }

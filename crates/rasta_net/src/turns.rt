@@ -1,12 +1,16 @@
 //! The part of one end in a turn: what has come, what is to be put, and how it stands.
 
-ghost use Rattle.std.specs.Prelude.{◌≡◌, ◌≤◌, ◌^◌};
+ghost use Rattle.std.specs.Prelude.{◌≡◌, ◌≤◌, ◌^◌, None, true};
+ghost use Rattle.rasta_net.specs.Standing.{meets};
 
-use channels::Channels;
+use crate::logging::Log;
+use channels::{Channels, UdpChannels};
 use end_settings::Side;
+use log_lines::{Ending, Happening};
+use overheard::Overheard;
 use pdi_session::{InitFault, Phase, PutFault, Taker};
-use rasta_status::Fault;
-use settings_file::Put;
+use rasta_status::{Expected, Fault};
+use settings_file::{Put, Settings};
 use sim_lines::{Standing, write_refusal, write_report, write_take};
 use stack_end::End;
 use std::alloc::{Allocator, Global};
@@ -49,7 +53,7 @@ impl<W: Write> Printer<'_, W> {
 #[derive(Drop)]
 pub struct Actor<'a, C, A: Allocator = Global> {
     /// The end.
-    pub end: End<C, A>,
+    pub end: End<Overheard<C>, A>,
     /// The end that it acts for.
     side: Side,
     /// What it has still to put in, in order.
@@ -58,11 +62,13 @@ pub struct Actor<'a, C, A: Allocator = Global> {
     put: u64,
     /// How many were taken.
     taken: u64,
+    /// What is told of it on standard error.
+    log: Log,
 }
 
 impl<'a, C: Channels, A: Allocator + Copy> Actor<'a, C, A> {
     /// An end that was opened, with the telegrams that it is to put.
-    pub fn new(end: End<C, A>, side: Side, puts: &'a [Put]) -> Self
+    pub fn new(end: End<Overheard<C>, A>, side: Side, puts: &'a [Put], log: Log) -> Self
         ensures { result.end ≡ end }
     {
         Actor {
@@ -71,30 +77,68 @@ impl<'a, C: Channels, A: Allocator + Copy> Actor<'a, C, A> {
             left: puts,
             put: 0,
             taken: 0,
+            log,
         }
+    }
+
+    /// Tells the channels with which the end was opened, and what happened at its opening.
+    pub fn tell_opened<E: Write>(&mut self, settings: &Settings, now: u64, err: &mut E)
+        ensures { self.new.end ≡ self.old.end }
+    {
+        self.log.open(settings, now, err);
+        self.log.catch_up(&self.end.channels_seen().ear, now, err);
     }
 
     /// Its part of a turn: it takes what has come; then an interlocking whose session is established, and a field
     /// element that initialises, put what is left until a put is refused as Full. The field element then calls
-    /// `init_done`, once nothing is left.
+    /// `init_done`, once nothing is left. What has happened is told to `err`.
     ///
     /// # Errors
     ///
     /// Refused as Output. That a reception fails is no fault of a turn: it counts as nothing received.
-    pub fn turn<W: Write>(&mut self, now: u64, writer: &mut W) -> Result<(), Fault>
+    pub fn turn<W: Write, E: Write>(
+        &mut self,
+        now: u64,
+        writer: &mut W,
+        err: &mut E,
+    ) -> Result<(), Fault>
         requires now { now ≤ 2 ^ 62 }
         requires later { self.old.end.time ≤ now }
         ensures time { self.new.end.time ≤ now }
     {
         self.hear(now, writer)?;
+        self.log.catch_up(&self.end.channels_seen().ear, now, err);
         match (self.side, self.end.phase()) {
-            (Side::Interlocking, Phase::Established) => self.put_left(now, writer),
+            (Side::Interlocking, Phase::Established) => self.put_left(now, writer, err),
             (Side::FieldElement, Phase::Initialising) => {
-                self.put_left(now, writer)?;
-                self.end_initialising(now, writer)
+                self.put_left(now, writer, err)?;
+                self.end_initialising(now, writer, err)
             }
             _ => Ok(()),
         }
+    }
+
+    /// Whether the end stands as it was expected to. What has happened is told to `err`, and at last why the end is where it is, where the
+    /// log tells anything or the end does not stand so.
+    pub fn conclude<E: Write>(&mut self, now: u64, expected: Option<Expected>, err: &mut E) -> bool
+        ensures { expected ≡ None → result ≡ true }
+    {
+        let ear = &self.end.channels_seen().ear;
+        self.log.catch_up(ear, now, err);
+        let phase = self.end.phase();
+        let met = is_met(expected, phase, self.end.settled(), self.left.is_empty());
+        if !met || !self.log.is_off() {
+            let ending = Ending {
+                state: self.end.state(),
+                phase,
+                departure: ear.departure,
+                came: ear.came(),
+                taken: ear.pdus.taken,
+                last: ear.last_cause,
+            };
+            self.log.end(&ending, now, err);
+        }
+        met
     }
 
     /// Writes how the end stands.
@@ -134,7 +178,12 @@ impl<'a, C: Channels, A: Allocator + Copy> Actor<'a, C, A> {
         Ok(())
     }
 
-    fn put_left<W: Write>(&mut self, now: u64, writer: &mut W) -> Result<(), Fault>
+    fn put_left<W: Write, E: Write>(
+        &mut self,
+        now: u64,
+        writer: &mut W,
+        err: &mut E,
+    ) -> Result<(), Fault>
         requires now { now ≤ 2 ^ 62 }
         requires later { self.old.end.time ≤ now }
         ensures time { self.new.end.time ≤ now }
@@ -148,6 +197,7 @@ impl<'a, C: Channels, A: Allocator + Copy> Actor<'a, C, A> {
                     return Ok(());
                 }
                 Err(fault) => {
+                    self.log.tell(Happening::PutRefused(fault), now, err);
                     if write_refusal(writer, fault.name()).is_err() {
                         return Err(Fault::Output);
                     }
@@ -160,7 +210,12 @@ impl<'a, C: Channels, A: Allocator + Copy> Actor<'a, C, A> {
 
     /// Ends the initialisation, once nothing is left to be put. Where it is refused as Full it is tried again in the
     /// next turn.
-    fn end_initialising<W: Write>(&mut self, now: u64, writer: &mut W) -> Result<(), Fault>
+    fn end_initialising<W: Write, E: Write>(
+        &mut self,
+        now: u64,
+        writer: &mut W,
+        err: &mut E,
+    ) -> Result<(), Fault>
         requires now { now ≤ 2 ^ 62 }
         requires later { self.old.end.time ≤ now }
         ensures time { self.new.end.time ≤ now }
@@ -170,10 +225,31 @@ impl<'a, C: Channels, A: Allocator + Copy> Actor<'a, C, A> {
         }
         match self.end.init_done(now) {
             Ok(()) | Err(InitFault::Full) => Ok(()),
-            Err(fault) => match write_refusal(writer, fault.name()) {
-                Ok(()) => Ok(()),
-                Err(_) => Err(Fault::Output),
-            },
+            Err(fault) => {
+                self.log.tell(Happening::InitRefused(fault), now, err);
+                match write_refusal(writer, fault.name()) {
+                    Ok(()) => Ok(()),
+                    Err(_) => Err(Fault::Output),
+                }
+            }
         }
+    }
+}
+
+/// Whether an end stands as it was expected to: `settled` where all that was put in is confirmed, `done` where all was tried.
+fn is_met(expected: Option<Expected>, phase: Phase, settled: bool, done: bool) -> bool
+    ensures { result ≡ meets expected phase settled done }
+{
+    match expected {
+        None => true,
+        Some(Expected::Up) => phase == Phase::Established,
+        Some(Expected::Settled) => phase == Phase::Established && settled && done,
+    }
+}
+
+impl<A: Allocator> Actor<'_, UdpChannels, A> {
+    /// How many datagrams came to its sockets, modulo 2^64.
+    pub fn received(&self) -> u64 {
+        self.end.channels_seen().inner.received()
     }
 }

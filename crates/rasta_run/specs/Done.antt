@@ -14,7 +14,7 @@ HasDone (Digest hex) old new = HasDigested hex.now old new
 HasDone (Show code iv hex) old new = HasShown code (option_copied iv) hex.now true old new
 HasDone (Sim script) old new = ⊤
 HasDone (Follow following) old new = ⊤
-HasDone (Net word file turns) old new = ⊤
+HasDone (Net running) old new = ⊤
 
 -- the words ask for a request, and it was done
 abbrev pub DoneAs : List Text → Option (List ℕ) → Option (List ℕ) → Type 0

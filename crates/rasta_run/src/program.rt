@@ -9,11 +9,10 @@ ghost use Rattle.rasta_run.specs.Refusal.{EndsBy};
 use crate::follow::run_follow;
 use crate::sim::run_sim;
 use clap::error::ErrorKind;
-use rasta_net::run_net;
+use rasta_net::{Run, run_net};
 use rasta_show::{run_md4, run_show};
 use rasta_status::{Fault, Status, report};
-use rasta_words::{Following, Request, WordsFault, command};
-use settings_file::Word;
+use rasta_words::{Following, Request, Running, WordsFault, command};
 use std::alloc::{AllocError, Global};
 use std::convert::AsStr;
 use std::env::{Env, FillError};
@@ -53,7 +52,7 @@ pub fn run<R: AllocGlobal + Files + Net + Clock, S: AsStr, O: Write, E: Write>(
         Ok(Request::Show { code, iv, hex }) => run_show(rt.alloc(), code, iv, hex, out, err),
         Ok(Request::Sim { script }) => run_script(rt, script, out, err),
         Ok(Request::Follow(following)) => run_capture(rt, &following, out, err),
-        Ok(Request::Net { word, file, turns }) => run_file(rt, word, file, turns, out, err),
+        Ok(Request::Net(running)) => run_file(rt, &running, out, err),
         Err(fault) => refuse(&fault, out, err),
     }
 }
@@ -100,14 +99,18 @@ fn run_capture<R: AllocGlobal + Files, O: Write, E: Write>(
 /// Runs ends over the sockets that a settings file names.
 fn run_file<R: AllocGlobal + Files + Net + Clock, O: Write, E: Write>(
     rt: &R,
-    word: Word,
-    file: &str,
-    turns: u32,
+    running: &Running<'_>,
     out: &mut O,
     err: &mut E,
 ) -> Status {
-    match fs::read_to_string(rt, file) {
-        Ok(text) => run_net(rt, rt.alloc(), word, text.as_str(), turns, out, err),
+    let run = Run {
+        word: running.word,
+        turns: running.turns,
+        log: running.log,
+        expected: running.expected,
+    };
+    match fs::read_to_string(rt, running.file) {
+        Ok(text) => run_net(rt, rt.alloc(), &run, text.as_str(), out, err),
         Err(error) if matches!(error.kind(), io::ErrorKind::OutOfMemory) => report(
             err,
             Fault::Memory,

@@ -1,7 +1,7 @@
 -- The exit status of the program.
 use Rattle.std.specs.Prelude.{ℕ}
 use Rattle.rasta_status.specs.declared.Status.{Status}
-use Rattle.rasta_status.specs.declared.Status.TheVariants.{Done, Refused, WrongWords, Failed}
+use Rattle.rasta_status.specs.declared.Status.TheVariants.{Done, Refused, WrongWords, Failed, Unexpected}
 use Rattle.rasta_status.specs.declared.Fault.{Fault}
 use Rattle.rasta_status.specs.declared.Fault.TheVariants as fault
 
@@ -10,6 +10,7 @@ status_code Done = 0
 status_code Refused = 1
 status_code WrongWords = 2
 status_code Failed = 3
+status_code Unexpected = 4
 
 abbrev pub status_of : Fault → Status
 status_of fault.Hex = Refused

@@ -18,6 +18,8 @@ pub enum Status {
     WrongWords,
     /// No socket was had, or a clock or an output failed.
     Failed,
+    /// An end does not stand as it was expected to.
+    Unexpected,
 }
 
 impl Status {
@@ -30,8 +32,29 @@ impl Status {
             Status::Refused => 1,
             Status::WrongWords => 2,
             Status::Failed => 3,
+            Status::Unexpected => 4,
         }
     }
+}
+
+/// What the log tells, on standard error.
+#[derive(Clone, Copy, Debug, PartialEq, Eq)]
+pub enum LogLevel {
+    /// Nothing.
+    Off,
+    /// What an end does, and how it ended.
+    State,
+    /// Each datagram that is dropped, too.
+    All,
+}
+
+/// How ends are expected to stand when they have taken their turns.
+#[derive(Clone, Copy, Debug, PartialEq, Eq)]
+pub enum Expected {
+    /// The session is established.
+    Up,
+    /// The session is established, and all that was to be put is put in and confirmed.
+    Settled,
 }
 
 /// What the program names on standard error.

@@ -1,15 +1,13 @@
 -- The command line of the program, as clap reads it, and the commands that words ask for.
-use Rattle.std.specs.Prelude.{◌≡◌, ℕ, ◌≤◌, ⊤, true, List, codes, Option, Some}
+use Rattle.std.specs.Prelude.{◌≡◌, ⊤, true, List, codes, Option, Some}
 use Rattle.std.specs.Option.{option_copied}
-use Rattle.std.specs.Str.Parse.{IsNumeral, digits_value, without_leading_plus}
 use Rattle.clap.specs.Words.{App, HasKind, Row, Rule, Text, fault_of, first_of, new_app, new_rule, subcommand_of, with_rule, with_subcommand}
-use Rattle.rasta_words.specs.Choices.{HasChoices, code_word, file_rule, follow_app, iv_rule}
+use Rattle.rasta_words.specs.Choices.{HasChoices, code_word, follow_app, iv_rule}
+use Rattle.rasta_words.specs.Runs.{IsRun, ends_word, net_app}
 use Rattle.rasta_words.specs.declared.command_line.Request.{Request}
 use Rattle.rasta_words.specs.declared.command_line.Request.TheVariants.{Digest, Show, Sim, Follow, Net}
 use Rattle.rasta_words.specs.declared.command_line.WordsFault.{WordsFault}
 use Rattle.rasta_words.specs.declared.command_line.WordsFault.TheVariants.{Words, BadCode, BadTurns, BadChoice, NotText, Memory}
-use Rattle.settings_file.specs.declared.Word.{Word}
-use Rattle.settings_file.specs.declared.Word.TheVariants.{Il, Fe, Pair}
 
 -- show --code N [--iv HEX] HEX
 abbrev pub code_rule : Rule
@@ -37,21 +35,6 @@ script_rule = record (new_rule (codes "script")) { required = true }
 
 abbrev pub sim_app : App
 sim_app = with_rule (new_app (codes "sim")) script_rule
-
--- il FILE --turns N, and so for fe and pair
-abbrev pub ends_word : Word → Text
-ends_word Il = codes "il"
-ends_word Fe = codes "fe"
-ends_word Pair = codes "pair"
-
-abbrev pub turns_rule : Rule
-turns_rule = record (new_rule (codes "turns")) { long = Some (codes "turns"); required = true }
-
-abbrev pub turns_app : Text → App
-turns_app name = with_rule (new_app name) turns_rule
-
-abbrev pub net_app : Text → App
-net_app name = with_rule (turns_app name) file_rule
 
 -- one of the subcommands is required
 abbrev pub bare_app : App
@@ -84,11 +67,6 @@ ends_app = with_subcommand il_app (net_app (codes "fe")).top
 abbrev pub rasta_app : App
 rasta_app = with_subcommand ends_app (net_app (codes "pair")).top
 
--- how a number of turns is written: in decimal digits, before which a plus may stand
-abbrev pub IsTurns : Text → ℕ → Type 0
-IsTurns word turns =
-    IsNumeral 10 (without_leading_plus word) × (digits_value 10 (without_leading_plus word) ≡ turns) × (1 ≤ turns) × (turns ≤ 1000000)
-
 -- the request is the subcommand of this name, its values the entries found there
 abbrev pub HasEntries : Request → Text → List Row → Type 0
 HasEntries (Digest hex) name rows = (name ≡ codes "md4") × (first_of (codes "hex") rows ≡ Some hex.now)
@@ -97,9 +75,7 @@ HasEntries (Show code iv hex) name rows =
     × (first_of (codes "hex") rows ≡ Some hex.now)
 HasEntries (Follow choices) name rows = (name ≡ codes "follow") × HasChoices rows choices
 HasEntries (Sim script) name rows = (name ≡ codes "sim") × (first_of (codes "script") rows ≡ Some script.now)
-HasEntries (Net word file turns) name rows =
-    (name ≡ ends_word word) × (first_of (codes "file") rows ≡ Some file.now)
-    × ((text : Text) × (first_of (codes "turns") rows ≡ Some text) × IsTurns text turns)
+HasEntries (Net running) name rows = (name ≡ ends_word running.word) × IsRun rows running
 
 abbrev pub IsFound : Option (Text × List Row) → Request → Type 0
 IsFound found request = (f : Text × List Row) × (found ≡ Some f) × HasEntries request f.0 f.1

@@ -4,11 +4,13 @@ ghost use Rattle.std.specs.Prelude.{◌≡◌, ℕ, [], Option, Some, IsOk, IfOk
 ghost use Rattle.std.specs.Option.{option_copied};
 ghost use Rattle.clap.specs.declared.Command.TheViews.{out-Command};
 ghost use Rattle.clap.specs.Words.{app_of, fault_of, first_of, found_of, rows_of, subcommand_of, subcommand_rows_of};
-ghost use Rattle.rasta_words.specs.CommandLine.{Asks, FindsNone, HasEntries, HasNoEntries, IsFaultOf, IsFound, IsTurns, Refuses, code_app, coded_app, digest_app, ends_app, ends_word, file_app, il_app, local_app, md4_app, net_app, plain_app, rasta_app, show_app, sim_app, turns_app};
+ghost use Rattle.rasta_words.specs.CommandLine.{Asks, FindsNone, HasEntries, HasNoEntries, IsFaultOf, IsFound, Refuses, code_app, coded_app, digest_app, ends_app, file_app, il_app, local_app, md4_app, plain_app, rasta_app, show_app, sim_app};
+ghost use Rattle.rasta_words.specs.Runs.{HasNoRun, IsEndChosen, IsLogChosen, IsRun, expected_word, expecting_app, log_word, logged_app, net_app, turns_app, ends_word, IsTurns};
 ghost use Rattle.rasta_words.specs.Choices.{HasChoices, HasNoChoices, IsAgeChosen, IsCodeChosen, IsMilliseconds, IsRemarkChosen, chosen_app, code_word, follow_app, is_flagged, length_app, limited_app, only_app, telling_app};
 
 use capture_text::Word as Remarkable;
 use clap::{Arg, ArgAction, ArgMatches, Command};
+use rasta_status::{Expected, LogLevel};
 use safe_pdu::CodeLength;
 use settings_file::Word;
 use std::alloc::{AllocError, Global};
@@ -39,15 +41,23 @@ pub enum Request<'a> {
     },
     /// `follow FILE` with its choices: a recorded connection, and what is remarkable in it.
     Follow(Following<'a>),
-    /// `il FILE --turns N`, `fe FILE --turns N` or `pair FILE --turns N`: ends over sockets.
-    Net {
-        /// The ends that run.
-        word: Word,
-        /// The name of the settings file.
-        file: &'a str,
-        /// How many turns they are given, 1 to 1,000,000.
-        turns: u32,
-    },
+    /// `il FILE --turns N`, `fe FILE --turns N` or `pair FILE --turns N` with its choices: ends over sockets.
+    Net(Running<'a>),
+}
+
+/// How ends are run over sockets.
+#[derive(Clone, Copy, Debug, PartialEq, Eq)]
+pub struct Running<'a> {
+    /// The ends that run.
+    pub word: Word,
+    /// The name of the settings file.
+    pub file: &'a str,
+    /// How many turns they are given, 1 to 1,000,000.
+    pub turns: u32,
+    /// `--log`: what is told on standard error; nothing where nothing is said.
+    pub log: LogLevel,
+    /// `--expect`: how they are to stand at the end.
+    pub expected: Option<Expected>,
 }
 
 /// How a recorded connection is followed.
@@ -76,8 +86,8 @@ pub enum WordsFault {
     /// A length of code that is none.
     #[error("error: a code has 0, 8 or 16 octets\n\nUsage: rasta show [--iv <iv>] --code <0|8|16> <hex>\n\nFor more information, try 'rasta show --help'.")]
     BadCode,
-    /// A number of turns that is none.
-    #[error("error: turns are a number from 1 to 1,000,000\n\nUsage: rasta <il|fe|pair> --turns <turns> <file>\n\nFor more information, try 'rasta --help'.")]
+    /// A number of turns that is none, or a choice of ends that is none.
+    #[error("error: turns are a number from 1 to 1,000,000, a log is off, state or all, and what is expected is up or settled\n\nUsage: rasta <il|fe|pair> [--log <off|state|all>] [--expect <up|settled>] --turns <turns> <file>\n\nFor more information, try 'rasta --help'.")]
     BadTurns,
     /// A choice of `follow` that is none.
     #[error("error: a code has 0, 8 or 16 octets, T_max is a number of milliseconds from 1 to 4,294,967,295, and lines are chosen by opens, repeat, ahead, late, stale, anew, resent, age, reason or fault\n\nUsage: rasta follow [--code <0|8|16>] [--iv <iv>] [--messages] [--only <word>] [--t-max <ms>] <file>\n\nFor more information, try 'rasta follow --help'.")]
@@ -138,12 +148,67 @@ fn asked_by<'a>(name: &str, entries: &ArgMatches<'a>) -> Option<Request<'a>>
             Some(Request::Sim { script })
         }
         "follow" => Some(Request::Follow(choices(entries)?)),
-        _ => {
-            let word = ends(name)?;
-            let file = entry(entries, "file")?;
-            let turns = turns(entry(entries, "turns")?)?;
-            Some(Request::Net { word, file, turns })
-        }
+        _ => Some(Request::Net(ends_run(ends(name)?, entries)?)),
+    }
+}
+
+/// How the entries of `il`, `fe` and `pair` have these ends run.
+fn ends_run<'a>(word: Word, entries: &ArgMatches<'a>) -> Option<Running<'a>>
+    ensures found { IfSome result (λ running. (running.word ≡ word) × IsRun (rows_of (found_of entries.now)) running) }
+    ensures none { IsNone result → HasNoRun (rows_of (found_of entries.now)) }
+{
+    Some(Running {
+        word,
+        file: entry(entries, "file")?,
+        turns: turns(entry(entries, "turns")?)?,
+        log: chosen_log(entry(entries, "log"))?,
+        expected: chosen_end(entry(entries, "expect"))?,
+    })
+}
+
+/// What the log tells by a word: nothing where there is none.
+fn chosen_log(word: Option<&str>) -> Option<LogLevel>
+    ensures found { IfSome result (IsLogChosen (option_copied word.entry)) }
+    ensures only { (level : LogLevel) → IsLogChosen (option_copied word.entry) level → result ≡ Some level }
+{
+    match word {
+        None => Some(LogLevel::Off),
+        Some(word) => log_level(word),
+    }
+}
+
+fn log_level(word: &str) -> Option<LogLevel>
+    ensures found { IfSome result (λ level. word.now ≡ log_word level) }
+    ensures only { (level : LogLevel) → word.now ≡ log_word level → result ≡ Some level }
+{
+    match word {
+        "off" => Some(LogLevel::Off),
+        "state" => Some(LogLevel::State),
+        "all" => Some(LogLevel::All),
+        _ => None,
+    }
+}
+
+/// How ends are expected to stand by a word; nothing is expected where there is none.
+fn chosen_end(word: Option<&str>) -> Option<Option<Expected>>
+    ensures found { IfSome result (IsEndChosen (option_copied word.entry)) }
+    ensures only { (expected : Option Expected) → IsEndChosen (option_copied word.entry) expected
+        → result ≡ Some expected }
+{
+    match word {
+        None => Some(None),
+        Some(word) => Some(Some(expected(word)?)),
+    }
+}
+
+fn expected(word: &str) -> Option<Expected>
+    ensures found { IfSome result (λ expected. word.now ≡ expected_word expected) }
+    ensures only { (expected : Expected) → word.now ≡ expected_word expected → result ≡ Some expected }
+{
+    match word {
+        "up" => Some(Expected::Up),
+        "settled" => Some(Expected::Settled),
+        _ => None,
     }
 }
 
@@ -335,7 +400,7 @@ fn digest_command<'a>(alloc: Global) -> Result<Command<'a>, AllocError>
     Command::new(alloc, "rasta")
         .about("A proved RaSTA stack: its command line.")
         .after_help(
-            "Exit status: 0 done, 1 refused input, 2 wrong words, 3 where a socket, a clock or an output fails.",
+            "Exit status: 0 done, 1 refused input, 2 wrong words, 3 where a socket, a clock or an output fails, 4 where an end does not stand as expected.",
         )
         .subcommand_required(true)
         .subcommand(md4_command(alloc)?)
@@ -345,11 +410,43 @@ fn net_command<'a>(alloc: Global, name: &'a str, about: &'a str) -> Result<Comma
     ensures app { IfOk result (λ command. app_of command ≡ net_app name.entry.now) }
     ensures local { IfOk result (λ command. (out-Command command).has_globals ≡ false) }
 {
-    let command = turns_command(alloc, name, about)?;
+    let command = expecting_command(alloc, name, about)?;
     let file = Arg::new(alloc, "file")
         .required(true)
         .help("The settings file");
     command.arg(file)
+}
+
+/// The command of ends over sockets with all but its file.
+fn expecting_command<'a>(
+    alloc: Global,
+    name: &'a str,
+    about: &'a str,
+) -> Result<Command<'a>, AllocError>
+    ensures app { IfOk result (λ command. app_of command ≡ expecting_app name.entry.now) }
+    ensures local { IfOk result (λ command. (out-Command command).has_globals ≡ false) }
+{
+    let command = logged_command(alloc, name, about)?;
+    let expect = Arg::new(alloc, "expect").long("expect").help(
+        "How each end is to stand at the end: up, the session established, or settled, all that was to be put confirmed too; else the status is 4",
+    );
+    command.arg(expect)
+}
+
+/// The command of ends over sockets with its turns and its log.
+fn logged_command<'a>(
+    alloc: Global,
+    name: &'a str,
+    about: &'a str,
+) -> Result<Command<'a>, AllocError>
+    ensures app { IfOk result (λ command. app_of command ≡ logged_app name.entry.now) }
+    ensures local { IfOk result (λ command. (out-Command command).has_globals ≡ false) }
+{
+    let command = turns_command(alloc, name, about)?;
+    let log = Arg::new(alloc, "log").long("log").help(
+        "What is told on standard error: off, state (what each end does, and why it is where it is at the end) or all (each datagram dropped, too); without it off",
+    );
+    command.arg(log)
 }
 
 /// The command of ends over sockets with its turns alone.

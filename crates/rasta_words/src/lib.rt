@@ -3,4 +3,4 @@
 
 mod command_line;
 
-pub use command_line::{Following, Request, WordsFault, command};
+pub use command_line::{Following, Request, Running, WordsFault, command};

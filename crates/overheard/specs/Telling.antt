@@ -1,0 +1,52 @@
+-- What the log tells of what is heard.
+use Rattle.std.specs.Prelude.{ℕ, ◌-◌, ◌%◌, nat_eq, nat_le, nat_lt, List, slice_index_or, Option, Some, None, if◌then◌else◌}
+use Rattle.red_layer.specs.declared.RedEvent.{RedEvent}
+use Rattle.red_layer.specs.declared.RedEvent.TheVariants as event
+use Rattle.safe_machine.specs.declared.DropCause.{DropCause}
+use Rattle.safe_machine.specs.declared.DropCause.TheVariants as cause
+use Rattle.safe_pdu.specs.declared.Leaving.{Leaving}
+use Rattle.log_lines.specs.declared.causes.Cause.{Cause}
+use Rattle.log_lines.specs.declared.causes.Cause.TheVariants.{Early, Part, Stranger}
+use Rattle.log_lines.specs.declared.lines.Happening.{Happening}
+use Rattle.log_lines.specs.declared.lines.Happening.TheVariants.{Left, Asked, Resent}
+use Rattle.overheard.specs.declared.header.Header.{Header}
+
+-- why the redundancy layer dropped a datagram, where it did
+abbrev pub event_cause : RedEvent → Option Cause
+event_cause event.Passed = None
+event_cause event.Wait = None
+event_cause event.Old = Some (Early event.Old)
+event_cause event.Far = Some (Early event.Far)
+event_cause event.Full = Some (Early event.Full)
+event_cause event.Again = Some (Early event.Again)
+event_cause (event.Fault why) = Some (Early (event.Fault why))
+
+-- why the safety machine dropped a part, with the identifiers of its datagram where they are known
+abbrev pub drop_cause : DropCause → Option Header → Cause
+drop_cause cause.Stranger (Some header) = Stranger header.sender header.receiver
+drop_cause cause.Stranger None = Part cause.Stranger
+drop_cause (cause.Fault why) header = Part (cause.Fault why)
+drop_cause cause.NotOpened header = Part cause.NotOpened
+drop_cause cause.Number header = Part cause.Number
+drop_cause cause.Request header = Part cause.Request
+drop_cause cause.Answered header = Part cause.Answered
+drop_cause cause.Below header = Part cause.Below
+
+abbrev pub left_with : Option Leaving → Option Happening
+left_with None = None
+left_with (Some leaving) = Some (Left leaving)
+
+-- what is told of a PDU that the end made, by its type
+abbrev pub made_told : Header → Option Happening
+made_told header =
+    if nat_eq header.kind 6216 then left_with header.leaving
+    else if nat_eq header.kind 6212 then Some Asked
+    else if nat_eq header.kind 6213 then Some Resent
+    else None
+
+-- of what happened the last 256 are kept, each at the place of its number
+abbrev pub kept_as : List Happening → ℕ → ℕ → Option Happening
+kept_as kept happened number =
+    if nat_le happened number then None
+    else if nat_lt 256 (happened - number) then None
+    else Some (slice_index_or kept (number % 256) Asked)

@@ -1,0 +1,78 @@
+-- The choices of `il`, `fe` and `pair`, and how their words name them.
+use Rattle.std.specs.Prelude.{◌≡◌, ℕ, ◌≤◌, true, List, codes, Option, None, Some}
+use Rattle.std.specs.Str.Parse.{IsNumeral, digits_value, without_leading_plus}
+use Rattle.clap.specs.Words.{App, Row, Rule, Text, first_of, new_app, new_rule, with_rule}
+use Rattle.rasta_status.specs.declared.LogLevel.{LogLevel}
+use Rattle.rasta_status.specs.declared.LogLevel.TheVariants.{Off, State, All}
+use Rattle.rasta_status.specs.declared.Expected.{Expected}
+use Rattle.rasta_status.specs.declared.Expected.TheVariants.{Up, Settled}
+use Rattle.rasta_words.specs.Choices.{file_rule}
+use Rattle.rasta_words.specs.declared.command_line.Running.{Running}
+use Rattle.settings_file.specs.declared.Word.{Word}
+use Rattle.settings_file.specs.declared.Word.TheVariants.{Il, Fe, Pair}
+
+abbrev pub ends_word : Word → Text
+ends_word Il = codes "il"
+ends_word Fe = codes "fe"
+ends_word Pair = codes "pair"
+
+-- il FILE --turns N [--log off|state|all] [--expect up|settled], and so for fe and pair
+abbrev pub turns_rule : Rule
+turns_rule = record (new_rule (codes "turns")) { long = Some (codes "turns"); required = true }
+
+abbrev pub log_rule : Rule
+log_rule = record (new_rule (codes "log")) { long = Some (codes "log") }
+
+abbrev pub expect_rule : Rule
+expect_rule = record (new_rule (codes "expect")) { long = Some (codes "expect") }
+
+abbrev pub turns_app : Text → App
+turns_app name = with_rule (new_app name) turns_rule
+
+abbrev pub logged_app : Text → App
+logged_app name = with_rule (turns_app name) log_rule
+
+abbrev pub expecting_app : Text → App
+expecting_app name = with_rule (logged_app name) expect_rule
+
+abbrev pub net_app : Text → App
+net_app name = with_rule (expecting_app name) file_rule
+
+-- how a number of turns is written: in decimal digits, before which a plus may stand
+abbrev pub IsTurns : Text → ℕ → Type 0
+IsTurns word turns =
+    IsNumeral 10 (without_leading_plus word) × (digits_value 10 (without_leading_plus word) ≡ turns) × (1 ≤ turns) × (turns ≤ 1000000)
+
+-- how a level of the log is written
+abbrev pub log_word : LogLevel → Text
+log_word Off = codes "off"
+log_word State = codes "state"
+log_word All = codes "all"
+
+-- no log, where none is written
+abbrev pub IsLogChosen : Option Text → LogLevel → Type 0
+IsLogChosen None level = level ≡ Off
+IsLogChosen (Some word) level = word ≡ log_word level
+
+-- how it is written how ends are to stand
+abbrev pub expected_word : Expected → Text
+expected_word Up = codes "up"
+expected_word Settled = codes "settled"
+
+abbrev pub IsEndWritten : Text → Option Expected → Type 0
+IsEndWritten word None = ⊥
+IsEndWritten word (Some expected) = word ≡ expected_word expected
+
+-- nothing is expected, where nothing is written
+abbrev pub IsEndChosen : Option Text → Option Expected → Type 0
+IsEndChosen None expected = expected ≡ None
+IsEndChosen (Some word) expected = IsEndWritten word expected
+
+-- the choices are those of the entries found
+abbrev pub IsRun : List Row → Running → Type 0
+IsRun rows r =
+    (first_of (codes "file") rows ≡ Some r.file.now) × ((text : Text) × (first_of (codes "turns") rows ≡ Some text) × IsTurns text r.turns)
+    × IsLogChosen (first_of (codes "log") rows) r.log × IsEndChosen (first_of (codes "expect") rows) r.expected
+
+abbrev pub HasNoRun : List Row → Type 0
+HasNoRun rows = (r : Running) → ¬ IsRun rows r
