@@ -1,5 +1,5 @@
 -- What the log tells of what is heard.
-use Rattle.std.specs.Prelude.{ℕ, ◌-◌, ◌%◌, nat_eq, nat_le, nat_lt, List, slice_index_or, Option, Some, None, if◌then◌else◌}
+use Rattle.std.specs.Prelude.{ℕ, Bool, true, false, ◌-◌, ◌%◌, nat_eq, nat_le, nat_lt, List, slice_index_or, Option, Some, None, if◌then◌else◌}
 use Rattle.red_layer.specs.declared.RedEvent.{RedEvent}
 use Rattle.red_layer.specs.declared.RedEvent.TheVariants as event
 use Rattle.safe_machine.specs.declared.DropCause.{DropCause}
@@ -31,6 +31,23 @@ drop_cause cause.Number header = Part cause.Number
 drop_cause cause.Request header = Part cause.Request
 drop_cause cause.Answered header = Part cause.Answered
 drop_cause cause.Below header = Part cause.Below
+
+-- a copy of a datagram that came before
+abbrev pub is_copy : Cause → Bool
+is_copy (Early event.Old) = true
+is_copy (Early event.Passed) = false
+is_copy (Early event.Wait) = false
+is_copy (Early event.Far) = false
+is_copy (Early event.Full) = false
+is_copy (Early event.Again) = false
+is_copy (Early (event.Fault why)) = false
+is_copy (Part why) = false
+is_copy (Stranger sender receiver) = false
+
+-- of two causes, one before the other, that which tells why nothing was taken: a copy tells nothing new
+abbrev pub last_of : Option Cause → Cause → Cause
+last_of None cause = cause
+last_of (Some before) cause = if is_copy cause then before else cause
 
 abbrev pub left_with : Option Leaving → Option Happening
 left_with None = None

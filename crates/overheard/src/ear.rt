@@ -27,7 +27,7 @@ pub struct Ear {
     pub pdus: PduCounts,
     /// Who left the connection, where somebody did.
     pub departure: Option<Departure>,
-    /// Why the last datagram was dropped that was.
+    /// Why the last datagram was dropped that was. A copy of one that came before tells nothing new.
     pub last_cause: Option<Cause>,
     /// The channel of the datagram that came last, and what stands at the places of its header.
     came: (usize, Option<Header>),
@@ -187,7 +187,7 @@ impl Ear {
     }
 
     fn drop_for(&mut self, channel: usize, cause: Cause) {
-        self.last_cause = Some(cause);
+        self.last_cause = Some(last_of(self.last_cause, cause));
         self.keep(Happening::Dropped(channel, cause));
     }
 
@@ -212,6 +212,16 @@ fn event_cause(event: RedEvent) -> Option<Cause>
     match event {
         RedEvent::Passed | RedEvent::Wait => None,
         _ => Some(Cause::Early(event)),
+    }
+}
+
+/// Of two causes, one before the other, that which tells why nothing was taken: a copy tells nothing new.
+fn last_of(before: Option<Cause>, cause: Cause) -> Cause
+    ensures { result ≡ telling.last_of before cause }
+{
+    match (before, cause) {
+        (Some(before), Cause::Early(RedEvent::Old)) => before,
+        _ => cause,
     }
 }
 
