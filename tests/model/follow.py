@@ -46,7 +46,8 @@ class Numbers:
             self.differing += 1
             return 'differs from line %d' % first[0]
         if number in self.known:
-            self.missing, self.late, self.known[number] = self.missing - 1, self.late + 1, (line, octets)
+            self.missing, self.late = self.missing - 1, self.late + 1
+            self.keep(number, line, octets)
             return 'late'
         steps = 1 if self.newest is None else (number - self.newest) % WRAP
         if steps >= WRAP // 2:
@@ -59,9 +60,15 @@ class Numbers:
         elif said:
             self.missing += steps - 1
             self.known.update({(number - back) % WRAP: None for back in range(1, min(steps, KEPT))})
-        self.newest, self.known[number] = number, (line, octets)
-        self.known = {known: first for known, first in self.known.items() if (number - known) % WRAP < KEPT}
+        self.newest = number
+        self.keep(number, line, octets)
         return said
+
+    def keep(self, number, line, octets):
+        """A number that was heard is kept until one is heard that lies a multiple of KEPT from it; one that was passed over, for KEPT numbers."""
+        self.known = {known: first for known, first in self.known.items()
+                      if ((number - known) % KEPT if first else (self.newest - known) % WRAP < KEPT)}
+        self.known[number] = (line, octets)
 
     def sums(self):
         return 'PDUs %d missing %d repeats %d late %d differs %d stale %d' % self.counts()
