@@ -2,7 +2,7 @@ use crate::stack_end_tests::config;
 use channels::Note;
 use end_settings::{EndConfig, Side};
 use linked_list_allocator::LocalHeap;
-use pdi_session::{Phase, PutFault};
+use pdi_session::Phase;
 use red_layer::RedEvent;
 use safe_machine::{ConnectionState, Step};
 use stack_engine::{ApplyFault, Call, Doing, Event, Pair, Told};
@@ -146,21 +146,8 @@ fn tells_in_order(rt: &impl Abort, pair: &Pair) -> Result<(), Fail> {
     Ok(())
 }
 
-/// The interlocking, which has no session yet, puts a command in.
-fn put(pair: &mut Pair) -> Result<(), ApplyFault> {
-    let kind = 0x0100;
-    pair.apply(&Event {
-        side: Side::Interlocking,
-        time: 10,
-        doing: Doing::Call(Call::Put {
-            kind,
-            payload: &[7],
-        }),
-    })
-}
-
 // Two interlockings make the same ConnReq, one after the other: the field element that takes it is joined to the later one. What the
-// delivery did is told in its order, the redundancy layer's word last; a refused event of the other end leaves that as it is.
+// delivery did is told in its order, the redundancy layer's word last.
 #[test]
 fn joins_the_latest_maker(rt: HostRuntime) -> Result<(), Fail> {
     let (il, fe) = (config(Side::Interlocking)?, config(Side::FieldElement)?);
@@ -173,8 +160,6 @@ fn joins(rt: &(impl AllocGlobal + Abort), pair: &mut Pair) -> Result<(), Fail> {
     let request = made(rt, pair)?;
     assert_eq!(rt; deliver(pair, request.as_slice()), Ok(()));
     is_joined_to_the_later(rt, pair)?;
-    tells_in_order(rt, pair)?;
-    assert_eq!(rt; put(pair), Err(ApplyFault::Put(PutFault::NotEstablished)));
     tells_in_order(rt, pair)
 }
 
