@@ -4,12 +4,12 @@
 //! No rule stands here: what a file says is `settings_file`'s, and how it stands in the settings of C `end_for_callers`'.
 #![tactic(auto)]
 
-ghost use Rattle.std.specs.Prelude.{◌≡◌, ◌≢◌, IfErr, IfOk, None, Ok, Some, drop, option_map, take, map, string_bytes};
+ghost use Rattle.std.specs.Prelude.{◌≡◌, ◌≢◌, IfErr, IfOk, None, Ok, Some, drop, length, option_map, take, map, string_bytes};
 ghost use Rattle.settings_file.specs.Whole.{file_settings, settings_seen};
 ghost use Rattle.bekwidas_toml.specs.declared.Unread.TheVariants as unread;
 ghost use Rattle.end_for_callers.specs.Plain.{side_in};
-ghost use Rattle.bekwidas_toml.specs.Told.{Addressed, IsUnread, NoFile, Reads, address_of, addresses_in};
-ghost use Rattle.bekwidas_toml.specs.declared.TheConstants.{NO_MEMORY, NO_SETTINGS, NOTHING, OK, TOO_SMALL};
+ghost use Rattle.bekwidas_toml.specs.Told.{Addressed, IsShort, IsUnfit, IsUnread, NoFile, Reads, address_of, addresses_in};
+ghost use Rattle.bekwidas_toml.specs.declared.TheConstants.{BAD_SIDE, NO_MEMORY, NO_SETTINGS, NOTHING, OK, TOO_SMALL};
 
 use end_for_callers::{PlainSettings, Rooms};
 use end_settings::Side;
@@ -29,7 +29,8 @@ pub const TOO_SMALL: i32 = -13;
 /// The text is no settings file for this side.
 pub const NO_SETTINGS: i32 = -19;
 
-/// Reads the text of a settings file for one end into the settings; their rooms stay as they are.
+/// Reads the text of a settings file for one end into the settings; their rooms stay as they are, and their first sequence number where the file
+/// says that one is drawn.
 ///
 /// Where the text is none, what is wrong comes in front of `said`, cut to it, and `length` is how many octets that has.
 #[unsafe(no_mangle)]
@@ -43,6 +44,7 @@ pub extern "C" fn bekr_toml_settings(
 ) -> i32
     ensures read { result ≡ OK → Reads side text.now settings.old settings.new }
     ensures wrong { result ≡ NO_SETTINGS → NoFile side text.now }
+    ensures unfit { result ≡ BAD_SIDE → IsUnfit side text.now }
     ensures refused { result ≢ OK → settings.new ≡ settings.old }
 {
     let Some(end) = side_of(side) else {
@@ -54,7 +56,8 @@ pub extern "C" fn bekr_toml_settings(
                 telegrams: settings.telegram_room,
                 datagrams: settings.datagram_room,
             };
-            match PlainSettings::of(end, &file.config, file.first_sn, rooms) {
+            let first_sn = file.first_sn.unwrap_or(settings.first_sn);
+            match PlainSettings::of(end, &file.config, first_sn, rooms) {
                 Some(plain) => {
                     *settings = plain;
                     OK
@@ -82,6 +85,8 @@ pub extern "C" fn bekr_toml_address(
     ensures read { result ≡ OK → Addressed side is_remote channel text.now (Some (take length.new address.new)) }
     ensures nothing { result ≡ NOTHING → Addressed side is_remote channel text.now None }
     ensures wrong { result ≡ NO_SETTINGS → NoFile side text.now }
+    ensures side { result ≡ BAD_SIDE → side_in side ≡ None }
+    ensures short { result ≡ TOO_SMALL → IsShort side is_remote channel text.now length.new (length address.old) }
     ensures rest { result ≡ OK → drop length.new address.new ≡ drop length.new address.old }
     ensures refused { result ≢ OK → address.new ≡ address.old }
 {

@@ -1,13 +1,12 @@
 //! Channels over UDP sockets, which never wait, and a wait for all of them at once.
 
-ghost use Rattle.std.specs.Prelude.{◌≡◌, ◌≢◌, ◌<◌, ◌≤◌, ◌⊎◌, [], false, true, Err, length, is_ok, IfErr, IfOk, IfSome, MatchOption};
+ghost use Rattle.std.specs.Prelude.{◌≡◌, ◌≢◌, ◌+◌, ◌^◌, ◌<◌, ◌++◌, false, true, List, Err, length, map, IfErr, IfOk, MatchOption};
 ghost use Rattle.std.specs.Net.Grammar.{IsSocketText};
-ghost use Rattle.channels.specs.Told.{Sends, after_receive};
-ghost use Rattle.channels.specs.Sockets.{told_of, are_paired};
-ghost use Rattle.channels.specs.declared.udp.UdpFault.TheVariants as fault;
-ghost use Rattle.channels.specs.declared.ChannelFault.TheVariants as channel_fault;
+ghost use Rattle.channels.specs.Sockets.{are_paired};
+ghost use Rattle.channels.specs.declared.udp.Addresses.{Addresses};
+ghost use Rattle.channels.specs.Addresses.{AreSpelled, IsRefusal, IsUnbound, IsUnread, IsUnreadAt, Spells};
 
-use crate::{ChannelFault, Channels};
+use crate::sockets::{Reception, Socket, SocketChannels};
 use mio::net::UdpSocket;
 use mio::{Events, Interest, Poll, Token};
 use octets::limits::CHANNELS_MAX;
@@ -19,137 +18,133 @@ use std::marker::Model;
 use std::net::{Net, SocketAddr};
 use std::time::Duration;
 
-/// A local address and the remote one that is sent to.
-type Pair = (SocketAddr, SocketAddr);
-
 /// How many events one wait takes up. More than one for each socket of two ends is of no use.
 const EVENTS: usize = 2 * CHANNELS_MAX;
+
+/// Channels over UDP: a socket for each, numbered from 1. A datagram is taken from any sender.
+pub type UdpChannels<A = Global> = SocketChannels<UdpPath, A>;
 
 /// Why channels were not opened, in the order in which it is tested.
 #[derive(Clone, Copy, Debug, PartialEq, Eq)]
 pub enum UdpFault {
+    /// The lists are not of one length from 1 to 4.
+    Lists,
     /// There was no memory for them.
     Memory,
-    /// The lists are not of one length from 1 to 4, or a text is no address with a port.
-    Address,
-    /// The system gives no socket at a local address: it is in use, or of another machine.
-    Bind,
+    /// A text is no address with a port.
+    Address(Place),
+    /// The system gives no socket at a channel's own address, as where it is in use or another machine's.
+    Bind(Refusal),
+    /// The system has no means to wait.
+    Wait,
 }
 
-#[derive(Drop)]
-struct Channel {
-    /// Bound to the local address, and not connected.
-    socket: UdpSocket,
+/// Where an address stands in the two lists.
+#[derive(Clone, Copy, Debug, PartialEq, Eq)]
+pub struct Place {
+    /// Its channel, from 1.
+    pub channel: usize,
+    /// Whether it is the channel's own address, and not its peer's.
+    pub is_own: bool,
+}
+
+/// A socket that the system refused.
+#[derive(Clone, Copy, Debug, PartialEq, Eq)]
+pub struct Refusal {
+    /// Its channel, from 1.
+    pub channel: usize,
+    /// The system's number for the reason (`errno`), where it gave one.
+    pub error: Option<i32>,
+}
+
+/// The addresses of a channel.
+#[derive(Clone, Copy, Debug, PartialEq, Eq)]
+pub struct Addresses {
+    /// Where its socket is bound.
+    pub own: SocketAddr,
     /// Where datagrams go.
-    remote: SocketAddr,
+    pub peer: SocketAddr,
 }
 
-/// Channels over UDP: a socket for each, numbered from 1. A datagram is taken from any sender.
+/// The way of one channel over UDP: a socket bound to the own address, and not connected.
 #[derive(Drop)]
-pub struct UdpChannels<A: Allocator = Global> {
-    /// The channels, the first one first.
-    list: Vec<Channel, A>,
-    /// How many sendings have failed, modulo 2^64.
-    failed_sends: u64,
-    /// How many receptions have failed, modulo 2^64.
-    failed_receives: u64,
-    /// How many datagrams were received, modulo 2^64.
-    received: u64,
+pub struct UdpPath {
+    /// The socket.
+    socket: UdpSocket,
+    /// Its addresses.
+    addresses: Addresses,
 }
 
-impl<A: Allocator> Model for UdpChannels<A> {
-    ghost use Rattle.std.specs.Prelude.{length};
-    ghost use Rattle.channels.specs.Sockets.{Counts};
+impl Model for UdpPath {
+    ghost Value = { Addresses };
 
-    ghost Value = { Counts };
-
-    ghost view = { λ c. record {
-      channels = length c.list.items;
-      failed_sends = c.failed_sends;
-      failed_receives = c.failed_receives;
-    } };
+    ghost view = { λ path. path.addresses };
 }
 
-impl<A: Allocator + Copy> UdpChannels<A> {
-    /// Binds a socket for each pair of addresses, such as `127.0.0.1:46101`; names of hosts are none.
+impl UdpPath {
+    /// Binds a socket, which never waits, at the own address.
     ///
     /// # Errors
     ///
-    /// Refused as Memory, then as Address, before a socket is bound, then as Bind.
-    pub fn open<N: Net, S: AsStr>(
-        alloc: A,
-        net: &N,
-        local: &[S],
-        remote: &[S],
-    ) -> Result<Self, UdpFault>
-        // A socket for each address.
-        ensures counts { IfOk result (λ c. c ≡ record { channels = length local.now; failed_sends = 0; failed_receives = 0 }) }
-        ensures ok { IfOk result (λ _. are_paired local.now remote.now ≡ true) }
-        ensures unpaired { are_paired local.now remote.now ≡ false
-            → (result ≡ Err fault.Memory) ⊎ (result ≡ Err fault.Address) }
+    /// Refused by the system, as where the address is in use or another machine's.
+    pub fn bind<N: Net>(net: &N, addresses: Addresses) -> io::Result<Self>
+        ensures { IfOk result (λ path. path ≡ addresses) }
     {
-        let (Ok(mut pairs), Ok(mut list)) = (
-            Vec::with_capacity(alloc, CHANNELS_MAX),
-            Vec::with_capacity(alloc, CHANNELS_MAX),
-        ) else {
-            return Err(UdpFault::Memory);
-        };
-        if !pair_all(local, remote, &mut pairs) {
-            return Err(UdpFault::Address);
-        }
-        if !bind_all(net, pairs.as_slice(), &mut list) {
-            return Err(UdpFault::Bind);
-        }
-        Ok(UdpChannels {
-            list,
-            failed_sends: 0,
-            failed_receives: 0,
-            received: 0,
-        })
-    }
-
-    /// How many datagrams came, modulo 2^64. Where none came in a turn it is time to wait.
-    pub fn received(&self) -> u64 {
-        self.received
+        let socket = UdpSocket::bind(net, addresses.own)?;
+        Ok(UdpPath { socket, addresses })
     }
 }
 
-impl<A: Allocator> Channels for UdpChannels<A> {
-    ghost told = { told_of };
+impl Socket for UdpPath {
+    ghost sends = { λ path _ _ left. left ≡ path };
 
-    /// Sends it from the channel's socket. It keeps all sockets, whatever the system answers.
-    fn send(&mut self, channel: usize, datagram: &[u8]) -> Result<(), ChannelFault>
-        ensures told { Sends (is_ok result) (told_of self.old) (channel, datagram.now) (told_of self.new) }
-        ensures kept { self.new.channels ≡ self.old.channels }
-        // A channel that is not there has no room.
-        ensures room { self.old.channels < channel → result ≡ Err channel_fault.Room }
-    {
-        let result = tell(self.list.as_slice(), channel, datagram);
-        if result.is_err() {
-            self.failed_sends = self.failed_sends.wrapping_add(1);
-        }
-        result
+    ghost receives = { λ path _ _ _ left. left ≡ path };
+
+    /// Sends it to the peer's address. What the system took only in part is lost.
+    fn send(&mut self, datagram: &[u8]) -> bool {
+        matches!(self.socket.send_to(datagram, self.addresses.peer), Ok(size) if size == datagram.len())
     }
 
-    /// Asks one socket after the other. It keeps all of them, whatever the system answers.
-    fn receive(&mut self, buffer: &mut [u8]) -> Result<Option<(usize, usize)>, ChannelFault>
-        ensures fits { IfOk result (λ came. IfSome came (λ p. p.1 ≤ length buffer.new)) }
-        ensures told { told_of self.new ≡ after_receive result buffer.new (told_of self.old) }
-        ensures kept { self.new.channels ≡ self.old.channels }
-        // What comes came on one of its channels.
-        ensures channel { IfOk result (λ came. IfSome came (λ p. (1 ≤ p.0) × (p.0 ≤ self.old.channels))) }
-        // Only the system refuses.
-        ensures fault { IfErr result (λ why. why ≡ channel_fault.System) }
-    {
-        let result = ask(self.list.as_slice(), buffer);
-        if let Ok(Some(_)) = result {
-            self.received = self.received.wrapping_add(1);
+    fn receive(&mut self, buffer: &mut [u8]) -> Reception {
+        match self.socket.recv_from(buffer) {
+            Ok((size, _sender)) => Reception::Came(size),
+            Err(fault) => {
+                if fault.kind() == ErrorKind::WouldBlock {
+                    Reception::Nothing
+                } else {
+                    Reception::Refused
+                }
+            }
         }
-        if result.is_err() {
-            self.failed_receives = self.failed_receives.wrapping_add(1);
-        }
-        result
     }
+}
+
+/// Opens channels: binds a socket for each pair of addresses, such as `127.0.0.1:46101`; names of hosts are none.
+///
+/// # Errors
+///
+/// Refused as Lists, then as Memory, then as Address, before a socket is bound, then as Bind.
+pub fn open_udp<N: Net, S: AsStr, A: Allocator + Copy>(
+    alloc: A,
+    net: &N,
+    local: &[S],
+    remote: &[S],
+) -> Result<UdpChannels<A>, UdpFault>
+    // A socket for each channel, in order, between the addresses that the texts spell. Nothing was counted yet.
+    ensures opened { IfOk result (λ c. AreSpelled (map S.text local.now) (map S.text remote.now) c.sockets) }
+    ensures counts { IfOk result (λ c. c ≡ record { sockets = c.sockets; failed_sends = 0; failed_receives = 0; received = 0 }) }
+    ensures lists { are_paired local.now remote.now ≡ false → result ≡ Err UdpFault.Lists }
+    ensures refused { are_paired local.now remote.now ≡ true → IfErr result (IsRefusal (map S.text local.now) (map S.text remote.now)) }
+{
+    if local.len() != remote.len() || local.is_empty() || local.len() > CHANNELS_MAX {
+        return Err(UdpFault::Lists);
+    }
+    let Ok(mut addresses) = Vec::with_capacity(alloc, local.len()) else {
+        return Err(UdpFault::Memory);
+    };
+    list_addresses(local, remote, 1, &mut addresses)?;
+    let sockets = bind_all(alloc, net, addresses.as_slice())?;
+    Ok(SocketChannels::over(sockets))
 }
 
 /// The wait until a datagram waits on one of the sockets that it watches. A process has one for all of its ends.
@@ -168,14 +163,16 @@ impl<A: Allocator + Copy> Watch<A> {
     ///
     /// # Errors
     ///
-    /// Refused as Memory, or as Bind where the system has no means to wait.
-    pub fn open<N: Net>(alloc: A, net: &N) -> Result<Self, UdpFault> {
+    /// Refused as Memory, or as Wait where the system has no means to wait.
+    pub fn open<N: Net>(alloc: A, net: &N) -> Result<Self, UdpFault>
+        ensures { IfErr result (λ why. (why ≢ UdpFault.Memory → why ≡ UdpFault.Wait)) }
+    {
         let Ok(events) = Events::with_capacity(alloc, EVENTS) else {
             return Err(UdpFault::Memory);
         };
         match Poll::new(net) {
             Ok(poll) => Ok(Watch { poll, events }),
-            Err(_) => Err(UdpFault::Bind),
+            Err(_) => Err(UdpFault::Wait),
         }
     }
 }
@@ -189,12 +186,7 @@ impl<A: Allocator> Watch<A> {
     pub fn add<B: Allocator>(&self, channels: &mut UdpChannels<B>) -> io::Result<()>
         ensures { channels.new ≡ channels.old }
     {
-        for channel in &mut channels.list {
-            self.poll
-                .registry()
-                .register(&mut channel.socket, Token(0), Interest::READABLE)?;
-        }
-        Ok(())
+        self.add_all(channels.list.as_mut_slice())
     }
 
     /// Waits until a datagram comes, or the time is up; a fraction of a millisecond counts as one. It may end early,
@@ -202,27 +194,61 @@ impl<A: Allocator> Watch<A> {
     pub fn wait(&mut self, limit: Duration) {
         let _waited = self.poll.poll(&mut self.events, Some(limit));
     }
+
+    fn add_all(&self, paths: &mut [UdpPath]) -> io::Result<()>
+        ensures { paths.new ≡ paths.old }
+    {
+        let Some((path, others)) = paths.split_first_mut() else {
+            return Ok(());
+        };
+        self.poll
+            .registry()
+            .register(&mut path.socket, Token(0), Interest::READABLE)?;
+        self.add_all(others)
+    }
 }
 
-/// Lists the pairs of addresses that two lists of texts spell, and answers whether the lists are of one length from 1 to 4
-/// and each text spells an address.
-fn pair_all<S: AsStr, A: Allocator>(local: &[S], remote: &[S], pairs: &mut Vec<Pair, A>) -> bool
-    requires { pairs.old.items ≡ [] }
-    ensures paired { result ≡ true → are_paired local.now remote.now ≡ true }
-    ensures all { result ≡ true → length pairs.new.items ≡ length local.now }
+/// Puts the addresses of each channel behind those that are listed; `channel` is the number of the first.
+fn list_addresses<S: AsStr, A: Allocator>(
+    own: &[S],
+    peer: &[S],
+    channel: usize,
+    list: &mut Vec<Addresses, A>,
+) -> Result<(), UdpFault>
+    requires pairs { length own.now ≡ length peer.now }
+    requires counted { channel + length own.now < 2 ^ 64 }
+    ensures ok { IfOk result (λ _. (read : List Addresses) × (list.new.items ≡ list.old.items ++ read)
+        × AreSpelled (map S.text own.now) (map S.text peer.now) read) }
+    ensures refused { IfErr result (IsUnread channel (map S.text own.now) (map S.text peer.now)) }
 {
-    if local.len() != remote.len() || local.is_empty() || local.len() > CHANNELS_MAX {
-        return false;
+    let ([first, own @ ..], [second, peer @ ..]) = (own, peer) else {
+        return Ok(());
+    };
+    let addresses = addresses_of(first, second, channel)?;
+    if list.push(addresses).is_err() {
+        return Err(UdpFault::Memory);
     }
-    for (near, far) in local.iter().zip(remote) {
-        let (Some(near), Some(far)) = (address(near.as_str()), address(far.as_str())) else {
-            return false;
-        };
-        if pairs.push((near, far)).is_err() {
-            return false;
-        }
-    }
-    true
+    list_addresses(own, peer, channel + 1, list)
+}
+
+/// The addresses of one channel.
+fn addresses_of<S: AsStr>(own: &S, peer: &S, channel: usize) -> Result<Addresses, UdpFault>
+    ensures ok { IfOk result (Spells (S.text own.now) (S.text peer.now)) }
+    ensures refused { IfErr result (IsUnreadAt channel (S.text own.now) (S.text peer.now)) }
+{
+    let Some(own) = address(own.as_str()) else {
+        return Err(UdpFault::Address(Place {
+            channel,
+            is_own: true,
+        }));
+    };
+    let Some(peer) = address(peer.as_str()) else {
+        return Err(UdpFault::Address(Place {
+            channel,
+            is_own: false,
+        }));
+    };
+    Ok(Addresses { own, peer })
 }
 
 fn address(text: &str) -> Option<SocketAddr>
@@ -231,51 +257,32 @@ fn address(text: &str) -> Option<SocketAddr>
     text.parse::<SocketAddr>().ok()
 }
 
-/// Binds a socket at the first address of each pair, and answers whether the system gave all of them.
-fn bind_all<N: Net, A: Allocator>(net: &N, pairs: &[Pair], list: &mut Vec<Channel, A>) -> bool
-    requires { list.old.items ≡ [] }
-    ensures { result ≡ true → length list.new.items ≡ length pairs.now }
+/// Binds a socket for each channel, in order.
+fn bind_all<N: Net, A: Allocator>(
+    alloc: A,
+    net: &N,
+    addresses: &[Addresses],
+) -> Result<Vec<UdpPath, A>, UdpFault>
+    ensures ok { IfOk result (λ paths. paths.items ≡ addresses.now) }
+    ensures refused { IfErr result (IsUnbound (length addresses.now)) }
 {
-    for (local, remote) in pairs {
-        let Ok(socket) = UdpSocket::bind(net, *local) else {
-            return false;
-        };
-        let remote = *remote;
-        if list.push(Channel { socket, remote }).is_err() {
-            return false;
-        }
-    }
-    true
-}
-
-/// Sends a datagram to the remote address of a channel.
-fn tell(list: &[Channel], channel: usize, datagram: &[u8]) -> Result<(), ChannelFault>
-    ensures { length list.now < channel → result ≡ Err channel_fault.Room }
-{
-    let Some(channel) = list.get(channel.wrapping_sub(1)) else {
-        return Err(ChannelFault::Room);
+    let Ok(mut paths) = Vec::with_capacity(alloc, addresses.len()) else {
+        return Err(UdpFault::Memory);
     };
-    match channel.socket.send_to(datagram, channel.remote) {
-        Ok(_) => Ok(()),
-        Err(_) => Err(ChannelFault::System),
-    }
-}
-
-/// The first datagram of the channels in their order, if one has come.
-fn ask(list: &[Channel], buffer: &mut [u8]) -> Result<Option<(usize, usize)>, ChannelFault>
-    ensures fits { IfOk result (λ came. IfSome came (λ p. p.1 ≤ length buffer.new)) }
-    ensures channel { IfOk result (λ came. IfSome came (λ p. (1 ≤ p.0) × (p.0 ≤ length list.now))) }
-    ensures fault { IfErr result (λ why. why ≡ channel_fault.System) }
-{
-    for (number, channel) in list.iter().enumerate() {
-        match channel.socket.recv_from(buffer) {
-            Ok((size, _sender)) => return Ok(Some((number.wrapping_add(1), size))),
-            Err(fault) => {
-                if fault.kind() != ErrorKind::WouldBlock {
-                    return Err(ChannelFault::System);
+    for (number, each) in addresses.iter().enumerate() {
+        match UdpPath::bind(net, *each) {
+            Ok(path) => {
+                if paths.push(path).is_err() {
+                    return Err(UdpFault::Memory);
                 }
+            }
+            Err(error) => {
+                return Err(UdpFault::Bind(Refusal {
+                    channel: number + 1,
+                    error: error.raw_os_error(),
+                }));
             }
         }
     }
-    Ok(None)
+    Ok(paths)
 }

@@ -1,4 +1,6 @@
-use channels::{ChannelFault, Channels, MemChannels, MemoryFault, UdpChannels, UdpFault, Watch};
+use channels::{
+    ChannelFault, Channels, MemChannels, MemoryFault, Place, Refusal, UdpFault, Watch, open_udp,
+};
 use linked_list_allocator::LocalHeap;
 use std::test::Fail;
 use std::time::Duration;
@@ -87,9 +89,9 @@ fn takes_memory_where_it_says(rt: HostRuntime) -> Result<(), Fail> {
 fn carries_datagrams_over_sockets(rt: HostRuntime) -> Result<(), Fail> {
     let near = ["127.0.0.1:47311", "127.0.0.1:47312"];
     let far = ["127.0.0.1:47321", "127.0.0.1:47322"];
-    let mut left = UdpChannels::open(rt.alloc(), &rt, &near, &far)?;
-    let mut right = UdpChannels::open(rt.alloc(), &rt, &far, &near)?;
-    let mut stranger = UdpChannels::open(
+    let mut left = open_udp(rt.alloc(), &rt, &near, &far)?;
+    let mut right = open_udp(rt.alloc(), &rt, &far, &near)?;
+    let mut stranger = open_udp(
         rt.alloc(),
         &rt,
         &["127.0.0.1:47331"],
@@ -118,30 +120,42 @@ fn carries_datagrams_over_sockets(rt: HostRuntime) -> Result<(), Fail> {
     Ok(())
 }
 
-// Lists of unequal or wrong length and texts that are no address are refused before a socket is bound, then a port in use.
+fn text(channel: usize, is_own: bool) -> UdpFault {
+    UdpFault::Address(Place { channel, is_own })
+}
+
+fn refused(channel: usize, error: i32) -> UdpFault {
+    UdpFault::Bind(Refusal {
+        channel,
+        error: Some(error),
+    })
+}
+
+// Lists of unequal or wrong length and texts that are no address are refused before a socket is bound, each by its place; then a port in use
+// and an address of another machine, by the system's number (EADDRINUSE 98, EADDRNOTAVAIL 99).
 #[test]
 fn refuses_other_addresses(rt: HostRuntime) -> Result<(), Fail> {
     let free = "127.0.0.1:47341";
-    let held = UdpChannels::open(rt.alloc(), &rt, &["127.0.0.1:47342"], &[free])?;
+    let held = open_udp(rt.alloc(), &rt, &["127.0.0.1:47342"], &[free])?;
     let lists: [(&[&str], &[&str], UdpFault); 8] = [
-        (&[], &[], UdpFault::Address),
-        (&[free], &[], UdpFault::Address),
-        (&[free; 5], &[free; 5], UdpFault::Address),
-        (&["localhost:47341"], &[free], UdpFault::Address),
-        (&["127.0.0.1:47342"], &["127.0.0.1"], UdpFault::Address),
-        (&["127.0.0.1:65536"], &[free], UdpFault::Address),
-        (&["127.0.0.1:47342"], &[free], UdpFault::Bind),
-        (&[free, "192.0.2.1:47341"], &[free; 2], UdpFault::Bind),
+        (&[], &[], UdpFault::Lists),
+        (&[free], &[], UdpFault::Lists),
+        (&[free; 5], &[free; 5], UdpFault::Lists),
+        (&["localhost:47341"], &[free], text(1, true)),
+        (&["127.0.0.1:47342"], &["127.0.0.1"], text(1, false)),
+        (&[free, "127.0.0.1:65536"], &[free; 2], text(2, true)),
+        (&["127.0.0.1:47342"], &[free], refused(1, 98)),
+        (&[free, "192.0.2.1:47341"], &[free; 2], refused(2, 99)),
     ];
     for (local, remote, fault) in lists {
-        let opened = UdpChannels::open(rt.alloc(), &rt, local, remote);
+        let opened = open_udp(rt.alloc(), &rt, local, remote);
         assert!(rt;
             matches!(opened, Err(found) if found == fault),
             "at {local:?}"
         );
     }
     // What was bound before a refusal is free again.
-    let _opened = UdpChannels::open(rt.alloc(), &rt, &[free], &["127.0.0.1:47342"])?;
+    let _opened = open_udp(rt.alloc(), &rt, &[free], &["127.0.0.1:47342"])?;
     let _held = held;
     Ok(())
 }

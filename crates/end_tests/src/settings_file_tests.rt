@@ -128,7 +128,12 @@ const FAULTS: [(Word, &str, &str); 51] = [
     (
         Word::Il,
         "first_sn=4294967296\n",
-        "first_sn: 0 to 4294967295 expected, 4294967296 found",
+        "first_sn: 0 to 4294967295 or random expected, 4294967296 found",
+    ),
+    (
+        Word::Il,
+        "first_sn='Random'\n",
+        "first_sn: 0 to 4294967295 or random expected, another value found",
     ),
     (
         Word::Il,
@@ -322,7 +327,7 @@ fn reads_each_key(rt: HostRuntime) -> Result<(), Fail> {
         (3, 2, 1, 8)
     );
     assert_eq!(rt; (config.t_max, config.t_h, config.t_seq), (1000, 999, 60));
-    assert_eq!(rt; (config.mwa, config.pdu_limit, whole.first_sn), (3, 100, 5));
+    assert_eq!(rt; (config.mwa, config.pdu_limit, whole.first_sn), (3, 100, Some(5)));
     assert_eq!(rt; whole.remote.len(), 3);
     assert_eq!(rt; whole.puts.len(), 2);
     assert_eq!(rt; whole.puts[0].kind, 0x0203);
@@ -342,7 +347,7 @@ fn reads_each_key(rt: HostRuntime) -> Result<(), Fail> {
     assert_eq!(rt; (config.t_max, config.t_h, config.t_seq), (1800, 300, 50));
     assert_eq!(rt;
         (config.mwa, config.pdu_limit, least.first_sn),
-        (10, 4_294_901_760, 1)
+        (10, 4_294_901_760, Some(1))
     );
     Ok(())
 }

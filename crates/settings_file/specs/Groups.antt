@@ -1,5 +1,5 @@
 -- The groups of settings.
-use Rattle.std.specs.Prelude.{ℕ, ◌-◌, List, Some, None, Result, Ok, Err}
+use Rattle.std.specs.Prelude.{ℕ, ◌-◌, List, Option, Some, None, Result, Ok, Err}
 use Rattle.toml.specs.Data.{Data}
 use Rattle.settings_file.specs.declared.keys.Key.TheVariants as key
 use Rattle.settings_file.specs.declared.keys.KeyFault.{KeyFault}
@@ -14,7 +14,7 @@ use Rattle.settings_file.specs.declared.values.Identity.{Identity}
 use Rattle.settings_file.specs.declared.values.Beginning.{Beginning}
 use Rattle.octets.specs.declared.limits.TheConstants.{MWA_MAX, PDU_LIMIT_HIGHEST, PDU_LIMIT_LOWEST, Q_MAX, T_H_LOWEST, T_MAX_HIGHEST, T_MAX_LOWEST, T_SEQ_LOWEST, T_SEQ_MAX, UNIT_MESSAGES, WINDOW_MAX}
 use Rattle.end_settings.specs.Lists.{versions_in, checksum_in}
-use Rattle.settings_file.specs.Readers.{number_at, wrong_at, name_at, code_at, checksum_at, initial_value_at, versions_at}
+use Rattle.settings_file.specs.Readers.{first_number_at, number_at, wrong_at, name_at, code_at, checksum_at, initial_value_at, versions_at}
 
 abbrev pub limits_of : Data → Result Limits KeyFault
 limits_of d = do
@@ -58,7 +58,7 @@ pub record BeginningSeen : Type 0 where
   pub code : ℕ
   pub checksum : List ℕ
   pub initial_value : List ℕ
-  pub first_sn : ℕ
+  pub first_sn : Option ℕ  -- none where it is drawn
 
 abbrev pub beginning_seen : Beginning → BeginningSeen
 beginning_seen b = record { versions = versions_in b.versions; code = b.code; checksum = checksum_in b.checksum; initial_value = b.initial_value; first_sn = b.first_sn }
@@ -69,7 +69,7 @@ beginning_of e d = do
   code ← code_at d key.Code
   checksum ← checksum_at d key.Checksum
   initial_value ← initial_value_at d key.InitialValue
-  first_sn ← number_at d key.FirstSn 0 4294967295 (Some 1)
+  first_sn ← first_number_at d key.FirstSn
   Ok (record { versions = versions; code = code; checksum = checksum; initial_value = initial_value; first_sn = first_sn })
 
 abbrev pub put_seen : Put → ℕ × List ℕ

@@ -1,5 +1,5 @@
 -- What one key of a table says, for each kind of key.
-use Rattle.std.specs.Prelude.{ℕ, suc, ◌+◌, ◌*◌, true, false, is_some, ℤ, pos, negsuc, List, [], ◌∷◌, length, nat_le, ◌==◌, ◌/◌, ◌&&◌, if◌then◌else◌, Bool, Option, Some, None, Result, Ok, Err, option_and_then, option_map}
+use Rattle.std.specs.Prelude.{ℕ, bytes_eq, codes, suc, ◌+◌, ◌*◌, true, false, is_some, ℤ, pos, negsuc, List, [], ◌∷◌, length, nat_le, ◌==◌, ◌/◌, ◌&&◌, if◌then◌else◌, Bool, Option, Some, None, Result, Ok, Err, option_and_then, option_map}
 use Rattle.std.specs.Result.{result_ok}
 use Rattle.std.specs.Option.{ok_or, option_map_or}
 use Rattle.toml.specs.Data.{Data, get, as_integer, as_str, as_array, Items, no_items, item}
@@ -45,6 +45,13 @@ whole_at d k default = option_map_or as_integer (get (text_of k) d) (option_map 
 
 abbrev pub number_at : Data → Key → ℕ → ℕ → Option ℕ → Result ℕ KeyFault
 number_at d k low high default = ok_or (option_and_then (within low high) (whole_at d k default)) (wrong_at d k (expected.Whole low high))
+
+-- a number of four octets; none is the text `random`
+abbrev pub first_number_of : Data → Option (Option ℕ)
+first_number_of v = option_map_or (λ t. if bytes_eq t (codes "random") then Some None else None) (as_str v) (option_map Some (option_and_then (within 0 4294967295) (as_integer v)))
+
+abbrev pub first_number_at : Data → Key → Result (Option ℕ) KeyFault
+first_number_at d k = at_key d k expected.FirstNumber (Some (Some 1)) first_number_of
 
 -- a name, as its characters
 abbrev pub name_at : Data → Key → Result (List ℕ) KeyFault

@@ -29,7 +29,7 @@ use Rattle.settings_file.specs.Groups.{IdentitySeen, BeginningSeen, identity_of,
 -- what a file says for an end, seen as plain values
 pub record SettingsSeen : Type 0 where
   pub config : EndSettings
-  pub first_sn : ℕ
+  pub first_sn : Option ℕ  -- none where one is drawn anew at each opening
   pub local : List (List ℕ)
   pub remote : List (List ℕ)
   pub puts : List (ℕ × List ℕ)

@@ -7,8 +7,7 @@ ghost use Rattle.settings_file.specs.Readers.{read_as};
 
 use crate::keys::{Expected, Key, KeyFault};
 use crate::readers::{
-    checksum, code, identifier, initial_value, name, number, octet, sequence_number, versions,
-    wrong,
+    checksum, code, first_number, identifier, initial_value, name, number, octet, versions, wrong,
 };
 use crate::values::{Beginning, Identity, Limits};
 use end_settings::Side;
@@ -47,7 +46,7 @@ pub fn begun(side: Side, table: &Value) -> Result<Beginning, KeyFault>
     let code = code(table)?;
     let checksum = checksum(table)?;
     let initial_value = initial_value(table)?;
-    let first_sn = sequence_number(table, Key::FirstSn)?;
+    let first_sn = first_number(table)?;
     Ok(Beginning {
         versions,
         code,

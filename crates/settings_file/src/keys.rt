@@ -67,6 +67,8 @@ pub enum Expected {
         /// The greatest.
         high: u64,
     },
+    /// A number of four octets, or the text `random`.
+    FirstNumber,
     /// A name.
     Name,
     /// The number 8 or 16.
@@ -185,6 +187,7 @@ impl fmt::Display for Expected {
     fn fmt<W: fmt::Write>(&self, f: &mut fmt::Formatter<W>) -> fmt::Result {
         let text = match self {
             Expected::Whole { low, high } => return write!(f, "{low} to {high}"),
+            Expected::FirstNumber => "0 to 4294967295 or random",
             Expected::Name => "a name of 1 to 20 characters 21 to 7e, none of them 5f,",
             Expected::CodeLength => "8 or 16",
             Expected::SixteenOctets => "32 hex digits",

@@ -5,7 +5,7 @@ ghost use Rattle.toml.specs.View.{view, items_view};
 ghost use Rattle.toml.specs.Data.{as_array};
 ghost use Rattle.std.specs.Prelude.{Some};
 ghost use Rattle.sci_telegram.specs.Tele.{owned_characters};
-ghost use Rattle.settings_file.specs.Readers.{wrong_at, number_at, code_at, name_at, initial_value_at, checksum_at, octets_of, short_octets, different_octets, few_octets, if_different, one_version, il_versions, fe_versions, versions_at, are_different, stands_in, read_as};
+ghost use Rattle.settings_file.specs.Readers.{wrong_at, number_at, code_at, first_number_at, name_at, initial_value_at, checksum_at, octets_of, short_octets, different_octets, few_octets, if_different, one_version, il_versions, fe_versions, versions_at, are_different, stands_in, read_as};
 ghost use Rattle.end_settings.specs.Lists.{versions_in, checksum_in};
 ghost use Rattle.pdi_session.specs.declared.TheConstants.{VERSIONS_MAX};
 ghost use Rattle.settings_file.specs.declared.keys.Key.TheVariants as key_of;
@@ -90,13 +90,28 @@ pub fn identifier(table: &Value, key: Key) -> Result<u32, KeyFault>
     }
 }
 
-/// A number of four octets, 1 where nothing is said.
-pub fn sequence_number(table: &Value, key: Key) -> Result<u32, KeyFault>
-    ensures { result ≡ number_at (view table.now) key 0 4294967295 (Some 1) }
+/// The first sequence number, 1 where nothing is said; none where it is to be drawn.
+pub fn first_number(table: &Value) -> Result<Option<u32>, KeyFault>
+    ensures { result ≡ first_number_at (view table.now) key_of.FirstSn }
 {
-    match number(table, key, 0, 4_294_967_295, Some(1)) {
-        Ok(number) => Ok(number as u32),
-        Err(fault) => Err(fault),
+    let key = Key::FirstSn;
+    let fault = wrong(table, key, Expected::FirstNumber);
+    let Some(value) = table.get(key.text()) else {
+        return Ok(Some(1));
+    };
+    if let Some(text) = value.as_str() {
+        return if text == "random" {
+            Ok(None)
+        } else {
+            Err(fault)
+        };
+    }
+    let Some(whole) = value.as_integer() else {
+        return Err(fault);
+    };
+    match u32::try_from(whole) {
+        Ok(number) => Ok(Some(number)),
+        Err(_) => Err(fault),
     }
 }
 

@@ -29,8 +29,8 @@ pub struct Beginning {
     pub checksum: Checksum,
     /// The initial value of the digest.
     pub initial_value: [u32; 4],
-    /// The first sequence number.
-    pub first_sn: u32,
+    /// The first sequence number, or none where it is drawn.
+    pub first_sn: Option<u32>,
 }
 
 /// Limits of an end.
@@ -68,8 +68,8 @@ pub struct Put {
 pub struct Settings {
     /// What the end is opened with.
     pub config: EndConfig,
-    /// Its first sequence number.
-    pub first_sn: u32,
+    /// Its first sequence number; none where one is to be drawn anew at each opening.
+    pub first_sn: Option<u32>,
     /// The own addresses as texts, one for each channel. Whether each is an address shows when channels are opened.
     pub local: Vec<String>,
     /// The addresses of the peer, as many.
