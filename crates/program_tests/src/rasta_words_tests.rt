@@ -1,5 +1,5 @@
 use capture_text::Word;
-use rasta_status::LogLevel;
+use rasta_status::{LogLevel, RunLength};
 use rasta_words::{Following, Request, Running, WordsFault, command};
 use safe_pdu::CodeLength;
 use settings_file::Word as Ends;
@@ -116,7 +116,7 @@ fn accepts_the_words_of_the_ends(rt: HostRuntime) -> Result<(), Fail> {
             let running = Running {
                 word,
                 file,
-                turns,
+                length: RunLength::Turns(turns),
                 log: LogLevel::Off,
                 expected: None,
             };
@@ -127,8 +127,25 @@ fn accepts_the_words_of_the_ends(rt: HostRuntime) -> Result<(), Fail> {
             assert!(rt; command(rt.alloc(), &words).is_err(), "at {text}");
         }
     }
-    let zero = ["rasta", "il", "ends.toml", "--turns", "0"];
-    assert!(rt; matches!(command(rt.alloc(), &zero), Err(WordsFault::BadTurns)));
+    let until_end = ["rasta", "fe", "--until-end", "ends.toml"];
+    let found = command(rt.alloc(), &until_end).map_err(|_| "refused")?;
+    let running = Running {
+        word: Ends::Fe,
+        file: "ends.toml",
+        length: RunLength::UntilEnd,
+        log: LogLevel::Off,
+        expected: None,
+    };
+    assert_eq!(rt; found, Request::Net(running));
+    let lists: [&[&str]; 3] = [
+        &["rasta", "il", "ends.toml", "--turns", "0"],
+        &["rasta", "il", "ends.toml"],
+        &["rasta", "il", "ends.toml", "--turns", "1", "--until-end"],
+    ];
+    for words in lists {
+        let refused = matches!(command(rt.alloc(), words), Err(WordsFault::BadTurns));
+        assert!(rt; refused, "at {words:?}");
+    }
     Ok(())
 }
 
@@ -137,7 +154,7 @@ fn accepts_the_words_of_the_ends(rt: HostRuntime) -> Result<(), Fail> {
 fn refuses_other_words(rt: HostRuntime) -> Result<(), Fail> {
     let nine = ["rasta", "show", "--code", "9", "00"];
     assert!(rt; matches!(command(rt.alloc(), &nine), Err(WordsFault::BadCode)));
-    let lists: [&[&str]; 10] = [
+    let lists: [&[&str]; 9] = [
         &["rasta"],
         &["rasta", "shew"],
         &["rasta", "show", "00"],
@@ -145,7 +162,6 @@ fn refuses_other_words(rt: HostRuntime) -> Result<(), Fail> {
         &["rasta", "show", "--code", "0"],
         &["rasta", "md4"],
         &["rasta", "md4", "00", "00"],
-        &["rasta", "il", "ends.toml"],
         &["rasta", "fe", "--turns", "1"],
         &["rasta", "pair", "--turns", "1", "il.toml", "fe.toml"],
     ];

@@ -2,6 +2,8 @@
 use Rattle.std.specs.Prelude.{Bool, true, false, ◌&&◌, Option, Some, None}
 use Rattle.pdi_session.specs.declared.Phase.{Phase}
 use Rattle.pdi_session.specs.declared.Phase.TheVariants as phase
+use Rattle.safe_machine.specs.declared.ConnectionState.{ConnectionState}
+use Rattle.safe_machine.specs.declared.ConnectionState.TheVariants as state
 use Rattle.rasta_status.specs.declared.Expected.{Expected}
 use Rattle.rasta_status.specs.declared.Expected.TheVariants.{Up, Settled}
 
@@ -22,3 +24,12 @@ abbrev pub meets : Option Expected → Phase → (settled done : Bool) → Bool
 meets None phase settled done = true
 meets (Some Up) phase settled done = is_up phase
 meets (Some Settled) phase settled done = is_up phase && (settled && done)
+
+-- lines of input are put where the session is established; where the connection is closed each of them is refused
+abbrev pub takes_lines : ConnectionState → Phase → Bool
+takes_lines state.Closed phase = true
+takes_lines state.Down phase = is_up phase
+takes_lines state.Start phase = is_up phase
+takes_lines state.Up phase = is_up phase
+takes_lines state.RetrReq phase = is_up phase
+takes_lines state.RetrRun phase = is_up phase

@@ -1,12 +1,16 @@
 -- How long a turn rests.
 use Rattle.std.specs.Prelude.{ℕ, ◌-◌, Bool, true, false, min, Option, Some, None}
+use Rattle.rasta_status.specs.declared.RunLength.{RunLength}
+use Rattle.rasta_status.specs.declared.RunLength.TheVariants.{Turns, UntilEnd}
 
--- the longest rest, in milliseconds: a heartbeat is due after 10 at the least, and no program asks its sockets more often than 250 times a second
-abbrev pub wait_most : ℕ
-wait_most = 4
+-- in milliseconds. Where turns are counted: a heartbeat is due after 10 at the least, and no program asks its sockets more often than 250
+-- times a second. Where input is awaited: what comes there ends no rest
+abbrev pub longest_rest : RunLength → ℕ
+longest_rest (Turns turns) = 4
+longest_rest UntilEnd = 100
 
 -- in milliseconds: none behind a turn that found something; else to the deadline, and no longer than the longest
-abbrev pub rest_of : Bool → ℕ → Option ℕ → Option ℕ
-rest_of true _ _ = None
-rest_of false _ None = Some wait_most
-rest_of false now (Some deadline) = Some (min (deadline - now) wait_most)
+abbrev pub rest_of : RunLength → Bool → ℕ → Option ℕ → Option ℕ
+rest_of length true _ _ = None
+rest_of length false _ None = Some (longest_rest length)
+rest_of length false now (Some deadline) = Some (min (deadline - now) (longest_rest length))

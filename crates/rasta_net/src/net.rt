@@ -1,54 +1,55 @@
 //! Ends over sockets: the words il, fe and pair.
 
-ghost use Rattle.std.specs.Prelude.{◌≡◌, ◌≢◌, ◌≤◌, ◌<◌, ◌^◌, false, true, is_ok, length, IfOk, None};
+ghost use Rattle.std.specs.Prelude.{◌≡◌, ◌≢◌, ◌≤◌, ◌<◌, ◌^◌, false, true, is_ok, length, IfOk, OnOk, None};
 ghost use Rattle.settings_file.specs.Whole.{ends_of};
-ghost use Rattle.stack_end.specs.Deadlines.{earliest};
 ghost use Rattle.rasta_net.specs.Reading.{settings_most};
-ghost use Rattle.rasta_net.specs.Waiting.{rest_of};
+ghost use Rattle.rasta_net.specs.Ticking.{greatest_time};
 
+use crate::both::Both;
+use crate::input::{Feed, is_run_over};
 use crate::logging::Log;
 use crate::ticking::RunClock;
 use crate::turns::Actor;
+use crate::waiting::take_rest;
 use channels::{UdpChannels, UdpFault, Watch};
 use end_settings::Side;
 use overheard::{Ear, Overheard};
-use rasta_status::{Expected, Fault, LogLevel, Status, report};
+use rasta_status::{Expected, Fault, LogLevel, RunLength, Status, report};
 use settings_file::{Ends, Settings, SettingsFault, Word, settings};
 use stack_end::{End, OpenFault};
 use std::alloc::Global;
-use std::cmp::min;
 use std::fmt::Display;
-use std::io::Write;
+use std::io::{Input, Write};
 use std::net::Net;
-use std::time::{Clock, Duration};
+use std::time::Clock;
 use thiserror::Error;
 
 /// The most octets of a settings file. Some 60,000 short telegrams to put have room, and whatever the file says, it is read within
 /// 200 MB and a second.
 const SETTINGS_MAX: usize = 1_048_576;
 
-/// The longest wait of a turn that found nothing, in milliseconds; the system may wait one longer.
-const WAIT_MAX: u64 = 4;
+/// How many turns a run has at most that lasts until its input ends: more than there is time for.
+pub(crate) const TURNS_MOST: u64 = 1 << 63;
 
 /// How ends are run.
 #[derive(Clone, Copy, Debug, PartialEq, Eq)]
 pub struct Run {
     /// The ends that run.
     pub word: Word,
-    /// How many turns they are given.
-    pub turns: u32,
+    /// How long they run.
+    pub length: RunLength,
     /// What is told on standard error.
     pub log: LogLevel,
     /// How they are to stand at the end.
     pub expected: Option<Expected>,
 }
 
-/// Runs `il`, `fe` or `pair` for its turns over the sockets that the text of a settings file names, prints each
-/// telegram that an end takes, and at last how each end stands. What the log tells goes to `err`.
+/// Runs `il`, `fe` or `pair` for its turns, or until standard input ends, over the sockets that the text of a settings file names, prints
+/// each telegram that an end takes, and at last how each end stands. What the log tells goes to `err`.
 ///
 /// A text that is no settings is `fault: settings`, and behind it stands the key and what is wrong with it; a text of more than
 /// 1,048,576 octets is none. Where an end does not stand as it was expected to, the status says so.
-pub fn run_net<R: Net + Clock, O: Write, E: Write>(
+pub fn run_net<R: Net + Clock + Input, O: Write, E: Write>(
     rt: &R,
     alloc: Global,
     run: &Run,
@@ -103,7 +104,7 @@ struct TooLong(usize);
 #[error("local, remote: an address and a port expected, another text found")]
 struct NoAddress;
 
-fn run_one<R: Net + Clock, O: Write, E: Write>(
+fn run_one<R: Net + Clock + Input, O: Write, E: Write>(
     rt: &R,
     alloc: Global,
     side: Side,
@@ -120,19 +121,109 @@ fn run_one<R: Net + Clock, O: Write, E: Write>(
     let now = clock.read(rt)?;
     let mut actor = opened(alloc, channels, side, settings, run, now)?;
     actor.tell_opened(settings, now, err);
-    'turns: for _ in 0..run.turns {
-        let now = clock.read(rt)?;
-        let before = actor.received();
-        actor.turn(now, out, err)?;
-        let found = actor.received() != before;
-        take_rest(&mut watch, found, now, actor.end.next_deadline());
+    match run.length {
+        RunLength::Turns(turns) => {
+            take_turns(rt, &mut clock, &mut watch, &mut actor, turns, out, err)?;
+        }
+        RunLength::UntilEnd => {
+            let t_max = settings.config.t_max;
+            run_until_end(
+                rt, alloc, &mut clock, &mut watch, &mut actor, t_max, out, err,
+            )?;
+        }
+    }
+    let met = actor.stands_as(run.expected);
+    if run.length == RunLength::UntilEnd {
+        actor.close(clock.last, err);
     }
     actor.report(out)?;
     sent_off(out)?;
-    Ok(actor.conclude(clock.last, run.expected, err))
+    actor.conclude(clock.last, met, err);
+    Ok(met)
 }
 
-fn run_two<R: Net + Clock, O: Write, E: Write>(
+/// The turns of an end, so many of them.
+fn take_turns<R: Clock, O: Write, E: Write>(
+    rt: &R,
+    clock: &mut RunClock,
+    watch: &mut Watch,
+    actor: &mut Actor<'_, UdpChannels>,
+    turns: u32,
+    out: &mut O,
+    err: &mut E,
+) -> Result<(), Fault>
+    requires later { actor.old.end.time ≤ clock.old.last }
+    requires bounded { clock.old.last ≤ greatest_time }
+    ensures { OnOk result ((actor.new.end.time ≤ clock.new.last) × (clock.new.last ≤ greatest_time)) }
+{
+    'turns: for _ in 0..turns {
+        let now = clock.read(rt)?;
+        let found = take_turn(actor, now, out, err)?;
+        take_rest(
+            watch,
+            RunLength::Turns(turns),
+            found,
+            now,
+            actor.end.next_deadline(),
+        );
+    }
+    Ok(())
+}
+
+/// A turn of an end; answers whether anything came.
+fn take_turn<O: Write, E: Write>(
+    actor: &mut Actor<'_, UdpChannels>,
+    now: u64,
+    out: &mut O,
+    err: &mut E,
+) -> Result<bool, Fault>
+    requires now { now ≤ 2 ^ 62 }
+    requires later { actor.old.end.time ≤ now }
+    ensures { actor.new.end.time ≤ now }
+{
+    let before = actor.received();
+    actor.turn(now, out, err)?;
+    Ok(actor.received() != before)
+}
+
+/// The turns of an end until standard input has ended, and all was put and confirmed or T_max has passed.
+fn run_until_end<R: Net + Clock + Input, O: Write, E: Write>(
+    rt: &R,
+    alloc: Global,
+    clock: &mut RunClock,
+    watch: &mut Watch,
+    actor: &mut Actor<'_, UdpChannels>,
+    t_max: u64,
+    out: &mut O,
+    err: &mut E,
+) -> Result<(), Fault>
+    requires later { actor.old.end.time ≤ clock.old.last }
+    requires bounded { clock.old.last ≤ greatest_time }
+    ensures { OnOk result ((actor.new.end.time ≤ clock.new.last) × (clock.new.last ≤ greatest_time)) }
+{
+    let mut feed = Feed::open(alloc, rt, rt.reader())?;
+    'turns: for _ in 0..TURNS_MOST {
+        let now = clock.read(rt)?;
+        let heard = take_turn(actor, now, out, err)?;
+        let came = feed.read(now)?;
+        let put = actor.put_lines(alloc, &mut feed, now, out, err)?;
+        let done = feed.is_done() && actor.is_settled();
+        if is_run_over(feed.ended, now, t_max, done) {
+            return Ok(());
+        }
+        let found = heard || came || put;
+        take_rest(
+            watch,
+            RunLength::UntilEnd,
+            found,
+            now,
+            actor.end.next_deadline(),
+        );
+    }
+    Ok(())
+}
+
+fn run_two<R: Net + Clock + Input, O: Write, E: Write>(
     rt: &R,
     alloc: Global,
     il: &Settings,
@@ -152,70 +243,20 @@ fn run_two<R: Net + Clock, O: Write, E: Write>(
     field_element.tell_opened(fe, now, err);
     let mut interlocking = opened(alloc, il_channels, Side::Interlocking, il, run, now)?;
     interlocking.tell_opened(il, now, err);
-    take_turns(
-        rt,
-        &mut clock,
-        &mut watch,
-        &mut interlocking,
-        &mut field_element,
-        run,
-        out,
-        err,
-    )
-}
-
-/// Both ends take their turns; then how they stand is printed. Answers whether both stand as they were expected to.
-fn take_turns<R: Clock, O: Write, E: Write>(
-    rt: &R,
-    clock: &mut RunClock,
-    watch: &mut Watch,
-    interlocking: &mut Actor<'_, UdpChannels>,
-    field_element: &mut Actor<'_, UdpChannels>,
-    run: &Run,
-    out: &mut O,
-    err: &mut E,
-) -> Result<bool, Fault>
-    requires il { interlocking.old.end.time ≤ clock.old.last }
-    requires fe { field_element.old.end.time ≤ clock.old.last }
-    ensures { run.now.expected ≡ None → IfOk result (λ met. met ≡ true) }
-{
-    'turns: for _ in 0..run.turns {
-        let now = clock.read(rt)?;
-        take_turn(watch, interlocking, field_element, now, out, err)?;
+    let mut pair = Both {
+        interlocking,
+        field_element,
+    };
+    match run.length {
+        RunLength::Turns(turns) => {
+            pair.take_turns(rt, &mut clock, &mut watch, turns, out, err)?;
+        }
+        RunLength::UntilEnd => {
+            let t_max = il.config.t_max.max(fe.config.t_max);
+            pair.run_until_end(rt, alloc, &mut clock, &mut watch, t_max, out, err)?;
+        }
     }
-    interlocking.report(out)?;
-    field_element.report(out)?;
-    sent_off(out)?;
-    let il_met = interlocking.conclude(clock.last, run.expected, err);
-    let fe_met = field_element.conclude(clock.last, run.expected, err);
-    Ok(il_met && fe_met)
-}
-
-/// One turn of both ends. Where neither found anything, it waits.
-fn take_turn<O: Write, E: Write>(
-    watch: &mut Watch,
-    interlocking: &mut Actor<'_, UdpChannels>,
-    field_element: &mut Actor<'_, UdpChannels>,
-    now: u64,
-    out: &mut O,
-    err: &mut E,
-) -> Result<(), Fault>
-    requires now { now ≤ 2 ^ 62 }
-    requires il { interlocking.old.end.time ≤ now }
-    requires fe { field_element.old.end.time ≤ now }
-    ensures il { interlocking.new.end.time ≤ now }
-    ensures fe { field_element.new.end.time ≤ now }
-{
-    let before = (interlocking.received(), field_element.received());
-    interlocking.turn(now, out, err)?;
-    field_element.turn(now, out, err)?;
-    let found = (interlocking.received(), field_element.received()) != before;
-    let deadline = earlier(
-        interlocking.end.next_deadline(),
-        field_element.end.next_deadline(),
-    );
-    take_rest(watch, found, now, deadline);
-    Ok(())
+    pair.finish(run, clock.last, out, err)
 }
 
 fn watch<R: Net>(rt: &R, alloc: Global) -> Result<Watch, Fault> {
@@ -282,36 +323,8 @@ fn opened<'a>(
     }
 }
 
-/// Waits behind a turn, as long as it is to rest.
-fn take_rest(watch: &mut Watch, found: bool, now: u64, deadline: Option<u64>) {
-    if let Some(pause) = rest(found, now, deadline) {
-        watch.wait(Duration::from_millis(pause));
-    }
-}
-
-/// How long to rest behind a turn, in milliseconds: not at all where it found something; else to the deadline, and no longer than
-/// the longest wait.
-fn rest(found: bool, now: u64, deadline: Option<u64>) -> Option<u64>
-    ensures { result ≡ rest_of found now deadline }
-{
-    match (found, deadline) {
-        (true, _) => None,
-        (false, Some(deadline)) => Some(deadline.saturating_sub(now).min(WAIT_MAX)),
-        (false, None) => Some(WAIT_MAX),
-    }
-}
-
-/// The earlier of two deadlines, where there is one.
-fn earlier(first: Option<u64>, second: Option<u64>) -> Option<u64>
-    ensures { result ≡ earliest first second }
-{
-    match (first, second) {
-        (None, deadline) | (deadline, None) => deadline,
-        (Some(first), Some(second)) => Some(min(first, second)),
-    }
-}
-
-fn sent_off<O: Write>(out: &mut O) -> Result<(), Fault> {
+/// What was printed is sent off.
+pub(crate) fn sent_off<O: Write>(out: &mut O) -> Result<(), Fault> {
     match out.flush() {
         Ok(()) => Ok(()),
         Err(_) => Err(Fault::Output),

@@ -1,8 +1,11 @@
 //! The part of one end in a turn: what has come, what is to be put, and how it stands.
 
-ghost use Rattle.std.specs.Prelude.{◌≡◌, ◌≤◌, ◌^◌, None, true};
-ghost use Rattle.rasta_net.specs.Standing.{meets};
+ghost use Rattle.std.specs.Prelude.{◌≡◌, ◌≤◌, ◌^◌, None, Some, true, false, IfOk, OnOk};
+ghost use Rattle.pdi_session.specs.declared.PutFault.TheVariants.{Full};
+ghost use Rattle.rasta_net.specs.Putting.{Answers, Passes, PutsBeginning};
+ghost use Rattle.rasta_net.specs.Standing.{meets, takes_lines};
 
+use crate::input::Feed;
 use crate::logging::Log;
 use channels::{Channels, UdpChannels};
 use end_settings::Side;
@@ -10,12 +13,16 @@ use log_lines::{Ending, Happening};
 use overheard::Overheard;
 use pdi_session::{InitFault, Phase, PutFault, Taker};
 use rasta_status::{Expected, Fault};
+use safe_machine::ConnectionState;
 use settings_file::{Put, Settings};
 use sim_lines::{Standing, write_refusal, write_report, write_take};
 use stack_end::End;
 use std::alloc::{Allocator, Global};
 use std::io;
-use std::io::Write;
+use std::io::{Read, Write};
+
+/// How many lines of input are put in one turn at most, so that a turn ends: more than fit into one end.
+const LINES_MAX: usize = 256;
 
 /// Prints each telegram that the application takes, until an output fails.
 #[derive(Drop)]
@@ -57,9 +64,9 @@ pub struct Actor<'a, C, A: Allocator = Global> {
     /// The end that it acts for.
     side: Side,
     /// What it has still to put in, in order.
-    left: &'a [Put],
-    /// How many telegrams were put in.
-    put: u64,
+    pub left: &'a [Put],
+    /// How many telegrams were put in, modulo 2^64.
+    pub put: u64,
     /// How many were taken.
     taken: u64,
     /// What is told of it on standard error.
@@ -118,19 +125,32 @@ impl<'a, C: Channels, A: Allocator + Copy> Actor<'a, C, A> {
         }
     }
 
-    /// Whether the end stands as it was expected to. What has happened is told to `err`, and at last why the end is where it is, where the
-    /// log tells anything or the end does not stand so.
-    pub fn conclude<E: Write>(&mut self, now: u64, expected: Option<Expected>, err: &mut E) -> bool
+    /// Whether the end stands as it is expected to.
+    pub fn stands_as(&self, expected: Option<Expected>) -> bool
         ensures { expected ≡ None → result ≡ true }
     {
+        is_met(
+            expected,
+            self.end.phase(),
+            self.end.settled(),
+            self.left.is_empty(),
+        )
+    }
+
+    /// Whether all that was to be put is put in and confirmed.
+    pub fn is_settled(&self) -> bool {
+        self.end.settled() && self.left.is_empty()
+    }
+
+    /// Tells what has happened, and at last why the end is where it is, where the log tells anything or the end did not stand as it was
+    /// expected to.
+    pub fn conclude<E: Write>(&mut self, now: u64, met: bool, err: &mut E) {
         let ear = &self.end.channels_seen().ear;
         self.log.catch_up(ear, now, err);
-        let phase = self.end.phase();
-        let met = is_met(expected, phase, self.end.settled(), self.left.is_empty());
         if !met || !self.log.is_off() {
             let ending = Ending {
                 state: self.end.state(),
-                phase,
+                phase: self.end.phase(),
                 departure: ear.departure,
                 came: ear.came(),
                 taken: ear.pdus.taken,
@@ -138,7 +158,6 @@ impl<'a, C: Channels, A: Allocator + Copy> Actor<'a, C, A> {
             };
             self.log.end(&ending, now, err);
         }
-        met
     }
 
     /// Writes how the end stands.
@@ -186,26 +205,122 @@ impl<'a, C: Channels, A: Allocator + Copy> Actor<'a, C, A> {
     ) -> Result<(), Fault>
         requires now { now ≤ 2 ^ 62 }
         requires later { self.old.end.time ≤ now }
+        ensures puts { OnOk result (PutsBeginning (λ o. C.told o.inner) now self.old.left.now
+            (self.old.end, self.old.put, W.contents writer.old) self.new.left.now
+            (self.new.end, self.new.put, W.contents writer.new)) }
         ensures time { self.new.end.time ≤ now }
     {
-        let puts = self.left;
-        'puts: for (place, put) in puts.iter().enumerate() {
-            match self.end.put(put.kind, put.payload.as_slice(), now) {
-                Ok(()) => self.put = self.put.wrapping_add(1),
-                Err(PutFault::Full) => {
-                    self.left = &puts[place..];
-                    return Ok(());
-                }
-                Err(fault) => {
-                    self.log.tell(Happening::PutRefused(fault), now, err);
-                    if write_refusal(writer, fault.name()).is_err() {
-                        return Err(Fault::Output);
-                    }
+        let count = self.left.len();
+        'puts: for _ in 0..count {
+            let Some((put, rest)) = self.left.split_first() else {
+                return Ok(());
+            };
+            if !self.put_one(put, now, writer, err)? {
+                return Ok(());
+            }
+            self.left = rest;
+        }
+        Ok(())
+    }
+
+    /// Puts a telegram, and answers whether it is done with: it is not where the end is full, and where it is refused otherwise the refusal
+    /// is printed.
+    fn put_one<W: Write, E: Write>(
+        &mut self,
+        put: &Put,
+        now: u64,
+        writer: &mut W,
+        err: &mut E,
+    ) -> Result<bool, Fault>
+        requires now { now ≤ 2 ^ 62 }
+        requires later { self.old.end.time ≤ now }
+        ensures passed { IfOk result (λ done. done ≡ true
+            → Passes (λ o. C.told o.inner) now (self.old.end, self.old.put, W.contents writer.old) put.now
+            (self.new.end, self.new.put, W.contents writer.new)) }
+        ensures full { IfOk result (λ done. done ≡ false
+            → Answers (λ o. C.told o.inner) self.old.end put.now (Some Full)) }
+        ensures kept { IfOk result (λ done. done ≡ false → (self.new.end ≡ self.old.end) × (self.new.put ≡ self.old.put)
+            × (W.contents writer.new ≡ W.contents writer.old)) }
+        ensures left { self.new.left ≡ self.old.left }
+        ensures time { self.new.end.time ≤ now }
+    {
+        match self.end.put(put.kind, put.payload.as_slice(), now) {
+            Ok(()) => {
+                self.put = self.put.wrapping_add(1);
+                Ok(true)
+            }
+            Err(PutFault::Full) => Ok(false),
+            Err(fault) => {
+                self.log.tell(Happening::PutRefused(fault), now, err);
+                match write_refusal(writer, fault.name()) {
+                    Ok(()) => Ok(true),
+                    Err(_) => Err(Fault::Output),
                 }
             }
         }
-        self.left = &[];
-        Ok(())
+    }
+
+    /// Puts the telegrams of input that wait, up to one that is refused as Full, where the session is established, or closed for good;
+    /// answers whether a line was there.
+    ///
+    /// # Errors
+    ///
+    /// Refused as Output, or as Memory.
+    pub fn put_lines<I: Read + Drop, W: Write, E: Write>(
+        &mut self,
+        alloc: Global,
+        feed: &mut Feed<I>,
+        now: u64,
+        writer: &mut W,
+        err: &mut E,
+    ) -> Result<bool, Fault>
+        requires now { now ≤ 2 ^ 62 }
+        requires later { self.old.end.time ≤ now }
+        ensures time { self.new.end.time ≤ now }
+    {
+        if !may_put_lines(self.end.state(), self.end.phase()) || !self.left.is_empty() {
+            return Ok(false);
+        }
+        'lines: for place in 0..LINES_MAX {
+            if !feed.prepare(alloc, err)? {
+                return Ok(place > 0);
+            }
+            if !self.put_next(feed, now, writer, err)? {
+                return Ok(place > 0);
+            }
+        }
+        Ok(true)
+    }
+
+    /// Puts the telegram of input that is at hand, if one is; answers false where it was refused as Full, and stays at hand.
+    fn put_next<I: Read + Drop, W: Write, E: Write>(
+        &mut self,
+        feed: &mut Feed<I>,
+        now: u64,
+        writer: &mut W,
+        err: &mut E,
+    ) -> Result<bool, Fault>
+        requires now { now ≤ 2 ^ 62 }
+        requires later { self.old.end.time ≤ now }
+        ensures time { self.new.end.time ≤ now }
+    {
+        if let Some(put) = &feed.next {
+            if !self.put_one(put, now, writer, err)? {
+                return Ok(false);
+            }
+        }
+        feed.next = None;
+        Ok(true)
+    }
+
+    /// Leaves the connection, and tells what has happened.
+    pub fn close<E: Write>(&mut self, now: u64, err: &mut E)
+        requires now { now ≤ 2 ^ 62 }
+        requires later { self.old.end.time ≤ now }
+        ensures time { self.new.end.time ≤ now }
+    {
+        self.end.close(now);
+        self.log.catch_up(&self.end.channels_seen().ear, now, err);
     }
 
     /// Ends the initialisation, once nothing is left to be put. Where it is refused as Full it is tried again in the
@@ -234,6 +349,14 @@ impl<'a, C: Channels, A: Allocator + Copy> Actor<'a, C, A> {
             }
         }
     }
+}
+
+/// Whether the telegrams of input are put now: once the session is established; where the connection is closed for good too, so that each
+/// is told to be refused and input is read to its end.
+fn may_put_lines(state: ConnectionState, phase: Phase) -> bool
+    ensures { result ≡ takes_lines state phase }
+{
+    state == ConnectionState::Closed || phase == Phase::Established
 }
 
 /// Whether an end stands as it was expected to: `settled` where all that was put in is confirmed, `done` where all was tried.

@@ -16,14 +16,14 @@ use rasta_words::{Following, Request, Running, WordsFault, command};
 use std::alloc::{AllocError, Global};
 use std::convert::AsStr;
 use std::env::{Env, FillError};
-use std::io::Write;
+use std::io::{Input, Write};
 use std::net::Net;
 use std::rt::Files;
 use std::time::Clock;
 use std::{env, fs, io};
 
 /// Runs the program on the words of an environment, over a system that has files, sockets and a clock.
-pub fn run_words<R: AllocGlobal + Files + Net + Clock, V: Env, O: Write, E: Write>(
+pub fn run_words<R: AllocGlobal + Files + Net + Clock + Input, V: Env, O: Write, E: Write>(
     rt: &R,
     environment: &V,
     out: &mut O,
@@ -38,7 +38,7 @@ pub fn run_words<R: AllocGlobal + Files + Net + Clock, V: Env, O: Write, E: Writ
 /// Runs the command that words ask for; the first word is the program's name.
 ///
 /// It ends as done only where it has done what they ask for, or has printed the help that they ask for.
-pub fn run<R: AllocGlobal + Files + Net + Clock, S: AsStr, O: Write, E: Write>(
+pub fn run<R: AllocGlobal + Files + Net + Clock + Input, S: AsStr, O: Write, E: Write>(
     rt: &R,
     words: &[S],
     out: &mut O,
@@ -97,7 +97,7 @@ fn run_capture<R: AllocGlobal + Files, O: Write, E: Write>(
 }
 
 /// Runs ends over the sockets that a settings file names.
-fn run_file<R: AllocGlobal + Files + Net + Clock, O: Write, E: Write>(
+fn run_file<R: AllocGlobal + Files + Net + Clock + Input, O: Write, E: Write>(
     rt: &R,
     running: &Running<'_>,
     out: &mut O,
@@ -105,7 +105,7 @@ fn run_file<R: AllocGlobal + Files + Net + Clock, O: Write, E: Write>(
 ) -> Status {
     let run = Run {
         word: running.word,
-        turns: running.turns,
+        length: running.length,
         log: running.log,
         expected: running.expected,
     };

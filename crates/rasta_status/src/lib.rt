@@ -48,6 +48,15 @@ pub enum LogLevel {
     All,
 }
 
+/// How long ends run.
+#[derive(Clone, Copy, Debug, PartialEq, Eq)]
+pub enum RunLength {
+    /// For this many turns.
+    Turns(u32),
+    /// Until standard input ends.
+    UntilEnd,
+}
+
 /// How ends are expected to stand when they have taken their turns.
 #[derive(Clone, Copy, Debug, PartialEq, Eq)]
 pub enum Expected {

@@ -1,12 +1,15 @@
 -- The choices of `il`, `fe` and `pair`, and how their words name them.
-use Rattle.std.specs.Prelude.{◌≡◌, ℕ, ◌≤◌, true, List, codes, Option, None, Some}
+use Rattle.std.specs.Prelude.{◌≡◌, ⊤, ℕ, ◌≤◌, Bool, false, true, List, codes, Option, None, Some}
 use Rattle.std.specs.Str.Parse.{IsNumeral, digits_value, without_leading_plus}
 use Rattle.clap.specs.Words.{App, Row, Rule, Text, first_of, new_app, new_rule, with_rule}
+use Rattle.clap.specs.declared.builder.action.ArgAction.TheVariants.{SetTrue}
+use Rattle.rasta_status.specs.declared.RunLength.{RunLength}
+use Rattle.rasta_status.specs.declared.RunLength.TheVariants.{Turns, UntilEnd}
 use Rattle.rasta_status.specs.declared.LogLevel.{LogLevel}
 use Rattle.rasta_status.specs.declared.LogLevel.TheVariants.{Off, State, All}
 use Rattle.rasta_status.specs.declared.Expected.{Expected}
 use Rattle.rasta_status.specs.declared.Expected.TheVariants.{Up, Settled}
-use Rattle.rasta_words.specs.Choices.{file_rule}
+use Rattle.rasta_words.specs.Choices.{file_rule, is_flagged}
 use Rattle.rasta_words.specs.declared.command_line.Running.{Running}
 use Rattle.settings_file.specs.declared.Word.{Word}
 use Rattle.settings_file.specs.declared.Word.TheVariants.{Il, Fe, Pair}
@@ -16,9 +19,12 @@ ends_word Il = codes "il"
 ends_word Fe = codes "fe"
 ends_word Pair = codes "pair"
 
--- il FILE --turns N [--log off|state|all] [--expect up|settled], and so for fe and pair
+-- il FILE (--turns N | --until-end) [--log off|state|all] [--expect up|settled], and so for fe and pair
 abbrev pub turns_rule : Rule
-turns_rule = record (new_rule (codes "turns")) { long = Some (codes "turns"); required = true }
+turns_rule = record (new_rule (codes "turns")) { long = Some (codes "turns") }
+
+abbrev pub until_end_rule : Rule
+until_end_rule = record (new_rule (codes "until-end")) { long = Some (codes "until-end"); action = Some SetTrue }
 
 abbrev pub log_rule : Rule
 log_rule = record (new_rule (codes "log")) { long = Some (codes "log") }
@@ -29,8 +35,11 @@ expect_rule = record (new_rule (codes "expect")) { long = Some (codes "expect") 
 abbrev pub turns_app : Text → App
 turns_app name = with_rule (new_app name) turns_rule
 
+abbrev pub ending_app : Text → App
+ending_app name = with_rule (turns_app name) until_end_rule
+
 abbrev pub logged_app : Text → App
-logged_app name = with_rule (turns_app name) log_rule
+logged_app name = with_rule (ending_app name) log_rule
 
 abbrev pub expecting_app : Text → App
 expecting_app name = with_rule (logged_app name) expect_rule
@@ -42,6 +51,15 @@ net_app name = with_rule (expecting_app name) file_rule
 abbrev pub IsTurns : Text → ℕ → Type 0
 IsTurns word turns =
     IsNumeral 10 (without_leading_plus word) × (digits_value 10 (without_leading_plus word) ≡ turns) × (1 ≤ turns) × (turns ≤ 1000000)
+
+-- turns or the end of input, and not both
+abbrev pub IsLengthChosen : Option Text → Bool → RunLength → Type 0
+IsLengthChosen (Some word) false (Turns turns) = IsTurns word turns
+IsLengthChosen (Some word) false UntilEnd = ⊥
+IsLengthChosen (Some word) true length = ⊥
+IsLengthChosen None false length = ⊥
+IsLengthChosen None true (Turns turns) = ⊥
+IsLengthChosen None true UntilEnd = ⊤
 
 -- how a level of the log is written
 abbrev pub log_word : LogLevel → Text
@@ -71,7 +89,8 @@ IsEndChosen (Some word) expected = IsEndWritten word expected
 -- the choices are those of the entries found
 abbrev pub IsRun : List Row → Running → Type 0
 IsRun rows r =
-    (first_of (codes "file") rows ≡ Some r.file.now) × ((text : Text) × (first_of (codes "turns") rows ≡ Some text) × IsTurns text r.turns)
+    (first_of (codes "file") rows ≡ Some r.file.now)
+    × IsLengthChosen (first_of (codes "turns") rows) (is_flagged (first_of (codes "until-end") rows)) r.length
     × IsLogChosen (first_of (codes "log") rows) r.log × IsEndChosen (first_of (codes "expect") rows) r.expected
 
 abbrev pub HasNoRun : List Row → Type 0

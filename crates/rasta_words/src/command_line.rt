@@ -5,12 +5,12 @@ ghost use Rattle.std.specs.Option.{option_copied};
 ghost use Rattle.clap.specs.declared.Command.TheViews.{out-Command};
 ghost use Rattle.clap.specs.Words.{app_of, fault_of, first_of, found_of, rows_of, subcommand_of, subcommand_rows_of};
 ghost use Rattle.rasta_words.specs.CommandLine.{Asks, FindsNone, HasEntries, HasNoEntries, IsFaultOf, IsFound, Refuses, code_app, coded_app, digest_app, ends_app, file_app, il_app, local_app, md4_app, plain_app, rasta_app, show_app, sim_app};
-ghost use Rattle.rasta_words.specs.Runs.{HasNoRun, IsEndChosen, IsLogChosen, IsRun, expected_word, expecting_app, log_word, logged_app, net_app, turns_app, ends_word, IsTurns};
+ghost use Rattle.rasta_words.specs.Runs.{HasNoRun, IsEndChosen, IsLogChosen, IsLengthChosen, IsRun, ending_app, expected_word, expecting_app, log_word, logged_app, net_app, turns_app, ends_word, IsTurns};
 ghost use Rattle.rasta_words.specs.Choices.{HasChoices, HasNoChoices, IsAgeChosen, IsCodeChosen, IsMilliseconds, IsRemarkChosen, chosen_app, code_word, follow_app, is_flagged, length_app, limited_app, only_app, telling_app};
 
 use capture_text::Word as Remarkable;
 use clap::{Arg, ArgAction, ArgMatches, Command};
-use rasta_status::{Expected, LogLevel};
+use rasta_status::{Expected, LogLevel, RunLength};
 use safe_pdu::CodeLength;
 use settings_file::Word;
 use std::alloc::{AllocError, Global};
@@ -41,7 +41,7 @@ pub enum Request<'a> {
     },
     /// `follow FILE` with its choices: a recorded connection, and what is remarkable in it.
     Follow(Following<'a>),
-    /// `il FILE --turns N`, `fe FILE --turns N` or `pair FILE --turns N` with its choices: ends over sockets.
+    /// `il`, `fe` or `pair` with a FILE, `--turns N` or `--until-end`, and its choices: ends over sockets.
     Net(Running<'a>),
 }
 
@@ -52,8 +52,8 @@ pub struct Running<'a> {
     pub word: Word,
     /// The name of the settings file.
     pub file: &'a str,
-    /// How many turns they are given, 1 to 1,000,000.
-    pub turns: u32,
+    /// `--turns`, 1 to 1,000,000, or `--until-end`: how long they run.
+    pub length: RunLength,
     /// `--log`: what is told on standard error; nothing where nothing is said.
     pub log: LogLevel,
     /// `--expect`: how they are to stand at the end.
@@ -86,8 +86,8 @@ pub enum WordsFault {
     /// A length of code that is none.
     #[error("error: a code has 0, 8 or 16 octets\n\nUsage: rasta show [--iv <iv>] --code <0|8|16> <hex>\n\nFor more information, try 'rasta show --help'.")]
     BadCode,
-    /// A number of turns that is none, or a choice of ends that is none.
-    #[error("error: turns are a number from 1 to 1,000,000, a log is off, state or all, and what is expected is up or settled\n\nUsage: rasta <il|fe|pair> [--log <off|state|all>] [--expect <up|settled>] --turns <turns> <file>\n\nFor more information, try 'rasta --help'.")]
+    /// A number of turns that is none, both or none of turns and `--until-end`, or a choice of ends that is none.
+    #[error("error: either --until-end is given or --turns, a number from 1 to 1,000,000; a log is off, state or all, and what is expected is up or settled\n\nUsage: rasta <il|fe|pair> [--log <off|state|all>] [--expect <up|settled>] <--turns <turns>|--until-end> <file>\n\nFor more information, try 'rasta --help'.")]
     BadTurns,
     /// A choice of `follow` that is none.
     #[error("error: a code has 0, 8 or 16 octets, T_max is a number of milliseconds from 1 to 4,294,967,295, and lines are chosen by opens, repeat, ahead, late, stale, anew, resent, age, reason or fault\n\nUsage: rasta follow [--code <0|8|16>] [--iv <iv>] [--messages] [--only <word>] [--t-max <ms>] <file>\n\nFor more information, try 'rasta follow --help'.")]
@@ -160,10 +160,26 @@ fn ends_run<'a>(word: Word, entries: &ArgMatches<'a>) -> Option<Running<'a>>
     Some(Running {
         word,
         file: entry(entries, "file")?,
-        turns: turns(entry(entries, "turns")?)?,
+        length: chosen_run(
+            entry(entries, "turns"),
+            is_chosen(entry(entries, "until-end")),
+        )?,
         log: chosen_log(entry(entries, "log"))?,
         expected: chosen_end(entry(entries, "expect"))?,
     })
+}
+
+/// How long ends run: for the turns that a word tells, or until the end of input; one of the two is to be given.
+fn chosen_run(word: Option<&str>, until_end: bool) -> Option<RunLength>
+    ensures found { IfSome result (IsLengthChosen (option_copied word.entry) until_end) }
+    ensures only { (length : RunLength) → IsLengthChosen (option_copied word.entry) until_end length
+        → result ≡ Some length }
+{
+    match (word, until_end) {
+        (Some(word), false) => Some(RunLength::Turns(turns(word)?)),
+        (None, true) => Some(RunLength::UntilEnd),
+        _ => None,
+    }
 }
 
 /// What the log tells by a word: nothing where there is none.
@@ -433,7 +449,7 @@ fn expecting_command<'a>(
     command.arg(expect)
 }
 
-/// The command of ends over sockets with its turns and its log.
+/// The command of ends over sockets with how long they run and its log.
 fn logged_command<'a>(
     alloc: Global,
     name: &'a str,
@@ -442,11 +458,28 @@ fn logged_command<'a>(
     ensures app { IfOk result (λ command. app_of command ≡ logged_app name.entry.now) }
     ensures local { IfOk result (λ command. (out-Command command).has_globals ≡ false) }
 {
-    let command = turns_command(alloc, name, about)?;
+    let command = ending_command(alloc, name, about)?;
     let log = Arg::new(alloc, "log").long("log").help(
         "What is told on standard error: off, state (what each end does, and why it is where it is at the end) or all (each datagram dropped, too); without it off",
     );
     command.arg(log)
+}
+
+/// The command of ends over sockets with how long they run.
+fn ending_command<'a>(
+    alloc: Global,
+    name: &'a str,
+    about: &'a str,
+) -> Result<Command<'a>, AllocError>
+    ensures app { IfOk result (λ command. app_of command ≡ ending_app name.entry.now) }
+    ensures local { IfOk result (λ command. (out-Command command).has_globals ≡ false) }
+{
+    let command = turns_command(alloc, name, about)?;
+    let until_end = Arg::new(alloc, "until-end")
+        .long("until-end")
+        .action(ArgAction::SetTrue)
+        .help("Runs until standard input ends, in place of turns; each line KIND:HEX of it is put");
+    command.arg(until_end)
 }
 
 /// The command of ends over sockets with its turns alone.
@@ -458,7 +491,7 @@ fn turns_command<'a>(
     ensures app { IfOk result (λ command. app_of command ≡ turns_app name.entry.now) }
     ensures local { IfOk result (λ command. (out-Command command).has_globals ≡ false) }
 {
-    let turns = Arg::new(alloc, "turns").long("turns").required(true).help(
+    let turns = Arg::new(alloc, "turns").long("turns").help(
         "How many turns to take, 1 to 1,000,000; one lasts at most 5 milliseconds where nothing comes",
     );
     Command::new(alloc, name).about(about).arg(turns)

@@ -1,6 +1,7 @@
--- Both ends are no later than the clock.
+-- The end is no later than the clock, and the clock is in its bounds.
 use Rattle.std.proofs.Common.{◌≤◌}
+use Rattle.rasta_net.specs.Ticking.{greatest_time}
 use Rattle.rasta_net.proofs.net.take_turns.Given as goal
 
 abbrev pub invariant-turns : goal.invariant-turns
-invariant-turns g l = (l.interlocking.end.time ≤ l.clock.last) × (l.field_element.end.time ≤ l.clock.last)
+invariant-turns g l = (l.actor.end.time ≤ l.clock.last) × (l.clock.last ≤ greatest_time)
