@@ -2,6 +2,7 @@
 #![tactic(auto)]
 
 mod both;
+mod drawing;
 mod input;
 mod logging;
 mod net;

@@ -6,12 +6,13 @@ ghost use Rattle.rasta_net.specs.Reading.{settings_most};
 ghost use Rattle.rasta_net.specs.Ticking.{greatest_time};
 
 use crate::both::Both;
+use crate::drawing::first_number;
 use crate::input::{Feed, is_run_over};
 use crate::logging::Log;
 use crate::ticking::RunClock;
 use crate::turns::Actor;
 use crate::waiting::take_rest;
-use channels::{UdpChannels, UdpFault, Watch};
+use channels::{UdpChannels, UdpFault, Watch, open_udp};
 use end_settings::Side;
 use overheard::{Ear, Overheard};
 use rasta_status::{Expected, Fault, LogLevel, RunLength, Status, report};
@@ -21,6 +22,7 @@ use std::alloc::Global;
 use std::fmt::Display;
 use std::io::{Input, Write};
 use std::net::Net;
+use std::rt::Files;
 use std::time::Clock;
 use thiserror::Error;
 
@@ -49,7 +51,7 @@ pub struct Run {
 ///
 /// A text that is no settings is `fault: settings`, and behind it stands the key and what is wrong with it; a text of more than
 /// 1,048,576 octets is none. Where an end does not stand as it was expected to, the status says so.
-pub fn run_net<R: Net + Clock + Input, O: Write, E: Write>(
+pub fn run_net<R: Net + Clock + Input + Files, O: Write, E: Write>(
     rt: &R,
     alloc: Global,
     run: &Run,
@@ -104,7 +106,7 @@ struct TooLong(usize);
 #[error("local, remote: an address and a port expected, another text found")]
 struct NoAddress;
 
-fn run_one<R: Net + Clock + Input, O: Write, E: Write>(
+fn run_one<R: Net + Clock + Input + Files, O: Write, E: Write>(
     rt: &R,
     alloc: Global,
     side: Side,
@@ -119,7 +121,7 @@ fn run_one<R: Net + Clock + Input, O: Write, E: Write>(
     let channels = bound(rt, alloc, settings, &watch)?;
     let mut clock = RunClock::start(rt)?;
     let now = clock.read(rt)?;
-    let mut actor = opened(alloc, channels, side, settings, run, now)?;
+    let mut actor = opened(rt, alloc, channels, side, settings, run, now)?;
     actor.tell_opened(settings, now, err);
     match run.length {
         RunLength::Turns(turns) => {
@@ -187,7 +189,7 @@ fn take_turn<O: Write, E: Write>(
 }
 
 /// The turns of an end until standard input has ended, and all was put and confirmed or T_max has passed.
-fn run_until_end<R: Net + Clock + Input, O: Write, E: Write>(
+fn run_until_end<R: Net + Clock + Input + Files, O: Write, E: Write>(
     rt: &R,
     alloc: Global,
     clock: &mut RunClock,
@@ -223,7 +225,7 @@ fn run_until_end<R: Net + Clock + Input, O: Write, E: Write>(
     Ok(())
 }
 
-fn run_two<R: Net + Clock + Input, O: Write, E: Write>(
+fn run_two<R: Net + Clock + Input + Files, O: Write, E: Write>(
     rt: &R,
     alloc: Global,
     il: &Settings,
@@ -239,9 +241,9 @@ fn run_two<R: Net + Clock + Input, O: Write, E: Write>(
     let fe_channels = bound(rt, alloc, fe, &watch)?;
     let mut clock = RunClock::start(rt)?;
     let now = clock.read(rt)?;
-    let mut field_element = opened(alloc, fe_channels, Side::FieldElement, fe, run, now)?;
+    let mut field_element = opened(rt, alloc, fe_channels, Side::FieldElement, fe, run, now)?;
     field_element.tell_opened(fe, now, err);
-    let mut interlocking = opened(alloc, il_channels, Side::Interlocking, il, run, now)?;
+    let mut interlocking = opened(rt, alloc, il_channels, Side::Interlocking, il, run, now)?;
     interlocking.tell_opened(il, now, err);
     let mut pair = Both {
         interlocking,
@@ -270,7 +272,7 @@ fn bound<R: Net>(
     settings: &Settings,
     watch: &Watch,
 ) -> Result<UdpChannels, Fault> {
-    let mut channels = UdpChannels::open(
+    let mut channels = open_udp(
         alloc,
         rt,
         settings.local.as_slice(),
@@ -286,13 +288,14 @@ fn bound<R: Net>(
 fn fault_of(fault: UdpFault) -> Fault {
     match fault {
         UdpFault::Memory => Fault::Memory,
-        UdpFault::Address => Fault::Settings,
-        UdpFault::Bind => Fault::Network,
+        UdpFault::Lists | UdpFault::Address(_) => Fault::Settings,
+        UdpFault::Bind(_) | UdpFault::Wait => Fault::Network,
     }
 }
 
 /// An end that is opened on its channels, which are listened to where anything may have to be told.
-fn opened<'a>(
+fn opened<'a, R: Files>(
+    rt: &R,
     alloc: Global,
     channels: UdpChannels,
     side: Side,
@@ -309,14 +312,8 @@ fn opened<'a>(
         ear: Ear::new(listens),
     };
     let log = Log::new(side, run.log, settings, now);
-    match End::open(
-        alloc,
-        overheard,
-        settings.config,
-        side,
-        settings.first_sn,
-        now,
-    ) {
+    let first_sn = first_number(rt, settings.first_sn)?;
+    match End::open(alloc, overheard, settings.config, side, first_sn, now) {
         Ok(end) => Ok(Actor::new(end, side, settings.puts.as_slice(), log)),
         Err((OpenFault::Memory, _channels)) => Err(Fault::Memory),
         Err((OpenFault::BadConfig, _channels)) => Err(Fault::Settings),
