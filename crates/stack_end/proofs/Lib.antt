@@ -7,4 +7,5 @@ pub mod Polls
 pub mod Deadlines
 pub mod Putting
 pub mod Recents
+pub mod Hearing
 pub mod Outstanding

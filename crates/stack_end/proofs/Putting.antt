@@ -11,7 +11,7 @@ use Rattle.stack_end.specs.Dialogue.{meets, session_in}
 use Rattle.stack_end.specs.Ends.{EndState, Put, did, packed, packed_up_to, with_session}
 use Rattle.stack_end.specs.Fields.{BothStand, Fields}
 
-sends-history : (n now : ℕ) (x : EndState) → (packed_up_to n now x).session.history ≡ x.session.history
+pub sends-history : (n now : ℕ) (x : EndState) → (packed_up_to n now x).session.history ≡ x.session.history
 sends-history zero now x = refl
 sends-history (suc n) now x =
     by_cond (λ (y : EndState). y.session.history ≡ x.session.history) (is_nil x.session.waiting) x _ (λ _. refl)

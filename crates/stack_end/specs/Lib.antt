@@ -7,6 +7,7 @@ pub mod Later
 pub mod Kept
 pub mod EndValue
 pub mod Recent
+pub mod Hearing
 pub mod Polling
 pub mod Bounds
 pub mod Deadlines

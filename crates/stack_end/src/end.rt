@@ -13,6 +13,7 @@ ghost use Rattle.stack_end.specs.Datagrams.{sent_at_opening};
 ghost use Rattle.stack_end.specs.EndValue.{EndAsks, EndDoes, EndDoesAlone, EndStands, channels_of};
 ghost use Rattle.stack_end.specs.Fields.{can_pack};
 ghost use Rattle.stack_end.specs.Outstanding.{PutOut};
+ghost use Rattle.stack_end.specs.Hearing.{HasHeard, TakesPart};
 ghost use Rattle.stack_end.specs.Recent.{DatagramRecent, TickRecent};
 ghost use Rattle.stack_end.specs.Bounds.{IsBounded};
 ghost use Rattle.safe_machine.specs.Deadlines.{IsBefore, IsReachedAt};
@@ -99,6 +100,12 @@ impl<C: Channels, A: Allocator> End<C, A> {
         // What is taken is recent.
         ensures recent { (x : EndState) → EndStands C.told self.old x
             → DatagramRecent T.takes now octets.now x taker.old taker.new }
+        // Whatever came, and on whatever channel: the redundancy layer has heard it, unless the guard leaves.
+        ensures hears { (x y : EndState) → EndStands C.told self.old x → EndStands C.told self.new y
+            → HasHeard now octets.now x y }
+        // What the machine hands up of a part reaches the application.
+        ensures passes { (x : EndState) → EndStands C.told self.old x
+            → TakesPart T.takes now octets.now x taker.old taker.new }
         // The end is left as any other channel would leave it.
         ensures any_channel { (x : EndState) (other : ℕ) → EndStands C.told self.old x
             → EndStands C.told self.new (call (Deliver other octets.now now) x) }

@@ -628,4 +628,4 @@ pub instance : FaithfulInstance events
 unfolding w1 w2 w3 w4 w5 w6 w7 w8 w9 w10 w11 w12 w13 w14 w15 w16 w17 w18 w19 w20 w21 w22 w23 w24 w25 w26 w27 w28 w29 w30 w31 w32 w33 w34 w35 w36 w37 w38 w39
 instance =
     let events-typed = all-typed events refl in
-    record { typed = events-typed; faithful = faithful; arrived = whole; nothing_lost = λ law. law events events-typed faithful }
+    record { typed = events-typed; faithful = faithful; arrived = whole; nothing_lost = λ law. law events events-typed faithful; promised = λ p. p.nothing_lost faithful }

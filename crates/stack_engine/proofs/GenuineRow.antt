@@ -336,4 +336,5 @@ instance =
       fresh = λ law. law events events-typed genuine;
       confirmed = λ law. law events events-typed genuine;
       settled = λ law. law events events-typed genuine;
+      promised = λ p. (p.headline genuine, p.fresh genuine, p.confirmed genuine, p.settled genuine);
     }

@@ -9,6 +9,7 @@ use Rattle.stack_engine.specs.Freshness.{AllFresh, Freshness}
 use Rattle.stack_engine.specs.Settled.{ConfirmedTaken, ConfirmedTakenLaw, Settled, SettledLaw}
 use Rattle.stack_engine.specs.Faithful.{AllArrived, Faithful, Match, NothingLost, NothingLostLaw}
 use Rattle.stack_engine.specs.Joins.{joins_in}
+use Rattle.stack_engine.specs.Promises.{Promises}
 
 -- Both ends are opened twice, so the list is not faithful; what is promised of genuine lists is promised of it.
 pub record GenuineInstance (es : List Event) : Type 0 where
@@ -22,6 +23,7 @@ pub record GenuineInstance (es : List Event) : Type 0 where
   pub fresh : Freshness → AllFresh es start
   pub confirmed : ConfirmedTakenLaw → ConfirmedTaken (run es start)
   pub settled : SettledLaw → Settled (run es start)
+  pub promised : Promises es → Headline (run es start) × AllFresh es start × ConfirmedTaken (run es start) × Settled (run es start)
 
 -- of two ends that were opened
 abbrev pub OfOpened : (EndState → EndState → Type 0) → Option EndState → Option EndState → Type 0
@@ -41,6 +43,7 @@ pub record FaithfulInstance (es : List Event) : Type 0 where
   pub faithful : Faithful es
   pub arrived : OfOpened Arrived (present Il (run es start)) (present Fe (run es start))
   pub nothing_lost : NothingLostLaw → NothingLost (run es start)
+  pub promised : Promises es → NothingLost (run es start)
 
 pub record Premises : Type 0 where
   pub genuine : (es : List Event) × GenuineInstance es
