@@ -1,10 +1,11 @@
 #!/usr/bin/env python3
 """Follows a capture on the model, and prints what `rasta follow` must print: a line for each datagram, and the sums.
 
-    tests/model/follow.py follow [--code 0|8|16] [--only WORD] [--t-max MS] FILE
+    tests/model/follow.py follow [--code 0|8|16] [--only WORD] [--ports PORTS] [--t-max MS] [--json] FILE
 """
 import argparse
 import ipaddress
+import json
 import re
 import sys
 
@@ -76,19 +77,22 @@ class Numbers:
     def counts(self):
         return self.heard, self.missing, self.repeats, self.late, self.differing, self.stale
 
+    def members(self):
+        return dict(zip(('PDUs', 'missing', 'repeats', 'late', 'differs', 'stale'), self.counts()))
+
 
 class Direction:
     """What one end of a connection sent."""
 
     def __init__(self):
-        self.opening = self.stamp = self.left = None
+        self.opening = self.stamp = self.left = self.parting = None
         self.channels = [Numbers() for _ in range(CHANNELS)]
         self.together, self.sequence, self.damaged = Numbers(), Numbers(), [0] * CHANNELS
-        self.openings = self.oldest = self.last = self.silence = 0
+        self.openings = self.oldest = self.last = self.silence = self.opened = 0
         self.kinds = {'HB': 0, 'RetrReq': 0, 'RetrData': 0}
 
-    def opens(self, opening):
-        self.opening, self.openings, self.last, self.left = opening, self.openings + 1, 0, None
+    def opens(self, opening, time):
+        self.opening, self.openings, self.last, self.left, self.opened = opening, self.openings + 1, 0, None, time
         for numbers in self.channels + [self.together, self.sequence]:
             numbers.begin()
 
@@ -101,7 +105,7 @@ class Direction:
         """What is remarkable in a PDU; `peer` is the timestamp of the other end's newest."""
         words = []
         if p.kind in OPENINGS and not self.is_copy(channel, number, octets):
-            self.opens((p.kind, p.sn))
+            self.opens((p.kind, p.sn), time)
             words.append('opens')
         if channel < CHANNELS:
             words.append(named('channel', self.channels[channel].note(number, line, octets)))
@@ -116,6 +120,7 @@ class Direction:
         left = leaving(*p.body[::-1]) if p.kind == 'DiscReq' else None
         if is_new:
             self.counts(time, p.kind, age, left)
+            self.parting = (time, *p.body[::-1]) if left else self.parting
         words += ['resent' if p.kind == 'RetrData' else '', '' if age is None else 'age %d ms' % age, left]
         return [word for word in words if word]
 
@@ -130,6 +135,13 @@ class Direction:
         self.oldest = max(self.oldest, age or 0)
         self.silence = max(self.silence, time - self.last) if self.last else self.silence
         self.last, self.left = time, left or self.left
+
+    def members(self):
+        """The sums as members of a JSON object."""
+        left = dict(zip(('time', 'reason', 'detail'), self.parting)) if self.left else None
+        return {'opening': self.opening and self.opening[0], 'openings': self.openings, 'opened': self.opened or None, **self.together.members(),
+                'heartbeats': self.kinds['HB'], 'requests': self.kinds['RetrReq'], 'resent': self.kinds['RetrData'], 'silence': self.silence,
+                'age': self.oldest, 'last': self.last or None, 'left': left}
 
     def sums(self, first, t_max):
         opened = 'opened by %s times %d' % (self.opening[0], self.openings) if self.opening else 'opening not seen'
@@ -153,7 +165,7 @@ class Connection:
     """Two ends, by their identifiers, the lower one in front, and the channels between them."""
 
     def __init__(self, ends):
-        self.ends, self.routes, self.directions = ends, [], (Direction(), Direction())
+        self.ends, self.routes, self.directions, self.last = ends, [], (Direction(), Direction()), 0
 
     def known(self, source, destination):
         """The number of the channel between two addresses, whichever is the source."""
@@ -172,6 +184,36 @@ class Connection:
         """A datagram that is no PDU, of the end whose address sent it."""
         self.directions[self.routes[place][0] != source].damaged[place] += 1
 
+    def up(self):
+        """When the last ConnReq was answered."""
+        asks, answers = ([d for d in self.directions if d.opening and d.opening[0] == kind] for kind in OPENINGS)
+        return answers[0].opened if asks and answers and asks[0].opened <= answers[0].opened else None
+
+    def losses(self):
+        """Numbers lost on single channels, and on all."""
+        return (sum(numbers.missing for direction in self.directions for numbers in direction.channels),
+                sum(direction.together.missing for direction in self.directions))
+
+    def sentence(self, first, t_max):
+        up, oldest = self.up(), max(direction.oldest for direction in self.directions)
+        parts = ['connection %d-%d %s' % (*self.ends, 'was not seen to come up' if up is None else 'came up at ' + seconds(up - first))]
+        gone = [(end, direction) for end, direction in zip(self.ends, self.directions) if direction.left]
+        parts += ['%d left at %s %s' % (end, seconds(direction.parting[0] - first), direction.left) for end, direction in gone]
+        parts += [] if gone else ['nobody left', 'heard last at ' + seconds(self.last - first)]
+        parts += ['lost on single channels %d on all %d' % self.losses(), 'age %d of %d%s' % (oldest, t_max, ' reached' if oldest >= t_max else '')]
+        return ', '.join(parts)
+
+    def members(self):
+        channels, everywhere = self.losses()
+        directions = []
+        for (sender, receiver), direction in zip((self.ends, self.ends[::-1]), self.directions):
+            routes = [{'channel': place + 1, 'low': route[0], 'high': route[1],
+                       'datagrams': sum(n.counts()) - n.missing + direction.damaged[place], **n.members(), 'damaged': direction.damaged[place]}
+                      for place, (route, n) in enumerate(zip(self.routes, direction.channels))]
+            directions.append({'from': sender, 'to': receiver, **direction.members(), 'channels': routes})
+        return {'low': self.ends[0], 'high': self.ends[1], 'up': self.up(), 'last': self.last, 'lost_on_channels': channels, 'lost_on_all': everywhere,
+                'age': max(direction.oldest for direction in self.directions), 'directions': directions}
+
     def sums(self, first, t_max):
         for (sender, receiver), direction in zip((self.ends, self.ends[::-1]), self.directions):
             yield 'sum %d->%d %s' % (sender, receiver, direction.sums(first, t_max))
@@ -180,6 +222,7 @@ class Connection:
                 yield 'sum %d->%d ch %d %s-%s datagrams %d %s damaged %d' % (
                     sender, receiver, place + 1, *route, sum(n.counts()) - n.missing + direction.damaged[place], n.sums(),
                     direction.damaged[place])
+        yield self.sentence(first, t_max)
 
     def counts(self):
         return [sum(pair) for pair in zip(*(direction.together.counts() for direction in self.directions))]
@@ -201,6 +244,7 @@ class Follower:
             self.damages(source, destination)
             return way if p is None else '%s red %d' % (way, number), [fault('red', seen) if p is None else fault('safe', p)]
         connection = self.connection(sorted((p.sender, p.receiver)))
+        connection.last = time
         is_from_low = p.sender == connection.ends[0]
         channel = connection.channel(source, destination, is_from_low)
         own, other = connection.directions[::1 if is_from_low else -1]
@@ -224,6 +268,14 @@ class Follower:
         others = [connection for connection in self.connections if connection not in known]
         self.connections = others + (known or [Connection(ends)])
         return self.connections[-1]
+
+    def members(self, first, t_max):
+        """All sums as one JSON object in one line."""
+        counts = [sum(column) for column in zip(self.gone, *(connection.counts() for connection in self.connections))]
+        names = ('PDUs', 'missing', 'repeats', 'late', 'differs', 'stale')
+        return json.dumps({'first': first or None, 't_max': t_max, 'all': {
+            'datagrams': self.datagrams, **dict(zip(names, counts)), 'damaged': self.damaged, 'forgotten': self.forgotten, 'unreadable': self.unreadable},
+            'connections': [connection.members() for connection in self.connections]}, separators=(',', ':'))
 
     def sums(self, first, t_max):
         for connection in self.connections:
@@ -276,7 +328,7 @@ def host_v6(host):
 
 def read(raw):
     """Time, source, destination and payload of a line, or its first fault."""
-    if len(raw) > LINE_MAX or len(raw) == LINE_MAX and raw[-1:] != b'\n':
+    if len(raw) > LINE_MAX:
         return 'too long'
     fields = re.sub('\r?\n$', '', raw.decode('latin-1')).split('\t')
     if len(fields) != 6:
@@ -299,7 +351,16 @@ def is_wanted(only, t_max, words):
     return only is None or any(word.split()[1] == only for word in words if word.startswith(('channel ', 'all ', 'sn ', 'red ', 'safe ')))
 
 
-def followed(raws, code=8, only=None, t_max=1800):
+def ranges(text):
+    """The ports that a text names, or none."""
+    found = [re.fullmatch('([0-9]+)(?:-([0-9]+))?', piece) for piece in text.split(',')]
+    pairs = [(number(piece[1], 65535), number(piece[2] or piece[1], 65535)) for piece in found if piece]
+    if len(pairs) < len(found) or len(pairs) > 4 or any(None in pair or pair[0] > pair[1] for pair in pairs):
+        return None
+    return [range(low, high + 1) for low, high in pairs]
+
+
+def followed(raws, code=8, only=None, t_max=1800, ports=None, as_json=False):
     """Standard output, standard error and exit status."""
     follower, first, out, err = Follower(Settings(code=code).rule), None, [], []
     for line, raw in enumerate(raws, 1):
@@ -308,11 +369,13 @@ def followed(raws, code=8, only=None, t_max=1800):
             follower.unreadable += 1
             err.append('line %d: unreadable: %s\n' % (line, seen))
             continue
+        if ports and not any(int(end.rpartition(':')[2]) in some for end in seen[1:3] for some in ports):
+            continue
         first = seen[0] if first is None else first
         said, words = follower.line(seen[0], line, *seen[1:])
-        if is_wanted(only, t_max, words):
+        if is_wanted(only, t_max, words) and not as_json:
             out.append(' '.join([seconds(seen[0] - first), 'line', str(line), said] + words) + '\n')
-    out += [said + '\n' for said in follower.sums(first, t_max)]
+    out += [said + '\n' for said in ([follower.members(first, t_max)] if as_json else follower.sums(first, t_max))]
     return ''.join(out), ''.join(err), 1 if err else 0
 
 
@@ -321,11 +384,13 @@ def main(words):
     parser.add_argument('word', choices=['follow'])
     parser.add_argument('--code', type=int, choices=(0, 8, 16), default=8)
     parser.add_argument('--only', choices=ONLY)
+    parser.add_argument('--ports', type=ranges)
+    parser.add_argument('--json', action='store_true')
     parser.add_argument('--t-max', type=int, default=1800)
     parser.add_argument('file')
     asked = parser.parse_args(words)
     with open(asked.file, 'rb') as file:
-        out, err, status = followed(file, asked.code, asked.only, asked.t_max)
+        out, err, status = followed(file, asked.code, asked.only, asked.t_max, asked.ports, asked.json)
     sys.stdout.write(out)
     sys.stderr.write(err)
     return status

@@ -29,14 +29,15 @@ weight c = datagrams_in c.from_low.together + datagrams_in c.from_high.together
 abbrev pub weights : List Connection → ℕ
 weights cs = sum_by weight cs
 
-opened_same : (b : Bool) (d : Direction) (o : Option Opening) → datagrams_in (opened_as b d o).together ≡ datagrams_in d.together
-opened_same true d o = refl
-opened_same false d o = refl
+opened_same : (b : Bool) (d : Direction) (o : Option Opening) (time : ℕ)
+    → datagrams_in (opened_as b d o time).together ≡ datagrams_in d.together
+opened_same true d o time = refl
+opened_same false d o time = refl
 
 one_followed : (d : Direction) (peer : Option ℕ) (place : Place) (seq : ℕ) (h : Header) → datagrams_in d.together < 2 ^ 64 - 1
     → datagrams_in (followed d peer place seq h).together ≡ datagrams_in d.together + 1
 one_followed d peer place seq h room =
-    let same = opened_same (is_opened d (opening_of h) place.channel seq h.fingerprint) d (opening_of h) in
+    let same = opened_same (is_opened d (opening_of h) place.channel seq h.fingerprint) d (opening_of h) place.time in
     let w = (opened_with d place seq h).together in
     let one =
     one_noted (judged w seq h.fingerprint) w (record { number = seq; line = place.line; fingerprint = h.fingerprint })

@@ -18,7 +18,18 @@ use Rattle.capture.specs.Numbers.{ahead, counted, judged, noted, open_window, re
 -- nothing was counted yet
 abbrev pub open_tally : Tally
 open_tally =
-    record { openings = 0; heartbeats = 0; requests = 0; resent = 0; oldest = 0; last = 0; silence = 0; leaving = None }
+    record {
+      openings = 0;
+      heartbeats = 0;
+      requests = 0;
+      resent = 0;
+      oldest = 0;
+      last = 0;
+      silence = 0;
+      leaving = None;
+      opened = 0;
+      left = 0;
+    }
 
 -- nothing was heard yet
 abbrev pub open_direction : Direction
@@ -130,24 +141,24 @@ abbrev pub is_opened : Direction → Option Opening → ℕ → ℕ → ℕ → 
 is_opened d None channel seq octets = false
 is_opened d (Some opening) channel seq octets = not (is_copy d channel seq octets)
 
-abbrev pub tally_opened : Tally → Tally
-tally_opened t = record t { openings = counted t.openings 1; last = 0; leaving = None }
+abbrev pub tally_opened : Tally → ℕ → Tally
+tally_opened t time = record t { openings = counted t.openings 1; last = 0; leaving = None; opened = time }
 
 -- what is kept once an opening came: what was counted, but for the reason of a leaving before
-abbrev pub opened_as : Bool → Direction → Option Opening → Direction
-opened_as true d opening =
+abbrev pub opened_as : Bool → Direction → Option Opening → ℕ → Direction
+opened_as true d opening time =
     record d {
       channels = map reopened d.channels;
       together = reopened d.together;
       sequence = reopened d.sequence;
       opening = opening;
-      tally = tally_opened d.tally;
+      tally = tally_opened d.tally time;
     }
-opened_as false d opening = d
+opened_as false d opening time = d
 
 abbrev pub opened_with : Direction → Place → ℕ → Header → Direction
 opened_with d place seq h =
-    opened_as (is_opened d (opening_of h) place.channel seq h.fingerprint) d (opening_of h)
+    opened_as (is_opened d (opening_of h) place.channel seq h.fingerprint) d (opening_of h) place.time
 
 abbrev pub kind_counted : Kind → Tally → Tally
 kind_counted Heartbeat t = record t { heartbeats = counted t.heartbeats 1 }
@@ -167,6 +178,11 @@ abbrev pub leaving_after : Option Leaving → Option Leaving → Option Leaving
 leaving_after (Some leaving) before = Some leaving
 leaving_after None before = before
 
+-- when the last DiscReq was heard
+abbrev pub left_after : Option Leaving → ℕ → ℕ → ℕ
+left_after (Some leaving) time before = time
+left_after None time before = before
+
 -- what is counted after a new PDU
 abbrev pub tallied : Tally → ℕ → Option ℕ → Header → Tally
 tallied t time age h =
@@ -175,6 +191,7 @@ tallied t time age h =
       silence = silence_of t time;
       last = time;
       leaving = leaving_after h.leaving t.leaving;
+      left = left_after h.leaving time t.left;
     }
 
 abbrev pub tally_after : Bool → Tally → ℕ → Option ℕ → Header → Tally

@@ -1,5 +1,11 @@
 -- What holds of every list of numbers and of every capture, counted from the outside.
 use Rattle.std.specs.Prelude.{◌≡◌, ℕ, ◌+◌, ◌-◌, ◌^◌, ◌<◌, List, [], ◌∷◌, length}
+use Rattle.capture.specs.declared.connections.TheConstants.{CONNECTIONS}
+use Rattle.capture.specs.declared.direction.TheConstants.{CHANNELS}
+use Rattle.capture.specs.declared.line.TheConstants.{PAYLOAD_ROOM}
+use Rattle.capture.specs.declared.ports.TheConstants.{RANGES}
+use Rattle.capture.specs.declared.window.TheConstants.{KEPT, LATE_MAX, PASSED_MAX}
+use Rattle.capture.specs.declared.words.TheConstants.{SECONDS_MAX}
 use Rattle.capture.specs.declared.connections.Connection.{Connection}
 use Rattle.capture.specs.declared.following.Totals.{Totals}
 use Rattle.capture.specs.declared.heard.Heard.{Heard}
@@ -10,6 +16,15 @@ use Rattle.capture.specs.declared.window.Judged.{Judged}
 use Rattle.capture.specs.declared.window.Judged.TheVariants.{First, Next, Ahead, Anew}
 use Rattle.capture.specs.Numbers.{counted, judged, noted, open_window}
 use Rattle.capture.specs.Whole.{connections_after, damaged_after, gone_after, no_totals, totals_of}
+
+-- The limits, as numbers. Numbers are kept by their remainder by 32, a power of two, since the ring of 2^32 wraps within it; so 31 before the newest
+-- may come late. A gap that takes more than 16 bits is told as a new beginning. Two channels are RaSTA's own, four leave room. 16 connections are
+-- 200 KiB of stack. A payload is kept up to the next power of two above the longest redundancy PDU, of 1,258 octets. The second is the last of
+-- twelve digits.
+abbrev pub LimitsAre : Type 0
+LimitsAre =
+    (KEPT ≡ 32) × (LATE_MAX ≡ 31) × (PASSED_MAX ≡ 65535) × (CHANNELS ≡ 4) × (RANGES ≡ 4) × (CONNECTIONS ≡ 16) × (PAYLOAD_ROOM ≡ 2048)
+    × (SECONDS_MAX ≡ 999999999999)
 
 -- how many numbers lie up to the newest that did not before: those that were passed over, and itself
 abbrev pub reached_by : Judged → ℕ

@@ -6,3 +6,4 @@ pub mod Following
 pub mod Connecting
 pub mod Whole
 pub mod Laws
+pub mod Ports

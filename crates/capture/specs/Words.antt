@@ -6,6 +6,7 @@ use Rattle.std.specs.Str.Parse.{digits_value}
 use Rattle.std.specs.Net.Addr.{octets_of}
 use Rattle.std.specs.Net.Reader.{read_ipv6, whole_value}
 use Rattle.capture.specs.declared.line.Host.{Host}
+use Rattle.capture.specs.declared.words.TheConstants.{SECONDS_MAX}
 use Rattle.capture.specs.declared.line.Host.TheVariants.{V4, V6}
 
 -- where the first mark stands
@@ -89,4 +90,4 @@ moment _ _ = None
 -- a time: seconds, a point, a fraction
 abbrev pub time_of : List ℕ → Option ℕ
 time_of text =
-    if nat_eq (marks 46 text) 1 then moment (number_of 999999999999 (before 46 text)) (micros_of (behind 46 text)) else None
+    if nat_eq (marks 46 text) 1 then moment (number_of SECONDS_MAX (before 46 text)) (micros_of (behind 46 text)) else None

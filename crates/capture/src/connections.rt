@@ -1,6 +1,7 @@
 //! The connections of a capture: the one that was heard last stands last.
 
-ghost use Rattle.std.specs.Prelude.{◌≡◌, ◌<◌, ◌≤◌, ◌++◌, ◌∷◌, [], length, IfSome, reverse};
+ghost use Rattle.std.specs.Prelude.{◌≡◌, ◌<◌, ◌≤◌, ◌++◌, ◌∷◌, [], length, IfSome, reverse, slice_index_or};
+ghost use Rattle.std.specs.List.{remove};
 ghost use Rattle.arrayvec.specs.ArrayVec.{array_vec_len};
 ghost use Rattle.capture.specs.Whole.{forgets};
 ghost use Rattle.capture.specs.Connecting.{behind_of, channel_of, connection_after, connection_damaged, connection_remarks, damage_noted, damaged_at, ends_of, has_channel, is_between, is_from_low, is_held, is_known, is_same_address, is_same_host, is_source_low, known_place_of, left, opened, place_of, room_made, route_from, route_place_of, routes_after, step, step_remarks, taken};
@@ -63,10 +64,15 @@ pub fn follow(
     ensures remarks { result ≡ step_remarks connections.old.items line record.now seq header.now }
     ensures step { connections.new.items ≡ step connections.old.items line record.now seq header.now }
 {
-    let mut connection = take_out(connections, header.sender, header.receiver);
-    let remarks = follow_in(&mut connection, line, record, seq, header);
-    connections.push(connection);
-    remarks
+    bring_to_end(connections, header.sender, header.receiver);
+    let last = connections.len() - 1;
+    follow_in(
+        &mut connections.as_mut_slice()[last],
+        line,
+        record,
+        seq,
+        header,
+    )
 }
 
 /// Whether a PDU is of a further connection, for which one has to be forgotten.
@@ -80,19 +86,32 @@ pub(crate) fn has_no_room(connections: &Connections, header: &Header) -> bool
     place(connections, low, high).is_none()
 }
 
-/// Takes the connection between two ends out of the list: a new one, where none is followed.
-fn take_out(connections: &mut Connections, sender: u32, receiver: u32) -> Connection
-    ensures taken { result ≡ taken sender receiver connections.old.items }
-    ensures left { connections.new.items ≡ left sender receiver connections.old.items }
-    ensures room { array_vec_len connections.new < CONNECTIONS }
+/// Makes the connection between two ends the last of the list: a new one, where none is followed.
+fn bring_to_end(connections: &mut Connections, sender: u32, receiver: u32)
+    ensures { connections.new.items
+        ≡ left sender receiver connections.old.items ++ taken sender receiver connections.old.items ∷ [] }
 {
     let (low, high) = ends(sender, receiver);
     match place(connections, low, high) {
-        Some(place) => connections.remove(place),
+        Some(place) => move_to_end(connections, place),
         None => {
             make_room(connections);
-            open(low, high)
+            connections.push(open(low, high));
         }
+    }
+}
+
+/// Makes the connection at a place the last of the list. The one that was heard last stands there already, and is not moved: a
+/// connection has some 13 KiB.
+fn move_to_end(connections: &mut Connections, place: usize)
+    requires { place < array_vec_len connections.old }
+    ensures { connections.new.items
+        ≡ remove connections.old.items place ++ slice_index_or connections.old.items place (opened 0 0) ∷ [] }
+{
+    let last = connections.len() - 1;
+    if place < last {
+        let connection = connections.remove(place);
+        connections.push(connection);
     }
 }
 

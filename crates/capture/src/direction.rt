@@ -58,6 +58,10 @@ pub struct Tally {
     pub silence: u64,
     /// Reason and detail of the last DiscReq since an opening.
     pub leaving: Option<Leaving>,
+    /// When the last opening was heard, in microseconds; 0 before the first.
+    pub opened: u64,
+    /// When that DiscReq was heard, in microseconds; of no meaning where there is none.
+    pub left: u64,
 }
 
 /// What is remarkable in a PDU.
@@ -115,6 +119,8 @@ impl Direction {
                 last: 0,
                 silence: 0,
                 leaving: None,
+                opened: 0,
+                left: 0,
             },
         }
     }
@@ -135,7 +141,7 @@ pub fn follow_pdu(
     let opening = opening_in(header);
     let opens = begins_anew(direction, opening, place.channel, seq, header.fingerprint);
     if opens {
-        open(direction, opening);
+        open(direction, opening, place.time);
     }
     follow_opened(direction, opens, peer, place, seq, header)
 }
@@ -244,8 +250,8 @@ fn differs(newest: Option<u32>, seq: u32) -> bool
 }
 
 /// Begins all numbers anew.
-fn open(direction: &mut Direction, opening: Option<Opening>)
-    ensures { direction.new ≡ opened_as true direction.old opening }
+fn open(direction: &mut Direction, opening: Option<Opening>, time: u64)
+    ensures { direction.new ≡ opened_as true direction.old opening time }
 {
     reopen_all(&mut direction.channels);
     reopen(&mut direction.together);
@@ -254,6 +260,7 @@ fn open(direction: &mut Direction, opening: Option<Opening>)
     direction.tally.openings = direction.tally.openings.saturating_add(1);
     direction.tally.last = 0;
     direction.tally.leaving = None;
+    direction.tally.opened = time;
 }
 
 fn reopen_all(channels: &mut [Window; CHANNELS])
@@ -383,6 +390,7 @@ fn count(tally: &mut Tally, time: u64, age: Option<u32>, header: &Header)
     tally.last = time;
     if header.leaving.is_some() {
         tally.leaving = header.leaving;
+        tally.left = time;
     }
 }
 

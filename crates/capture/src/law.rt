@@ -1,6 +1,6 @@
 //! What holds of every list of numbers and of every capture.
 
-ghost use Rattle.capture.specs.Laws.{EachCounted, EachOnce, SumsAddUp};
+ghost use Rattle.capture.specs.Laws.{EachCounted, EachOnce, LimitsAre, SumsAddUp};
 
 /// The laws of what is kept, which do nothing when they are called: they hold of every list of numbers and of datagrams.
 pub fn sums_law()
@@ -12,4 +12,7 @@ pub fn sums_law()
 
     // The sums over all connections and what is damaged add up to the datagrams.
     ensures adds_up { SumsAddUp }
+
+    // The limits are these numbers.
+    ensures limits { LimitsAre }
 {}

@@ -10,6 +10,7 @@ mod following;
 mod heard;
 mod law;
 mod line;
+mod ports;
 mod window;
 mod words;
 
@@ -19,4 +20,5 @@ pub use following::{Following, Remark, Totals, sum_up};
 pub use heard::{Header, Heard, hear};
 pub use law::sums_law;
 pub use line::{Address, Buffer, Host, LineFault, PAYLOAD_ROOM, Record, read_line};
+pub use ports::{PortRange, Ports, RANGES, is_followed, read_ports};
 pub use window::{Judged, KEPT, LATE_MAX, PASSED_MAX, Seen, Window, judge, note};

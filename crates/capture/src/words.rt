@@ -3,7 +3,7 @@
 ghost use Rattle.std.specs.Prelude.{◌≡◌, ◌≤◌, ◌^◌, ◌==◌, ◌<◌, length, IfSome, nat_eq, count_by};
 ghost use Rattle.std.specs.List.{list_all};
 ghost use Rattle.std.specs.Char.{is_ascii_digit};
-ghost use Rattle.capture.specs.Words.{before, behind, four_of, host_of, is_numeral, micros_of, number_of, place_of, sixteen_of, time_of};
+ghost use Rattle.capture.specs.Words.{before, behind, four_of, host_of, is_numeral, marks, micros_of, number_of, place_of, sixteen_of, time_of};
 
 use crate::line::Host;
 use std::net::Ipv6Addr;
@@ -13,7 +13,7 @@ const POINT: u8 = 46;
 const COLON: u8 = 58;
 
 /// The latest second that a line may name: the year 33658.
-const SECONDS_MAX: u64 = 999_999_999_999;
+pub(crate) const SECONDS_MAX: u64 = 999_999_999_999;
 
 /// What stands before the first mark, and what stands behind it.
 pub(crate) fn part(octets: &[u8], mark: u8) -> (&[u8], &[u8])
@@ -42,7 +42,14 @@ fn place(octets: &[u8], mark: u8) -> Option<usize>
 pub(crate) fn are_parted_by(octets: &[u8], mark: u8, times: usize) -> bool
     ensures { result ≡ nat_eq (count_by (λ o. o == mark) octets.now) times }
 {
-    octets.iter().filter(|octet| **octet == mark).count() == times
+    count_marks(octets, mark) == times
+}
+
+/// How often a mark stands in octets.
+pub(crate) fn count_marks(octets: &[u8], mark: u8) -> usize
+    ensures { result ≡ marks mark octets.now }
+{
+    octets.iter().filter(|octet| **octet == mark).count()
 }
 
 /// The time in microseconds that seconds, a point and six to nine digits spell; what is below a microsecond is cut off.

@@ -1,2 +1,3 @@
 pub mod Connections
-pub mod Reading
+pub mod Cut
+pub mod Following

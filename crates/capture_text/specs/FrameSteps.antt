@@ -1,10 +1,12 @@
 -- What a frame of a recording does, and what is printed of it.
-use Rattle.std.specs.Prelude.{ℕ, ◌-◌, ◌≤◌, List, [], drop, take, Option, Some, None, Result, Ok, Err}
+use Rattle.std.specs.Prelude.{ℕ, ◌-◌, ◌≤◌, List, [], drop, take, if◌then◌else◌, Option, Some, None, Result, Ok, Err}
 use Rattle.safe_pdu.specs.declared.CodeRule.{CodeRule}
 use Rattle.capture.specs.declared.connections.Connection.{Connection}
 use Rattle.capture.specs.declared.line.Record.{Record}
+use Rattle.capture.specs.declared.ports.PortRange.{PortRange}
 use Rattle.capture.specs.Hearing.{heard_of}
 use Rattle.capture.specs.Numbers.{counted}
+use Rattle.capture.specs.Ports.{is_chosen}
 use Rattle.capture.specs.Whole.{connections_after, remark_of}
 use Rattle.recording.specs.declared.frame.Found.{Found}
 use Rattle.recording.specs.declared.frame.Link.{Link}
@@ -29,14 +31,18 @@ seen_passed passed.Truncated = Unread Truncated
 seen_passed passed.Fragment = Unread Fragment
 seen_passed passed.Length = Unread Length
 
-abbrev pub seen_found : ℕ → Result Found Passed → Seen
-seen_found time (Ok f) = Datagram (record_found time f) f.start f.end
-seen_found time (Err why) = seen_passed why
+-- a datagram on no port that is followed is passed over too
+abbrev pub seen_chosen : Option (List (Option PortRange)) → Record → ℕ → ℕ → Seen
+seen_chosen ports r start end = if is_chosen ports r then Datagram r start end else Other
 
--- the datagram of a frame, where there is one
-abbrev pub frame_seen : Option Link → ℕ → List ℕ → Seen
-frame_seen None time octets = Unread UnknownLink
-frame_seen (Some link) time octets = seen_found time (found_in link octets)
+abbrev pub seen_found : Option (List (Option PortRange)) → ℕ → Result Found Passed → Seen
+seen_found ports time (Ok f) = seen_chosen ports (record_found time f) f.start f.end
+seen_found ports time (Err why) = seen_passed why
+
+-- the datagram of a frame, where there is one that is followed
+abbrev pub frame_seen : Option (List (Option PortRange)) → Option Link → ℕ → List ℕ → Seen
+frame_seen ports None time octets = Unread UnknownLink
+frame_seen ports (Some link) time octets = seen_found ports time (found_in link octets)
 
 -- a payload lies within so many octets
 abbrev pub IsWithin : ℕ → Seen → Type 0

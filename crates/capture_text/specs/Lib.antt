@@ -3,8 +3,12 @@ pub mod Reasons
 pub mod RemarkText
 pub mod RecordText
 pub mod Choice
+pub mod Sentence
 pub mod SummaryText
+pub mod Json
 pub mod FaultText
 pub mod Telegrams
 pub mod Steps
 pub mod FrameSteps
+pub mod Lines
+pub mod Capture

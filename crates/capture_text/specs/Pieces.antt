@@ -1,5 +1,5 @@
 -- What lines are made of: times, addresses and channels.
-use Rattle.std.specs.Prelude.{ℕ, ◌+◌, ◌-◌, ◌/◌, ◌%◌, nat_lt, nat_eq, List, [], ◌∷◌, ◌++◌, codes, slice_index, if◌then◌else◌}
+use Rattle.std.specs.Prelude.{ℕ, ◌+◌, ◌-◌, ◌/◌, ◌%◌, nat_le, nat_lt, nat_eq, List, [], ◌∷◌, ◌++◌, codes, slice_index, if◌then◌else◌}
 use Rattle.std.specs.Fmt.{decimal}
 use Rattle.std.specs.Net.Addr.{segments_of}
 use Rattle.std.specs.Net.Text.{ipv6_text}
@@ -23,6 +23,10 @@ duration_text micros = joined (decimal (micros / 1000000) ∷ codes "." ∷ six_
 unfoldable pub since_text : ℕ → ℕ → List ℕ
 since_text first time =
     if nat_lt time first then codes "-" ++ duration_text (first - time) else duration_text (time - first)
+
+-- an age that reached T_max is told so
+abbrev pub reached_text : ℕ → ℕ → List ℕ
+reached_text t_max oldest = if nat_le t_max oldest then codes " reached" else []
 
 abbrev pub octet_of : List ℕ → ℕ → List ℕ
 octet_of host place = decimal (slice_index host place)

@@ -1,6 +1,5 @@
 -- What a line of a capture does, and what is printed of it.
-use Rattle.std.specs.Prelude.{ℕ, List, [], ◌++◌, length, if◌then◌else◌, Option, Some, None, Result, Ok, Err}
-use Rattle.safe_pdu.specs.declared.CodeRule.{CodeRule}
+use Rattle.std.specs.Prelude.{ℕ, Bool, false, List, [], ◌++◌, length, if◌then◌else◌, Option, Some, None, Result, Ok, Err}
 use Rattle.capture.specs.declared.connections.Connection.{Connection}
 use Rattle.capture.specs.declared.following.Remark.{Remark}
 use Rattle.capture.specs.declared.following.Totals.{Totals}
@@ -10,58 +9,68 @@ use Rattle.capture.specs.declared.line.Record.{Record}
 use Rattle.capture.specs.Hearing.{heard_of}
 use Rattle.capture.specs.Lines.{Line}
 use Rattle.capture.specs.Numbers.{counted}
+use Rattle.capture.specs.Ports.{is_chosen}
 use Rattle.capture.specs.Whole.{connections_after, damaged_after, forgotten_after, gone_after, remark_of, totals_of}
 use Rattle.std.specs.Io.BufRead.{ends_with_byte, strip_last}
 use Rattle.capture_text.specs.Choice.{is_asked}
 use Rattle.capture_text.specs.FaultText.{fault_text}
+use Rattle.capture_text.specs.Json.{sums_json}
 use Rattle.capture_text.specs.RecordText.{record_text}
 use Rattle.capture_text.specs.SummaryText.{summary_text}
 use Rattle.capture_text.specs.Telegrams.{telegram_lines}
 use Rattle.capture_text.specs.declared.course.Asked.{Asked}
+use Rattle.capture_text.specs.declared.course.Form.{Form}
+use Rattle.capture_text.specs.declared.course.Form.TheVariants.{Lines, Json}
 use Rattle.capture_text.specs.declared.summary.Counts.{Counts}
+use Rattle.capture_text.specs.declared.summary.Scale.{Scale}
 
 -- a recorded datagram, apart from its octets
 abbrev pub record_of : Line → Record
 record_of l = record { time = l.time; source = l.source; destination = l.destination; size = length l.payload }
 
--- a line that was read, and what its datagram says
-abbrev pub heard_line : CodeRule → Result Line LineFault → Result (Record × Heard) LineFault
-heard_line rule (Ok l) = Ok (record_of l, heard_of rule l.payload)
-heard_line rule (Err fault) = Err fault
+-- a line that was read, and what its datagram says; nothing, where it is on no port that is followed
+abbrev pub heard_chosen : Asked → Record → List ℕ → Option (Record × Heard)
+heard_chosen a r octets = if is_chosen a.ports r then Some (r, heard_of a.rule octets) else None
 
--- its octets, and how many they are; none of a line that is no datagram
+abbrev pub heard_line : Asked → Result Line LineFault → Result (Option (Record × Heard)) LineFault
+heard_line a (Ok l) = Ok (heard_chosen a (record_of l) l.payload)
+heard_line a (Err fault) = Err fault
+
+-- its octets; none of a line that is no datagram
 abbrev pub payload_in : Result Line LineFault → List ℕ
 payload_in (Ok l) = l.payload
 payload_in (Err fault) = []
 
-abbrev pub size_in : Result (Record × Heard) LineFault → ℕ
-size_in (Ok h) = h.0.size
-size_in (Err fault) = 0
-
 -- what is remarkable in it
-abbrev pub found_in : List Connection → ℕ → Result (Record × Heard) LineFault → Result (Record × Remark) LineFault
-found_in cs number (Ok h) = Ok (h.0, remark_of cs number h.0 h.1)
+abbrev pub found_in : List Connection → ℕ → Result (Option (Record × Heard)) LineFault → Result (Option (Record × Remark)) LineFault
+found_in cs number (Ok (Some h)) = Ok (Some (h.0, remark_of cs number h.0 h.1))
+found_in cs number (Ok None) = Ok None
 found_in cs number (Err fault) = Err fault
 
--- what is kept after it; a line that is no datagram changes nothing
-abbrev pub connections_behind : List Connection → ℕ → Result (Record × Heard) LineFault → List Connection
-connections_behind cs number (Ok h) = connections_after cs number h.0 h.1
+-- what is kept after it; a line that is no datagram, or is passed over, changes nothing
+abbrev pub connections_behind : List Connection → ℕ → Result (Option (Record × Heard)) LineFault → List Connection
+connections_behind cs number (Ok (Some h)) = connections_after cs number h.0 h.1
+connections_behind cs number (Ok None) = cs
 connections_behind cs number (Err fault) = cs
 
-abbrev pub datagrams_behind : ℕ → Result (Record × Heard) LineFault → ℕ
-datagrams_behind datagrams (Ok h) = counted datagrams 1
+abbrev pub datagrams_behind : ℕ → Result (Option (Record × Heard)) LineFault → ℕ
+datagrams_behind datagrams (Ok (Some h)) = counted datagrams 1
+datagrams_behind datagrams (Ok None) = datagrams
 datagrams_behind datagrams (Err fault) = datagrams
 
-abbrev pub gone_behind : Totals → List Connection → Result (Record × Heard) LineFault → Totals
-gone_behind gone cs (Ok h) = gone_after gone cs h.1
+abbrev pub gone_behind : Totals → List Connection → Result (Option (Record × Heard)) LineFault → Totals
+gone_behind gone cs (Ok (Some h)) = gone_after gone cs h.1
+gone_behind gone cs (Ok None) = gone
 gone_behind gone cs (Err fault) = gone
 
-abbrev pub damaged_behind : ℕ → Result (Record × Heard) LineFault → ℕ
-damaged_behind damaged (Ok h) = damaged_after damaged h.1
+abbrev pub damaged_behind : ℕ → Result (Option (Record × Heard)) LineFault → ℕ
+damaged_behind damaged (Ok (Some h)) = damaged_after damaged h.1
+damaged_behind damaged (Ok None) = damaged
 damaged_behind damaged (Err fault) = damaged
 
-abbrev pub forgotten_behind : ℕ → List Connection → Result (Record × Heard) LineFault → ℕ
-forgotten_behind forgotten cs (Ok h) = forgotten_after forgotten cs h.1
+abbrev pub forgotten_behind : ℕ → List Connection → Result (Option (Record × Heard)) LineFault → ℕ
+forgotten_behind forgotten cs (Ok (Some h)) = forgotten_after forgotten cs h.1
+forgotten_behind forgotten cs (Ok None) = forgotten
 forgotten_behind forgotten cs (Err fault) = forgotten
 
 -- the time of the first datagram
@@ -73,35 +82,53 @@ first_of (Some first) time = first
 abbrev pub asked_telegrams : Asked → List ℕ → List ℕ
 asked_telegrams a octets = if a.messages then telegram_lines a.rule octets else []
 
+abbrev pub is_told_in : Form → Asked → Remark → Bool
+is_told_in Lines a m = is_asked a.only a.t_max m
+is_told_in Json a m = false
+
+-- no line of a datagram stands beside a JSON object
+abbrev pub is_line_told : Asked → Remark → Bool
+is_line_told a m = is_told_in a.form a m
+
 abbrev pub told_text : Asked → ℕ → ℕ → Record → Remark → List ℕ → List ℕ
 told_text a first number r m octets =
-    if is_asked a.only a.t_max m then record_text first number r m ++ asked_telegrams a octets else []
+    if is_line_told a m then record_text first number r m ++ asked_telegrams a octets else []
 
-abbrev pub found_text : Asked → Option ℕ → ℕ → List ℕ → Result (Record × Remark) LineFault → List ℕ
-found_text a first number octets (Ok f) = told_text a (first_of first f.0.time) number f.0 f.1 octets
+abbrev pub found_text : Asked → Option ℕ → ℕ → List ℕ → Result (Option (Record × Remark)) LineFault → List ℕ
+found_text a first number octets (Ok (Some f)) = told_text a (first_of first f.0.time) number f.0 f.1 octets
+found_text a first number octets (Ok None) = []
 found_text a first number octets (Err fault) = []
 
-abbrev pub first_behind : Option ℕ → Result (Record × Remark) LineFault → Option ℕ
-first_behind first (Ok f) = Some (first_of first f.0.time)
+abbrev pub first_behind : Option ℕ → Result (Option (Record × Remark)) LineFault → Option ℕ
+first_behind first (Ok (Some f)) = Some (first_of first f.0.time)
+first_behind first (Ok None) = first
 first_behind first (Err fault) = first
 
-abbrev pub unreadable_behind : ℕ → Result (Record × Remark) LineFault → ℕ
-unreadable_behind unreadable (Ok f) = unreadable
+abbrev pub unreadable_behind : ℕ → Result (Option (Record × Remark)) LineFault → ℕ
+unreadable_behind unreadable (Ok (Some f)) = unreadable
+unreadable_behind unreadable (Ok None) = unreadable
 unreadable_behind unreadable (Err fault) = counted unreadable 1
 
 -- the fault of a line that is no datagram
-abbrev pub fault_in : Result (Record × Remark) LineFault → Option LineFault
-fault_in (Ok f) = None
+abbrev pub fault_in : Result (Option (Record × Remark)) LineFault → Option LineFault
+fault_in (Ok (Some f)) = None
+fault_in (Ok None) = None
 fault_in (Err fault) = Some fault
 
 abbrev pub counts_of : ℕ → ℕ → ℕ → ℕ → Counts
 counts_of datagrams damaged forgotten unreadable =
     record { datagrams = datagrams; damaged = damaged; forgotten = forgotten; unreadable = unreadable }
 
+abbrev pub scale_of : Asked → Option ℕ → Scale
+scale_of a first = record { first = first_of first 0; t_max = a.t_max }
+
+abbrev pub sums_in : Form → Scale → List Connection → Totals → Counts → List ℕ
+sums_in Lines s cs t counts = summary_text s cs t counts
+sums_in Json s cs t counts = sums_json s cs t counts
+
 -- the sums over all lines so far
-abbrev pub course_text : ℕ → Option ℕ → Totals → List Connection → Counts → List ℕ
-course_text t_max first gone cs counts =
-    summary_text (record { first = first_of first 0; t_max = t_max }) cs (totals_of gone cs) counts
+abbrev pub course_text : Asked → Option ℕ → Totals → List Connection → Counts → List ℕ
+course_text a first gone cs counts = sums_in a.form (scale_of a first) cs (totals_of gone cs) counts
 
 -- the line of a fault, where there is one
 abbrev pub fault_lines : ℕ → Option LineFault → List ℕ

@@ -1,6 +1,7 @@
 -- The sums at the end.
-use Rattle.std.specs.Prelude.{ℕ, nat_eq, nat_le, List, [], ◌∷◌, ◌++◌, codes, slice_index, slice_index_or, if◌then◌else◌, Option, Some, None}
+use Rattle.std.specs.Prelude.{ℕ, nat_eq, List, [], ◌∷◌, ◌++◌, codes, slice_index, slice_index_or, if◌then◌else◌, Option, Some, None}
 use Rattle.std.specs.Fmt.{decimal}
+use Rattle.std.specs.List.{flat_map}
 use Rattle.safe_pdu.specs.declared.Leaving.{Leaving}
 use Rattle.safe_pdu.specs.Names.{kind_name}
 use Rattle.capture.specs.declared.connections.Connection.{Connection}
@@ -14,8 +15,9 @@ use Rattle.capture.specs.Numbers.{counted, open_window}
 use Rattle.capture_text.specs.declared.summary.Scale.{Scale}
 use Rattle.capture_text.specs.declared.summary.Counts.{Counts}
 use Rattle.pdu_text.specs.Lines.{joined}
-use Rattle.capture_text.specs.Pieces.{address_text, channel_text, duration_text, ends_text, since_text}
+use Rattle.capture_text.specs.Pieces.{address_text, channel_text, duration_text, ends_text, reached_text, since_text}
 use Rattle.capture_text.specs.Reasons.{leaving_words}
+use Rattle.capture_text.specs.Sentence.{sentence_text}
 
 -- how often an end opened, and by what
 abbrev pub opening_text : Option Opening → ℕ → List ℕ
@@ -40,9 +42,6 @@ unfoldable pub silence_text : ℕ → List ℕ
 silence_text silence = joined (codes " silence " ∷ duration_text silence ∷ [])
 
 -- the greatest age, and whether it reached T_max
-abbrev pub reached_text : ℕ → ℕ → List ℕ
-reached_text t_max oldest = if nat_le t_max oldest then codes " reached" else []
-
 unfoldable pub oldest_text : ℕ → ℕ → List ℕ
 oldest_text t_max oldest =
     joined (codes " age " ∷ decimal oldest ∷ codes " of " ∷ decimal t_max ∷ reached_text t_max oldest ∷ [])
@@ -104,12 +103,12 @@ unfoldable pub half_text : Scale → ℕ → ℕ → List (Option Route) → Dir
 half_text s from to routes d = direction_text s from to d ++ places_text from to routes d
 
 unfoldable pub connection_text : Scale → Connection → List ℕ
-connection_text s c = half_text s c.low c.high c.routes c.from_low ++ half_text s c.high c.low c.routes c.from_high
+connection_text s c =
+    half_text s c.low c.high c.routes c.from_low ++ half_text s c.high c.low c.routes c.from_high ++ sentence_text s c
 
 -- connection by connection, the one that was heard last at the end
 abbrev pub connections_text : Scale → List Connection → List ℕ
-connections_text s [] = []
-connections_text s (c ∷ cs) = connection_text s c ++ connections_text s cs
+connections_text s cs = flat_map (λ c. connection_text s c) cs
 
 unfoldable pub came_text : ℕ → List ℕ
 came_text datagrams = joined (codes "sum all datagrams " ∷ decimal datagrams ∷ [])

@@ -7,16 +7,29 @@ ghost use Rattle.capture.specs.Lines.{line_of};
 ghost use Rattle.capture.specs.Numbers.{counted};
 ghost use Rattle.capture.specs.Whole.{connections_after, damaged_after, forgotten_after, gone_after, no_totals, remark_of};
 ghost use Rattle.capture_text.specs.FaultText.{fault_text, fault_word};
-ghost use Rattle.capture_text.specs.Steps.{asked_telegrams, connections_behind, counts_of, course_text, damaged_behind, datagrams_behind, fault_in, first_behind, first_of, forgotten_behind, found_in, found_text, gone_behind, heard_line, payload_in, size_in, told_text, unreadable_behind};
+ghost use Rattle.capture_text.specs.Steps.{asked_telegrams, connections_behind, counts_of, course_text, damaged_behind, datagrams_behind, fault_in, first_behind, first_of, forgotten_behind, found_in, found_text, gone_behind, heard_chosen, heard_line, is_line_told, payload_in, told_text, unreadable_behind};
 
 use crate::choice::{Word, is_wanted};
+use crate::json::write_json;
 use crate::record::write_record;
 use crate::summary::{Counts, Scale, write_summary};
 use crate::telegrams::write_telegrams;
-use capture::{Buffer, Following, Heard, LineFault, PAYLOAD_ROOM, Record, Remark, hear, read_line};
+use capture::{
+    Buffer, Following, Heard, LineFault, PAYLOAD_ROOM, Ports, Record, Remark, hear, is_followed,
+    read_line,
+};
 use safe_pdu::CodeRule;
 use std::io;
 use std::io::Write;
+
+/// How a capture is told.
+#[derive(Clone, Copy, Debug, PartialEq, Eq)]
+pub enum Form {
+    /// By a line for each datagram, and the sums in lines.
+    Lines,
+    /// By the sums alone, as one JSON object.
+    Json,
+}
 
 /// What is asked of a capture.
 #[derive(Clone, Copy, Debug, PartialEq, Eq)]
@@ -29,6 +42,10 @@ pub struct Asked {
     pub t_max: u32,
     /// Whether the telegrams of a datagram are printed behind its line.
     pub messages: bool,
+    /// The ports whose datagrams are followed, and no others are counted; all are, where there are none.
+    pub ports: Option<Ports>,
+    /// How it is told.
+    pub form: Form,
 }
 
 /// How far a capture was read.
@@ -65,7 +82,7 @@ impl Course {
     }
 
     /// Takes a line without its line feed into account, and writes what is printed of it; answers its fault where it is
-    /// no datagram. The buffer is for its payload.
+    /// no datagram. One on no port that is followed counts as a line and as nothing else. The buffer is for its payload.
     ///
     /// # Errors
     ///
@@ -80,34 +97,33 @@ impl Course {
         ensures lines { self.new.lines ≡ counted self.old.lines 1 }
         ensures first { self.new.first ≡ first_behind self.old.first
             (found_in self.old.following.connections.items (counted self.old.lines 1)
-            (heard_line asked.now.rule (line_of line.now))) }
+            (heard_line asked.now (line_of line.now))) }
         ensures unreadable { self.new.unreadable ≡ unreadable_behind self.old.unreadable
             (found_in self.old.following.connections.items (counted self.old.lines 1)
-            (heard_line asked.now.rule (line_of line.now))) }
+            (heard_line asked.now (line_of line.now))) }
         ensures connections { self.new.following.connections.items
             ≡ connections_behind self.old.following.connections.items (counted self.old.lines 1)
-            (heard_line asked.now.rule (line_of line.now)) }
+            (heard_line asked.now (line_of line.now)) }
         ensures datagrams { self.new.following.datagrams
-            ≡ datagrams_behind self.old.following.datagrams (heard_line asked.now.rule (line_of line.now)) }
+            ≡ datagrams_behind self.old.following.datagrams (heard_line asked.now (line_of line.now)) }
         ensures gone { self.new.following.gone
             ≡ gone_behind self.old.following.gone self.old.following.connections.items
-            (heard_line asked.now.rule (line_of line.now)) }
+            (heard_line asked.now (line_of line.now)) }
         ensures damaged { self.new.following.damaged
-            ≡ damaged_behind self.old.following.damaged (heard_line asked.now.rule (line_of line.now)) }
+            ≡ damaged_behind self.old.following.damaged (heard_line asked.now (line_of line.now)) }
         ensures forgotten { self.new.following.forgotten
             ≡ forgotten_behind self.old.following.forgotten self.old.following.connections.items
-            (heard_line asked.now.rule (line_of line.now)) }
+            (heard_line asked.now (line_of line.now)) }
         ensures fault { IfOk result (λ fault. fault ≡ fault_in
             (found_in self.old.following.connections.items (counted self.old.lines 1)
-            (heard_line asked.now.rule (line_of line.now)))) }
+            (heard_line asked.now (line_of line.now)))) }
         ensures written { OnOk result (Appends (W.contents writer.old) (W.contents writer.new)
             (found_text asked.now self.old.first (counted self.old.lines 1) (payload_in (line_of line.now))
             (found_in self.old.following.connections.items (counted self.old.lines 1)
-            (heard_line asked.now.rule (line_of line.now))))) }
+            (heard_line asked.now (line_of line.now))))) }
     {
         self.lines = self.lines.saturating_add(1);
-        let heard = hear_line(&asked.rule, line, buffer);
-        let size = size_of(&heard);
+        let (size, heard) = hear_line(asked, line, buffer);
         let found = follow(&mut self.following, self.lines, heard);
         self.tell(asked, found, &buffer[..size], writer)
     }
@@ -128,7 +144,7 @@ impl Course {
     fn tell<W: Write>(
         &mut self,
         asked: &Asked,
-        found: Result<(Record, Remark), LineFault>,
+        found: Result<Option<(Record, Remark)>, LineFault>,
         datagram: &[u8],
         writer: &mut W,
     ) -> io::Result<Option<LineFault>>
@@ -141,7 +157,8 @@ impl Course {
             (found_text asked.now self.old.first self.old.lines datagram.now found)) }
     {
         match found {
-            Ok((record, remark)) => {
+            Ok(None) => Ok(None),
+            Ok(Some((record, remark))) => {
                 let first = start(self.first, record.time);
                 self.first = Some(first);
                 write_wanted(writer, asked, first, self.lines, &record, &remark, datagram)?;
@@ -154,20 +171,20 @@ impl Course {
         }
     }
 
-    /// Writes the sums over all lines so far.
+    /// Writes the sums over all lines so far: as lines, or as one JSON object.
     ///
     /// # Errors
     ///
     /// An error is the writer's; what came before it stays written.
-    pub fn sum<W: Write>(&self, t_max: u32, writer: &mut W) -> io::Result<()>
+    pub fn sum<W: Write>(&self, asked: &Asked, writer: &mut W) -> io::Result<()>
         ensures { OnOk result (Appends (W.contents writer.old) (W.contents writer.new)
-            (course_text t_max self.now.first self.now.following.gone self.now.following.connections.items
+            (course_text asked.now self.now.first self.now.following.gone self.now.following.connections.items
             (counts_of self.now.following.datagrams self.now.following.damaged self.now.following.forgotten
             self.now.unreadable))) }
     {
         let scale = Scale {
             first: start(self.first, 0),
-            t_max,
+            t_max: asked.t_max,
         };
         let counts = Counts {
             datagrams: self.following.datagrams,
@@ -175,13 +192,12 @@ impl Course {
             forgotten: self.following.forgotten,
             unreadable: self.unreadable,
         };
-        write_summary(
-            writer,
-            scale,
-            self.following.gone,
-            self.following.connections.as_slice(),
-            counts,
-        )
+        let connections = self.following.connections.as_slice();
+        let gone = self.following.gone;
+        match asked.form {
+            Form::Lines => write_summary(writer, scale, gone, connections, counts),
+            Form::Json => write_json(writer, scale, gone, connections, counts),
+        }
     }
 }
 
@@ -195,38 +211,41 @@ pub(crate) fn start(first: Option<u64>, time: u64) -> u64
     }
 }
 
-/// Reads a line, and answers what its datagram says.
+/// Reads a line, and answers how many octets its datagram has, and what that says.
 fn hear_line(
-    rule: &CodeRule,
+    asked: &Asked,
     line: &[u8],
     buffer: &mut Buffer,
-) -> Result<(Record, Heard), LineFault>
-    ensures heard { result ≡ heard_line rule.now (line_of line.now) }
-    ensures payload { take (size_in result) buffer.new ≡ payload_in (line_of line.now) }
-    ensures fits { size_in result ≤ PAYLOAD_ROOM }
+) -> (usize, Result<Option<(Record, Heard)>, LineFault>)
+    ensures heard { result.1 ≡ heard_line asked.now (line_of line.now) }
+    ensures payload { take result.0 buffer.new ≡ payload_in (line_of line.now) }
+    ensures fits { result.0 ≤ PAYLOAD_ROOM }
 {
     match read_line(line, buffer) {
-        Ok(record) => Ok((record, hear(&buffer[..record.size], rule))),
-        Err(fault) => Err(fault),
+        Ok(record) => {
+            let heard = hear_chosen(asked, &record, &buffer[..record.size]);
+            (record.size, Ok(heard))
+        }
+        Err(fault) => (0, Err(fault)),
     }
 }
 
-/// How many octets the datagram of a line has; none, where it is no datagram.
-fn size_of(heard: &Result<(Record, Heard), LineFault>) -> usize
-    ensures { result ≡ size_in heard.now }
+/// What a datagram says; nothing, where it is on no port that is followed.
+fn hear_chosen(asked: &Asked, record: &Record, octets: &[u8]) -> Option<(Record, Heard)>
+    ensures { result ≡ heard_chosen asked.now «record».now octets.now }
 {
-    match heard {
-        Ok((record, _)) => record.size,
-        Err(_) => 0,
+    if is_followed(&asked.ports, record) {
+        return Some((*record, hear(octets, &asked.rule)));
     }
+    None
 }
 
 /// Follows the datagram of a line.
 fn follow(
     following: &mut Following,
     number: u64,
-    heard: Result<(Record, Heard), LineFault>,
-) -> Result<(Record, Remark), LineFault>
+    heard: Result<Option<(Record, Heard)>, LineFault>,
+) -> Result<Option<(Record, Remark)>, LineFault>
     ensures found { result ≡ found_in following.old.connections.items number heard }
     ensures connections { following.new.connections.items
         ≡ connections_behind following.old.connections.items number heard }
@@ -238,10 +257,11 @@ fn follow(
         ≡ forgotten_behind following.old.forgotten following.old.connections.items heard }
 {
     match heard {
-        Ok((record, heard)) => {
+        Ok(Some((record, heard))) => {
             let remark = following.hear(number, &record, &heard);
-            Ok((record, remark))
+            Ok(Some((record, remark)))
         }
+        Ok(None) => Ok(None),
         Err(fault) => Err(fault),
     }
 }
@@ -258,11 +278,21 @@ pub(crate) fn write_wanted<W: Write>(
     ensures { OnOk result (Appends (W.contents writer.old) (W.contents writer.new)
         (told_text asked.now first number «record».now remark.now datagram.now)) }
 {
-    if !is_wanted(asked.only, asked.t_max, remark) {
+    if !is_told(asked, remark) {
         return Ok(());
     }
     write_record(writer, first, number, record, remark)?;
     write_asked(writer, asked, datagram)
+}
+
+/// Whether the line of a datagram is printed.
+fn is_told(asked: &Asked, remark: &Remark) -> bool
+    ensures { result ≡ is_line_told asked.now remark.now }
+{
+    match asked.form {
+        Form::Lines => is_wanted(asked.only, asked.t_max, remark),
+        Form::Json => false,
+    }
 }
 
 /// Writes the telegrams of a datagram, where they are asked for.

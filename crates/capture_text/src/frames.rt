@@ -11,7 +11,7 @@ ghost use Rattle.capture_text.specs.FrameSteps.{connections_seen, fault_seen, fi
 ghost use Rattle.capture_text.specs.Steps.{first_of, told_text};
 
 use crate::course::{Asked, Course, start, write_wanted};
-use capture::{Record, hear};
+use capture::{Ports, Record, hear, is_followed};
 use recording::{Found, Link, Passed, find_datagram};
 use std::io;
 use std::io::Write;
@@ -34,7 +34,7 @@ pub enum FrameFault {
 pub(crate) enum Seen {
     /// A datagram, with where its payload begins and ends in the frame.
     Datagram(Record, usize, usize),
-    /// Something else than UDP over IP.
+    /// Something else than UDP over IP, or a datagram on no port that is followed.
     Other,
     /// A datagram that is not read.
     Unread(FrameFault),
@@ -57,19 +57,19 @@ impl Course {
     ) -> io::Result<Option<FrameFault>>
         requires { length octets.now < 2 ^ 32 }
         ensures lines { self.new.lines ≡ counted self.old.lines 1 }
-        ensures first { self.new.first ≡ first_seen self.old.first (frame_seen link time octets.now) }
+        ensures first { self.new.first ≡ first_seen self.old.first (frame_seen asked.now.ports link time octets.now) }
         ensures unreadable { self.new.unreadable
-            ≡ unreadable_seen self.old.unreadable (frame_seen link time octets.now) }
+            ≡ unreadable_seen self.old.unreadable (frame_seen asked.now.ports link time octets.now) }
         ensures connections { self.new.following.connections.items
             ≡ connections_seen asked.now.rule self.old.following.connections.items (counted self.old.lines 1) octets.now
-            (frame_seen link time octets.now) }
-        ensures fault { IfOk result (λ fault. fault ≡ fault_seen (frame_seen link time octets.now)) }
+            (frame_seen asked.now.ports link time octets.now) }
+        ensures fault { IfOk result (λ fault. fault ≡ fault_seen (frame_seen asked.now.ports link time octets.now)) }
         ensures written { OnOk result (Appends (W.contents writer.old) (W.contents writer.new)
             (seen_text asked.now self.old.first self.old.following.connections.items (counted self.old.lines 1) octets.now
-            (frame_seen link time octets.now))) }
+            (frame_seen asked.now.ports link time octets.now))) }
     {
         self.lines = self.lines.saturating_add(1);
-        match look(link, time, octets) {
+        match look(&asked.ports, link, time, octets) {
             Seen::Other => Ok(None),
             Seen::Unread(fault) => {
                 self.unreadable = self.unreadable.saturating_add(1);
@@ -111,15 +111,21 @@ impl Course {
 }
 
 /// What a frame carries.
-fn look(link: Option<Link>, time: u64, octets: &[u8]) -> Seen
+fn look(ports: &Option<Ports>, link: Option<Link>, time: u64, octets: &[u8]) -> Seen
     requires { length octets.now < 2 ^ 32 }
-    ensures seen { result ≡ frame_seen link time octets.now }
+    ensures seen { result ≡ frame_seen ports.now link time octets.now }
     ensures within { IsWithin (length octets.now) result }
 {
     match link {
         None => Seen::Unread(FrameFault::Link),
         Some(link) => match find_datagram(link, octets) {
-            Ok(found) => Seen::Datagram(record_of(time, &found), found.start, found.end),
+            Ok(found) => {
+                let record = record_of(time, &found);
+                if is_followed(ports, &record) {
+                    return Seen::Datagram(record, found.start, found.end);
+                }
+                Seen::Other
+            }
             Err(why) => pass(why),
         },
     }

@@ -4,17 +4,21 @@
 mod choice;
 mod course;
 mod frames;
+mod json;
 mod pieces;
+mod reading;
 mod reasons;
 mod record;
 mod remarks;
 mod running;
+mod sentence;
 mod summary;
 mod telegrams;
 
 pub use choice::{Word, is_wanted};
-pub use course::{Asked, Course, write_fault};
+pub use course::{Asked, Course, Form, write_fault};
 pub use frames::{FrameFault, write_frame_fault};
+pub use json::write_json;
 pub use record::write_record;
 pub use remarks::write_remarks;
 pub use running::{FollowStatus, run};

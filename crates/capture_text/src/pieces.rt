@@ -2,7 +2,7 @@
 
 ghost use Rattle.std.specs.Prelude.{◌≡◌, OnOk};
 ghost use Rattle.std.specs.Io.KnownBytes.{Appends};
-ghost use Rattle.capture_text.specs.Pieces.{address_text, channel_text, duration_text, ends_text, since_text, six_digits, v4_text, v6_text};
+ghost use Rattle.capture_text.specs.Pieces.{address_text, channel_text, duration_text, ends_text, reached_text, since_text, six_digits, v4_text, v6_text};
 
 use capture::{Address, Host};
 use std::io;
@@ -93,4 +93,11 @@ pub(crate) fn channel_name(route: usize) -> &'static str
         3 => " ch 4",
         _ => " ch other",
     }
+}
+
+/// What is said of an age, where it reached T_max; both in milliseconds.
+pub(crate) fn reached(t_max: u32, oldest: u32) -> &'static str
+    ensures { result.now ≡ reached_text t_max oldest }
+{
+    if t_max <= oldest { " reached" } else { "" }
 }

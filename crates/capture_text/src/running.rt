@@ -1,24 +1,23 @@
 //! Following a capture from a reader to its end.
 
-ghost use Rattle.std.specs.Prelude.{◌≡◌, ◌≤◌, ◌<◌, ◌^◌, length, ◌++◌, ◌+◌, OnOk, IfOk, IfSome, take, vec_len};
-ghost use Rattle.std.specs.Io.{StopsAt, appended_bytes};
-ghost use Rattle.std.specs.Io.BufRead.{ends_with_byte, strip_last, take_through};
+ghost use Rattle.std.specs.Prelude.{◌≡◌, ◌≤◌, ◌<◌, ◌^◌, [], length, OnOk, IfOk, IfSome};
+ghost use Rattle.std.specs.Io.Buffered.{reader_remaining};
+ghost use Rattle.std.specs.Io.BufRead.{DropsThrough, take_through};
 ghost use Rattle.std.specs.Io.KnownBytes.{Appends};
-ghost use Rattle.capture.specs.Lines.{line_of};
 ghost use Rattle.capture.specs.Numbers.{counted};
+ghost use Rattle.capture_text.specs.Capture.{line_printed, line_told, lines_printed, lines_told, read_by, text_printed, text_told, with_line, with_lines, with_long, with_text};
 ghost use Rattle.capture_text.specs.FaultText.{fault_text, frame_text};
-ghost use Rattle.capture_text.specs.Steps.{connections_behind, fault_in, fault_lines, found_in, found_text, heard_line, payload_in, unreadable_behind, without_end};
+ghost use Rattle.capture_text.specs.Lines.{cut, lines_of};
+ghost use Rattle.capture_text.specs.Steps.{without_end};
 
 use crate::course::{Asked, Course, write_fault};
 use crate::frames::{FrameFault, write_frame_fault};
+use crate::reading::{LINE_MAX, take_line};
 use capture::{Buffer, LineFault, PAYLOAD_ROOM};
 use recording::{Event, FileFault, Framed, Part, Recording};
 use std::alloc::Allocator;
 use std::io;
 use std::io::{BufRead, BufReader, BufWriter, ErrorKind, Read, Write};
-
-/// How many octets a line has at most, with its line feed: more than any datagram needs.
-const LINE_MAX: u64 = 8192;
 
 /// How a run ended.
 #[derive(Clone, Copy, Debug, PartialEq, Eq)]
@@ -97,7 +96,7 @@ fn ran<R: Read + Drop, O: Write, E: Write, A: Allocator + Copy>(
             follow_lines(alloc, &mut rest, asked, &mut course, &mut writer, err)?;
         }
     }
-    match course.sum(asked.t_max, &mut writer) {
+    match course.sum(asked, &mut writer) {
         Ok(()) => {}
         Err(_) => return Err(Stop::Output),
     }
@@ -113,24 +112,72 @@ fn follow_lines<R: Read + Drop, W: Write, E: Write, A: Allocator + Copy>(
     course: &mut Course,
     writer: &mut W,
     err: &mut E,
-) -> Result<(), Stop> {
+) -> Result<(), Stop>
+    ensures { OnOk result (IfSome (reader_remaining R.remaining reader.old) (λ octets.
+        (read_by course.new ≡ with_lines asked.now (read_by course.old) (lines_of octets))
+        × Appends (W.contents writer.old) (W.contents writer.new)
+        (lines_printed asked.now (read_by course.old) (lines_of octets))
+        × Appends (E.contents err.old) (E.contents err.new)
+        (lines_told asked.now (read_by course.old) (lines_of octets)))) }
+{
     let mut line = Vec::new(alloc);
     let mut buffer: Buffer = [0; PAYLOAD_ROOM];
     for _ in 0..u64::MAX {
-        if reader.buffer().is_empty() {
-            flush(writer)?;
+        show(reader, writer)?;
+        next_line(reader, &mut line)?;
+        if line.is_empty() {
+            return Ok(());
         }
-        line.clear();
-        match read_one(reader, &mut line)? {
-            Reading::End => return Ok(()),
-            Reading::TooLong => take_long(course, err)?,
-            Reading::Line => {
-                let text = without_feed(line.as_slice());
-                take_text(course, asked, text, &mut buffer, writer, err)?;
-            }
-        }
+        follow_line(course, asked, line.as_slice(), &mut buffer, writer, err)?;
+    }
+    Err(Stop::File)
+}
+
+/// Flushes what was written, where nothing more of the reader is there yet.
+fn show<R: Read, W: Write, A: Allocator>(
+    reader: &BufReader<R, A>,
+    writer: &mut W,
+) -> Result<(), Stop>
+    ensures { OnOk result (Appends (W.contents writer.old) (W.contents writer.new) []) }
+{
+    if reader.buffer().is_empty() {
+        return flush(writer);
     }
     Ok(())
+}
+
+/// Takes the next line out of a reader.
+fn next_line<R: BufRead, A: Allocator>(reader: &mut R, line: &mut Vec<u8, A>) -> Result<(), Stop>
+    ensures kept { OnOk result (IfSome (R.remaining reader.old)
+        (λ octets. line.new.items ≡ cut (take_through 10 octets))) }
+    ensures rest { OnOk result (DropsThrough (R.remaining reader.old) (R.remaining reader.new) 10) }
+{
+    match take_line(reader, line) {
+        Ok(()) => Ok(()),
+        Err(error) => Err(stop_of(error)),
+    }
+}
+
+/// Takes a line into account, or what was kept of one that is too long. What is printed of it goes to `writer`, and why it
+/// is no datagram to `err`.
+fn follow_line<W: Write, E: Write>(
+    course: &mut Course,
+    asked: &Asked,
+    line: &[u8],
+    buffer: &mut Buffer,
+    writer: &mut W,
+    err: &mut E,
+) -> Result<(), Stop>
+    ensures read { read_by course.new ≡ with_line asked.now (read_by course.old) line.now }
+    ensures printed { OnOk result (Appends (W.contents writer.old) (W.contents writer.new)
+        (line_printed asked.now (read_by course.old) line.now)) }
+    ensures told { OnOk result (Appends (E.contents err.old) (E.contents err.new)
+        (line_told asked.now (read_by course.old) line.now)) }
+{
+    if line.len() > LINE_MAX {
+        return take_long(course, err);
+    }
+    take_text(course, asked, without_feed(line), buffer, writer, err)
 }
 
 /// Follows the frames of a recording to its end, or to its first fault.
@@ -176,21 +223,11 @@ fn take_text<W: Write, E: Write>(
     writer: &mut W,
     err: &mut E,
 ) -> Result<(), Stop>
-    ensures lines { course.new.lines ≡ counted course.old.lines 1 }
-    ensures unreadable { course.new.unreadable ≡ unreadable_behind course.old.unreadable
-        (found_in course.old.following.connections.items (counted course.old.lines 1)
-        (heard_line asked.now.rule (line_of line.now))) }
-    ensures connections { course.new.following.connections.items
-        ≡ connections_behind course.old.following.connections.items (counted course.old.lines 1)
-        (heard_line asked.now.rule (line_of line.now)) }
-    ensures written { OnOk result (Appends (W.contents writer.old) (W.contents writer.new)
-        (found_text asked.now course.old.first (counted course.old.lines 1) (payload_in (line_of line.now))
-        (found_in course.old.following.connections.items (counted course.old.lines 1)
-        (heard_line asked.now.rule (line_of line.now))))) }
+    ensures read { read_by course.new ≡ with_text asked.now (read_by course.old) line.now }
+    ensures printed { OnOk result (Appends (W.contents writer.old) (W.contents writer.new)
+        (text_printed asked.now (read_by course.old) line.now)) }
     ensures told { OnOk result (Appends (E.contents err.old) (E.contents err.new)
-        (fault_lines (counted course.old.lines 1)
-        (fault_in (found_in course.old.following.connections.items (counted course.old.lines 1)
-        (heard_line asked.now.rule (line_of line.now)))))) }
+        (text_told asked.now (read_by course.old) line.now)) }
 {
     match course.take_line(asked, line, buffer, writer) {
         Ok(None) => Ok(()),
@@ -201,60 +238,12 @@ fn take_text<W: Write, E: Write>(
 
 /// Takes a line into account that is too long to be kept.
 fn take_long<E: Write>(course: &mut Course, err: &mut E) -> Result<(), Stop>
-    ensures lines { course.new.lines ≡ counted course.old.lines 1 }
-    ensures unreadable { course.new.unreadable ≡ counted course.old.unreadable 1 }
-    ensures following { course.new.following ≡ course.old.following }
+    ensures read { read_by course.new ≡ with_long (read_by course.old) }
     ensures told { OnOk result (Appends (E.contents err.old) (E.contents err.new)
         (fault_text (counted course.old.lines 1) LineFault.Long)) }
 {
     course.pass_long();
     tell(err, course.lines, LineFault::Long)
-}
-
-/// What stands next in a capture.
-enum Reading {
-    /// Nothing.
-    End,
-    /// A line.
-    Line,
-    /// A line of more octets than a line may have.
-    TooLong,
-}
-
-/// Reads the next line, with its line feed.
-fn read_one<R: BufRead, A: Allocator>(
-    reader: &mut R,
-    line: &mut Vec<u8, A>,
-) -> Result<Reading, Stop>
-    ensures stops { OnOk result (StopsAt (appended_bytes line.old.items line.new.items) 10) }
-    ensures front { OnOk result (IfSome (R.remaining reader.old)
-        (λ octets. line.new.items ≡ line.old.items ++ take_through 10 (take LINE_MAX octets))) }
-{
-    match read_front(reader, line) {
-        Ok(0) => return Ok(Reading::End),
-        Ok(_) => {}
-        Err(error) => return Err(stop_of(error)),
-    }
-    if line.len() as u64 != LINE_MAX || line.as_slice().last() == Some(&b'\n') {
-        return Ok(Reading::Line);
-    }
-    match reader.skip_until(b'\n') {
-        Ok(_) => Ok(Reading::TooLong),
-        Err(error) => Err(stop_of(error)),
-    }
-}
-
-/// Reads what stands up to the next line feed, with that, and no more than a line may have.
-fn read_front<R: BufRead, A: Allocator>(reader: &mut R, line: &mut Vec<u8, A>) -> io::Result<usize>
-    ensures size { IfOk result (λ size. vec_len line.new ≡ vec_len line.old + size) }
-    ensures stops { OnOk result (StopsAt (appended_bytes line.old.items line.new.items) 10) }
-    ensures front { OnOk result (IfSome (R.remaining reader.old)
-        (λ octets. line.new.items ≡ line.old.items ++ take_through 10 (take LINE_MAX octets))) }
-{
-    match Read::take(&mut *reader, LINE_MAX).read_until(b'\n', line) {
-        Ok(size) => Ok(size),
-        Err(error) => Err(error),
-    }
 }
 
 fn stop_of(error: io::Error) -> Stop {
@@ -310,7 +299,9 @@ fn go_on(error: io::Error) -> Result<(), Stop> {
     }
 }
 
-fn flush<W: Write>(writer: &mut W) -> Result<(), Stop> {
+fn flush<W: Write>(writer: &mut W) -> Result<(), Stop>
+    ensures { OnOk result (Appends (W.contents writer.old) (W.contents writer.new) []) }
+{
     match writer.flush() {
         Ok(()) => Ok(()),
         Err(_) => Err(Stop::Output),

@@ -3,10 +3,13 @@
 ghost use Rattle.std.specs.Prelude.{◌≡◌, ◌<◌, OnOk};
 ghost use Rattle.std.specs.Io.KnownBytes.{Appends};
 ghost use Rattle.capture.specs.Whole.{totals_of};
-ghost use Rattle.capture_text.specs.SummaryText.{all_text, came_text, connection_text, connections_text, counts_text, damaged_text, datagrams_of, datagrams_text, direction_text, ending_text, half_text, kinds_text, known_channel_text, last_text, maybe_channel_text, numbers_text, oldest_text, opening_text, other_totals_text, others_text, place_text, places_text, reached_text, route_text, silence_text, sum_text, summary_text, tally_text, totals_text};
+ghost use Rattle.capture_text.specs.SummaryText.{all_text, came_text, connection_text, connections_text, counts_text, damaged_text, datagrams_of, datagrams_text, direction_text, ending_text, half_text, kinds_text, known_channel_text, last_text, maybe_channel_text, numbers_text, oldest_text, opening_text, other_totals_text, others_text, place_text, places_text, route_text, silence_text, sum_text, summary_text, tally_text, totals_text};
 
-use crate::pieces::{channel_name, write_address, write_duration, write_ends, write_since};
+use crate::pieces::{
+    channel_name, reached, write_address, write_duration, write_ends, write_since,
+};
 use crate::reasons::write_reasons;
+use crate::sentence::write_sentence;
 use capture::{CHANNELS, Connection, Direction, Opening, Route, Tally, Totals, Window, sum_up};
 use pdu_text::write_text;
 use safe_pdu::Leaving;
@@ -35,8 +38,8 @@ pub struct Counts {
     pub unreadable: u64,
 }
 
-/// Writes the sums: of each connection a line for each direction, with one for each of its channels, and a line for
-/// all, those that were forgotten (`gone`) among them.
+/// Writes the sums: of each connection a line for each direction, with one for each of its channels, and a sentence; and
+/// a line for all, those that were forgotten (`gone`) among them.
 ///
 /// # Errors
 ///
@@ -95,6 +98,7 @@ fn write_connection<W: Write>(
         &connection.routes,
         &connection.from_high,
     )?;
+    write_sentence(writer, scale, connection)?;
     Ok(())
 }
 
@@ -230,12 +234,6 @@ fn write_oldest<W: Write>(writer: &mut W, t_max: u32, oldest: u32) -> io::Result
     write!(writer, " age {oldest} of {t_max}{reached}")
 }
 
-fn reached(t_max: u32, oldest: u32) -> &'static str
-    ensures { result.now ≡ reached_text t_max oldest }
-{
-    if t_max <= oldest { " reached" } else { "" }
-}
-
 fn write_last<W: Write>(writer: &mut W, first: u64, last: u64) -> io::Result<()>
     ensures { OnOk result (Appends (W.contents writer.old) (W.contents writer.new) (last_text first last)) }
 {
@@ -355,7 +353,7 @@ fn write_datagrams<W: Write>(writer: &mut W, window: &Window, damaged: u64) -> i
 
 /// How many datagrams came: those with a number that is new, late, was heard before, or is stale, and those that were no
 /// PDU.
-fn datagrams(window: &Window, damaged: u64) -> u64
+pub(crate) fn datagrams(window: &Window, damaged: u64) -> u64
     ensures { result ≡ datagrams_of window.now damaged }
 {
     window

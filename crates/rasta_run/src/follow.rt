@@ -4,7 +4,7 @@ ghost use Rattle.std.specs.Prelude.{◌≡◌, ◌≢◌, None};
 ghost use Rattle.std.specs.Option.{option_copied};
 ghost use Rattle.pdu_text.specs.HexText.{initial_value_of};
 
-use capture_text::{Asked, FollowStatus};
+use capture_text::{Asked, FollowStatus, Form};
 use pdu_text::initial_value;
 use rasta_status::{Fault, Status, report};
 use rasta_words::Following;
@@ -40,6 +40,8 @@ pub fn run_follow<R: Read + Drop, O: Write, E: Write, A: Allocator + Copy>(
         only: following.only,
         t_max: following.t_max,
         messages: following.messages,
+        ports: None,
+        form: Form::Lines,
     };
     match capture_text::run(alloc, reader, &asked, out, err) {
         FollowStatus::Done => Status::Done,

@@ -1,0 +1,10 @@
+use Rattle.std.proofs.Common.{drop, List, ℕ, Option}
+use Rattle.std.specs.Io.KnownBytes.{Appends}
+use Rattle.capture_text.specs.Json.{more_json}
+use Rattle.capture_text.proofs.json.write_more.Given as goal
+
+-- Whatever the connections that are left lead to, all lead to.
+abbrev pub invariant-loop-connection : goal.invariant-loop-connection
+invariant-loop-connection g l =
+    (end : Option (List ℕ)) → Appends (g.W.Write.contents l.writer) end (more_json (drop l.connection-index l.connections))
+    → Appends (g.W.Write.contents l.initial.writer) end (more_json l.connections)

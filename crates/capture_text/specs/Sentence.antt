@@ -1,0 +1,111 @@
+-- The sentence on a connection at the end of its sums.
+use Rattle.std.specs.Prelude.{ℕ, max, ◌&&◌, Bool, true, false, nat_le, List, [], ◌∷◌, ◌++◌, codes, fold, if◌then◌else◌, Option, Some, None, is_none}
+use Rattle.std.specs.Fmt.{decimal}
+use Rattle.safe_pdu.specs.declared.Kind.{Kind}
+use Rattle.safe_pdu.specs.declared.Kind.TheVariants.{ConnResp}
+use Rattle.safe_pdu.specs.declared.Leaving.{Leaving}
+use Rattle.capture.specs.declared.connections.Connection.{Connection}
+use Rattle.capture.specs.declared.direction.Direction.{Direction}
+use Rattle.capture.specs.declared.direction.Opening.{Opening}
+use Rattle.capture.specs.declared.window.Window.{Window}
+use Rattle.capture.specs.Following.{is_request}
+use Rattle.capture.specs.Numbers.{counted}
+use Rattle.pdu_text.specs.Lines.{joined}
+use Rattle.capture_text.specs.declared.summary.Scale.{Scale}
+use Rattle.capture_text.specs.Pieces.{reached_text, since_text}
+use Rattle.capture_text.specs.Reasons.{leaving_words}
+
+abbrev pub has_asked : Option Opening → Bool
+has_asked None = false
+has_asked (Some opening) = is_request opening.kind
+
+abbrev pub is_response : Kind → Bool
+is_response ConnResp = true
+is_response _ = false
+
+abbrev pub has_answered : Option Opening → Bool
+has_answered None = false
+has_answered (Some opening) = is_response opening.kind
+
+-- one end opened by a ConnReq last, and the other behind it by a ConnResp
+abbrev pub is_answered : Direction → Direction → Bool
+is_answered d e = has_asked d.opening && (has_answered e.opening && nat_le d.tally.opened e.tally.opened)
+
+-- a connection came up when its last ConnReq was answered; none, where that was not heard
+abbrev pub up_of : Direction → Direction → Option ℕ
+up_of d e =
+    if is_answered d e then Some e.tally.opened
+    else if is_answered e d then Some d.tally.opened
+    else None
+
+unfoldable pub at_text : ℕ → ℕ → List ℕ
+at_text first time = codes " came up at " ++ since_text first time
+
+abbrev pub up_text : ℕ → Option ℕ → List ℕ
+up_text first None = codes " was not seen to come up"
+up_text first (Some time) = at_text first time
+
+unfoldable pub parting_text : ℕ → ℕ → ℕ → Leaving → List ℕ
+parting_text first end time leaving =
+    joined (codes ", " ∷ decimal end ∷ codes " left at " ∷ []) ++ since_text first time ++ leaving_words leaving
+
+-- when an end left, and why
+abbrev pub parted_text : ℕ → ℕ → ℕ → Option Leaving → List ℕ
+parted_text first end time None = []
+parted_text first end time (Some leaving) = parting_text first end time leaving
+
+-- no end did since the last openings
+abbrev pub is_held : Connection → Bool
+is_held c = is_none c.from_low.tally.leaving && is_none c.from_high.tally.leaving
+
+unfoldable pub last_heard_text : ℕ → ℕ → List ℕ
+last_heard_text first last = codes ", nobody left, heard last at " ++ since_text first last
+
+abbrev pub held_text : ℕ → Connection → List ℕ
+held_text first c = if is_held c then last_heard_text first c.last else []
+
+-- what was lost on single channels, whether or not another had it
+abbrev pub with_missing : ℕ → Window → ℕ
+with_missing lost w = counted lost w.missing
+
+abbrev pub lost_in : List Window → ℕ
+lost_in ws = fold with_missing 0 ws
+
+abbrev pub lost_on_channels : Connection → ℕ
+lost_on_channels c = counted (lost_in c.from_low.channels) (lost_in c.from_high.channels)
+
+-- and on all of them
+abbrev pub lost_on_all : Connection → ℕ
+lost_on_all c = counted c.from_low.together.missing c.from_high.together.missing
+
+unfoldable pub lost_text : ℕ → ℕ → List ℕ
+lost_text channels all = joined (codes ", lost on single channels " ∷ decimal channels ∷ codes " on all " ∷ decimal all ∷ [])
+
+-- how near it came to T_max
+abbrev pub oldest_in : Connection → ℕ
+oldest_in c = max c.from_low.tally.oldest c.from_high.tally.oldest
+
+unfoldable pub near_text : ℕ → ℕ → List ℕ
+near_text t_max oldest =
+    joined (codes ", age " ∷ decimal oldest ∷ codes " of " ∷ decimal t_max ∷ reached_text t_max oldest ∷ codes "\n" ∷ [])
+
+unfoldable pub name_text : ℕ → ℕ → List ℕ
+name_text low high = joined (codes "connection " ∷ decimal low ∷ codes "-" ∷ decimal high ∷ [])
+
+abbrev pub coming_text : ℕ → Connection → List ℕ
+coming_text first c = up_text first (up_of c.from_low c.from_high)
+
+unfoldable pub going_text : ℕ → Connection → List ℕ
+going_text first c =
+    parted_text first c.low c.from_low.tally.left c.from_low.tally.leaving
+    ++ parted_text first c.high c.from_high.tally.left c.from_high.tally.leaving ++ held_text first c
+
+abbrev pub losses_text : Connection → List ℕ
+losses_text c = lost_text (lost_on_channels c) (lost_on_all c)
+
+abbrev pub nearness_text : ℕ → Connection → List ℕ
+nearness_text t_max c = near_text t_max (oldest_in c)
+
+unfoldable pub sentence_text : Scale → Connection → List ℕ
+sentence_text s c =
+    name_text c.low c.high ++ coming_text s.first c ++ going_text s.first c ++ losses_text c ++ nearness_text s.t_max c
