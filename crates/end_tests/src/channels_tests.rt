@@ -91,12 +91,7 @@ fn carries_datagrams_over_sockets(rt: HostRuntime) -> Result<(), Fail> {
     let far = ["127.0.0.1:47321", "127.0.0.1:47322"];
     let mut left = open_udp(rt.alloc(), &rt, &near, &far)?;
     let mut right = open_udp(rt.alloc(), &rt, &far, &near)?;
-    let mut stranger = open_udp(
-        rt.alloc(),
-        &rt,
-        &["127.0.0.1:47331"],
-        &["127.0.0.1:47322"],
-    )?;
+    let mut stranger = open_udp(rt.alloc(), &rt, &["127.0.0.1:47331"], &["127.0.0.1:47322"])?;
     let mut watch = Watch::open(rt.alloc(), &rt)?;
     watch.add(&mut left)?;
     watch.add(&mut right)?;

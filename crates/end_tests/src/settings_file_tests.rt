@@ -327,7 +327,10 @@ fn reads_each_key(rt: HostRuntime) -> Result<(), Fail> {
         (3, 2, 1, 8)
     );
     assert_eq!(rt; (config.t_max, config.t_h, config.t_seq), (1000, 999, 60));
-    assert_eq!(rt; (config.mwa, config.pdu_limit, whole.first_sn), (3, 100, Some(5)));
+    assert_eq!(rt;
+        (config.mwa, config.pdu_limit, whole.first_sn),
+        (3, 100, Some(5))
+    );
     assert_eq!(rt; whole.remote.len(), 3);
     assert_eq!(rt; whole.puts.len(), 2);
     assert_eq!(rt; whole.puts[0].kind, 0x0203);
