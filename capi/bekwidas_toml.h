@@ -22,7 +22,8 @@ extern "C" {
 enum { BEK_LOCAL = 0, BEK_REMOTE = 1 };
 
 /* Reads the text of a settings file for one side (BEK_INTERLOCKING or BEK_FIELD_ELEMENT) into settings by which bek_open then opens an end with
- * exactly what the file says. telegram_room and datagram_room stay as they are: fill the settings by bek_settings_init first.
+ * exactly what the file says. telegram_room and datagram_room stay as they are, and so does first_sn where the file says `first_sn = "random"`:
+ * fill the settings by bek_settings_init first, and draw first_sn.
  *
  * BEK_OK; or the first that holds, and the settings are as they were: BEK_ERR_NULL, BEK_ERR_LENGTH, BEK_ERR_BAD_SETTINGS (the side is
  * neither), BEK_ERR_NO_SETTINGS (then `said` has what is wrong, in ASCII, cut to `size` octets with a zero behind it: the key, what it wants

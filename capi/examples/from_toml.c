@@ -3,6 +3,7 @@
 #include "bekwidas_toml.h"
 
 #include <stdio.h>
+#include <time.h>
 
 int main(int count, char **words) {
     static char text[1 << 16]; /* octets of a settings file with few telegrams to put */
@@ -22,6 +23,7 @@ int main(int count, char **words) {
     fclose(file);
 
     bek_settings_init(&settings);
+    settings.first_sn = (uint32_t)time(NULL); /* for a file with first_sn = "random" */
     answer = bek_toml_settings(&settings, BEK_INTERLOCKING, text, length, said, sizeof said);
     if (answer == BEK_ERR_NO_SETTINGS) {
         fprintf(stderr, "%s: %s\n", words[1], said);

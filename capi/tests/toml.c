@@ -42,8 +42,10 @@ static void of_ends(const char *il_file, const char *fe_file) {
     char said[80];
     size_t length = read_file(il_file);
     bek_settings_init(&il);
+    il.first_sn = 4711;
     must(bek_toml_settings(&il, BEK_INTERLOCKING, text, length, said, sizeof said) == BEK_OK && said[0] == 0, "the file of an interlocking");
     must(il.side == BEK_INTERLOCKING && strcmp(il.name, "IL1") == 0 && strcmp(il.peer_name, "FE1") == 0, "its names");
+    must(il.first_sn == 4711, "a first sequence number that the file has drawn stays");
     must(il.size == sizeof il && il.channels == 2 && il.version_count == 1, "its size, channels and version");
     must(bek_open(&end, &il, 0) == BEK_OK, "an end is opened with it");
     bek_free(&end);

@@ -76,6 +76,8 @@ fn tells_what_stops_a_capture(rt: HostRuntime) -> Result<(), Fail> {
         only: None,
         t_max: 1800,
         file: "-",
+        ports: None,
+        json: false,
     };
     let line: &[u8] =
         b"1.000000\t10.0.0.1\t1\t10.0.0.2\t2\t24000000000000001c004c18020000000100000065000000f40100000a00000005000000\n";

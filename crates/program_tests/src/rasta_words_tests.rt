@@ -1,3 +1,4 @@
+use capture::read_ports;
 use capture_text::Word;
 use rasta_status::{LogLevel, RunLength};
 use rasta_words::{Following, Request, Running, WordsFault, command};
@@ -63,6 +64,8 @@ fn accepts_the_words_of_follow(rt: HostRuntime) -> Result<(), Fail> {
         only: None,
         t_max: 1800,
         file: "night.tsv",
+        ports: None,
+        json: false,
     };
     let words = ["rasta", "follow", "night.tsv"];
     let found = command(rt.alloc(), &words).map_err(|_| "refused")?;
@@ -79,6 +82,9 @@ fn accepts_the_words_of_follow(rt: HostRuntime) -> Result<(), Fail> {
         "900",
         "--iv",
         OWN_VALUE,
+        "--ports",
+        "46101-46102,5000",
+        "--json",
         "-",
     ];
     let found = command(rt.alloc(), &words).map_err(|_| "refused")?;
@@ -91,6 +97,8 @@ fn accepts_the_words_of_follow(rt: HostRuntime) -> Result<(), Fail> {
             only: Some(Word::Age),
             t_max: 900,
             file: "-",
+            ports: read_ports(b"46101-46102,5000"),
+            json: true,
         })
     );
     for (choice, text) in [
@@ -98,6 +106,8 @@ fn accepts_the_words_of_follow(rt: HostRuntime) -> Result<(), Fail> {
         ("--only", "lost"),
         ("--t-max", "0"),
         ("--t-max", "4294967296"),
+        ("--ports", "2-1"),
+        ("--ports", "1,2,3,4,5"),
     ] {
         let words = ["rasta", "follow", choice, text, "night.tsv"];
         let refused = matches!(command(rt.alloc(), &words), Err(WordsFault::BadChoice));

@@ -3,6 +3,7 @@
 ghost use Rattle.std.specs.Prelude.{◌≡◌, ◌≢◌, None};
 ghost use Rattle.std.specs.Option.{option_copied};
 ghost use Rattle.pdu_text.specs.HexText.{initial_value_of};
+ghost use Rattle.rasta_run.specs.Following.{asked_under, end_of, form_of};
 
 use capture_text::{Asked, FollowStatus, Form};
 use pdu_text::initial_value;
@@ -29,21 +30,42 @@ pub fn run_follow<R: Read + Drop, O: Write, E: Write, A: Allocator + Copy>(
     ensures no_value { initial_value_of (option_copied following.now.iv) ≡ None → result ≡ Status.Refused }
     ensures words { result ≢ Status.WrongWords }
 {
-    let Some(words) = initial_value(following.iv) else {
+    let Some(asked) = asked(following) else {
         return report(err, Fault::Hex);
     };
-    let asked = Asked {
+    let ended = capture_text::run(alloc, reader, &asked, out, err);
+    end(err, ended)
+}
+
+/// What the choices of `follow` ask of a capture; nothing where the text for the initial value is none.
+fn asked(following: &Following<'_>) -> Option<Asked>
+    ensures { result ≡ asked_under following.now (initial_value_of (option_copied following.now.iv)) }
+{
+    let initial_value = initial_value(following.iv)?;
+    Some(Asked {
         rule: CodeRule {
             length: following.code,
-            initial_value: words,
+            initial_value,
         },
         only: following.only,
         t_max: following.t_max,
         messages: following.messages,
-        ports: None,
-        form: Form::Lines,
-    };
-    match capture_text::run(alloc, reader, &asked, out, err) {
+        ports: following.ports,
+        form: form(following.json),
+    })
+}
+
+fn form(json: bool) -> Form
+    ensures { result ≡ form_of json }
+{
+    if json { Form::Json } else { Form::Lines }
+}
+
+/// Names what stopped a run, and answers how the program ends.
+fn end<E: Write>(err: &mut E, ended: FollowStatus) -> Status
+    ensures { result ≡ end_of ended }
+{
+    match ended {
         FollowStatus::Done => Status::Done,
         FollowStatus::Unreadable => Status::Refused,
         FollowStatus::Memory => report(err, Fault::Memory),

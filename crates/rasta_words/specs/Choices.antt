@@ -5,13 +5,15 @@ use Rattle.std.specs.Str.{bytes_eq}
 use Rattle.std.specs.Str.Parse.{IsNumeral, digits_value, without_leading_plus}
 use Rattle.clap.specs.Words.{App, Row, Rule, Text, first_of, new_app, new_rule, with_rule}
 use Rattle.clap.specs.declared.builder.action.ArgAction.TheVariants.{SetTrue}
+use Rattle.capture.specs.declared.ports.PortRange.{PortRange}
+use Rattle.capture.specs.Ports.{ports_of}
 use Rattle.capture_text.specs.declared.choice.Word.{Word as Remarkable}
 use Rattle.capture_text.specs.Choice.{word_text}
 use Rattle.safe_pdu.specs.declared.CodeLength.{CodeLength}
 use Rattle.safe_pdu.specs.declared.CodeLength.TheVariants.{Zero, Eight, Sixteen}
 use Rattle.rasta_words.specs.declared.command_line.Following.{Following}
 
--- follow [--code N] [--iv HEX] [--messages] [--only WORD] [--t-max MS] FILE
+-- follow [--code N] [--iv HEX] [--json] [--messages] [--only WORD] [--ports PORTS] [--t-max MS] FILE
 abbrev pub chosen_code_rule : Rule
 chosen_code_rule = record (new_rule (codes "code")) { long = Some (codes "code") }
 
@@ -26,6 +28,12 @@ only_rule = record (new_rule (codes "only")) { long = Some (codes "only") }
 
 abbrev pub t_max_rule : Rule
 t_max_rule = record (new_rule (codes "t-max")) { long = Some (codes "t-max") }
+
+abbrev pub ports_rule : Rule
+ports_rule = record (new_rule (codes "ports")) { long = Some (codes "ports") }
+
+abbrev pub json_rule : Rule
+json_rule = record (new_rule (codes "json")) { long = Some (codes "json"); action = Some SetTrue }
 
 abbrev pub file_rule : Rule
 file_rule = record (new_rule (codes "file")) { required = true }
@@ -45,8 +53,14 @@ limited_app = with_rule only_app t_max_rule
 abbrev pub telling_app : App
 telling_app = with_rule limited_app messages_rule
 
+abbrev pub ported_app : App
+ported_app = with_rule telling_app ports_rule
+
+abbrev pub summing_app : App
+summing_app = with_rule ported_app json_rule
+
 abbrev pub follow_app : App
-follow_app = with_rule telling_app file_rule
+follow_app = with_rule summing_app file_rule
 
 -- how a length of code is written
 abbrev pub code_word : CodeLength → Text
@@ -84,12 +98,23 @@ abbrev pub IsAgeChosen : Option Text → ℕ → Type 0
 IsAgeChosen None age = age ≡ 1800
 IsAgeChosen (Some word) age = IsMilliseconds word age
 
+-- how ports are written: as ranges
+abbrev pub IsPorts : Text → Option (List (Option PortRange)) → Type 0
+IsPorts word None = ⊥
+IsPorts word (Some ports) = ports_of word ≡ Some ports
+
+-- all ports, where none are written
+abbrev pub ArePortsChosen : Option Text → Option (List (Option PortRange)) → Type 0
+ArePortsChosen None ports = ports ≡ None
+ArePortsChosen (Some word) ports = IsPorts word ports
+
 -- the choices are those of the entries found
 abbrev pub HasChoices : List Row → Following → Type 0
 HasChoices rows f =
     IsCodeChosen (first_of (codes "code") rows) f.code × (first_of (codes "iv") rows ≡ option_copied f.iv)
     × (is_flagged (first_of (codes "messages") rows) ≡ f.messages) × IsRemarkChosen (first_of (codes "only") rows) f.only
     × IsAgeChosen (first_of (codes "t-max") rows) f.t_max × (first_of (codes "file") rows ≡ Some f.file.now)
+    × ArePortsChosen (first_of (codes "ports") rows) f.ports × (is_flagged (first_of (codes "json") rows) ≡ f.json)
 
 abbrev pub HasNoChoices : List Row → Type 0
 HasNoChoices rows = (f : Following) → ¬ HasChoices rows f

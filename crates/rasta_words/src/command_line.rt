@@ -1,13 +1,15 @@
 //! The command that the words of a command line ask for.
 
-ghost use Rattle.std.specs.Prelude.{◌≡◌, ℕ, [], Option, Some, IsOk, IfOk, IfErr, IsNone, IfSome, false, map};
+ghost use Rattle.std.specs.Prelude.{◌≡◌, ℕ, List, [], Option, Some, IsOk, IfOk, IfErr, IsNone, IfSome, false, map};
 ghost use Rattle.std.specs.Option.{option_copied};
 ghost use Rattle.clap.specs.declared.Command.TheViews.{out-Command};
 ghost use Rattle.clap.specs.Words.{app_of, fault_of, first_of, found_of, rows_of, subcommand_of, subcommand_rows_of};
 ghost use Rattle.rasta_words.specs.CommandLine.{Asks, FindsNone, HasEntries, HasNoEntries, IsFaultOf, IsFound, Refuses, code_app, coded_app, digest_app, ends_app, file_app, il_app, local_app, md4_app, plain_app, rasta_app, show_app, sim_app};
 ghost use Rattle.rasta_words.specs.Runs.{HasNoRun, IsEndChosen, IsLogChosen, IsLengthChosen, IsRun, ending_app, expected_word, expecting_app, log_word, logged_app, net_app, turns_app, ends_word, IsTurns};
-ghost use Rattle.rasta_words.specs.Choices.{HasChoices, HasNoChoices, IsAgeChosen, IsCodeChosen, IsMilliseconds, IsRemarkChosen, chosen_app, code_word, follow_app, is_flagged, length_app, limited_app, only_app, telling_app};
+ghost use Rattle.capture.specs.declared.ports.PortRange.{PortRange};
+ghost use Rattle.rasta_words.specs.Choices.{ArePortsChosen, HasChoices, HasNoChoices, IsAgeChosen, IsCodeChosen, IsMilliseconds, IsRemarkChosen, chosen_app, code_word, follow_app, is_flagged, length_app, limited_app, only_app, ported_app, summing_app, telling_app};
 
+use capture::{Ports, read_ports};
 use capture_text::Word as Remarkable;
 use clap::{Arg, ArgAction, ArgMatches, Command};
 use rasta_status::{Expected, LogLevel, RunLength};
@@ -75,6 +77,10 @@ pub struct Following<'a> {
     pub t_max: u32,
     /// The name of the capture's file; `-` is standard input.
     pub file: &'a str,
+    /// `--ports`: the ports whose datagrams alone are followed.
+    pub ports: Option<Ports>,
+    /// `--json`: the sums alone are printed, as one JSON object.
+    pub json: bool,
 }
 
 /// Why words are no command. The text is for standard error, but that of a call for help.
@@ -90,7 +96,7 @@ pub enum WordsFault {
     #[error("error: either --until-end is given or --turns, a number from 1 to 1,000,000; a log is off, state or all, and what is expected is up or settled\n\nUsage: rasta <il|fe|pair> [--log <off|state|all>] [--expect <up|settled>] <--turns <turns>|--until-end> <file>\n\nFor more information, try 'rasta --help'.")]
     BadTurns,
     /// A choice of `follow` that is none.
-    #[error("error: a code has 0, 8 or 16 octets, T_max is a number of milliseconds from 1 to 4,294,967,295, and lines are chosen by opens, repeat, ahead, late, stale, anew, resent, age, reason or fault\n\nUsage: rasta follow [--code <0|8|16>] [--iv <iv>] [--messages] [--only <word>] [--t-max <ms>] <file>\n\nFor more information, try 'rasta follow --help'.")]
+    #[error("error: a code has 0, 8 or 16 octets, T_max is a number of milliseconds from 1 to 4,294,967,295, ports are one to four ranges as 46101-46102,46201, and lines are chosen by opens, repeat, differs, ahead, late, stale, anew, resent, age, reason or fault\n\nUsage: rasta follow [--code <0|8|16>] [--iv <iv>] [--json] [--messages] [--only <word>] [--ports <ports>] [--t-max <ms>] <file>\n\nFor more information, try 'rasta follow --help'.")]
     BadChoice,
     /// A word is not UTF-8.
     #[error("error: a word is no UTF-8 text\n\nUsage: rasta <COMMAND>\n\nFor more information, try 'rasta --help'.")]
@@ -240,6 +246,8 @@ fn choices<'a>(entries: &ArgMatches<'a>) -> Option<Following<'a>>
         only: chosen_remark(entry(entries, "only"))?,
         t_max: chosen_age(entry(entries, "t-max"))?,
         file: entry(entries, "file")?,
+        ports: chosen_ports(entry(entries, "ports"))?,
+        json: is_chosen(entry(entries, "json")),
     })
 }
 
@@ -273,6 +281,18 @@ fn chosen_remark(word: Option<&str>) -> Option<Option<Remarkable>>
     match word {
         None => Some(None),
         Some(word) => Some(Some(Remarkable::named(word)?)),
+    }
+}
+
+/// The ports that a word names; none where there is no word.
+fn chosen_ports(word: Option<&str>) -> Option<Option<Ports>>
+    ensures found { IfSome result (ArePortsChosen (option_copied word.entry)) }
+    ensures only { (ports : Option (List (Option PortRange))) → ArePortsChosen (option_copied word.entry) ports
+        → result ≡ Some ports }
+{
+    match word {
+        None => Some(None),
+        Some(word) => Some(Some(read_ports(word.as_bytes())?)),
     }
 }
 
@@ -537,7 +557,7 @@ fn follow_command<'a>(alloc: Global) -> Result<Command<'a>, AllocError>
     ensures app { IfOk result (λ command. app_of command ≡ follow_app) }
     ensures local { IfOk result (λ command. (out-Command command).has_globals ≡ false) }
 {
-    let command = telling_command(alloc)?;
+    let command = summing_command(alloc)?;
     let file = Arg::new(alloc, "file").required(true).help(
         "The capture, - for standard input: what `tshark -T fields -e frame.time_epoch -e ip.src -e udp.srcport -e ip.dst -e udp.dstport -e udp.payload` prints",
     );
@@ -545,6 +565,31 @@ fn follow_command<'a>(alloc: Global) -> Result<Command<'a>, AllocError>
 }
 
 /// The command `follow` with what it takes but the file.
+fn summing_command<'a>(alloc: Global) -> Result<Command<'a>, AllocError>
+    ensures app { IfOk result (λ command. app_of command ≡ summing_app) }
+    ensures local { IfOk result (λ command. (out-Command command).has_globals ≡ false) }
+{
+    let command = ported_command(alloc)?;
+    let json = Arg::new(alloc, "json")
+        .long("json")
+        .action(ArgAction::SetTrue)
+        .help("Prints the sums alone, as one JSON object in one line");
+    command.arg(json)
+}
+
+/// The command `follow` with what it takes of the code, of the lines that are printed, and of ports.
+fn ported_command<'a>(alloc: Global) -> Result<Command<'a>, AllocError>
+    ensures app { IfOk result (λ command. app_of command ≡ ported_app) }
+    ensures local { IfOk result (λ command. (out-Command command).has_globals ≡ false) }
+{
+    let command = telling_command(alloc)?;
+    let ports = Arg::new(alloc, "ports").long("ports").help(
+        "Follows the datagrams of these UDP ports alone: one to four ranges, as 46101-46102,46201-46202",
+    );
+    command.arg(ports)
+}
+
+/// The command `follow` with what it takes of the code and of the lines that are printed, telegrams among them.
 fn telling_command<'a>(alloc: Global) -> Result<Command<'a>, AllocError>
     ensures app { IfOk result (λ command. app_of command ≡ telling_app) }
     ensures local { IfOk result (λ command. (out-Command command).has_globals ≡ false) }

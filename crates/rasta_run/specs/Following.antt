@@ -1,0 +1,38 @@
+-- What `follow` asks of a capture, and how it ends.
+use Rattle.std.specs.Prelude.{ℕ, Bool, true, false, List, Option, Some, None}
+use Rattle.capture_text.specs.declared.course.Asked.{Asked}
+use Rattle.capture_text.specs.declared.course.Form.{Form}
+use Rattle.capture_text.specs.declared.course.Form.TheVariants.{Lines, Json}
+use Rattle.capture_text.specs.declared.running.FollowStatus.{FollowStatus}
+use Rattle.capture_text.specs.declared.running.FollowStatus.TheVariants as follow
+use Rattle.rasta_status.specs.declared.Status.{Status}
+use Rattle.rasta_status.specs.declared.Status.TheVariants.{Done, Refused, Failed}
+use Rattle.rasta_words.specs.declared.command_line.Following.{Following}
+
+abbrev pub form_of : Bool → Form
+form_of true = Json
+form_of false = Lines
+
+-- each choice has its effect
+abbrev pub asked_of : Following → List ℕ → Asked
+asked_of f words =
+    record {
+      rule = record { length = f.code; initial_value = words };
+      only = f.only;
+      t_max = f.t_max;
+      messages = f.messages;
+      ports = f.ports;
+      form = form_of f.json;
+    }
+
+abbrev pub asked_under : Following → Option (List ℕ) → Option Asked
+asked_under f (Some words) = Some (asked_of f words)
+asked_under f None = None
+
+-- a line that is no datagram, want of memory and a reader that fails refuse a capture; an output that fails is the system's
+abbrev pub end_of : FollowStatus → Status
+end_of follow.Done = Done
+end_of follow.Unreadable = Refused
+end_of follow.Memory = Refused
+end_of follow.File = Refused
+end_of follow.Output = Failed
