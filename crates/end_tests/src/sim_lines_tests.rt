@@ -1,5 +1,7 @@
 use end_settings::Side;
-use sim_lines::{Command, Key, Label, ScriptSettings, Setting, read_line};
+use linked_list_allocator::LocalHeap;
+use sim_lines::{Command, Key, Label, LineFault, ScriptSettings, Setting, read_line};
+use std::alloc::AllocError;
 use std::test::Fail;
 
 // What right lines ask for; hex digits may be of either case, and `-` is no octets.
@@ -103,6 +105,7 @@ fn sets(rt: HostRuntime) -> Result<(), Fail> {
             end.code,
         ];
         assert_eq!(rt; numbers, [2, 20, 3, 4, 1800, 300, 50, 10, 4_294_901_760, 8]);
+        assert_eq!(rt; end.initial_value, md4::INITIAL_VALUE);
         assert_eq!(rt; end.versions.as_slice(), [3].as_slice());
         assert_eq!(rt; end.checksum.as_slice().len(), 0);
         assert_eq!(rt; end.protocol, 1);
@@ -159,5 +162,27 @@ fn sets(rt: HostRuntime) -> Result<(), Fail> {
         settings.config(Side::FieldElement).versions.as_slice(),
         [214].as_slice()
     );
+    Ok(())
+}
+
+// A line is not unreadable where there is no memory for its octets, its numbers or the label of what it makes.
+#[test]
+fn tells_want_of_memory_for_a_line(rt: HostRuntime) -> Result<(), Fail> {
+    let heap = LocalHeap::new(rt.alloc(), 0)?;
+    let zeros = "0000000000000000000000000000000000000000000000000000000000000000";
+    let ones = "1 1 1 1 1 1 1 1 1 1 1 1 1 1 1 1";
+    let put = format!(in rt.alloc();
+        "put il 0100 {zeros}{zeros}{zeros}{zeros}{zeros}{zeros}{zeros}{zeros}"
+    )?;
+    let flow = format!(in rt.alloc();
+        "flow {ones} {ones} {ones} {ones} {ones} {ones} {ones} {ones}"
+    )?;
+    for line in [put.as_str(), flow.as_str()] {
+        assert!(rt;
+            matches!(read_line(&heap, line), Err(LineFault::Memory)),
+            "of {line}"
+        );
+    }
+    assert_eq!(rt; LineFault::from(AllocError), LineFault::Memory);
     Ok(())
 }
