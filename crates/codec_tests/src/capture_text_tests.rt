@@ -1,7 +1,7 @@
 //! Whole captures, and the text that is to be printed of each, worked out by hand.
 
 use capture::{Judged, Remarks};
-use capture_text::{Asked, FollowStatus, Word, run, write_remarks};
+use capture_text::{Asked, FollowStatus, Form, Word, run, write_remarks};
 use md4::INITIAL_VALUE;
 use safe_pdu::{CodeLength, CodeRule, Leaving};
 use std::alloc::Allocator;
@@ -137,6 +137,8 @@ fn asked(length: CodeLength, only: Option<Word>) -> Asked {
         only,
         t_max: 1800,
         messages: false,
+        ports: None,
+        form: Form::Lines,
     }
 }
 
@@ -178,6 +180,7 @@ sum 2->1 opened by ConnResp times 1 PDUs 1 missing 0 repeats 1 late 0 differs 0 
 silence 0.000000 age 0 of 1800 last 0.010000 no DiscReq
 sum 2->1 ch 1 10.0.0.1:8001-10.0.0.2:8002 datagrams 1 PDUs 1 missing 0 repeats 0 late 0 differs 0 stale 0 damaged 0
 sum 2->1 ch 2 10.0.1.1:8001-10.0.1.2:8002 datagrams 1 PDUs 1 missing 0 repeats 0 late 0 differs 0 stale 0 damaged 0
+connection 1-2 came up at 0.010000, nobody left, heard last at 0.030040, lost on single channels 1 on all 0, age 0 of 1800
 sum all datagrams 7 PDUs 4 missing 0 repeats 3 late 0 differs 0 stale 0 damaged 0 forgotten 0 unreadable 0
 ";
     follows(&rt, &lines, &asked(CodeLength::Zero, None), wanted)
@@ -214,6 +217,7 @@ sum 2->1 opening not seen PDUs 1 missing 0 repeats 0 late 0 differs 0 stale 0 he
 silence 0.000000 age 20 of 1800 last 0.030000 no DiscReq
 sum 2->1 ch 1 10.0.0.1:8001-10.0.0.2:8002 datagrams 1 PDUs 1 missing 0 repeats 0 late 0 differs 0 stale 0 damaged 0
 sum 2->1 ch 2 10.0.1.1:8001-10.0.1.2:8002 datagrams 0 PDUs 0 missing 0 repeats 0 late 0 differs 0 stale 0 damaged 0
+connection 1-2 was not seen to come up, nobody left, heard last at 0.041000, lost on single channels 1 on all 1, age 20 of 1800
 sum all datagrams 6 PDUs 5 missing 1 repeats 1 late 0 differs 0 stale 0 damaged 0 forgotten 0 unreadable 0
 ";
     follows(&rt, &lines, &asked(CodeLength::Zero, None), wanted)
@@ -242,6 +246,8 @@ sum 1->2 ch 1 10.0.0.1:8001-10.0.0.2:8002 datagrams 3 PDUs 3 missing 0 repeats 0
 sum 2->1 opening not seen PDUs 2 missing 0 repeats 0 late 0 differs 0 stale 0 heartbeats 1 requests 0 resent 0 \
 silence 1.750000 age 1801 of 1800 reached last 1.850000 DiscReq reason 3 timeout detail 0
 sum 2->1 ch 1 10.0.0.1:8001-10.0.0.2:8002 datagrams 2 PDUs 2 missing 0 repeats 0 late 0 differs 0 stale 0 damaged 0
+connection 1-2 was not seen to come up, 2 left at 1.850000 reason 3 timeout detail 0, lost on single channels 0 on all 0, \
+age 1801 of 1800 reached
 sum all datagrams 5 PDUs 5 missing 0 repeats 0 late 0 differs 0 stale 0 damaged 0 forgotten 0 unreadable 0
 ";
     follows(
@@ -276,6 +282,7 @@ sum 1->2 ch 1 10.0.0.1:8001-10.0.0.2:8002 datagrams 2 PDUs 1 missing 0 repeats 0
 sum 2->1 opening not seen PDUs 0 missing 0 repeats 0 late 0 differs 0 stale 0 heartbeats 0 requests 0 resent 0 \
 silence 0.000000 age 0 of 1800 not heard no DiscReq
 sum 2->1 ch 1 10.0.0.1:8001-10.0.0.2:8002 datagrams 0 PDUs 0 missing 0 repeats 0 late 0 differs 0 stale 0 damaged 0
+connection 1-2 was not seen to come up, nobody left, heard last at 0.000000, lost on single channels 0 on all 0, age 0 of 1800
 sum all datagrams 2 PDUs 1 missing 0 repeats 0 late 0 differs 0 stale 0 damaged 1 forgotten 0 unreadable 1
 ";
     let fault = "line 3: unreadable: not six fields\n";
@@ -345,6 +352,7 @@ sum 1->2 ch 1 10.0.0.1:8001-10.0.0.2:8002 datagrams 2 PDUs 2 missing 0 repeats 0
 sum 2->1 opening not seen PDUs 0 missing 0 repeats 0 late 0 differs 0 stale 0 heartbeats 0 requests 0 resent 0 \
 silence 0.000000 age 0 of 1800 not heard no DiscReq
 sum 2->1 ch 1 10.0.0.1:8001-10.0.0.2:8002 datagrams 0 PDUs 0 missing 0 repeats 0 late 0 differs 0 stale 0 damaged 0
+connection 1-2 was not seen to come up, nobody left, heard last at 0.020000, lost on single channels 0 on all 0, age 0 of 1800
 sum all datagrams 2 PDUs 2 missing 0 repeats 0 late 0 differs 0 stale 0 damaged 0 forgotten 0 unreadable 0
 ";
     follows(&rt, &lines, &asked, wanted)

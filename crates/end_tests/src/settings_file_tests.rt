@@ -29,7 +29,7 @@ fn said(alloc: std::alloc::Global, word: Word, text: &str) -> Result<String, Fai
     }
 }
 
-const FAULTS: [(Word, &str, &str); 51] = [
+const FAULTS: [(Word, &str, &str); 52] = [
     (Word::Il, "", ""),
     (Word::Fe, "", ""),
     (Word::Il, "q==1\n", "line 7: no TOML"),
