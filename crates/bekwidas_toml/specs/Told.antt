@@ -1,14 +1,13 @@
 -- What a caller in C is told of a settings file.
-use Rattle.std.specs.Prelude.{◌≡◌, ℕ, ◌-◌, ◌==◌, false, is_ok, if◌then◌else◌, slice_get, unwrap_or, ◌⊎◌, ◌<◌, length, List, Option, None, Some, Ok}
+use Rattle.std.specs.Prelude.{◌≡◌, ℕ, ◌-◌, ◌==◌, false, is_ok, if◌then◌else◌, slice_get, unwrap_or, List, Option, None, Some, Ok}
 use Rattle.std.specs.Bool.{⊤}
 use Rattle.bekwidas_toml.specs.declared.Unread.{Unread}
 use Rattle.bekwidas_toml.specs.declared.Unread.TheVariants as unread
 use Rattle.std.specs.Str.{IsUtf8}
 use Rattle.end_settings.specs.declared.Side.{Side}
-use Rattle.end_for_callers.specs.Plain.{are_plain, opening_of, side_in}
+use Rattle.end_for_callers.specs.Plain.{opening_of, side_in}
 use Rattle.end_for_callers.specs.declared.plain.PlainSettings.{PlainSettings}
-use Rattle.settings_file.specs.Whole.{SettingsSeen, file_settings, settings_seen}
-use Rattle.settings_file.specs.declared.values.Settings.{Settings}
+use Rattle.settings_file.specs.Whole.{SettingsSeen, file_settings}
 
 -- what the text says for the side of this number
 abbrev pub Says : ℕ → List ℕ → Side → SettingsSeen → Type 0
@@ -36,16 +35,6 @@ address_of is_remote channel seen = if channel == 0 then None else slice_get (ad
 abbrev pub Addressed : (side is_remote channel : ℕ) → List ℕ → Option (List ℕ) → Type 0
 Addressed side is_remote channel text address =
     (e : Side) × (seen : SettingsSeen) × Says side text e seen × (address_of is_remote channel seen ≡ address)
-
--- no channel's address is written where the buffer is shorter than it, and how long it is, is told
-abbrev pub IsShort : (side is_remote channel : ℕ) → List ℕ → (needed room : ℕ) → Type 0
-IsShort side is_remote channel text needed room =
-    (address : List ℕ) × Addressed side is_remote channel text (Some address) × (length address ≡ needed) × (room < needed)
-
--- there is no such side, or a number of the file has no place in plain settings
-abbrev pub IsUnfit : ℕ → List ℕ → Type 0
-IsUnfit side text =
-    (side_in side ≡ None) ⊎ ((e : Side) × (file : Settings) × Says side text e (settings_seen file) × (are_plain file.config ≡ false))
 
 -- why a text was not read
 abbrev pub IsUnread : Side → List ℕ → Unread → Type 0

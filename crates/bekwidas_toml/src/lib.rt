@@ -4,12 +4,12 @@
 //! No rule stands here: what a file says is `settings_file`'s, and how it stands in the settings of C `end_for_callers`'.
 #![tactic(auto)]
 
-ghost use Rattle.std.specs.Prelude.{◌≡◌, ◌≢◌, IfErr, IfOk, None, Ok, Some, drop, length, option_map, take, map, string_bytes};
+ghost use Rattle.std.specs.Prelude.{◌≡◌, ◌≢◌, IfErr, IfOk, None, Ok, Some, drop, option_map, take, map, string_bytes};
 ghost use Rattle.settings_file.specs.Whole.{file_settings, settings_seen};
 ghost use Rattle.bekwidas_toml.specs.declared.Unread.TheVariants as unread;
 ghost use Rattle.end_for_callers.specs.Plain.{side_in};
-ghost use Rattle.bekwidas_toml.specs.Told.{Addressed, IsShort, IsUnfit, IsUnread, NoFile, Reads, address_of, addresses_in};
-ghost use Rattle.bekwidas_toml.specs.declared.TheConstants.{BAD_SIDE, NO_MEMORY, NO_SETTINGS, NOTHING, OK, TOO_SMALL};
+ghost use Rattle.bekwidas_toml.specs.Told.{Addressed, IsUnread, NoFile, Reads, address_of, addresses_in};
+ghost use Rattle.bekwidas_toml.specs.declared.TheConstants.{NO_MEMORY, NO_SETTINGS, NOTHING, OK, TOO_SMALL};
 
 use end_for_callers::{PlainSettings, Rooms};
 use end_settings::Side;
@@ -44,7 +44,6 @@ pub extern "C" fn bekr_toml_settings(
 ) -> i32
     ensures read { result ≡ OK → Reads side text.now settings.old settings.new }
     ensures wrong { result ≡ NO_SETTINGS → NoFile side text.now }
-    ensures unfit { result ≡ BAD_SIDE → IsUnfit side text.now }
     ensures refused { result ≢ OK → settings.new ≡ settings.old }
 {
     let Some(end) = side_of(side) else {
@@ -85,8 +84,6 @@ pub extern "C" fn bekr_toml_address(
     ensures read { result ≡ OK → Addressed side is_remote channel text.now (Some (take length.new address.new)) }
     ensures nothing { result ≡ NOTHING → Addressed side is_remote channel text.now None }
     ensures wrong { result ≡ NO_SETTINGS → NoFile side text.now }
-    ensures side { result ≡ BAD_SIDE → side_in side ≡ None }
-    ensures short { result ≡ TOO_SMALL → IsShort side is_remote channel text.now length.new (length address.old) }
     ensures rest { result ≡ OK → drop length.new address.new ≡ drop length.new address.old }
     ensures refused { result ≢ OK → address.new ≡ address.old }
 {
