@@ -20,7 +20,7 @@ def built():
 
 def usage(doc):
     """Stops with the forms that a script's text shows."""
-    forms = re.findall(r'^ {4}((?:tests|tools)/.*?)(?: {4}.*)?$', doc, re.M)
+    forms = re.findall(r'^ {4}((?:tests|tools|bench)/.*?)(?: {4}.*)?$', doc, re.M)
     print('usage: ' + '\n       '.join(forms), file=sys.stderr)
     sys.exit(2)
 

@@ -32,6 +32,10 @@ def tested_in(file):
     return max((name for name in names if os.path.basename(file).startswith(name + '_')), key=len, default='')
 
 
+# The laws that say which numbers constants are.
+LAWS_OF_NUMBERS = ('limits_law', 'numbers_law')
+
+
 class Crate:
     """What the sources of a crate hold."""
 
@@ -42,7 +46,6 @@ class Crate:
         is_test = {file for file in files if file.endswith('tests.rt')} | set(apart)
         self.name = name
         self.items = [item for file in files if file not in is_test for item in items_of(name, file)]
-        self.helpers = [item for file in files if file in is_test for item in items_of(name, file)]
         self.tests = {name for file in files for name in re.findall(r'#\[test\]\s+fn (\w+)', code[file])}
         self.imported = {file: words_of(' '.join(USE.findall(code[file]))) for file in files}
         self.words = {file: words_of(code[file]) for file in files}
@@ -88,33 +91,24 @@ class Crate:
         return [each for each in seen if is_last(each)]
 
     def edits(self):
-        """The public functions that each edit touches: those that reach the function in which its first text stands."""
+        """The public functions that each edit touches: those that reach the function in which its first text stands; of a constant, the law
+        that says its number."""
         touched = {}
         for path in sorted(listed('crates', self.name, '*', '*.edit'), key=os.path.basename):
             file, old = EDIT.search(read(path)).groups()
             at = read('crates', self.name, file).find(old.strip())
             items = [item for item in self.items if item.file == f'crates/{self.name}/{file}' and at in item.place]
+            if re.match(r'(pub )?const ', old.strip()):
+                items = [item for item in self.items if item.name in LAWS_OF_NUMBERS]
             touched[os.path.basename(path)[:-5]] = {
                 each for item in items for each in self.callers(item, self.items, lambda reached: reached.is_public)}
         return touched
 
-    def tests_of_items(self):
-        """Of each public function the tests that name it, and the tests that reach it through functions of the tests, if no test names
-        it or they name no public function."""
-        tests = [each for each in self.helpers if each.name in self.tests]
-        direct = {item: {test for test in tests if self.calls(test, item)} for item in self.public}
-        naming = set().union(*direct.values())
-        found = {}
-        for item, named_by in direct.items():
-            through = set(self.callers(item, self.helpers, lambda each: each in tests))
-            found[item] = sorted(test.name for test in (named_by | through - naming if named_by else through))
-        return found
-
 
 def read_crates():
-    """Every crate, in the order of the table of docs/ARCHITECTURE.md; those that it does not list come last."""
+    """Every crate, in the order in which docs/ARCHITECTURE.md names their READMEs; those that it does not name come last."""
     names = [path.split('/')[1] for path in listed('crates', '*', 'src')]
-    layers = re.findall(r'^\| `(\w+)` \|', read('docs', 'ARCHITECTURE.md'), re.M)
+    layers = re.findall(r'\]\(\.\./crates/(\w+)/README\.md\)', read('docs', 'ARCHITECTURE.md'))
     traits = {name for path in listed('crates', '*', 'src', '*.rt') for name in re.findall(r'^pub trait (\w+)', read(path), re.M)}
     ordered = [name for name in layers if name in names] + [name for name in names if name not in layers]
     crates = {name: Crate(name, traits) for name in ordered}

@@ -1,16 +1,15 @@
-"""The names of functions, clauses, definitions and cases in README.md and docs/, and which of them are not there."""
+"""The names of functions, clauses, definitions and cases in README.md, docs/ and the READMEs of crates, and which of them are not there."""
 import os
 import re
 from functions import listed, read
 
-COLUMN = 'The contract that carries it'
 FORM = re.compile(r'((?:`[\w:]+`(?:,| and)?\s+)*`[\w:]+`):\s+((?:`\w+`(?:,\s+)?)+)')
 FUNCTION = re.compile(r'`(\w+::\w+)(?:\([^`]*\))?`|`(\w+)\([^`]*\)`')
 DEFINITION = re.compile(r'`([A-Z]\w*)\.(\w+)`')
 
 
 class Documents:
-    """What README.md and docs/ name, and what of it is not there."""
+    """What README.md, docs/ and the READMEs of crates name, and what of it is not there."""
 
     def __init__(self, crates, definitions):
         self.crates = crates
@@ -26,8 +25,7 @@ class Documents:
                       for name in re.findall(r'\b(?:struct|enum|trait|type) (\w+)', read(path))}
 
     def problems(self):
-        yield from self.of_proved()
-        for path in ['README.md'] + [path for path in listed('docs', '*.md') if path != 'docs/MAP.md']:
+        for path in ['README.md', *listed('docs', '*.md'), *listed('crates', '*', 'README.md')]:
             for at, problem in [*self.of_forms(read(path)), *self.of_names(read(path))]:
                 yield f'{path}:{at}: {problem}'
             yield from self.of_columns(path)
@@ -42,39 +40,6 @@ class Documents:
     def has_clause(self, items, clause):
         return any(clause in [name for _, name, _ in item.clauses] + [name for _, name in self.definitions.named_by(item)]
                    for item in items)
-
-    def of_proved(self):
-        """The column of docs/PROVED.md that says which contract carries what is proved, below the heading of each crate."""
-        items, crate, is_inside, count = [], None, False, 0
-        for number, line in enumerate(read('docs', 'PROVED.md').splitlines(), 1):
-            heading = re.fullmatch(r'## `(\w+)`', line)
-            crate = self.crates.get(heading.group(1)) if heading else crate
-            row = [cell.strip() for cell in line.split('|')[1:-1]]
-            is_inside = len(row) == 2 and (is_inside or row[1] == COLUMN)
-            if is_inside and '`' in row[1]:
-                count += 1
-                items, problems = self.of_row(crate, row[1], items) if crate else ([], ['a row below no crate'])
-                yield from (f'docs/PROVED.md:{number}: {problem}' for problem in problems)
-        if not count:
-            yield f'docs/PROVED.md: no table with a column "{COLUMN}"'
-
-    def of_row(self, crate, cell, before):
-        """The functions that a cell names ("the same" are those of the row before), and what is not there."""
-        items, owner, problems = [], '', []
-        for part in cell.split(';'):
-            names, _, clauses = part.partition(': `')
-            here = list(before) if 'the same' in names else []
-            for name in re.findall(r'`([\w:]+)`', names):
-                found = self.items_named(name, crate.items, owner)
-                if not found and name not in self.definitions.all:
-                    problems.append(f'`{name}` is no function of {crate.name}')
-                owner = name.rpartition('::')[0] or owner
-                here += found
-            for clause in re.findall(r'(\w+)`', clauses):
-                if not self.has_clause(here, clause):
-                    problems.append(f'`{clause}` is no clause of {names.strip().replace("`", "")}')
-            items += here
-        return items, problems
 
     def of_forms(self, text):
         """Functions with their clauses, in tables and, where the left is a function, in running text."""

@@ -28,6 +28,7 @@ class Item:
     trait: str = ''  # the trait that it implements or belongs to
     about: str = ''  # the first sentence of its comment
     clauses: tuple = ()  # kind, name and text of each
+    sentences: tuple = ()  # what stands in words above each clause
     is_pub: bool = False
     is_public: bool = False  # reached from outside the crate
     declared: 'Item' = None  # the function of a trait of the crates that it is or implements
@@ -74,19 +75,30 @@ def closing(code, at):
 
 
 def behind_name(code, at):
-    """The clauses behind a function's name, where its body begins, and where it ends."""
-    clauses = []
+    """The clauses behind a function's name with their places, where its body begins, and where it ends."""
+    clauses, places = [], []
     while True:
         found = OPENING.search(code, at)
         if found.group() == ';':
-            return tuple(clauses), found.start(), found.end()
+            return tuple(clauses), places, found.start(), found.end()
         end = closing(code, found.start())
         if found.group() == '{':
             clause = CLAUSE.search(code, at, found.start())
             if not clause:
-                return tuple(clauses), found.start(), end
+                return tuple(clauses), places, found.start(), end
             clauses.append((*clause.groups(), code[found.start():end]))
+            places.append(clause.start())
         at = end
+
+
+def words_above(text, at):
+    """The comment in the lines right above a place."""
+    lines = []
+    for line in reversed(text[:at].split('\n')[:-1]):
+        if not line.strip().startswith('// '):
+            break
+        lines.insert(0, line.strip()[3:])
+    return ' '.join(lines)
 
 
 def first_sentence(text):
@@ -121,11 +133,12 @@ def items_of(crate, file):
     items = []
     for found in FUNCTION.finditer(code):
         start = found.start()
-        clauses, body, end = behind_name(code, found.end())
+        clauses, places, body, end = behind_name(code, found.end())
         owner, trait = next(((owner, trait) for place, owner, trait in blocks if start in place), ('', ''))
         is_pub, is_extern = map(bool, found.groups()[:2])
         items.append(Item(crate, file, range(start, end), code.count('\n', 0, start) + 1, found.group(3), code[body:end],
-                          words_of(code[start:end]), owner, trait, first_sentence(text[:start]), clauses, is_pub, is_pub and is_extern))
+                          words_of(code[start:end]), owner, trait, first_sentence(text[:start]), clauses,
+                          tuple(words_above(text, place) for place in places), is_pub, is_pub and is_extern))
     for found in CONSTANT.finditer(code):
         items.append(Item(crate, file, range(*found.span()), 0, found.group(1), found.group(2), words_of(found.group(2))))
     return items

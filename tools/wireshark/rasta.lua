@@ -6,7 +6,10 @@
 -- Or copy it to the folder of personal Lua plugins (Help, About, Folders). Preferences: `rasta.code`, the octets of safety code (0, 8 or
 -- 16), and `rasta.ports`, the UDP ports; any other port by Decode As.
 --
--- Each datagram is read by itself. A fault is named as `rasta show` names it, by an expert info and in the field `rasta.fault`; what
+-- What a datagram says is read from it alone. Beside that, from the datagrams before it: which one it repeats (`rasta.repeat_of`), how many
+-- redundancy numbers are missing before it (`rasta.gap`), and how old the timestamp that it confirms is (`rasta.age`, in milliseconds). Both passes of
+-- tshark tell the same: this is found at the first visit of a packet, and kept by its number, over all channels together and 32 numbers back; sums, single
+-- channels and late numbers are those of `rasta follow`. A fault is named as `rasta show` names it, by an expert info and in the field `rasta.fault`; what
 -- stands behind it is shown as octets and not read. The safety code is shown and not tested, so a damaged PDU may be shown as if it
 -- were whole: `rasta show --code N HEX` tests it. tests/wireshark compares both; it was run with Wireshark 4.0.
 
@@ -97,6 +100,11 @@ local f = {
     pdi_result = ProtoField.uint8("rasta.pdi.result", "Result", base.DEC, RESULTS, nil, "Result of the version check"),
     pdi_size = ProtoField.uint8("rasta.pdi.checksum_length", "Checksum length", base.DEC, nil, nil, "Octets of the checksum, 0 to 16"),
     pdi_checksum = ProtoField.bytes("rasta.pdi.checksum", "Checksum", base.NONE, "Checksum of the field element's data"),
+
+    repeat_of = ProtoField.framenum("rasta.repeat_of", "Repeat of", base.NONE, frametype.NONE, nil, "Where the same octets came first, on whatever channel"),
+    gap = ProtoField.uint32("rasta.gap", "Missing before it", base.DEC, nil, nil, "Redundancy numbers of its sender that came on no channel so far"),
+    age = ProtoField.uint32("rasta.age", "Age of the confirmed timestamp", base.DEC, nil, nil,
+        "Newest timestamp of the receiver minus the confirmed one, in milliseconds"),
 }
 rasta.fields = f
 
@@ -114,6 +122,7 @@ local e = {
     again = ProtoExpert.new("rasta.again", "Retransmission", expert.group.SEQUENCE, expert.severity.NOTE),
     closed = ProtoExpert.new("rasta.closed", "Connection closed by its user", expert.group.SEQUENCE, expert.severity.CHAT),
     left = ProtoExpert.new("rasta.left", "Connection left", expert.group.SEQUENCE, expert.severity.WARN),
+    gap = ProtoExpert.new("rasta.gap.seen", "Redundancy numbers missing", expert.group.SEQUENCE, expert.severity.WARN),
     pdi = ProtoExpert.new("rasta.pdi.form", "Payload not of the form of its message type", expert.group.PROTOCOL, expert.severity.WARN),
 }
 local experts, fault_experts = {}, {}
@@ -381,14 +390,102 @@ local function safe_header(tree, pinfo, tvb, at)
     pinfo.cols.info:prepend(string.format("%s %d → %d SN=%d CS=%d TS=%d CTS=%d ", what, sender, receiver, sn, cs, ts, cts))
     if kind == 6200 or kind == 6201 then
         kind_item:add_proto_expert_info(e.opening, "Connection opening: " .. what)
-    elseif kind == 6212 or kind == 6213 then
+    elseif kind == 6212 or kind == 6213 or kind == 6241 then
         kind_item:add_proto_expert_info(e.again, "Retransmission: " .. what)
     end
     return length, kind
 end
 
+-- What is kept across packets: of each sender to a receiver the next redundancy number, the first packets of the newest numbers, and the newest
+-- timestamp; and by the number of a packet what was found of it.
+
+local KEPT, FAR = 32, 65535
+local directions, found_of
+
+local function forget()
+    directions, found_of = {}, {}
+end
+forget()
+rasta.init = forget
+
+-- an opening that is no copy of the last one; a copy has its octets and comes on a way on which nothing of its end came since
+local function begins(direction, way, kind, octets)
+    if kind ~= 6200 and kind ~= 6201 then
+        return false
+    end
+    return not direction or direction.opening ~= octets or direction.ways[way] ~= nil
+end
+
+-- takes the next number of a direction into account; answers the packet that it repeats, or how many numbers are missing before it
+local function follow_number(direction, seq, octets, packet)
+    local place = seq % KEPT
+    local kept = direction.kept[place]
+    if kept and kept.seq == seq then
+        return kept.octets == octets and kept.packet or nil, nil
+    end
+    local ahead = direction.next and (seq - direction.next) % 4294967296 or 0
+    if direction.next and ahead >= 2147483648 then
+        return nil, nil
+    end
+    direction.kept[place] = { seq = seq, octets = octets, packet = packet }
+    direction.next = (seq + 1) % 4294967296
+    return nil, ahead > 0 and ahead <= FAR and ahead or nil
+end
+
+-- what a whole PDU says beside those before it; found at its first visit
+local function found_in(pinfo, seq, kind, sender, receiver, sn, ts, cts, octets)
+    local name, way = sender .. ">" .. receiver, tostring(pinfo.src) .. ":" .. pinfo.src_port .. ">" .. tostring(pinfo.dst) .. ":" .. pinfo.dst_port
+    local direction, other = directions[name], directions[receiver .. ">" .. sender]
+    if not direction or begins(direction, way, kind, octets) then
+        direction = { kept = {}, ways = {}, opening = (kind == 6200 or kind == 6201) and octets or nil, request = kind == 6200 and sn or nil }
+        directions[name] = direction
+    end
+    local found = {}
+    found.repeat_of, found.gap = follow_number(direction, seq, octets, pinfo.number)
+    if octets ~= direction.opening or found.repeat_of == nil then
+        direction.ways[way] = true
+    end
+    if found.repeat_of == nil and (direction.ts == nil or (ts - direction.ts) % 4294967296 < 2147483648) then
+        direction.ts = ts
+    end
+    -- neither a ConnReq nor a DiscReq directly behind it confirms anything
+    local confirms = kind ~= 6200 and not (kind == 6216 and direction.request and sn == (direction.request + 1) % 4294967296)
+    local age = other and other.ts and confirms and (other.ts - cts) % 4294967296
+    found.age = age and age < 2147483648 and age or nil
+    return found
+end
+
+-- adds what was found of a PDU
+local function remarks(tree, pinfo, found)
+    if found.repeat_of then
+        tree:add(f.repeat_of, found.repeat_of):set_generated()
+        pinfo.cols.info:append(string.format(" [repeat of %d]", found.repeat_of))
+    end
+    if found.gap then
+        tree:add(f.gap, found.gap):set_generated()
+        tree:add_proto_expert_info(e.gap, string.format("%d redundancy numbers before it came on no channel so far", found.gap))
+    end
+    if found.age then
+        tree:add(f.age, found.age):set_generated():append_text(" ms")
+    end
+end
+
+-- a PDU whose header was captured, among those before it
+local function across(tree, pinfo, tvb, at, size, seq, kind)
+    if held(tvb, at, size) < size or not TYPES[kind] then
+        return
+    end
+    if not pinfo.visited or not found_of[pinfo.number] then
+        local function long(place)
+            return tvb(at + place, 4):le_uint()
+        end
+        found_of[pinfo.number] = found_in(pinfo, seq, kind, long(8), long(4), long(12), long(20), long(24), tvb(at, size):raw())
+    end
+    remarks(tree, pinfo, found_of[pinfo.number])
+end
+
 -- the upper part of a redundancy PDU
-local function safe_pdu(tree, pinfo, tvb, at, size)
+local function safe_pdu(tree, pinfo, tvb, at, size, seq)
     local inner = subtree(tree, f.safe, tvb, at, size)
     local code = rasta.prefs.code
     if size < SAFE_HEADER + code then
@@ -410,6 +507,7 @@ local function safe_pdu(tree, pinfo, tvb, at, size)
         fault(inner, pinfo, "safe", 4, "safe", "no PDU has the type " .. kind)
     else
         body(inner, pinfo, tvb, at + SAFE_HEADER, front - SAFE_HEADER, kind)
+        across(tree, pinfo, tvb, at, size, seq, kind)
     end
     local item = code > 0 and held(tvb, at + front, code) == code and inner:add(f.code, tvb(at + front, code))
     if item then
@@ -450,7 +548,7 @@ function rasta.dissector(tvb, pinfo, tree)
     elseif not seq then
         cut(inner, pinfo)
     else
-        safe_pdu(top, pinfo, tvb, RED_HEADER, size - RED_HEADER)
+        safe_pdu(top, pinfo, tvb, RED_HEADER, size - RED_HEADER, seq)
     end
     return size
 end

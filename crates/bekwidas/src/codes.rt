@@ -3,6 +3,7 @@
 ghost use Rattle.std.specs.Prelude.{◌≡◌, ◌≢◌, ◌<ℤ◌, pos, is_ok, false, Ok};
 ghost use Rattle.end_for_callers.specs.declared.Outcome.TheVariants.{Whole, Unsent};
 ghost use Rattle.bekwidas.specs.declared.codes.TheConstants.{LOST, OK, UNSENT};
+ghost use Rattle.bekwidas.specs.Numbers.{DoneAre, RefusalsAre};
 ghost use Rattle.bekwidas.specs.Codes.{code_of_answer, code_of_fault, code_of_opening, code_of_outcome, code_of_phase, code_of_state};
 
 use end_for_callers::{CallFault, Outcome, StationFault};
@@ -158,3 +159,11 @@ pub fn text_of(code: i32) -> &'static str {
         _ => "no such code",
     }
 }
+
+/// A law, which does nothing when it is called: the answers are these numbers.
+pub fn numbers_law()
+    // The answers of a call that does something are the stated numbers.
+    ensures done { DoneAre }
+    // The answers of a call that is refused are the stated numbers, all below 0.
+    ensures refusals { RefusalsAre }
+{}

@@ -37,6 +37,7 @@ pub struct Counts {
 /// The version of this library.
 #[unsafe(no_mangle)]
 pub extern "C" fn bekr_version() -> u32
+    // The answer is the version of the library.
     ensures { result ≡ VERSION }
 {
     let version = VERSION;
@@ -51,10 +52,15 @@ pub extern "C" fn bekr_open(
     settings: &PlainSettings,
     now: u64,
 ) -> i32
+    // A full slot is refused.
     ensures full { slot.old.is_open ≡ 1 → result ≡ ALREADY_OPEN }
+    // An empty slot answers OK or the first refusal that holds of the settings and the time; where none holds
+    // it may answer that there was no memory.
     ensures answer { slot.old.is_open ≢ 1 → (result ≡ code_to_open settings.now now)
         ⊎ ((code_to_open settings.now now ≡ OK) × (result ≡ NO_MEMORY)) }
+    // An end that is opened stands for one opened on the side and with exactly what the settings say.
     ensures opened { result ≡ OK → IsOpened settings.now now slot.new.handle.held }
+    // A refused opening leaves the slot as it was.
     ensures refused { result ≢ OK → slot.new ≡ slot.old }
 {
     if slot.is_open() {
@@ -101,6 +107,7 @@ fn opened(alloc: Global, settings: &PlainSettings, now: u64) -> Result<Box<Stati
 /// Gives the memory back.
 #[unsafe(no_mangle)]
 pub extern "C" fn bekr_free(alloc: Global, slot: &mut Slot)
+    // A slot that was freed holds no end.
     ensures { slot.new.is_open ≡ 0 }
 {
     let _station = slot.take(alloc);
@@ -115,8 +122,11 @@ pub extern "C" fn bekr_arrive(
     octets: &[u8],
     now: u64,
 ) -> i32
+    // Where a call answers OK the station made its step, and all that the end sent and took waits.
     ensures does { result ≡ OK → Became (DoesWhole (call (Deliver channel octets.now now))) slot.old.handle.held slot.new.handle.held }
+    // Where it is refused, for another reason than a telegram lost, nothing of the station has changed.
     ensures refused { IsRefusal result → Became Same slot.old.handle.held slot.new.handle.held }
+    // Where it answers that a datagram found no room, the station made its step.
     ensures unsent { result ≡ UNSENT → Became (Does (call (Deliver channel octets.now now))) slot.old.handle.held slot.new.handle.held }
 {
     let Some(mut station) = slot.take(alloc) else {
@@ -130,8 +140,11 @@ pub extern "C" fn bekr_arrive(
 /// Lets time pass.
 #[unsafe(no_mangle)]
 pub extern "C" fn bekr_tick(alloc: Global, slot: &mut Slot, now: u64) -> i32
+    // Where a call answers OK the station made its step, and all that the end sent and took waits.
     ensures does { result ≡ OK → Became (DoesWhole (call (Call.Tick now))) slot.old.handle.held slot.new.handle.held }
+    // Where it is refused, for another reason than a telegram lost, nothing of the station has changed.
     ensures refused { IsRefusal result → Became Same slot.old.handle.held slot.new.handle.held }
+    // Where it answers that a datagram found no room, the station made its step.
     ensures unsent { result ≡ UNSENT → Became (Does (call (Call.Tick now))) slot.old.handle.held slot.new.handle.held }
 {
     let Some(mut station) = slot.take(alloc) else {
@@ -151,8 +164,11 @@ pub extern "C" fn bekr_put(
     payload: &[u8],
     now: u64,
 ) -> i32
+    // Where a call answers OK the station made its step, and all that the end sent and took waits.
     ensures does { result ≡ OK → Became (DoesWhole (call (Put kind payload.now now))) slot.old.handle.held slot.new.handle.held }
+    // Where it is refused, for another reason than a telegram lost, nothing of the station has changed.
     ensures refused { IsRefusal result → Became Same slot.old.handle.held slot.new.handle.held }
+    // Where it answers that a datagram found no room, the station made its step.
     ensures unsent { result ≡ UNSENT → Became (Does (call (Put kind payload.now now))) slot.old.handle.held slot.new.handle.held }
 {
     let Some(mut station) = slot.take(alloc) else {
@@ -166,8 +182,11 @@ pub extern "C" fn bekr_put(
 /// The end of the initialisation.
 #[unsafe(no_mangle)]
 pub extern "C" fn bekr_init_done(alloc: Global, slot: &mut Slot, now: u64) -> i32
+    // Where a call answers OK the station made its step, and all that the end sent and took waits.
     ensures does { result ≡ OK → Became (DoesWhole (call (InitDone now))) slot.old.handle.held slot.new.handle.held }
+    // Where it is refused, for another reason than a telegram lost, nothing of the station has changed.
     ensures refused { IsRefusal result → Became Same slot.old.handle.held slot.new.handle.held }
+    // Where it answers that a datagram found no room, the station made its step.
     ensures unsent { result ≡ UNSENT → Became (Does (call (InitDone now))) slot.old.handle.held slot.new.handle.held }
 {
     let Some(mut station) = slot.take(alloc) else {
@@ -181,8 +200,11 @@ pub extern "C" fn bekr_init_done(alloc: Global, slot: &mut Slot, now: u64) -> i3
 /// Leaves the connection.
 #[unsafe(no_mangle)]
 pub extern "C" fn bekr_close(alloc: Global, slot: &mut Slot, now: u64) -> i32
+    // Where a call answers OK the station made its step, and all that the end sent and took waits.
     ensures does { result ≡ OK → Became (DoesWhole (call (Close now))) slot.old.handle.held slot.new.handle.held }
+    // Where it is refused, for another reason than a telegram lost, nothing of the station has changed.
     ensures refused { IsRefusal result → Became Same slot.old.handle.held slot.new.handle.held }
+    // Where it answers that a datagram found no room, the station made its step.
     ensures unsent { result ≡ UNSENT → Became (Does (call (Close now))) slot.old.handle.held slot.new.handle.held }
 {
     let Some(mut station) = slot.take(alloc) else {
@@ -202,10 +224,13 @@ pub extern "C" fn bekr_take(
     payload: &mut [u8],
     length: &mut usize,
 ) -> i32
+    // What is taken is the oldest telegram or datagram, whole, and all else is as it was.
     ensures took { result ≡ OK → Became (TookTelegram kind.new length.new payload.old payload.new)
         slot.old.handle.held slot.new.handle.held }
+    // Where the buffer is too small the length needed is told and nothing is taken.
     ensures short { result ≡ TOO_SMALL → Became (StaysTelegram length.new payload.old payload.new)
         slot.old.handle.held slot.new.handle.held }
+    // Nothing is answered only where nothing waits.
     ensures nothing { result ≡ NOTHING → Became NoTelegram slot.old.handle.held slot.new.handle.held }
 {
     let Some(mut station) = slot.take(alloc) else {
@@ -236,10 +261,13 @@ pub extern "C" fn bekr_next_datagram(
     octets: &mut [u8],
     length: &mut usize,
 ) -> i32
+    // What is taken is the oldest telegram or datagram, whole, and all else is as it was.
     ensures took { result ≡ OK → Became (TookDatagram channel.new length.new octets.old octets.new)
         slot.old.handle.held slot.new.handle.held }
+    // Where the buffer is too small the length needed is told and nothing is taken.
     ensures short { result ≡ TOO_SMALL → Became (StaysDatagram length.new octets.old octets.new)
         slot.old.handle.held slot.new.handle.held }
+    // Nothing is answered only where nothing waits.
     ensures nothing { result ≡ NOTHING → Became NoDatagram slot.old.handle.held slot.new.handle.held }
 {
     let Some(mut station) = slot.take(alloc) else {
@@ -264,6 +292,8 @@ pub extern "C" fn bekr_next_datagram(
 /// The next time at which `bekr_tick` does something.
 #[unsafe(no_mangle)]
 pub extern "C" fn bekr_next_deadline(alloc: Global, slot: &mut Slot, deadline: &mut u64) -> i32
+    // Before the deadline that is told a tick of an end that is not closed does nothing, and asking changes
+    // nothing.
     ensures quiet { result ≡ OK → Became (QuietBefore deadline.new) slot.old.handle.held slot.new.handle.held }
 {
     let Some(station) = slot.take(alloc) else {
@@ -283,6 +313,7 @@ pub extern "C" fn bekr_next_deadline(alloc: Global, slot: &mut Slot, deadline: &
 /// The state of the connection.
 #[unsafe(no_mangle)]
 pub extern "C" fn bekr_state(alloc: Global, slot: &mut Slot) -> i32
+    // State, phase and whether all is settled are what the end's state says, and nothing changes.
     ensures tells { (result ≡ NOT_OPEN) ⊎ Became (Tells (λ x. code_of_state x.machine.connection) result) slot.old.handle.held slot.new.handle.held }
 {
     let Some(station) = slot.take(alloc) else {
@@ -296,6 +327,7 @@ pub extern "C" fn bekr_state(alloc: Global, slot: &mut Slot) -> i32
 /// The phase of the session.
 #[unsafe(no_mangle)]
 pub extern "C" fn bekr_phase(alloc: Global, slot: &mut Slot) -> i32
+    // State, phase and whether all is settled are what the end's state says, and nothing changes.
     ensures tells { (result ≡ NOT_OPEN) ⊎ Became (Tells (λ x. code_of_phase (phase_in x.session)) result) slot.old.handle.held slot.new.handle.held }
 {
     let Some(station) = slot.take(alloc) else {
@@ -309,6 +341,7 @@ pub extern "C" fn bekr_phase(alloc: Global, slot: &mut Slot) -> i32
 /// Whether all that was put in is done with: 1 or 0.
 #[unsafe(no_mangle)]
 pub extern "C" fn bekr_settled(alloc: Global, slot: &mut Slot) -> i32
+    // State, phase and whether all is settled are what the end's state says, and nothing changes.
     ensures tells { (result ≡ NOT_OPEN) ⊎ Became (Tells (λ x. if is_settled x then pos 1 else pos 0) result) slot.old.handle.held slot.new.handle.held }
 {
     let Some(station) = slot.take(alloc) else {
@@ -322,6 +355,7 @@ pub extern "C" fn bekr_settled(alloc: Global, slot: &mut Slot) -> i32
 /// What waits for the caller, and what was lost.
 #[unsafe(no_mangle)]
 pub extern "C" fn bekr_counts(alloc: Global, slot: &mut Slot, counts: &mut Counts) -> i32
+    // What waits and what found no room is counted, and nothing changes.
     ensures counts { result ≡ OK → Became (λ s t. (t ≡ s) × (counts.new.unsent ≡ (outbox_of s).unsent)
         × (counts.new.telegrams ≡ length s.inbox.queue.waiting) × (counts.new.datagrams ≡ length (outbox_of s).queue.waiting))
         slot.old.handle.held slot.new.handle.held }
@@ -341,6 +375,7 @@ pub extern "C" fn bekr_counts(alloc: Global, slot: &mut Slot, counts: &mut Count
 /// Writes what a code means, cut to the buffer, and answers how many octets that has.
 #[unsafe(no_mangle)]
 pub extern "C" fn bekr_fault_text(code: i32, text: &mut [u8]) -> usize
+    // A text is written in front of the buffer alone.
     ensures { drop result text.new ≡ drop result text.old }
 {
     let said = text_of(code).as_bytes();

@@ -42,8 +42,12 @@ pub extern "C" fn bekr_toml_settings(
     said: &mut [u8],
     length: &mut usize,
 ) -> i32
+    // The settings that are written open an end with exactly what the file says for that side, and with the
+    // rooms that stood there.
     ensures read { result ≡ OK → Reads side text.now settings.old settings.new }
+    // Where the text is called no settings file, it is none for that side.
     ensures wrong { result ≡ NO_SETTINGS → NoFile side text.now }
+    // Where anything is refused the settings are as they were.
     ensures refused { result ≢ OK → settings.new ≡ settings.old }
 {
     let Some(end) = side_of(side) else {
@@ -81,10 +85,15 @@ pub extern "C" fn bekr_toml_address(
     address: &mut [u8],
     length: &mut usize,
 ) -> i32
+    // The address that is written is that of the channel in the file, in front of the buffer.
     ensures read { result ≡ OK → Addressed side is_remote channel text.now (Some (take length.new address.new)) }
+    // There is no such channel where NOTHING is answered.
     ensures nothing { result ≡ NOTHING → Addressed side is_remote channel text.now None }
+    // Where the text is called no settings file, it is none for that side.
     ensures wrong { result ≡ NO_SETTINGS → NoFile side text.now }
+    // The rest of the buffer is as it was.
     ensures rest { result ≡ OK → drop length.new address.new ≡ drop length.new address.old }
+    // Where anything is refused the buffer is as it was.
     ensures refused { result ≢ OK → address.new ≡ address.old }
 {
     let Some(end) = side_of(side) else {

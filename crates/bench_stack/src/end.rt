@@ -73,6 +73,10 @@ impl Channels for Wire {
         let _none = buffer;
         Ok(None)
     }
+
+    fn hears_notes(&self) -> bool {
+        false
+    }
 }
 
 /// Counts telegrams.

@@ -17,6 +17,7 @@ mod machine;
 #[unsafe(no_mangle)]
 pub extern "C" fn bench_md4(octets: &[u8], out: &mut [u8])
     requires { length out.old ≡ 16 }
+    // What is written is MD4's digest of the octets (RFC 1320).
     ensures { out.new ≡ digest INITIAL_VALUE octets.now }
 {
     out.copy_from_slice(&md4::digest(INITIAL_VALUE, octets));
@@ -26,6 +27,7 @@ pub extern "C" fn bench_md4(octets: &[u8], out: &mut [u8])
 #[unsafe(no_mangle)]
 pub extern "C" fn bench_md4_pieces(first: &[u8], second: &[u8], out: &mut [u8])
     requires { length out.old ≡ 16 }
+    // What is written is the digest of both pieces, one behind the other.
     ensures { out.new ≡ digest INITIAL_VALUE (first.now ++ second.now) }
 {
     let mut md4 = Md4::new(INITIAL_VALUE);

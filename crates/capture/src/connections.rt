@@ -61,7 +61,12 @@ pub fn follow(
     seq: u32,
     header: &Header,
 ) -> Remarks
+    // The remarks on a PDU are those at its own connection, a new one where none is followed.
     ensures remarks { result ≡ step_remarks connections.old.items line record.now seq header.now }
+    // A PDU changes its own connection, which then stands last, and no other one that stays.
+    // Of 16 connections the one silent longest is forgotten for a further one (`room_made`).
+    // A channel is a pair of addresses, whichever is the source; a fifth of a connection is not told apart
+    // (`routes_after`, `channel_of`).
     ensures step { connections.new.items ≡ step connections.old.items line record.now seq header.now }
 {
     bring_to_end(connections, header.sender, header.receiver);

@@ -101,6 +101,7 @@ pub struct Place {
 impl Direction {
     /// Nothing was heard yet.
     pub fn new() -> Self
+        // A direction begins with nothing heard.
         ensures { result ≡ open_direction }
     {
         Direction {
@@ -135,7 +136,21 @@ pub fn follow_pdu(
     seq: u32,
     header: &Header,
 ) -> Remarks
+    // The remarks on a PDU judge its redundancy number on its channel and over all channels, and its sequence
+    // number (`channel_judged`, `judged`, `sequence_judged`).
+    // The remarks on a PDU tell whether it opens, whether it sends a unit again, its confirmed timestamp's age,
+    // and why it leaves (`is_opened`, `is_resent`, `age_of`).
+    // The age of a confirmed timestamp is the last timestamp of the end that made it minus the confirmed one
+    // (`age_at`).
+    // A DiscReq whose number follows directly on its own end's ConnReq confirms nothing, and has no age
+    // (`confirms_nothing`).
+    // It is such a copy only where the last one is kept, with the same octets, and nothing else of its end came
+    // on its channel since (`is_opened`, `is_copy`).
     ensures remarks { result ≡ remarks_of direction.old peer place seq header.now }
+    // What is kept of a direction after a PDU is exactly the stated step.
+    // A PDU whose redundancy number was heard before counts no second time among sequence numbers and types
+    // (`is_new`).
+    // A ConnReq or ConnResp that is no copy of the last one begins all numbers of its end anew (`opened_with`).
     ensures followed { direction.new ≡ followed direction.old peer place seq header.now }
 {
     let opening = opening_in(header);

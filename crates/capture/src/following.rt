@@ -59,10 +59,15 @@ pub struct Totals {
 impl Following {
     /// Nothing was heard yet.
     pub fn new() -> Self
+        // What is kept of a capture begins without a connection.
         ensures connections { result.connections.items ≡ [] }
+        // It begins with no datagram counted.
         ensures datagrams { result.datagrams ≡ 0 }
+        // It begins with no datagram counted as damaged.
         ensures damaged { result.damaged ≡ 0 }
+        // It begins without sums of connections that were forgotten.
         ensures gone { result.gone ≡ no_totals }
+        // It begins with no connection forgotten.
         ensures forgotten { result.forgotten ≡ 0 }
     {
         Following {
@@ -76,12 +81,21 @@ impl Following {
 
     /// Takes a datagram of a line into account, and answers what is remarkable in it.
     pub fn hear(&mut self, line: u64, record: &Record, heard: &Heard) -> Remark
+        // What a datagram says is what the decoders' definitions say: number, type, header fields, reason and
+        // detail of a DiscReq, or the fault.
+        // What is remarkable in a datagram is its PDU's remarks, or the fault for which it is no PDU.
         ensures remark { result ≡ remark_of self.old.connections.items line record.now heard.now }
+        // A datagram that is no PDU changes nothing of connections but a count of damage at the last one heard
+        // with its channel (`damage_noted`).
         ensures connections { self.new.connections.items
             ≡ connections_after self.old.connections.items line record.now heard.now }
+        // Each datagram is counted.
         ensures datagrams { self.new.datagrams ≡ counted self.old.datagrams 1 }
+        // A datagram that is no PDU is counted among the damaged ones.
         ensures damaged { self.new.damaged ≡ damaged_after self.old.damaged heard.now }
+        // The sums of a connection that is forgotten are kept.
         ensures gone { self.new.gone ≡ gone_after self.old.gone self.old.connections.items heard.now }
+        // A connection that is forgotten is counted.
         ensures forgotten { self.new.forgotten
             ≡ forgotten_after self.old.forgotten self.old.connections.items heard.now }
     {
@@ -129,6 +143,7 @@ fn sum_forgotten(gone: Totals, connections: &Connections, header: &Header) -> To
 
 /// The sums over all connections, those that were forgotten among them.
 pub fn sum_up(gone: Totals, connections: &[Connection]) -> Totals
+    // The sums are those over all connections, those that were forgotten among them.
     ensures { result ≡ totals_of gone connections.now }
 {
     connections

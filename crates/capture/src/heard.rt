@@ -48,6 +48,8 @@ pub struct Header {
 
 /// What a datagram of any octets says, read under a rule of the safety code.
 pub fn hear(octets: &[u8], rule: &CodeRule) -> Heard
+    // What a datagram says is what the decoders' definitions say: number, type, header fields, reason and
+    // detail of a DiscReq, or the fault.
     ensures { result ≡ heard_of rule.now octets.now }
 {
     match red_pdu::decode(octets) {

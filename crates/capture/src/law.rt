@@ -4,15 +4,17 @@ ghost use Rattle.capture.specs.Laws.{EachCounted, EachOnce, LimitsAre, SumsAddUp
 
 /// The laws of what is kept, which do nothing when they are called: they hold of every list of numbers and of datagrams.
 pub fn sums_law()
-    // Each number up to the newest was heard in its turn, came late, or is missing.
+    // Of every list of numbers: each up to the newest was heard in its turn, came late, or is missing.
     ensures once { EachOnce }
 
-    // Each datagram of a window counts once.
+    // Of every list of numbers: each one that came counts once, as heard, late, a repeat, a differing one, or
+    // stale.
     ensures counted { EachCounted }
 
-    // The sums over all connections and what is damaged add up to the datagrams.
+    // Of every capture: PDUs, late ones, repeats, differing ones, stale and damaged ones add up to its
+    // datagrams.
     ensures adds_up { SumsAddUp }
 
-    // The limits are these numbers.
+    // The limits are the stated numbers.
     ensures limits { LimitsAre }
 {}

@@ -2,6 +2,9 @@
 //!
 //! A line is what `tshark -T fields -e frame.time_epoch -e ip.src -e udp.srcport -e ip.dst -e udp.dstport
 //! -e udp.payload` prints for a datagram. Nothing here allocates, whatever the capture says.
+//!
+//! Contracts: the laws are of fewer than 2^64 numbers and datagrams. That octets with one
+//! fingerprint are the same is not proved, since it has 64 bits.
 #![tactic(auto)]
 
 mod connections;

@@ -69,7 +69,10 @@ const TAB: u8 = 9;
 ///
 /// Refused, and the first that holds is named: `Fields`, `Time`, `Source`, `Destination`, `Long`, `Payload`.
 pub fn read_line(line: &[u8], buffer: &mut Buffer) -> Result<Record, LineFault>
+    // A line is read as exactly the datagram its six fields spell, time in whole microseconds, two addresses,
+    // payload; else its first fault is named.
     ensures read { record_seen result buffer.new ≡ line_of line.now }
+    // A payload that is read has at most 2,048 octets.
     ensures fits { IfOk result (λ found. found.size ≤ PAYLOAD_ROOM) }
 {
     if !are_parted_by(line, TAB, 5) {

@@ -28,6 +28,7 @@ pub type Ports = [Option<PortRange>; RANGES];
 /// The ports that a text names: one to four ranges parted by commas, each a port or two parted by a hyphen, of which the
 /// second is not below the first. None of any other text.
 pub fn read_ports(text: &[u8]) -> Option<Ports>
+    // A text names one to four ranges of ports, or is none.
     ensures { result ≡ ports_of text.now }
 {
     let commas = count_marks(text, COMMA);
@@ -84,6 +85,7 @@ fn between(first: Option<u64>, last: Option<u64>) -> Option<PortRange>
 
 /// Whether a datagram is followed: one of its ports is among these, or none are named.
 pub fn is_followed(ports: &Option<Ports>, record: &Record) -> bool
+    // A datagram is followed where one of its ports is named, and each is where none are.
     ensures { result ≡ is_chosen ports.now record.now }
 {
     match ports {

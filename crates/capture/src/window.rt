@@ -70,6 +70,7 @@ pub enum Judged {
 impl Window {
     /// No number was heard yet.
     pub fn new() -> Self
+        // A window begins with no number heard.
         ensures { result ≡ open_window }
     {
         Window {
@@ -88,6 +89,11 @@ impl Window {
 
 /// How a number follows on those that were heard, by the fingerprint of the octets that it stands for.
 pub fn judge(window: &Window, number: u32, fingerprint: u64) -> Judged
+    // A number is judged by those heard: the first, the next, ahead by a number, late, a repeat of that line,
+    // other octets than in that line, stale, or begun anew.
+    // What is called a repeat has the fingerprint of the octets that it repeats (`judged_again`).
+    // A number that is not kept and lies up to 2^31 steps behind the newest is stale, but for one of the 31
+    // before it that was passed over (`judged_ahead`).
     ensures { result ≡ judged window.now number fingerprint }
 {
     match find(window, number) {
@@ -158,7 +164,10 @@ fn judge_ahead(window: &Window, steps: u32) -> Judged
 
 /// Takes a number of a line into account, and answers how it followed.
 pub fn note(window: &mut Window, number: u32, line: u64, fingerprint: u64) -> Judged
+    // `note` answers as `judge` does how the number that it takes into account follows.
     ensures judged { result ≡ judged window.old number fingerprint }
+    // A window keeps 32 numbers; passed ones are missing until they come late; a stale one changes nothing but
+    // its count.
     ensures noted { window.new ≡ noted window.old number line fingerprint }
 {
     let judged = judge(window, number, fingerprint);

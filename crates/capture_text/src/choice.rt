@@ -35,7 +35,9 @@ pub enum Word {
 impl Word {
     /// The word that a text is, or none.
     pub fn named(text: &str) -> Option<Word>
+        // A word that is found is that of the text.
         ensures found { IfSome result (λ word. text.now ≡ word_text word) }
+        // Each word is found by its text.
         ensures only { (word : Word) → text.now ≡ word_text word → result ≡ Some word }
     {
         match text {
@@ -57,6 +59,7 @@ impl Word {
 
 /// Whether a line is printed where a word is asked for, or none; `t_max` in milliseconds.
 pub fn is_wanted(only: Option<Word>, t_max: u32, remark: &Remark) -> bool
+    // A line is printed where the remark that is asked for holds of it, and each is where none is asked for.
     ensures { result ≡ is_asked only t_max remark.now }
 {
     match only {

@@ -64,13 +64,21 @@ pub struct Course {
 impl Course {
     /// Nothing was read yet.
     pub fn new() -> Self
+        // A course begins with no connection.
         ensures connections { result.following.connections.items ≡ [] }
+        // It begins with no datagram counted.
         ensures datagrams { result.following.datagrams ≡ 0 }
+        // It begins with no datagram counted that is no PDU.
         ensures damaged { result.following.damaged ≡ 0 }
+        // It begins without sums of connections that were forgotten.
         ensures gone { result.following.gone ≡ no_totals }
+        // It begins with no connection forgotten.
         ensures forgotten { result.following.forgotten ≡ 0 }
+        // A course begins without a first time.
         ensures first { result.first ≡ None }
+        // It begins with no line read.
         ensures lines { result.lines ≡ 0 }
+        // It begins with no line counted as unreadable.
         ensures unreadable { result.unreadable ≡ 0 }
     {
         Course {
@@ -94,29 +102,50 @@ impl Course {
         buffer: &mut Buffer,
         writer: &mut W,
     ) -> io::Result<Option<LineFault>>
+        // A line is counted, whatever it says.
         ensures lines { self.new.lines ≡ counted self.old.lines 1 }
+        // The time from which times are counted is that of the first datagram.
+        // A line or frame on no port that is followed counts as a line and changes nothing else (`heard_line`,
+        // `frame_seen`).
         ensures first { self.new.first ≡ first_behind self.old.first
             (found_in self.old.following.connections.items (counted self.old.lines 1)
             (heard_line asked.now (line_of line.now))) }
+        // A line that is no datagram is counted as unreadable.
+        // A line or frame on no port that is followed counts as a line and changes nothing else (`heard_line`,
+        // `frame_seen`).
         ensures unreadable { self.new.unreadable ≡ unreadable_behind self.old.unreadable
             (found_in self.old.following.connections.items (counted self.old.lines 1)
             (heard_line asked.now (line_of line.now))) }
+        // A line's datagram changes the connections as it is heard; a line that is no datagram changes none.
+        // A line or frame on no port that is followed counts as a line and changes nothing else (`heard_line`,
+        // `frame_seen`).
         ensures connections { self.new.following.connections.items
             ≡ connections_behind self.old.following.connections.items (counted self.old.lines 1)
             (heard_line asked.now (line_of line.now)) }
+        // A datagram of a line is counted.
         ensures datagrams { self.new.following.datagrams
             ≡ datagrams_behind self.old.following.datagrams (heard_line asked.now (line_of line.now)) }
+        // The sums of a connection that a line's datagram makes forgotten are kept.
         ensures gone { self.new.following.gone
             ≡ gone_behind self.old.following.gone self.old.following.connections.items
             (heard_line asked.now (line_of line.now)) }
+        // A line's datagram that is no PDU is counted; a line that is no datagram is not.
         ensures damaged { self.new.following.damaged
             ≡ damaged_behind self.old.following.damaged (heard_line asked.now (line_of line.now)) }
+        // A connection that a line's datagram makes forgotten is counted.
         ensures forgotten { self.new.following.forgotten
             ≡ forgotten_behind self.old.following.forgotten self.old.following.connections.items
             (heard_line asked.now (line_of line.now)) }
+        // A line that is no datagram has its fault answered, and each other line none.
         ensures fault { IfOk result (λ fault. fault ≡ fault_in
             (found_in self.old.following.connections.items (counted self.old.lines 1)
             (heard_line asked.now (line_of line.now)))) }
+        // What is printed of a line is exactly the stated text: that of its datagram where it is asked for, and
+        // else nothing.
+        // Behind a printed line stand the telegrams of its datagram where they are asked for
+        // (`asked_telegrams`).
+        // A line or frame on no port that is followed counts as a line and changes nothing else (`heard_line`,
+        // `frame_seen`).
         ensures written { OnOk result (Appends (W.contents writer.old) (W.contents writer.new)
             (found_text asked.now self.old.first (counted self.old.lines 1) (payload_in (line_of line.now))
             (found_in self.old.following.connections.items (counted self.old.lines 1)
@@ -130,9 +159,13 @@ impl Course {
 
     /// Takes a line into account that is too long to be kept.
     pub fn pass_long(&mut self)
+        // A line too long to be kept changes nothing that is kept of connections.
         ensures following { self.new.following ≡ self.old.following }
+        // It leaves the first time.
         ensures first { self.new.first ≡ self.old.first }
+        // A line too long to be kept is counted.
         ensures lines { self.new.lines ≡ counted self.old.lines 1 }
+        // A line too long to be kept is counted as unreadable.
         ensures unreadable { self.new.unreadable ≡ counted self.old.unreadable 1 }
     {
         let unreadable = self.unreadable;
@@ -177,6 +210,7 @@ impl Course {
     ///
     /// An error is the writer's; what came before it stays written.
     pub fn sum<W: Write>(&self, asked: &Asked, writer: &mut W) -> io::Result<()>
+        // The sums of a course are those of the connections that it keeps, with its counts.
         ensures { OnOk result (Appends (W.contents writer.old) (W.contents writer.new)
             (course_text asked.now self.now.first self.now.following.gone self.now.following.connections.items
             (counts_of self.now.following.datagrams self.now.following.damaged self.now.following.forgotten
@@ -313,6 +347,7 @@ fn write_asked<W: Write>(writer: &mut W, asked: &Asked, datagram: &[u8]) -> io::
 /// An error is the writer's; what came before it stays written.
 #[tactic(auto, unfolding(crate::specs::FaultText::fault_text))]
 pub fn write_fault<W: Write>(writer: &mut W, number: u64, fault: LineFault) -> io::Result<()>
+    // The line of a fault is exactly the stated text.
     ensures { OnOk result (Appends (W.contents writer.old) (W.contents writer.new) (fault_text number fault)) }
 {
     let word = name_of_fault(fault);

@@ -56,14 +56,24 @@ impl Course {
         writer: &mut W,
     ) -> io::Result<Option<FrameFault>>
         requires { length octets.now < 2 ^ 32 }
+        // A frame is counted as a line is.
         ensures lines { self.new.lines ≡ counted self.old.lines 1 }
+        // The first time is that of the first datagram; a frame on no port that is followed leaves it
+        // (`frame_seen`).
         ensures first { self.new.first ≡ first_seen self.old.first (frame_seen asked.now.ports link time octets.now) }
+        // A frame whose datagram cannot be read is counted as unreadable; one on no port that is followed is
+        // not (`frame_seen`).
         ensures unreadable { self.new.unreadable
             ≡ unreadable_seen self.old.unreadable (frame_seen asked.now.ports link time octets.now) }
+        // A frame's datagram changes the connections as it is heard; a frame on no port that is followed
+        // changes none (`frame_seen`).
         ensures connections { self.new.following.connections.items
             ≡ connections_seen asked.now.rule self.old.following.connections.items (counted self.old.lines 1) octets.now
             (frame_seen asked.now.ports link time octets.now) }
+        // A frame whose datagram cannot be read has its fault answered, and each other frame none.
         ensures fault { IfOk result (λ fault. fault ≡ fault_seen (frame_seen asked.now.ports link time octets.now)) }
+        // What is printed of a frame is exactly the stated text, and nothing of one on no port that is followed
+        // (`frame_seen`).
         ensures written { OnOk result (Appends (W.contents writer.old) (W.contents writer.new)
             (seen_text asked.now self.old.first self.old.following.connections.items (counted self.old.lines 1) octets.now
             (frame_seen asked.now.ports link time octets.now))) }
@@ -162,6 +172,7 @@ fn pass(why: Passed) -> Seen
 /// An error is the writer's; what came before it stays written.
 #[tactic(auto, unfolding(crate::specs::FaultText::frame_text))]
 pub fn write_frame_fault<W: Write>(writer: &mut W, number: u64, fault: FrameFault) -> io::Result<()>
+    // What is printed of a frame that is not read is its number and the word of its fault.
     ensures { OnOk result (Appends (W.contents writer.old) (W.contents writer.new) (frame_text number fault)) }
 {
     let word = word_of(fault);

@@ -30,6 +30,7 @@ pub fn write_json<W: Write>(
     connections: &[Connection],
     counts: Counts,
 ) -> io::Result<()>
+    // The sums as one JSON object are exactly the stated text.
     ensures { OnOk result (Appends (W.contents writer.old) (W.contents writer.new)
         (sums_json scale connections.now (totals_of gone connections.now) counts)) }
 {

@@ -1,4 +1,9 @@
 //! The text of a recorded connection: a line for each datagram, and the sums at its end.
+//!
+//! Contracts: what is said of a text that is written holds where the writing is answered with Ok;
+//! what is said of counts and connections holds always. That `run` hands all octets on to
+//! `follow_lines` and prints the sums behind them, and what it makes of the blocks of a recording,
+//! is only tested.
 #![tactic(auto)]
 
 mod choice;

@@ -19,8 +19,11 @@ pub(crate) fn take_line<R: BufRead, A: Allocator>(
     reader: &mut R,
     line: &mut Vec<u8, A>,
 ) -> io::Result<()>
+    // A line that is taken is the front of what the reader holds, up to its line feed, and kept up to one octet
+    // more than a line may have.
     ensures kept { OnOk result (IfSome (R.remaining reader.old)
         (λ octets. line.new.items ≡ cut (take_through 10 octets))) }
+    // A reader holds behind it what stands behind that line feed.
     ensures rest { OnOk result (DropsThrough (R.remaining reader.old) (R.remaining reader.new) 10) }
     ensures fits { OnOk result (vec_len line.new ≤ LINE_MAX + 1) }
 {

@@ -27,6 +27,10 @@ pub fn write_record<W: Write>(
     record: &Record,
     remark: &Remark,
 ) -> io::Result<()>
+    // The line of a PDU is exactly: time since the first datagram to the microsecond, line, ends, channel,
+    // number, type, header fields, remarks.
+    // The line of what is no PDU is exactly: time since the first datagram, line, addresses, the redundancy
+    // number if any, and the fault.
     ensures { OnOk result (Appends (W.contents writer.old) (W.contents writer.new)
         (record_text first line «record».now remark.now)) }
 {
@@ -155,6 +159,7 @@ fn write_red_fault<W: Write>(writer: &mut W, fault: RedFault) -> io::Result<()>
 /// Writes a layer's fault.
 #[tactic(auto, unfolding(crate::specs::RecordText::fault_text))]
 fn write_fault<W: Write>(writer: &mut W, layer: &str, number: u8, name: &str) -> io::Result<()>
+    // The line of a fault is exactly the stated text.
     ensures { OnOk result (Appends (W.contents writer.old) (W.contents writer.new)
         (fault_text layer.now number name.now)) }
 {

@@ -18,6 +18,7 @@ use std::io::Write;
 /// An error is the writer's; what came before it stays written.
 #[tactic(auto, unfolding(crate::specs::RemarkText::remarks_text))]
 pub fn write_remarks<W: Write>(writer: &mut W, remarks: &Remarks) -> io::Result<()>
+    // The remarks on a PDU are written exactly as stated, and nothing where nothing is remarkable.
     ensures { OnOk result (Appends (W.contents writer.old) (W.contents writer.new) (remarks_text remarks.now)) }
 {
     write_opens(writer, remarks.opens)?;

@@ -113,6 +113,8 @@ fn follow_lines<R: Read + Drop, W: Write, E: Write, A: Allocator + Copy>(
     writer: &mut W,
     err: &mut E,
 ) -> Result<(), Stop>
+    // Of all octets that a reader holds: what is kept at their end, and what was printed and told of their
+    // lines, where no fault stopped it.
     ensures { OnOk result (IfSome (reader_remaining R.remaining reader.old) (λ octets.
         (read_by course.new ≡ with_lines asked.now (read_by course.old) (lines_of octets))
         × Appends (W.contents writer.old) (W.contents writer.new)
@@ -168,6 +170,7 @@ fn follow_line<W: Write, E: Write>(
     writer: &mut W,
     err: &mut E,
 ) -> Result<(), Stop>
+    // A line without its line feed is taken into account, printed and told, exactly as stated.
     ensures read { read_by course.new ≡ with_line asked.now (read_by course.old) line.now }
     ensures printed { OnOk result (Appends (W.contents writer.old) (W.contents writer.new)
         (line_printed asked.now (read_by course.old) line.now)) }
@@ -223,6 +226,7 @@ fn take_text<W: Write, E: Write>(
     writer: &mut W,
     err: &mut E,
 ) -> Result<(), Stop>
+    // A line without its line feed is taken into account, printed and told, exactly as stated.
     ensures read { read_by course.new ≡ with_text asked.now (read_by course.old) line.now }
     ensures printed { OnOk result (Appends (W.contents writer.old) (W.contents writer.new)
         (text_printed asked.now (read_by course.old) line.now)) }
@@ -238,6 +242,7 @@ fn take_text<W: Write, E: Write>(
 
 /// Takes a line into account that is too long to be kept.
 fn take_long<E: Write>(course: &mut Course, err: &mut E) -> Result<(), Stop>
+    // A line without its line feed is taken into account, printed and told, exactly as stated.
     ensures read { read_by course.new ≡ with_long (read_by course.old) }
     ensures told { OnOk result (Appends (E.contents err.old) (E.contents err.new)
         (fault_text (counted course.old.lines 1) LineFault.Long)) }

@@ -51,6 +51,9 @@ pub fn write_summary<W: Write>(
     connections: &[Connection],
     counts: Counts,
 ) -> io::Result<()>
+    // The sums are exactly the stated text: of each connection both directions, of each direction its channels,
+    // and one line for all.
+    // The sentence on a connection is exactly the stated text.
     ensures { OnOk result (Appends (W.contents writer.old) (W.contents writer.new)
         (summary_text scale connections.now (totals_of gone connections.now) counts)) }
 {

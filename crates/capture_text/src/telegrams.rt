@@ -16,6 +16,7 @@ use std::io::Write;
 ///
 /// An error is the writer's; what came before it stays written.
 pub fn write_telegrams<W: Write>(writer: &mut W, rule: &CodeRule, datagram: &[u8]) -> io::Result<()>
+    // The telegrams of a datagram are written exactly as `show` has them.
     ensures { OnOk result (Appends (W.contents writer.old) (W.contents writer.new)
         (telegram_lines rule.now datagram.now)) }
 {

@@ -15,7 +15,9 @@ use pdi_session::Phase;
 use red_layer::RedEvent;
 use safe_machine::{ConnectionState, Step};
 pub use sockets::{Reception, Socket, SocketChannels};
-pub use udp::{Addresses, Place, Refusal, UdpChannels, UdpFault, UdpPath, Watch, open_udp};
+pub use udp::{
+    Addresses, Place, Refusal, UdpChannels, UdpFault, UdpPath, Watch, is_address, open_udp,
+};
 
 /// Why a datagram was not sent, or nothing could be received.
 #[derive(Clone, Copy, Debug, PartialEq, Eq)]
@@ -51,16 +53,28 @@ pub trait Channels {
 
     /// Sends a datagram of at most 1,258 octets on a channel. A fault says that it did not go out; nothing else has changed.
     fn send(&mut self, channel: usize, datagram: &[u8]) -> Result<(), ChannelFault>
+        // A `Keeper` keeps what is sent on channel 1 where it has room, and fails on every other channel.
         ensures { Sends (is_ok result) (told self.old) (channel, datagram.now) (told self.new) };
 
     /// Writes the next datagram that came in front of the buffer, cut to its length, and answers its channel and its size in
     /// octets; `None` where nothing has come. It never waits.
     fn receive(&mut self, buffer: &mut [u8]) -> Result<Option<(usize, usize)>, ChannelFault>
+        // A datagram that `Channels` answer is no longer than the buffer.
+        // What is sent over channels that are listened to, received from them and failed is that of the
+        // channels themselves.
         ensures fits { IfOk result (λ came. IfSome came (λ p. p.1 ≤ length buffer.new)) }
+        // Whatever implements `Channels` tells the answer of a reception, or counts it as failed, and answers a
+        // fault exactly where it is counted.
         ensures told { told self.new ≡ after_receive result buffer.new (told self.old) };
+
+    /// Whether it hears notes: where it does not, an end makes none. The given body says that it does.
+    fn hears_notes(&self) -> bool {
+        true
+    }
 
     /// Hears what the end does. The given body does nothing.
     fn note(&mut self, note: &Note<'_>)
+        // A note changes nothing that `Channels` tell.
         ensures { told self.new ≡ told self.old }
     {
         let _note = note;

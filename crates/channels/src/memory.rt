@@ -87,6 +87,7 @@ impl<A: Allocator + Copy> MemChannels<A> {
     ///
     /// Refused as Memory where there is none.
     pub fn new(alloc: A, room: usize) -> Result<Self, MemoryFault>
+        // New `MemChannels` keep nothing and have room for as many sendings and answers as were asked for.
         ensures { IfOk result (λ made. made ≡ new_kept room) }
     {
         Ok(MemChannels {
@@ -108,6 +109,8 @@ impl<A: Allocator + Copy> MemChannels<A> {
     /// Refused as Memory where there is none, and then nothing
     /// has changed.
     pub fn reserve(&mut self, more: usize) -> Result<(), MemoryFault>
+        // More room for sendings and answers is added to `MemChannels`, or, where it is refused, nothing
+        // changes.
         ensures { self.new ≡ (if is_ok result then with_more_room more self.old else self.old) }
     {
         let (Some(sends), Some(answers)) = (
@@ -129,6 +132,8 @@ impl<A: Allocator + Copy> MemChannels<A> {
     ///
     /// Refused as Memory where there is none, and then it does not come.
     pub fn add(&mut self, channel: usize, datagram: &[u8]) -> Result<(), MemoryFault>
+        // A datagram that is put in to `MemChannels` waits behind the others, or, where it is refused, nothing
+        // changes.
         ensures { self.new ≡ (if is_ok result then with_waiting (channel, datagram.now) self.old else self.old) }
     {
         let octets = Vec::from_slice(*self.sent.allocator(), datagram)?;
@@ -142,6 +147,7 @@ impl<A: Allocator + Copy> MemChannels<A> {
 impl<A: Allocator> MemChannels<A> {
     /// Channel and octets of a datagram that was sent, the first with number 0.
     pub fn sent(&self, number: usize) -> Option<(usize, &[u8])>
+        // `sent` answers what `MemChannels` have sent at a place.
         ensures { option_map (λ s. (s.0, s.1.now)) result ≡ slice_get self.now.sent number }
     {
         match self.sent.get(number) {
@@ -156,9 +162,13 @@ impl<A: Allocator> Channels for MemChannels<A> {
 
     /// Keeps the datagram. It fails where there is no room, or the datagram is longer than 1,258 octets.
     fn send(&mut self, channel: usize, datagram: &[u8]) -> Result<(), ChannelFault>
+        // A sending on `MemChannels` goes out exactly where there is room and it has at most 1,258 octets.
         ensures ok { is_ok result ≡ goes_out datagram.now self.old }
+        // What goes out on `MemChannels` is kept behind what was sent before; what does not is counted alone.
         ensures kept { self.new ≡ with_sending (channel, datagram.now) self.old }
+        // What `MemChannels` tell of sendings and receptions is what the contract of `Channels` asks.
         ensures told { Sends (is_ok result) (told_of self.old) (channel, datagram.now) (told_of self.new) }
+        // `MemChannels` refuse as Room alone.
         ensures fault { IfErr result (λ why. why ≡ Room) }
     {
         if self.sends_left == 0 || datagram.len() > RED_PDU_MAX {
@@ -172,10 +182,18 @@ impl<A: Allocator> Channels for MemChannels<A> {
 
     /// Answers the datagram that was put in first of those that it has not answered yet. It fails where there is no room for an answer.
     fn receive(&mut self, buffer: &mut [u8]) -> Result<Option<(usize, usize)>, ChannelFault>
+        // A reception on `MemChannels` fails exactly where there is no room for its answer.
         ensures ok { is_ok result ≡ nat_lt 0 self.old.answers_left }
+        // `MemChannels` answer the datagram put in first, cut to the buffer, or that nothing waits; a failed
+        // reception is counted alone.
         ensures kept { self.new ≡ with_reception (length buffer.old) self.old }
+        // What `MemChannels` tell of sendings and receptions is what the contract of `Channels` asks.
         ensures fits { IfOk result (λ came. IfSome came (λ p. p.1 ≤ length buffer.new)) }
+        // `MemChannels` answer the datagram put in first, cut to the buffer, or that nothing waits; a failed
+        // reception is counted alone.
+        // What `MemChannels` tell of sendings and receptions is what the contract of `Channels` asks.
         ensures told { told_of self.new ≡ after_receive result buffer.new (told_of self.old) }
+        // `MemChannels` refuse as Room alone.
         ensures fault { IfErr result (λ why. why ≡ Room) }
     {
         self.asked = buffer.len();

@@ -1,6 +1,6 @@
 //! Channels over one socket each. What a socket does stands in a trait of two calls, so a test can stand in for the system.
 
-ghost use Rattle.std.specs.Prelude.{◌≡◌, ◌+◌, ◌^◌, ◌<◌, ◌≤◌, ℕ, Bool, List, Err, length, is_ok, IfErr, IfOk, IfSome};
+ghost use Rattle.std.specs.Prelude.{◌≡◌, ◌+◌, ◌^◌, ◌<◌, ◌≤◌, ℕ, Bool, false, List, Err, length, is_ok, IfErr, IfOk, IfSome};
 ghost use Rattle.channels.specs.Told.{Sends, after_receive};
 ghost use Rattle.channels.specs.Sockets.{Asks, Fits, SendsOn, fault_on, octets_of, received_after, told_of};
 ghost use Rattle.channels.specs.declared.ChannelFault.TheVariants as channel_fault;
@@ -31,11 +31,14 @@ pub trait Socket {
 
     /// Hands a datagram over, and answers whether it was taken.
     fn send(&mut self, datagram: &[u8]) -> bool
+        // What a socket does with a datagram, and whether it took it, is what its `sends` says.
         ensures { sends self.old datagram.now result self.new };
 
     /// Writes the next datagram that came in front of the buffer, cut to its length. It never waits.
     fn receive(&mut self, buffer: &mut [u8]) -> Reception
+        // What a socket answers when it is asked, and what came, is what its `receives` says.
         ensures gives { receives self.old (length buffer.old) result (octets_of result buffer.new) self.new }
+        // What came is no longer than the buffer.
         ensures fits { Fits result (length buffer.old) };
 }
 
@@ -68,6 +71,8 @@ impl<S, A: Allocator> Model for SocketChannels<S, A> {
 impl<S, A: Allocator> SocketChannels<S, A> {
     /// Channels over these sockets, that of channel 1 first. Nothing has failed or come yet.
     pub fn over(sockets: Vec<S, A>) -> Self
+        // Channels over sockets begin with the sockets that they are given, that of channel 1 first, and
+        // nothing counted.
         ensures { result ≡ record { sockets = sockets.items; failed_sends = 0; failed_receives = 0; received = 0 } }
     {
         SocketChannels {
@@ -80,6 +85,7 @@ impl<S, A: Allocator> SocketChannels<S, A> {
 
     /// How many datagrams came, modulo 2^64. Where none came in a turn it is time to wait.
     pub fn received(&self) -> u64
+        // What came is counted, and only the system refuses a reception.
         ensures { result ≡ self.now.received }
     {
         self.received
@@ -91,11 +97,14 @@ impl<S: Socket, A: Allocator> Channels for SocketChannels<S, A> {
 
     /// Hands it to the channel's own socket, once.
     fn send(&mut self, channel: usize, datagram: &[u8]) -> Result<(), ChannelFault>
+        // What channels over sockets tell of sendings and receptions is what the contract of `Channels` asks.
         ensures told { Sends (is_ok result) (told_of self.old) (channel, datagram.now) (told_of self.new) }
-        // The channel's own socket has it, and no other; it is told as sent exactly where that took it.
+        // A datagram is handed once to the socket of its own channel and to no other; it is told as sent
+        // exactly where that socket took it; for a channel that is not there nothing goes.
         ensures sent { SendsOn S.sends channel datagram.now (is_ok result) self.old.sockets self.new.sockets }
+        // What came is counted, and only the system refuses a reception.
         ensures received { self.new.received ≡ self.old.received }
-        // A channel that is not there has no room; else the system alone refuses.
+        // A sending is refused as Room exactly for a channel that is not there, else as System.
         ensures fault { IfErr result (λ why. why ≡ fault_on channel self.old.sockets) }
     {
         let result = tell(self.list.as_mut_slice(), channel, datagram);
@@ -107,11 +116,16 @@ impl<S: Socket, A: Allocator> Channels for SocketChannels<S, A> {
 
     /// Asks one socket after the other, until one has a datagram or refuses.
     fn receive(&mut self, buffer: &mut [u8]) -> Result<Option<(usize, usize)>, ChannelFault>
+        // A datagram that came is no longer than the buffer.
         ensures fits { IfOk result (λ came. IfSome came (λ p. p.1 ≤ length buffer.new)) }
+        // What channels over sockets tell of receptions is what the contract of `Channels` asks.
         ensures told { told_of self.new ≡ after_receive result buffer.new (told_of self.old) }
+        // Sockets are asked in their order, until one has a datagram, which is answered with its channel, or
+        // refuses; those behind it are not asked.
         ensures asked { Asks S.receives (length buffer.old) 1 result buffer.new self.old.sockets self.new.sockets }
+        // What came is counted.
         ensures received { self.new.received ≡ received_after result self.old.received }
-        // Only the system refuses.
+        // Only the system refuses a reception.
         ensures fault { IfErr result (λ why. why ≡ channel_fault.System) }
     {
         let result = ask(self.list.as_mut_slice(), 1, buffer);
@@ -122,6 +136,14 @@ impl<S: Socket, A: Allocator> Channels for SocketChannels<S, A> {
             self.failed_receives = self.failed_receives.wrapping_add(1);
         }
         result
+    }
+
+    /// Nobody listens at a socket.
+    fn hears_notes(&self) -> bool
+        // Channels over sockets want no notes.
+        ensures { result ≡ false }
+    {
+        false
     }
 }
 

@@ -8,6 +8,7 @@ ghost use Rattle.channels.specs.Addresses.{AreSpelled, IsRefusal, IsUnbound, IsU
 
 use crate::sockets::{Reception, Socket, SocketChannels};
 use mio::net::UdpSocket;
+use mio::unix::SourceFd;
 use mio::{Events, Interest, Poll, Token};
 use octets::limits::CHANNELS_MAX;
 use std::alloc::{Allocator, Global};
@@ -88,6 +89,7 @@ impl UdpPath {
     ///
     /// Refused by the system, as where the address is in use or another machine's.
     pub fn bind<N: Net>(net: &N, addresses: Addresses) -> io::Result<Self>
+        // A UDP socket is of the addresses that it was bound with, and stays so.
         ensures { IfOk result (λ path. path ≡ addresses) }
     {
         let socket = UdpSocket::bind(net, addresses.own)?;
@@ -130,10 +132,15 @@ pub fn open_udp<N: Net, S: AsStr, A: Allocator + Copy>(
     local: &[S],
     remote: &[S],
 ) -> Result<UdpChannels<A>, UdpFault>
-    // A socket for each channel, in order, between the addresses that the texts spell. Nothing was counted yet.
+    // UDP channels have a socket for each channel, in order, between the addresses that the texts of its two
+    // lists spell.
     ensures opened { IfOk result (λ c. AreSpelled (map S.text local.now) (map S.text remote.now) c.sockets) }
+    // UDP channels begin with nothing counted.
     ensures counts { IfOk result (λ c. c ≡ record { sockets = c.sockets; failed_sends = 0; failed_receives = 0; received = 0 }) }
+    // Lists of different or wrong lengths are refused as Lists, and no others.
     ensures lists { are_paired local.now remote.now ≡ false → result ≡ Err UdpFault.Lists }
+    // A text that is no address is refused by its place, the first one; a socket that the system refuses by its
+    // channel, behind texts that are all addresses.
     ensures refused { are_paired local.now remote.now ≡ true → IfErr result (IsRefusal (map S.text local.now) (map S.text remote.now)) }
 {
     if local.len() != remote.len() || local.is_empty() || local.len() > CHANNELS_MAX {
@@ -165,6 +172,7 @@ impl<A: Allocator + Copy> Watch<A> {
     ///
     /// Refused as Memory, or as Wait where the system has no means to wait.
     pub fn open<N: Net>(alloc: A, net: &N) -> Result<Self, UdpFault>
+        // A wait that is not opened is refused for want of memory or of means to wait.
         ensures { IfErr result (λ why. (why ≢ UdpFault.Memory → why ≡ UdpFault.Wait)) }
     {
         let Ok(events) = Events::with_capacity(alloc, EVENTS) else {
@@ -184,9 +192,21 @@ impl<A: Allocator> Watch<A> {
     ///
     /// Refused by the system, as when they are watched already.
     pub fn add<B: Allocator>(&self, channels: &mut UdpChannels<B>) -> io::Result<()>
+        // Watching sockets changes nothing of them.
         ensures { channels.new ≡ channels.old }
     {
         self.add_all(channels.list.as_mut_slice())
+    }
+
+    /// Watches a descriptor too, such as that of standard input: that something can be read of it ends a wait as well.
+    ///
+    /// # Errors
+    ///
+    /// Refused by the system, as where it is a file, of which something can be read at any time.
+    pub fn add_descriptor(&self, descriptor: i32) -> io::Result<()> {
+        self.poll
+            .registry()
+            .register(&mut SourceFd(&descriptor), Token(0), Interest::READABLE)
     }
 
     /// Waits until a datagram comes, or the time is up; a fraction of a millisecond counts as one. It may end early,
@@ -249,6 +269,16 @@ fn addresses_of<S: AsStr>(own: &S, peer: &S, channel: usize) -> Result<Addresses
         }));
     };
     Ok(Addresses { own, peer })
+}
+
+/// Whether a text is an address with a port, as channels are opened with.
+pub fn is_address(text: &str) -> bool
+    // A text that is called an address spells one.
+    ensures yes { result ≡ true → (a : SocketAddr) × IsSocketText text.now a }
+    // A text that is called none spells none.
+    ensures no { result ≡ false → (a : SocketAddr) → ¬ IsSocketText text.now a }
+{
+    address(text).is_some()
 }
 
 fn address(text: &str) -> Option<SocketAddr>

@@ -223,7 +223,7 @@ sum all datagrams 6 PDUs 5 missing 1 repeats 1 late 0 differs 0 stale 0 damaged 
     follows(&rt, &lines, &asked(CodeLength::Zero, None), wanted)
 }
 
-// Nothing recent is confirmed in time, so an end leaves, and the other opens again; old ages alone are printed.
+// Nothing recent is confirmed in time, so an end leaves, and the other opens again; ages of T_max and more alone are printed.
 #[test]
 fn leaves_and_opens_again(rt: HostRuntime) -> Result<(), Fail> {
     let beat = heartbeat(5, (300, 700), (5000, 9000));
@@ -241,21 +241,18 @@ fn leaves_and_opens_again(rt: HostRuntime) -> Result<(), Fail> {
     let wanted = "\
 1.850000 line 4 2->1 ch 1 red 9 DiscReq sn 702 cs 300 ts 10950 cts 5000 age 1801 ms reason 3 timeout detail 0
 sum 1->2 opened by ConnReq times 1 PDUs 3 missing 0 repeats 0 late 0 differs 0 stale 0 heartbeats 2 requests 0 resent 0 \
-silence 1.801000 age 0 of 1800 last 3.000000 no DiscReq
+silence 1.801000 age 0 of 1801 last 3.000000 no DiscReq
 sum 1->2 ch 1 10.0.0.1:8001-10.0.0.2:8002 datagrams 3 PDUs 3 missing 0 repeats 0 late 0 differs 0 stale 0 damaged 0
 sum 2->1 opening not seen PDUs 2 missing 0 repeats 0 late 0 differs 0 stale 0 heartbeats 1 requests 0 resent 0 \
-silence 1.750000 age 1801 of 1800 reached last 1.850000 DiscReq reason 3 timeout detail 0
+silence 1.750000 age 1801 of 1801 reached last 1.850000 DiscReq reason 3 timeout detail 0
 sum 2->1 ch 1 10.0.0.1:8001-10.0.0.2:8002 datagrams 2 PDUs 2 missing 0 repeats 0 late 0 differs 0 stale 0 damaged 0
 connection 1-2 was not seen to come up, 2 left at 1.850000 reason 3 timeout detail 0, lost on single channels 0 on all 0, \
-age 1801 of 1800 reached
+age 1801 of 1801 reached
 sum all datagrams 5 PDUs 5 missing 0 repeats 0 late 0 differs 0 stale 0 damaged 0 forgotten 0 unreadable 0
 ";
-    follows(
-        &rt,
-        &lines,
-        &asked(CodeLength::Zero, Some(Word::Age)),
-        wanted,
-    )
+    let mut asked = asked(CodeLength::Zero, Some(Word::Age));
+    asked.t_max = 1801;
+    follows(&rt, &lines, &asked, wanted)
 }
 
 // A datagram under the code of another one is damaged, and a line that is none is named.

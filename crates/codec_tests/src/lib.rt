@@ -8,13 +8,13 @@ mod capture_tests;
 #[cfg(test)]
 mod capture_text_tests;
 #[cfg(test)]
-mod deferral_tests;
-#[cfg(test)]
 mod md4_tests;
 #[cfg(test)]
 mod packing_tests;
 #[cfg(test)]
 mod pdu_text_tests;
+#[cfg(test)]
+mod red_layer_deferral_tests;
 #[cfg(test)]
 mod retrans_tests;
 #[cfg(test)]

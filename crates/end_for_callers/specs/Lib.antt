@@ -3,3 +3,4 @@ pub mod Pieces
 pub mod Boxes
 pub mod Calls
 pub mod Plain
+pub mod Numbers

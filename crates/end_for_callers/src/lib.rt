@@ -2,6 +2,10 @@
 //! takes it.
 //!
 //! The queues have room that is taken at opening. Before a call could overflow them it is refused, and what finds no room all the same is told.
+//!
+//! Contracts: a `Queue` is a list of pieces of octets, each under a tag; a `Station` is an end with
+//! two of them: the datagrams that it sent and the telegrams that its application took, until its
+//! caller takes them.
 #![tactic(auto)]
 
 mod inbox;
@@ -12,7 +16,7 @@ mod station;
 mod writing;
 
 use pdi_session::{InitFault, PutFault};
-pub use plain::{Opening, PLAIN_SETTINGS_SIZE, PlainSettings};
+pub use plain::{Opening, PLAIN_SETTINGS_SIZE, PlainSettings, numbers_law};
 pub use queue::{Queue, QueueFull, TooSmall};
 pub use station::{Rooms, Station};
 

@@ -1,7 +1,7 @@
 //! The channels of an end for callers: what it sends waits until the caller takes it. What comes is handed in by the caller.
 
 ghost use Rattle.octets.specs.declared.limits.TheConstants.{RED_PDU_MAX};
-ghost use Rattle.std.specs.Prelude.{◌≡◌, ◌*◌, ◌≤◌, is_ok, IfOk, IfSome, length};
+ghost use Rattle.std.specs.Prelude.{◌≡◌, ◌*◌, ◌≤◌, false, is_ok, IfOk, IfSome, length};
 ghost use Rattle.channels.specs.Told.{Sends, after_receive};
 ghost use Rattle.end_for_callers.specs.Boxes.{told_of, with_sending};
 ghost use Rattle.end_for_callers.specs.Queues.{Popped, fits, new_queue};
@@ -96,5 +96,12 @@ impl Channels for Outbox {
     {
         let _none = buffer;
         Ok(None)
+    }
+
+    /// Callers ask for what waits, and for nothing else.
+    fn hears_notes(&self) -> bool
+        ensures { result ≡ false }
+    {
+        false
     }
 }

@@ -4,6 +4,7 @@ ghost use Rattle.std.specs.Prelude.{◌≡◌, ◌≤◌, option_map};
 ghost use Rattle.end_settings.specs.Configured.{settings_of};
 ghost use Rattle.end_settings.specs.Lists.{checksum_in, versions_in};
 ghost use Rattle.sci_telegram.specs.Tele.{owned_characters};
+ghost use Rattle.end_for_callers.specs.Numbers.{NumbersAre};
 ghost use Rattle.end_for_callers.specs.Plain.{config_with, front_of, lists_in, lists_seen, name_in, opening_of, opening_seen, side_in, text_size};
 
 use crate::station::Rooms;
@@ -100,6 +101,8 @@ impl PlainSettings {
     /// What an end is opened with by these settings; `None` where the side is neither 1 nor 2, the protocol type is above 255, a name is none
     /// or has no zero behind it, or a list is longer than its row.
     pub fn opening(&self) -> Option<Opening>
+        // Plain settings are read as exactly what an end is opened with by them, or as nothing where side,
+        // protocol type, a name or a list cannot be read.
         ensures { option_map opening_seen result ≡ opening_of self.now }
     {
         let side = side(self.side)?;
@@ -201,3 +204,10 @@ fn text_size(row: &[u8]) -> usize
 {
     row.iter().take_while(|octet| **octet != 0).count()
 }
+
+/// A law, which does nothing when it is called: the constants are these numbers.
+pub fn numbers_law()
+    // The most telegrams of a call, the most PDUs of a part and the size of plain settings are the stated
+    // numbers.
+    ensures { NumbersAre }
+{}

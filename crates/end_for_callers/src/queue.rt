@@ -58,6 +58,7 @@ impl<T: Copy + Drop, A: Allocator + Copy> Queue<T, A> {
     ///
     /// The error is that memory was refused.
     pub fn new(alloc: A, places: usize, room: usize) -> Result<Self, AllocError>
+        // In a new `Queue` nothing waits, and it has the places and the room that were asked for.
         ensures { IfOk result (λ q. q ≡ new_queue places room) }
     {
         Ok(Queue {
@@ -70,6 +71,7 @@ impl<T: Copy + Drop, A: Allocator + Copy> Queue<T, A> {
 impl<T: Copy, A: Allocator> Queue<T, A> {
     /// How many more pieces there is a place for.
     pub fn places(&self) -> usize
+        // `places` answers how many more pieces a queue takes.
         ensures { result ≡ self.now.places }
     {
         self.heads.capacity() - self.heads.len()
@@ -77,6 +79,7 @@ impl<T: Copy, A: Allocator> Queue<T, A> {
 
     /// How many octets these may have together.
     pub fn room(&self) -> usize
+        // `room` answers how many octets these may have together.
         ensures { result ≡ self.now.room }
     {
         self.octets.capacity() - self.octets.len()
@@ -84,6 +87,7 @@ impl<T: Copy, A: Allocator> Queue<T, A> {
 
     /// How many pieces wait.
     pub fn len(&self) -> usize
+        // `len` answers how many pieces wait.
         ensures { result ≡ length self.now.waiting }
     {
         let waiting = self.heads.len();
@@ -92,6 +96,7 @@ impl<T: Copy, A: Allocator> Queue<T, A> {
 
     /// Whether none waits.
     pub fn is_empty(&self) -> bool
+        // `is_empty` tells whether none waits.
         ensures { result ≡ (length self.now.waiting == 0) }
     {
         self.heads.is_empty()
@@ -103,7 +108,9 @@ impl<T: Copy, A: Allocator> Queue<T, A> {
     ///
     /// Refused exactly where there is no place for it or too little room, and then nothing changes.
     pub fn push(&mut self, tag: T, piece: &[u8]) -> Result<(), QueueFull>
+        // `push` is refused exactly where there is no place or too little room.
         ensures room { is_ok result ≡ fits (length piece.now) self.old }
+        // An accepted `push` puts its piece behind all others, and a refused one changes nothing.
         ensures pushed { self.new ≡ (if is_ok result then with_piece (tag, piece.now) self.old else self.old) }
     {
         let size = piece.len();
@@ -121,6 +128,10 @@ impl<T: Copy, A: Allocator> Queue<T, A> {
     ///
     /// Refused where the buffer is shorter than the piece, which then stays.
     pub fn pop(&mut self, buffer: &mut [u8]) -> Result<Option<(T, usize)>, TooSmall>
+        // `pop` takes the oldest piece whole in front of the buffer, with its tag and size, leaves the rest of
+        // the buffer, and gives its place and room back (`TookOldest`).
+        // Where nothing waits, or the buffer is shorter than the oldest piece, `pop` says so and changes
+        // nothing (`IsTooLong`).
         ensures { Popped result self.old buffer.old self.new buffer.new }
     {
         let Some(Head { tag, size }) = self.heads.front() else {

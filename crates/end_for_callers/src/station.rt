@@ -79,15 +79,20 @@ impl Station {
         rooms: Rooms,
         now: u64,
     ) -> Result<Station, StationFault>
+        // An end is opened exactly where its time, its settings and its rooms are fit and there is memory, else
+        // the first that holds is named.
         ensures answer { MatchResult result (λ _. refusal_to_open side (settings_of config.now) rooms now ≡ None)
             (λ f. (refusal_to_open side (settings_of config.now) rooms now ≡ Some f)
             ⊎ ((refusal_to_open side (settings_of config.now) rooms now ≡ None) × (f ≡ fault.Memory))) }
+        // An opened station stands for the new end of its settings.
         ensures stands { IfOk result (λ s. EndStands told_of s.end (opened_end side config.now first_sn now)) }
-        // What it sends at once waits, and no telegram does.
+        // What was sent at the opening waits among its datagrams.
         ensures sent { IfOk result (λ s. Posted (record { queue = new_queue rooms.datagrams (rooms.datagrams * RED_PDU_MAX); unsent = 0 })
             (sent_at_opening (opened_end side config.now first_sn now)) (outbox_of s)) }
+        // At the opening no telegram waits, and none is lost.
         ensures inbox { IfOk result (λ s. s.inbox
             ≡ record { queue = new_queue rooms.telegrams (rooms.telegrams * PAYLOAD_MAX); lost = false }) }
+        // The time of an opened station is that of its opening.
         ensures time { IfOk result (λ s. s.time ≡ now) }
     {
         if now > TIME_MAX {
@@ -124,9 +129,18 @@ impl Station {
     ///
     /// Refused, and the first that holds is named: `Time`, `Lost`, `TakeFirst`, `SendFirst`.
     pub fn arrive(&mut self, channel: usize, octets: &[u8], now: u64) -> Result<Outcome, CallFault>
+        // An accepted call leads the end to the state after its step, as that of `stack_end` (`Went` (stands)).
+        // What the end sent in it waits behind what waited, each in order or counted, and all of it where the
+        // count stands (of fewer than 2^64) (`Posted`).
+        // A beginning of what the application takes in it waits behind what waited, and all of it where no
+        // telegram was lost (`Came`).
         ensures does { OnOk result (Does (call (Deliver channel octets.now now)) self.old self.new) }
+        // An accepted call tells whether all waits, a datagram found no room, or a telegram did.
+        // A call is refused, by the first name that holds, for its time, a telegram lost before, or where there
+        // is less room than it is to have, and nothing changes then.
         ensures answer { MatchResult result (λ o. (refusal now self.old ≡ None) × (o ≡ outcome_of self.old self.new))
             (λ f. (refusal now self.old ≡ Some f) × (self.new ≡ self.old)) }
+        // An accepted call makes its time that of the station.
         ensures time { OnOk result (self.new.time ≡ now) }
     {
         self.may_hear(now)?;
@@ -142,9 +156,18 @@ impl Station {
     ///
     /// Refused, and the first that holds is named: `Time`, `Lost`, `TakeFirst`, `SendFirst`.
     pub fn tick(&mut self, now: u64) -> Result<Outcome, CallFault>
+        // An accepted call leads the end to the state after its step, as that of `stack_end` (`Went` (stands)).
+        // What the end sent in it waits behind what waited, each in order or counted, and all of it where the
+        // count stands (of fewer than 2^64) (`Posted`).
+        // A beginning of what the application takes in it waits behind what waited, and all of it where no
+        // telegram was lost (`Came`).
         ensures does { OnOk result (Does (call (Call.Tick now)) self.old self.new) }
+        // An accepted call tells whether all waits, a datagram found no room, or a telegram did.
+        // A call is refused, by the first name that holds, for its time, a telegram lost before, or where there
+        // is less room than it is to have, and nothing changes then.
         ensures answer { MatchResult result (λ o. (refusal now self.old ≡ None) × (o ≡ outcome_of self.old self.new))
             (λ f. (refusal now self.old ≡ Some f) × (self.new ≡ self.old)) }
+        // An accepted call makes its time that of the station.
         ensures time { OnOk result (self.new.time ≡ now) }
     {
         self.may_hear(now)?;
@@ -160,12 +183,24 @@ impl Station {
     ///
     /// Refused, and the first that holds is named: `Time`, `Lost`, `SendFirst`, and what `End::put` refuses.
     pub fn put(&mut self, kind: u16, payload: &[u8], now: u64) -> Result<Outcome, CallFault>
+        // An accepted call leads the end to the state after its step, as that of `stack_end` (`Went` (stands)).
+        // What the end sent in it waits behind what waited, each in order or counted, and all of it where the
+        // count stands (of fewer than 2^64) (`Posted`).
+        // A beginning of what the application takes in it waits behind what waited, and all of it where no
+        // telegram was lost (`Came`).
         ensures does { OnOk result (Does (call (Put kind payload.now now)) self.old self.new) }
+        // An accepted call tells whether all waits, a datagram found no room, or a telegram did.
         ensures outcome { IfOk result (λ o. o ≡ outcome_of self.old self.new) }
+        // An accepted call tells whether all waits, a datagram found no room, or a telegram did.
+        // A call is refused, by the first name that holds, for its time, a telegram lost before, or where there
+        // is less room than it is to have, and nothing changes then.
         ensures answer { (x : EndState) → EndStands told_of self.old.end x
             → MatchResult result (λ _. refusal_to_put now kind payload.now self.old x ≡ None)
             (λ f. refusal_to_put now kind payload.now self.old x ≡ Some f) }
+        // A call is refused, by the first name that holds, for its time, a telegram lost before, or where there
+        // is less room than it is to have, and nothing changes then.
         ensures refused { OnErr result (self.new ≡ self.old) }
+        // An accepted call makes its time that of the station.
         ensures time { OnOk result (self.new.time ≡ now) }
     {
         self.may_send(now)?;
@@ -185,12 +220,24 @@ impl Station {
     ///
     /// Refused, and the first that holds is named: `Time`, `Lost`, `SendFirst`, and what `End::init_done` refuses.
     pub fn init_done(&mut self, now: u64) -> Result<Outcome, CallFault>
+        // An accepted call leads the end to the state after its step, as that of `stack_end` (`Went` (stands)).
+        // What the end sent in it waits behind what waited, each in order or counted, and all of it where the
+        // count stands (of fewer than 2^64) (`Posted`).
+        // A beginning of what the application takes in it waits behind what waited, and all of it where no
+        // telegram was lost (`Came`).
         ensures does { OnOk result (Does (call (InitDone now)) self.old self.new) }
+        // An accepted call tells whether all waits, a datagram found no room, or a telegram did.
         ensures outcome { IfOk result (λ o. o ≡ outcome_of self.old self.new) }
+        // An accepted call tells whether all waits, a datagram found no room, or a telegram did.
+        // A call is refused, by the first name that holds, for its time, a telegram lost before, or where there
+        // is less room than it is to have, and nothing changes then.
         ensures answer { (x : EndState) → EndStands told_of self.old.end x
             → MatchResult result (λ _. refusal_to_init now self.old x ≡ None)
             (λ f. refusal_to_init now self.old x ≡ Some f) }
+        // A call is refused, by the first name that holds, for its time, a telegram lost before, or where there
+        // is less room than it is to have, and nothing changes then.
         ensures refused { OnErr result (self.new ≡ self.old) }
+        // An accepted call makes its time that of the station.
         ensures time { OnOk result (self.new.time ≡ now) }
     {
         self.may_send(now)?;
@@ -210,9 +257,18 @@ impl Station {
     ///
     /// Refused as `Time`.
     pub fn close(&mut self, now: u64) -> Result<Outcome, CallFault>
+        // An accepted call leads the end to the state after its step, as that of `stack_end` (`Went` (stands)).
+        // What the end sent in it waits behind what waited, each in order or counted, and all of it where the
+        // count stands (of fewer than 2^64) (`Posted`).
+        // A beginning of what the application takes in it waits behind what waited, and all of it where no
+        // telegram was lost (`Came`).
         ensures does { OnOk result (Does (call (Close now)) self.old self.new) }
+        // An accepted call tells whether all waits, a datagram found no room, or a telegram did.
+        // A call is refused, by the first name that holds, for its time, a telegram lost before, or where there
+        // is less room than it is to have, and nothing changes then.
         ensures answer { MatchResult result (λ o. (is_time now self.old ≡ true) × (o ≡ outcome_of self.old self.new))
             (λ f. (is_time now self.old ≡ false) × (f ≡ refused.Time) × (self.new ≡ self.old)) }
+        // An accepted call makes its time that of the station.
         ensures time { OnOk result (self.new.time ≡ now) }
     {
         if !self.is_time(now) {
@@ -230,7 +286,9 @@ impl Station {
     ///
     /// Refused where the buffer is shorter than it, and then it stays.
     pub fn take(&mut self, buffer: &mut [u8]) -> Result<Option<(u16, usize)>, TooSmall>
+        // `take` is `pop` of the queue of telegrams.
         ensures popped { Popped result self.old.inbox.queue buffer.old self.new.inbox.queue buffer.new }
+        // `take` leaves all else of a station as it was.
         ensures same { SameButTelegrams self.old self.new }
     {
         self.inbox.pop(buffer)
@@ -242,7 +300,9 @@ impl Station {
     ///
     /// Refused where the buffer is shorter than it, and then it stays.
     pub fn next_datagram(&mut self, buffer: &mut [u8]) -> Result<Option<(usize, usize)>, TooSmall>
+        // `next_datagram` is `pop` of the queue of datagrams.
         ensures popped { Popped result (outbox_of self.old).queue buffer.old (outbox_of self.new).queue buffer.new }
+        // `next_datagram` leaves all else of a station as it was.
         ensures same { SameButDatagrams self.old self.new }
     {
         self.end.channels().pop(buffer)
@@ -261,10 +321,13 @@ impl Station {
 
     /// The earliest time at which `tick` does something, if nothing arrives and nothing is put in, as `End::next_deadline` tells it.
     pub fn next_deadline(&self) -> Option<u64>
+        // Before the deadline a tick does nothing, where the end is not closed.
         ensures before { (x : EndState) → EndStands told_of self.now.end x → is_shut x ≡ false → (now : ℕ)
             → IsBefore now result → IsQuiet now x }
+        // From the deadline on, up to 2^62 ms, a tick does something.
         ensures after { (x : EndState) → EndStands told_of self.now.end x → (now : ℕ) → now ≤ 2 ^ 62 → IsReachedAt now result
             → HasFallen now x }
+        // A closed end has no deadline.
         ensures closed { (x : EndState) → EndStands told_of self.now.end x → is_shut x ≡ true → result ≡ None }
     {
         self.end.next_deadline()
@@ -272,6 +335,7 @@ impl Station {
 
     /// The state of the connection.
     pub fn state(&self) -> ConnectionState
+        // The state of the connection is that of the end.
         ensures { EndAsks told_of (λ x. x.machine.connection) self.now.end result }
     {
         self.end.state()
@@ -279,6 +343,7 @@ impl Station {
 
     /// The phase of the session.
     pub fn phase(&self) -> Phase
+        // The phase of the session is that of the end.
         ensures { EndAsks told_of (λ x. phase_in x.session) self.now.end result }
     {
         self.end.phase()
@@ -286,6 +351,7 @@ impl Station {
 
     /// Whether all that was put in is done with: the end is not closed, no message waits, and no unit is unconfirmed.
     pub fn settled(&self) -> bool
+        // All is settled exactly where it is at the end.
         ensures { EndAsks told_of is_settled self.now.end result }
     {
         self.end.settled()
@@ -293,6 +359,7 @@ impl Station {
 
     /// How many datagrams found no room since it was opened, modulo 2^64.
     pub fn unsent(&self) -> u64
+        // A station answers how many pieces wait in its queues, and how many datagrams found no room.
         ensures { result ≡ (outbox_of self.now).unsent }
     {
         self.end.channels_seen().unsent()
@@ -300,6 +367,7 @@ impl Station {
 
     /// Whether a telegram found no room.
     pub fn lost(&self) -> bool
+        // A station answers how many pieces wait in its queues, and how many datagrams found no room.
         ensures { result ≡ self.now.inbox.lost }
     {
         self.inbox.lost()
@@ -307,6 +375,7 @@ impl Station {
 
     /// How many telegrams wait.
     pub fn telegrams(&self) -> usize
+        // A station answers how many pieces wait in its queues, and how many datagrams found no room.
         ensures { result ≡ length self.now.inbox.queue.waiting }
     {
         self.inbox.queue().len()
@@ -314,6 +383,7 @@ impl Station {
 
     /// How many datagrams wait.
     pub fn datagrams(&self) -> usize
+        // A station answers how many pieces wait in its queues, and how many datagrams found no room.
         ensures { result ≡ length (outbox_of self.now).queue.waiting }
     {
         self.end.channels_seen().queue().len()

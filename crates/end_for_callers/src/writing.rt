@@ -20,9 +20,12 @@ const NUMBER_MAX: u64 = 4_294_967_295;
 impl PlainSettings {
     /// Plain settings by which an end is opened on this side with these settings; `None` where a number of them is above 2^32 - 1.
     pub fn of(side: Side, config: &EndConfig, first_sn: u32, rooms: Rooms) -> Option<Self>
+        // Plain settings are written exactly where each number has a place.
         ensures some { is_some result ≡ are_plain config.now }
+        // Plain settings that are written are read as those of which they were made.
         ensures says { IfSome result (λ s. opening_of s
             ≡ Some (record { config = settings_of config.now; side = side; first_sn = first_sn; rooms = rooms })) }
+        // Plain settings bear their own size.
         ensures size { IfSome result (λ s. s.size ≡ PLAIN_SETTINGS_SIZE) }
     {
         if !are_plain(config) {

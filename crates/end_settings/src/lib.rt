@@ -30,6 +30,7 @@ pub enum Side {
 impl Side {
     /// The role of this end's safety machine.
     pub fn role(self) -> Role
+        // The interlocking is the client, the field element the server.
         ensures { result ≡ role_of self }
     {
         match self {
@@ -83,6 +84,8 @@ pub struct EndConfig {
 impl EndConfig {
     /// Whether an end may be opened on this side with these settings. All others are refused as BadConfig.
     pub fn is_fit(&self, side: Side) -> bool
+        // `is_fit` tells exactly whether settings are fit for a side: numbers in their ranges, names and
+        // checksum well formed, versions as the side needs them.
         ensures { result ≡ are_fit (side_of side) (settings_of self.now) }
     {
         // Names and checksum are fit by their types; so is the protocol type, whose range is known once it is read.
@@ -98,6 +101,7 @@ impl EndConfig {
 
     /// The safety code, where it is one of an end; none otherwise, which no machine takes.
     pub fn code_length(&self) -> CodeLength
+        // 8 and 16 name the lengths of the safety code; any other number names no code.
         ensures { result ≡ code_of self.now.code }
     {
         match self.code {
@@ -110,6 +114,8 @@ impl EndConfig {
     /// The settings of the safety machine. The caller has seen that they are fit.
     pub fn machine(&self) -> MachineConfig
         requires { self.now.n_sendmax ≤ WINDOW_MAX }
+        // With `n_sendmax` at most 32 the safety machine's settings are those of the end, in the role of its
+        // side.
         ensures { (side : Side) → machine_settings (role_of side) result
             ≡ connection_of (side_of side) (settings_of self.now) }
     {

@@ -20,7 +20,9 @@ impl Versions {
 
     /// These versions; `None` where they are more than four.
     pub fn new(versions: &[u8]) -> Option<Self>
+        // A list of versions is refused exactly where it has more than four.
         ensures some { IsSome result ↔ (length versions.now ≤ VERSIONS_MAX) }
+        // Versions are kept as they were given, in order.
         ensures found { IfSome result (λ kept. versions_in kept ≡ versions.now) }
     {
         let mut octets = [0; VERSIONS_MAX];
@@ -36,6 +38,7 @@ impl Versions {
 
     /// The versions, in order.
     pub fn as_slice(&self) -> &[u8]
+        // Versions are kept as they were given, in order.
         ensures { result.now ≡ versions_in self.now }
     {
         &self.octets[..self.count]
@@ -57,7 +60,9 @@ impl Checksum {
 
     /// This checksum; `None` where it has more than 16 octets.
     pub fn new(checksum: &[u8]) -> Option<Self>
+        // A checksum is refused exactly where it has more than 16 octets.
         ensures some { IsSome result ↔ (length checksum.now ≤ CHECKSUM_MAX) }
+        // The octets of a checksum are kept as they were given, in order.
         ensures found { IfSome result (λ kept. checksum_in kept ≡ checksum.now) }
     {
         let mut octets = [0; CHECKSUM_MAX];
@@ -73,6 +78,7 @@ impl Checksum {
 
     /// The octets, in order.
     pub fn as_slice(&self) -> &[u8]
+        // The octets of a checksum are kept as they were given, in order.
         ensures { result.now ≡ checksum_in self.now }
     {
         &self.octets[..self.count]

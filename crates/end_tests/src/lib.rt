@@ -1,4 +1,4 @@
-//! What is shown of an end, a pair, channels, settings and lines of scripts by examples; and an application that embeds an end.
+//! What is shown of an end, a pair, channels and settings by examples.
 //!
 //! A crate of its own, since a crate with tests is proved once more with them.
 #![tactic(auto)]
@@ -7,10 +7,6 @@
 mod channels_tests;
 #[cfg(test)]
 mod settings_file_tests;
-#[cfg(test)]
-mod sim_lines_tests;
-#[cfg(test)]
-mod stack_end_embedding;
 #[cfg(test)]
 mod stack_end_fault_tests;
 #[cfg(test)]

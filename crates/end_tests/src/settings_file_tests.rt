@@ -1,4 +1,4 @@
-use settings_file::{Ends, SettingsFault, Word, settings};
+use settings_file::{Ends, SettingsFault, Word, findings, settings, warnings};
 use std::test::Fail;
 
 // The keys that have no default, with those that a case replaces left out.
@@ -13,7 +13,8 @@ fn text_of(alloc: std::alloc::Global, more: &str) -> Result<String, Fail> {
         ("remote", "['127.0.0.1:2']"),
     ] {
         let line = format!(in alloc; "{key}=")?;
-        if !more.starts_with(line.as_str()) {
+        let behind = format!(in alloc; "\n{line}")?;
+        if !more.starts_with(line.as_str()) && !more.contains(behind.as_str()) {
             text.push_str(format!(in alloc; "{line}{value}\n")?.as_str())?;
         }
     }
@@ -352,5 +353,128 @@ fn reads_each_key(rt: HostRuntime) -> Result<(), Fail> {
         (config.mwa, config.pdu_limit, least.first_sn),
         (10, 4_294_901_760, Some(1))
     );
+    Ok(())
+}
+
+const FINDINGS: [(Word, &str, &[&str]); 8] = [
+    (Word::Il, "", &[]),
+    (Word::Il, "q==1\n", &["line 7: no TOML"]),
+    (
+        Word::Il,
+        "id='x'\nname='A_B'\nt_max=99\nt_h=5\ncolour=3\n",
+        &[
+            "colour: no such key",
+            "id: 0 to 4294967295 expected, \"x\" found",
+            "name: a name of 1 to 20 characters 21 to 7e, none of them 5f, expected, \"A_B\" found",
+            "t_max: 100 to 60000 expected, 99 found",
+        ],
+    ),
+    (
+        Word::Il,
+        "id=2\nt_max=200\n",
+        &[
+            "peer_id: another number than id expected, 2 found",
+            "t_h: 10 to 199 expected, nothing found",
+        ],
+    ),
+    (
+        Word::Il,
+        "puts=['0100:0a', '12:', 7, '0100:0']\n",
+        &[
+            "puts: entry 2: a text KIND:HEX expected, \"12:\" found",
+            "puts: entry 3: a text KIND:HEX expected, another value found",
+            "puts: entry 4: a text KIND:HEX expected, \"0100:0\" found",
+        ],
+    ),
+    (
+        Word::Il,
+        "puts='0100:0a'\nlocal=[]\n",
+        &[
+            "local: one to four texts, as many in local as in remote, expected, another value found",
+            "puts: a list of texts KIND:HEX expected, \"0100:0a\" found",
+        ],
+    ),
+    (
+        Word::Il,
+        "local=['127.0.0.1:1', '127.0.0.1:3']\n",
+        &[
+            "remote: one to four texts, as many in local as in remote, expected, another value found",
+        ],
+    ),
+    (
+        Word::Pair,
+        "pause=1\n",
+        &[
+            "id: no such key",
+            "local: no such key",
+            "name: no such key",
+            "pause: no such key",
+            "peer_id: no such key",
+            "peer_name: no such key",
+            "remote: no such key",
+            "il: a table expected, none found",
+            "fe: a table expected, none found",
+        ],
+    ),
+];
+
+// All that is wrong in a file, each fault with what stands there.
+#[test]
+fn finds_all_that_is_wrong(rt: HostRuntime) -> Result<(), Fail> {
+    for (word, more, want) in FINDINGS {
+        let text = text_of(rt.alloc(), more)?;
+        let found = findings(rt.alloc(), word, text.as_str())?;
+        assert_eq!(rt; found.len(), want.len(), "at {more}");
+        for (finding, line) in found.iter().zip(want.iter()) {
+            let told = format!(in rt.alloc(); "{finding}")?;
+            assert_eq!(rt; told.as_str(), *line);
+        }
+    }
+    Ok(())
+}
+
+const WARNINGS: [(&str, &[&str]); 7] = [
+    ("", &[]),
+    (
+        "t_seq=100\nt_max=100\nt_h=50\n",
+        &["t_seq: 100 is not below t_max 100: what waits so long is too old when it goes up"],
+    ),
+    ("t_seq=99\nt_max=100\nt_h=50\n", &[]),
+    (
+        "n_sendmax=2\nmwa=2\n",
+        &["mwa: 2 is not below n_sendmax 2: with its window full the peer waits for a heartbeat"],
+    ),
+    ("n_sendmax=2\nmwa=1\n", &[]),
+    (
+        "local=['127.0.0.1:0']\nremote=['[::1]:2']\n",
+        &[
+            "local: entry 1: nothing can be sent to port 0",
+            "remote: entry 1: of IPv4 and IPv6, local has the other one",
+        ],
+    ),
+    (
+        "local=['127.0.0.1:1', '127.0.0.1:1']\nremote=['127.0.0.1:2', '127.0.0.1:1']\n",
+        &[
+            "local: entry 1: this address stands there again",
+            "remote: entry 2: the own address of this channel",
+        ],
+    ),
+];
+
+// What is likely to be a mistake.
+#[test]
+fn warns_of_mistakes(rt: HostRuntime) -> Result<(), Fail> {
+    for (more, want) in WARNINGS {
+        let text = text_of(rt.alloc(), more)?;
+        let Ok(Ends::Il(read)) = settings(rt.alloc(), Word::Il, text.as_str()) else {
+            return Err(Fail::from("refused"));
+        };
+        let found = warnings(rt.alloc(), &read)?;
+        assert_eq!(rt; found.len(), want.len(), "at {more}");
+        for (warning, line) in found.iter().zip(want.iter()) {
+            let told = format!(in rt.alloc(); "{warning}")?;
+            assert_eq!(rt; told.as_str(), *line);
+        }
+    }
     Ok(())
 }

@@ -2,7 +2,7 @@
 use Rattle.std.specs.Prelude.{ℕ, nat_eq, List, [], ◌∷◌, ◌++◌, codes, Option, Some, None, if◌then◌else◌}
 use Rattle.std.specs.Fmt.{decimal}
 use Rattle.pdu_text.specs.Lines.{joined}
-use Rattle.sim_lines.specs.Names.{state_name, phase_name}
+use Rattle.log_lines.specs.Names.{state_name, phase_name}
 use Rattle.log_lines.specs.Causes.{cause_text}
 use Rattle.log_lines.specs.Leavings.{leaving_text}
 use Rattle.log_lines.specs.declared.causes.Cause.{Cause}

@@ -1,3 +1,5 @@
+pub mod Names
+pub mod Reports
 pub mod Pieces
 pub mod Leavings
 pub mod Causes

@@ -2,19 +2,22 @@
 use Rattle.std.specs.Prelude.{ℕ, nat_eq, List, [], ◌∷◌, ◌++◌, codes, if◌then◌else◌}
 use Rattle.std.specs.Fmt.{decimal}
 use Rattle.pdu_text.specs.Lines.{joined}
-use Rattle.sim_lines.specs.Names.{state_name, phase_name}
+use Rattle.log_lines.specs.Names.{state_name, phase_name}
 use Rattle.pdi_session.specs.FaultNames.{put_fault_name, init_fault_name}
 use Rattle.log_lines.specs.Causes.{cause_text}
 use Rattle.log_lines.specs.Leavings.{leaving_text}
 use Rattle.log_lines.specs.declared.causes.Cause.{Cause}
 use Rattle.log_lines.specs.declared.lines.Happening.{Happening}
-use Rattle.log_lines.specs.declared.lines.Happening.TheVariants.{State, Phase, Left, PeerLeft, Asked, Resent, PutRefused, InitRefused, Silent, Heard, Dropped}
+use Rattle.log_lines.specs.declared.lines.Happening.TheVariants.{State, Phase, Anew, Left, PeerLeft, Asked, Resent, PutRefused, InitRefused, Silent, Heard, Dropped}
 
 unfoldable pub state_text : List ℕ → List ℕ
 state_text name = joined (codes "connection " ∷ name ∷ [])
 
 unfoldable pub phase_text : List ℕ → List ℕ
 phase_text name = joined (codes "session " ∷ name ∷ [])
+
+unfoldable pub anew_text : ℕ → List ℕ
+anew_text number = joined (codes "is opened anew, its first sequence number is " ∷ decimal number ∷ [])
 
 unfoldable pub refused_text : List ℕ → List ℕ
 refused_text name = joined (codes "a telegram was not put in: " ∷ name ∷ [])
@@ -41,6 +44,7 @@ dropped_text channel cause = drop_front channel ++ cause_text cause
 abbrev pub happening_text : Happening → List ℕ
 happening_text (State state) = state_text (state_name state)
 happening_text (Phase phase) = phase_text (phase_name phase)
+happening_text (Anew number) = anew_text number
 happening_text (Left leaving) = leaving_text (codes "leaves with ") leaving
 happening_text (PeerLeft leaving) = leaving_text (codes "is left by its peer with ") leaving
 happening_text Asked = codes "asks for a retransmission: something was lost on all channels"

@@ -3,7 +3,7 @@ use Rattle.std.specs.Prelude.{ℕ, ◌+◌, ◌/◌, ◌%◌, List, [], ◌∷�
 use Rattle.std.specs.Fmt.{decimal}
 use Rattle.end_settings.specs.declared.Side.{Side}
 use Rattle.pdu_text.specs.Lines.{joined}
-use Rattle.sim_lines.specs.Names.{side_name}
+use Rattle.log_lines.specs.Names.{side_name}
 
 -- the decimal digit of this weight: 1 of the last, 10 of the one before it
 abbrev pub digit : ℕ → ℕ → ℕ

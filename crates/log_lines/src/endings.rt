@@ -7,13 +7,13 @@ ghost use Rattle.log_lines.specs.Pieces.{log_line};
 
 use crate::causes::{Cause, write_cause};
 use crate::leavings::write_leaving;
+use crate::names::{phase_name, state_name};
 use crate::pieces::write_front;
 use end_settings::Side;
 use pdi_session::Phase;
 use pdu_text::write_text;
 use safe_machine::ConnectionState;
 use safe_pdu::Leaving;
-use sim_lines::{phase_name, state_name};
 use std::io;
 use std::io::Write;
 
@@ -55,6 +55,8 @@ pub fn write_ending<W: Write>(
     side: Side,
     ending: &Ending,
 ) -> io::Result<()>
+    // The last line of an end says how it stands, who left with which reason and detail, and where nothing of
+    // the peer was taken what came.
     ensures { OnOk result (Appends (W.contents writer.old) (W.contents writer.new)
         (log_line at side (endings.ending_text ending.now))) }
 {

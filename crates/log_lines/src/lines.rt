@@ -7,13 +7,13 @@ ghost use Rattle.log_lines.specs.Pieces.{log_line};
 
 use crate::causes::{Cause, write_cause};
 use crate::leavings::write_leaving;
+use crate::names::{phase_name, state_name};
 use crate::pieces::write_front;
 use end_settings::Side;
 use pdi_session::{InitFault, Phase, PutFault};
 use pdu_text::write_text;
 use safe_machine::ConnectionState;
 use safe_pdu::Leaving;
-use sim_lines::{phase_name, state_name};
 use std::io;
 use std::io::Write;
 
@@ -24,6 +24,8 @@ pub enum Happening {
     State(ConnectionState),
     /// The session came to this phase.
     Phase(Phase),
+    /// The end was opened anew, and numbers its PDUs from this sequence number on.
+    Anew(u32),
     /// The end left the connection.
     Left(Leaving),
     /// Its peer left the connection.
@@ -56,6 +58,8 @@ pub fn write_happening<W: Write>(
     side: Side,
     happening: Happening,
 ) -> io::Result<()>
+    // The line of what happened to an end is exactly the stated text: its time in seconds with three digits,
+    // the end, and what happened.
     ensures { OnOk result (Appends (W.contents writer.old) (W.contents writer.new)
         (log_line at side (lines.happening_text happening))) }
 {
@@ -71,6 +75,7 @@ fn write_what<W: Write>(writer: &mut W, happening: Happening) -> io::Result<()>
     match happening {
         Happening::State(state) => write_state(writer, state_name(state)),
         Happening::Phase(phase) => write_phase(writer, phase_name(phase)),
+        Happening::Anew(number) => write_anew(writer, number),
         Happening::Left(leaving) => write_leaving(writer, "leaves with ", leaving),
         Happening::PeerLeft(leaving) => {
             write_leaving(writer, "is left by its peer with ", leaving)
@@ -102,6 +107,16 @@ fn write_phase<W: Write>(writer: &mut W, name: &str) -> io::Result<()>
     ensures { OnOk result (Appends (W.contents writer.old) (W.contents writer.new) (lines.phase_text name.now)) }
 {
     write!(writer, "session {name}")
+}
+
+#[tactic(auto, unfolding(crate::specs::Lines::anew_text))]
+fn write_anew<W: Write>(writer: &mut W, number: u32) -> io::Result<()>
+    ensures { OnOk result (Appends (W.contents writer.old) (W.contents writer.new) (lines.anew_text number)) }
+{
+    write!(
+        writer,
+        "is opened anew, its first sequence number is {number}"
+    )
 }
 
 #[tactic(auto, unfolding(crate::specs::Lines::refused_text))]
@@ -178,6 +193,7 @@ pub fn write_channel<W: Write>(
     local: &str,
     remote: &str,
 ) -> io::Result<()>
+    // So are the line of a channel with its addresses, and that of lines left out.
     ensures { OnOk result (Appends (W.contents writer.old) (W.contents writer.new)
         (log_line at side (lines.channel_text channel local.now remote.now))) }
 {
@@ -209,6 +225,7 @@ fn write_opened<W: Write>(
 /// An error is the writer's; what came before it stays written.
 #[tactic(auto, unfolding(crate::specs::Pieces::log_line))]
 pub fn write_missed<W: Write>(writer: &mut W, at: u64, side: Side, count: u64) -> io::Result<()>
+    // So are the line of a channel with its addresses, and that of lines left out.
     ensures { OnOk result (Appends (W.contents writer.old) (W.contents writer.new)
         (log_line at side (lines.missed_text count))) }
 {

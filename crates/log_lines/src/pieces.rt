@@ -4,8 +4,8 @@ ghost use Rattle.std.specs.Prelude.{◌≡◌, OnOk};
 ghost use Rattle.std.specs.Io.KnownBytes.{Appends};
 ghost use Rattle.log_lines.specs.Pieces.{front_text, three_digits, time_text};
 
+use crate::names::side_name;
 use end_settings::Side;
-use sim_lines::side_name;
 use std::io;
 use std::io::Write;
 

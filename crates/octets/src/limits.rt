@@ -1,5 +1,7 @@
 //! The sizes and counts that the profile fixes, in octets unless a line says otherwise. Code and
-//! definitions both read them here, so a limit is changed in one line.
+//! definitions both read them here. As numbers they stand once more, in the law at the end.
+
+ghost use Rattle.octets.specs.Profile.{CountsAre, HeadersAre, RangesAre, TelegramsAre};
 
 /// The header of a redundancy PDU: length (2), reserve (2), sequence number (4).
 pub const RED_HEADER: usize = 8;
@@ -98,3 +100,15 @@ const _: () = prove!(UNIT_MAX == 1_206);
 const _: () = prove!(SAFE_PDU_MAX == 1_250);
 
 const _: () = prove!(RED_PDU_MAX == 1_258);
+
+/// A law, which does nothing when it is called: the limits are these numbers.
+pub fn limits_law()
+    // The sizes of headers, codes and PDUs are the stated numbers.
+    ensures headers { HeadersAre }
+    // The sizes of telegrams, messages, names and units are the stated numbers.
+    ensures telegrams { TelegramsAre }
+    // The counts of channels, of units in a window and of parts that wait are the stated numbers.
+    ensures counts { CountsAre }
+    // The ranges of settings are the stated numbers.
+    ensures ranges { RangesAre }
+{}

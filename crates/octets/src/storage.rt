@@ -11,6 +11,7 @@ pub type Unit = ArrayVec<u8, UNIT_MAX>;
 /// A copy of octets, in storage for at most `MAX` of them. The caller keeps them within it.
 pub fn copy_of<const MAX: usize>(octets: &[u8]) -> ArrayVec<u8, MAX>
     requires { length octets.now ≤ MAX }
+    // A copy holds the octets that were copied, whatever the size of its storage.
     ensures { result.items ≡ octets.now }
 {
     let mut copy = ArrayVec::new();

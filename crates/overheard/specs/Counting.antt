@@ -1,5 +1,5 @@
 -- What is counted of a channel and of a connection, modulo 2^64.
-use Rattle.std.specs.Prelude.{ℕ, ◌+◌, ◌%◌, ◌^◌, nat_eq, Bool, true, false, List, slice_index_or, if◌then◌else◌}
+use Rattle.std.specs.Prelude.{ℕ, ◌+◌, ◌%◌, ◌^◌, nat_eq, Bool, true, false, List, slice_index_or, max, Option, Some, None, if◌then◌else◌}
 use Rattle.red_layer.specs.declared.RedEvent.{RedEvent}
 use Rattle.red_layer.specs.declared.RedEvent.TheVariants as event
 use Rattle.safe_machine.specs.declared.DropCause.{DropCause}
@@ -30,7 +30,8 @@ no_datagrams =
     }
 
 abbrev pub no_pdus : PduCounts
-no_pdus = record { units = 0; resent = 0; heartbeats = 0; asked = 0; answered = 0; taken = 0; dropped = 0 }
+no_pdus =
+    record { units = 0; resent = 0; heartbeats = 0; asked = 0; answered = 0; taken = 0; dropped = 0; confirmed = 0; oldest = None }
 
 -- a datagram that was to be sent, and went out or did not
 abbrev pub with_sent : Bool → ChannelCounts → ChannelCounts
@@ -78,6 +79,20 @@ with_made kind c =
     else if nat_eq kind 6213 then record c { answered = one_more c.answered }
     else c
 
+-- so many units that a PDU of the peer confirmed
+abbrev pub with_confirmed : ℕ → PduCounts → PduCounts
+with_confirmed units c = record c { confirmed = (c.confirmed + units) % 2 ^ 64 }
+
+-- the greater of two ages, where there is one
+abbrev pub older_of : Option ℕ → Option ℕ → Option ℕ
+older_of None age = age
+older_of (Some oldest) None = Some oldest
+older_of (Some oldest) (Some age) = Some (max oldest age)
+
+-- how old the timestamp was that a PDU of the peer confirmed, in milliseconds, where it confirmed one
+abbrev pub with_age : Option ℕ → PduCounts → PduCounts
+with_age age c = record c { oldest = older_of c.oldest age }
+
 -- on the four channels together
 abbrev pub plus : ℕ → ℕ → ℕ
 plus m n = (m + n) % 2 ^ 64
@@ -87,3 +102,13 @@ came_at channels place = (slice_index_or channels place no_datagrams).came
 
 abbrev pub came_on : List ChannelCounts → ℕ
 came_on channels = plus (plus (plus (came_at channels 0) (came_at channels 1)) (came_at channels 2)) (came_at channels 3)
+
+-- what the redundancy layer let in: it passed it on, or it waits
+abbrev pub let_in : ChannelCounts → ℕ
+let_in c = plus c.passed c.deferred
+
+abbrev pub let_in_at : List ChannelCounts → ℕ → ℕ
+let_in_at channels place = let_in (slice_index_or channels place no_datagrams)
+
+abbrev pub let_in_on : List ChannelCounts → ℕ
+let_in_on channels = plus (plus (plus (let_in_at channels 0) (let_in_at channels 1)) (let_in_at channels 2)) (let_in_at channels 3)

@@ -23,5 +23,8 @@ header_seen octets =
       kind = number_at 2 10 octets;
       receiver = number_at 4 12 octets;
       sender = number_at 4 16 octets;
+      sn = number_at 4 20 octets;
+      cs = number_at 4 24 octets;
+      cts = number_at 4 32 octets;
       leaving = leaving_seen octets;
     }

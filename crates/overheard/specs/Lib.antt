@@ -1,3 +1,4 @@
 pub mod Headers
 pub mod Counting
+pub mod Confirming
 pub mod Telling

@@ -1,18 +1,36 @@
 //! Channels that pass everything on, and are listened to.
 
-ghost use Rattle.std.specs.Prelude.{◌≡◌, ◌≤◌, length, is_ok, IfOk, IfSome};
+ghost use Rattle.std.specs.Prelude.{◌≡◌, ◌≤◌, true, length, is_ok, IfOk, IfSome};
 ghost use Rattle.channels.specs.Told.{Sends, after_receive};
 
 use crate::ear::Ear;
 use channels::{ChannelFault, Channels, Note};
+use std::alloc::{AllocError, Global};
 
 /// Channels that are listened to. What is sent and received goes through as it is, and notes are handed on.
 #[derive(Drop)]
 pub struct Overheard<C> {
     /// The channels themselves.
     pub inner: C,
-    /// What is heard of them.
-    pub ear: Ear,
+    /// What is heard of them. It stands on the heap, so that an end stays small enough to be handed on.
+    pub ear: Box<Ear>,
+}
+
+impl<C: Drop> Overheard<C> {
+    /// Channels that are listened to, or by an ear that keeps nothing.
+    ///
+    /// # Errors
+    ///
+    /// The error is that memory was refused.
+    pub fn over(alloc: Global, inner: C, listens: bool) -> Result<Self, AllocError>
+        // Channels that are listened to are what they were.
+        ensures inner { IfOk result (λ o. o.inner ≡ inner) }
+        // They are listened to exactly where that is asked.
+        ensures listens { IfOk result (λ o. o.ear.value.listens ≡ listens) }
+    {
+        let ear = Box::new(alloc, Ear::new(listens))?;
+        Ok(Overheard { inner, ear })
+    }
 }
 
 impl<C: Channels> Channels for Overheard<C> {
@@ -31,6 +49,14 @@ impl<C: Channels> Channels for Overheard<C> {
             self.ear.hear_came(channel, &buffer[..size]);
         }
         result
+    }
+
+    /// An ear that listens hears notes, and so do channels that do.
+    fn hears_notes(&self) -> bool
+        // An ear that listens hears notes.
+        ensures { self.now.ear.value.listens ≡ true → result ≡ true }
+    {
+        self.ear.listens || self.inner.hears_notes()
     }
 
     fn note(&mut self, note: &Note<'_>) {

@@ -50,11 +50,17 @@ pub struct PduCounts {
     pub taken: u64,
     /// PDUs that it dropped.
     pub dropped: u64,
+    /// Units that the peer confirmed.
+    pub confirmed: u64,
+    /// How old the confirmed timestamp of a PDU was at most when the end took it, in milliseconds by the end's clock; none where none was
+    /// confirmed.
+    pub oldest: Option<u32>,
 }
 
 impl ChannelCounts {
     /// Nothing was counted.
     pub fn none() -> Self
+        // An ear begins with nothing counted, nobody left and nothing dropped.
         ensures { result ≡ counting.no_datagrams }
     {
         ChannelCounts {
@@ -72,8 +78,18 @@ impl ChannelCounts {
         }
     }
 
+    /// How many datagrams the redundancy layer let in, modulo 2^64: it passed them on, or they had to wait.
+    pub fn let_in(self) -> u64
+        // The datagrams that were let in are those passed on and those that had to wait.
+        ensures { result ≡ counting.let_in self }
+    {
+        self.passed.wrapping_add(self.deferred)
+    }
+
     /// With a datagram that was to be sent, and whether it went out.
     pub fn with_sent(mut self, went: bool) -> Self
+        // A datagram, what the redundancy layer did with it and what the safety machine did with its part raise
+        // exactly one count by one.
         ensures { result ≡ counting.with_sent went self }
     {
         if went {
@@ -86,6 +102,8 @@ impl ChannelCounts {
 
     /// With a datagram that came.
     pub fn with_came(mut self) -> Self
+        // A datagram, what the redundancy layer did with it and what the safety machine did with its part raise
+        // exactly one count by one.
         ensures { result ≡ counting.with_came self }
     {
         self.came = one_more(self.came);
@@ -94,6 +112,8 @@ impl ChannelCounts {
 
     /// With what the redundancy layer did with a datagram.
     pub fn with_event(mut self, event: RedEvent) -> Self
+        // A datagram, what the redundancy layer did with it and what the safety machine did with its part raise
+        // exactly one count by one.
         ensures { result ≡ counting.with_event event self }
     {
         match event {
@@ -110,6 +130,8 @@ impl ChannelCounts {
 
     /// With a part that the safety machine dropped.
     pub fn with_dropped(mut self, cause: DropCause) -> Self
+        // A datagram, what the redundancy layer did with it and what the safety machine did with its part raise
+        // exactly one count by one.
         ensures { result ≡ counting.with_dropped cause self }
     {
         match cause {
@@ -124,6 +146,7 @@ impl ChannelCounts {
 impl PduCounts {
     /// Nothing was counted.
     pub fn none() -> Self
+        // An ear begins with nothing counted, nobody left and nothing dropped.
         ensures { result ≡ counting.no_pdus }
     {
         PduCounts {
@@ -134,11 +157,15 @@ impl PduCounts {
             answered: 0,
             taken: 0,
             dropped: 0,
+            confirmed: 0,
+            oldest: None,
         }
     }
 
     /// With what the safety machine did with a part.
     pub fn with_step(mut self, step: Step) -> Self
+        // A datagram, what the redundancy layer did with it and what the safety machine did with its part raise
+        // exactly one count by one.
         ensures { result ≡ counting.with_step step self }
     {
         match step {
@@ -150,6 +177,8 @@ impl PduCounts {
 
     /// With a PDU that was made, by the number of its type.
     pub fn with_made(mut self, kind: u16) -> Self
+        // A datagram, what the redundancy layer did with it and what the safety machine did with its part raise
+        // exactly one count by one.
         ensures { result ≡ counting.with_made kind self }
     {
         match kind {
@@ -161,6 +190,37 @@ impl PduCounts {
             _ => {}
         }
         self
+    }
+
+    /// With so many units that a PDU of the peer confirmed.
+    pub fn with_confirmed(mut self, units: usize) -> Self
+        // The greatest age of a confirmed timestamp is kept: the end's time less the timestamp, modulo 2^32; a
+        // ConnReq has none, nor has a RetrReq while the end asks itself.
+        ensures { result ≡ counting.with_confirmed units self }
+    {
+        self.confirmed = self.confirmed.wrapping_add(units as u64);
+        self
+    }
+
+    /// With the age of the timestamp that a PDU of the peer confirmed, in milliseconds, where it confirmed one.
+    pub fn with_age(mut self, age: Option<u32>) -> Self
+        // The greatest age of a confirmed timestamp is kept: the end's time less the timestamp, modulo 2^32; a
+        // ConnReq has none, nor has a RetrReq while the end asks itself.
+        ensures { result ≡ counting.with_age age self }
+    {
+        self.oldest = older_of(self.oldest, age);
+        self
+    }
+}
+
+/// The greater of two ages, where there is one.
+fn older_of(oldest: Option<u32>, age: Option<u32>) -> Option<u32>
+    ensures { result ≡ counting.older_of oldest age }
+{
+    match (oldest, age) {
+        (None, age) => age,
+        (oldest, None) => oldest,
+        (Some(oldest), Some(age)) => Some(oldest.max(age)),
     }
 }
 

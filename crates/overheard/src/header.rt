@@ -23,12 +23,19 @@ pub struct Header {
     pub receiver: u32,
     /// The identifier of its sender.
     pub sender: u32,
+    /// The sequence number (SN).
+    pub sn: u32,
+    /// The confirmed sequence number (CS).
+    pub cs: u32,
+    /// The confirmed timestamp (CTS), in milliseconds modulo 2^32.
+    pub cts: u32,
     /// What stands where a DiscReq has detail and reason; none where there are too few octets.
     pub leaving: Option<Leaving>,
 }
 
 /// Reads the places of a header; none where there are too few octets.
 pub fn header_of(datagram: &[u8]) -> Option<Header>
+    // The header of a datagram is what stands at its places, and none where there are too few octets.
     ensures { result ≡ header_seen datagram.now }
 {
     if datagram.len() < HEADER_END {
@@ -39,6 +46,9 @@ pub fn header_of(datagram: &[u8]) -> Option<Header>
         kind: u16_at(datagram, 10),
         receiver: u32_at(datagram, 12),
         sender: u32_at(datagram, 16),
+        sn: u32_at(datagram, 20),
+        cs: u32_at(datagram, 24),
+        cts: u32_at(datagram, 32),
         leaving: leaving_of(datagram),
     })
 }

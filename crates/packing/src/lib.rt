@@ -37,6 +37,7 @@ pub enum PackFault {
 impl PackFault {
     /// The fault's number, as it is printed: its place among the faults, from 1.
     pub fn number(self) -> u8
+        // Each fault has its number.
         ensures { result ≡ unit_number self }
     {
         match self {
@@ -48,6 +49,7 @@ impl PackFault {
 
     /// The fault's name, as it is printed.
     pub fn name(self) -> &'static str
+        // Each fault has its name.
         ensures { result.now ≡ unit_name self }
     {
         match self {

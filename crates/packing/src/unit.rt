@@ -55,17 +55,17 @@ fn messages_in(octets: &[u8]) -> Result<Messages<'_>, PackFault>
 /// Refused: `Empty`, where there are no octets; `TooMany`, where three whole messages were read and
 /// octets remain; else `Length`.
 pub fn unpack(octets: &[u8]) -> Result<Messages<'_>, PackFault>
-    // What is read is spelled so.
+    // What `unpack` accepts is the text, by the grammar, of the 1 to 3 messages that it answers.
     ensures found { IfOk result (λ messages. UnitText (messages_of messages) octets.now) }
 
-    // What is spelled so is read.
+    // `unpack` accepts every text of 1 to 3 messages, and answers these.
     ensures only { (ms : List (List ℕ)) → UnitText ms octets.now
         → IsOkAnd result (λ messages. messages_of messages ≡ ms) }
 
-    // Which fault it is.
+    // The fault that `unpack` names is the one that reading from the left meets.
     ensures fault { IfErr result (FirstFault octets.now) }
 
-    // What it is, as a function of the octets.
+    // What `unpack` answers is one function of the octets: the messages, or the fault.
     ensures exact { seen_of result ≡ unit_seen octets.now }
 {
     if octets.is_empty() {
@@ -90,9 +90,12 @@ pub(crate) fn put_message(unit: &mut Unit, message: &[u8])
 /// list of messages one unit, so what is packed unpacks to the same messages and packing what was
 /// unpacked gives the same octets.
 pub fn one_spelling()
+    // A unit has one list of messages.
     ensures value { (ms other : List (List ℕ)) (octets : List ℕ) → UnitText ms octets → UnitText other octets
         → ms ≡ other }
+    // A list of messages has one unit, so packing what was unpacked gives the same octets.
     ensures text { (ms : List (List ℕ)) (octets again : List ℕ) → UnitText ms octets → UnitText ms again
         → octets ≡ again }
+    // The unit of a list of messages is read, from the left, as that list.
     ensures read { (ms : List (List ℕ)) (octets : List ℕ) → UnitText ms octets → unit_seen octets ≡ Ok ms }
 {}

@@ -43,6 +43,7 @@ impl<A: Allocator> Waiting<A> {
     ///
     /// The error is that memory was refused.
     pub fn new(alloc: A) -> Result<Self, AllocError>
+        // In a new `Waiting` no message waits.
         ensures { IfOk result (λ waiting. waiting ≡ []) }
     {
         let ring = HeapCircularBuffer::with_capacity(alloc, WAITING_MAX)?;
@@ -51,8 +52,11 @@ impl<A: Allocator> Waiting<A> {
 
     /// How many messages wait.
     pub fn len(&self) -> usize
+        // `len` answers how many messages wait.
         ensures len { result ≡ length self.now }
+        // At most 64 messages wait.
         ensures within { result ≤ WAITING_MAX }
+        // Each message that waits has 43 to 400 octets.
         ensures sized { AreMessages self.now }
     {
         self.ring.len()
@@ -60,6 +64,7 @@ impl<A: Allocator> Waiting<A> {
 
     /// Whether no message waits.
     pub fn is_empty(&self) -> bool
+        // `is_empty` tells exactly that none waits.
         ensures { result ≡ (length self.now == 0) }
     {
         self.ring.is_empty()
@@ -67,6 +72,7 @@ impl<A: Allocator> Waiting<A> {
 
     /// Whether there is no room for a message.
     pub fn is_full(&self) -> bool
+        // `is_full` tells exactly that 64 wait.
         ensures { result ≡ (length self.now == WAITING_MAX) }
     {
         self.ring.is_full()
@@ -79,8 +85,11 @@ impl<A: Allocator> Waiting<A> {
     /// Refused exactly where 64 wait, and then all stays as it was.
     pub fn add(&mut self, message: &[u8]) -> Result<(), Full>
         requires { IsMessage message.now }
+        // `add` is refused exactly where 64 wait.
         ensures room { IsOk result ↔ (length self.old < WAITING_MAX) }
+        // An accepted `add` puts its message at the end.
         ensures added { OnOk result (self.new ≡ self.old ++ message.now ∷ []) }
+        // A refused `add` changes nothing.
         ensures full { OnErr result (self.new ≡ self.old) }
     {
         let copy: Message = copy_of(message);
@@ -106,9 +115,13 @@ impl<A: Allocator> Waiting<A> {
 pub fn pack<A: Allocator>(waiting: &mut Waiting<A>, max: usize) -> Option<Unit>
     requires some { 1 ≤ max }
     requires most { max ≤ UNIT_MESSAGES }
+    // The unit that `pack` makes is the text of the first `max` messages in order or, where fewer wait, of all.
     ensures packed { IfSome result (λ unit. UnitText (take max waiting.old) unit.items) }
+    // A unit that `pack` makes has 45 to 1,206 octets.
     ensures sized { IfSome result (λ unit. (UNIT_MIN ≤ length unit.items) × (length unit.items ≤ UNIT_MAX)) }
+    // `pack` answers `None` exactly where no message waits.
     ensures none { IsNone result ↔ (waiting.old ≡ []) }
+    // `pack` leaves the messages behind the first `max`, in order.
     ensures left { waiting.new ≡ drop max waiting.old }
 {
     let count = max.min(waiting.len());
@@ -131,8 +144,11 @@ pub fn read_back<'a, A: Allocator>(
 ) -> Option<Result<Messages<'a>, PackFault>>
     requires some { 1 ≤ max }
     requires most { max ≤ UNIT_MESSAGES }
+    // What is packed unpacks to the same messages: the first `max` or, where fewer wait, all.
     ensures read { IfSome result (λ answer. IsOkAnd answer (λ messages. messages_of messages ≡ take max waiting.old)) }
+    // Packing and unpacking again answers `None` exactly where no message waits.
     ensures none { IsNone result ↔ (waiting.old ≡ []) }
+    // Packing and unpacking again leaves the messages behind the first `max`, in order.
     ensures left { waiting.new ≡ drop max waiting.old }
 {
     *unit = pack(waiting, max)?;

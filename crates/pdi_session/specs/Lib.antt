@@ -6,3 +6,4 @@ pub mod Histories
 pub mod Laws
 pub mod JoinedSessions
 pub mod FaultNames
+pub mod Numbers

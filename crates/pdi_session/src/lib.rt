@@ -3,6 +3,8 @@
 //!
 //! The session layer above RaSTA, in this project's profile. The interlocking is the client and asks
 //! for the session, the field element is the server. One session serves one connection.
+//!
+//! Contracts: sessions are in turn where each is handed the other's queue in order.
 #![tactic(auto)]
 
 ghost use Rattle.std.specs.Prelude.{◌≡◌, ℕ, List};
@@ -18,7 +20,7 @@ mod messages;
 mod session;
 mod tables;
 
-pub use law::session_law;
+pub use law::{numbers_law, session_law};
 pub use session::{Session, are_versions};
 
 /// The kind of a version check, from the interlocking. Payload: version (1).
@@ -117,6 +119,7 @@ pub enum Detail {
 impl Detail {
     /// The number of the detail in a DiscReq, whose reason is then 4 (service not allowed).
     pub fn number(self) -> u16
+        // Each detail has its number in a DiscReq.
         ensures { result ≡ detail_number self }
     {
         match self {
@@ -150,6 +153,7 @@ pub enum PutFault {
 impl PutFault {
     /// The refusal's name, as it is printed.
     pub fn name(self) -> &'static str
+        // Each refusal of a put has its name.
         ensures { result.now ≡ put_fault_name self }
     {
         match self {
@@ -173,6 +177,7 @@ pub enum InitFault {
 impl InitFault {
     /// The refusal's name, as it is printed.
     pub fn name(self) -> &'static str
+        // Each refusal of the end of the initialisation has its name.
         ensures { result.now ≡ init_fault_name self }
     {
         match self {
@@ -189,6 +194,8 @@ pub trait Taker {
 
     /// Takes a telegram's kind and payload (0 to 357 octets).
     fn take(&mut self, kind: u16, payload: &[u8])
+        // A telegram that an application takes is added to its `Texts` where these have room for one of the
+        // greatest size.
         ensures { takes self.old (kind, payload.now) self.new };
 }
 

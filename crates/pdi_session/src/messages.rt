@@ -1,6 +1,6 @@
 //! Putting a telegram behind the messages that wait.
 
-ghost use Rattle.std.specs.Prelude.{◌≡◌, ◌<◌, ◌≤◌, [], ◌∷◌, ◌++◌, length};
+ghost use Rattle.std.specs.Prelude.{◌≡◌, ◌<◌, ◌≤◌, ◌+◌, [], ◌∷◌, ◌++◌, length};
 ghost use Rattle.sci_telegram.specs.TeleText.{tele_text};
 ghost use Rattle.octets.specs.declared.limits.TheConstants.{WAITING_MAX};
 ghost use Rattle.pdi_session.specs.Settings.{addressing_of};
@@ -11,13 +11,16 @@ use super::{
     Parties, START_INITIALISATION, VERSION_ANSWER, VERSION_CHECK,
 };
 use arrayvec::ArrayVec;
-use octets::limits::{MESSAGE_MAX, PAYLOAD_MAX};
+use octets::limits::{MESSAGE_MAX, MESSAGE_MIN, PAYLOAD_MAX};
 use packing::Waiting;
 use sci_telegram::{Telegram, encode};
 use std::alloc::Allocator;
 
 /// The longest answer to a version check: result, version, length, checksum.
 const ANSWER_MAX: usize = 3 + CHECKSUM_MAX;
+
+/// A message of so many octets is short: its buffer costs less than a longest one's, which is cleared each time.
+const SHORT_MESSAGE: usize = 64;
 
 /// Puts a telegram of this kind and payload behind the messages that wait.
 pub(crate) fn add_telegram<A: Allocator>(
@@ -30,6 +33,28 @@ pub(crate) fn add_telegram<A: Allocator>(
     requires room { length waiting.old < WAITING_MAX }
     ensures { waiting.new ≡ waiting.old ++ tele_text (telegram (addressing_of parties.now) kind payload.now) ∷ [] }
 {
+    if MESSAGE_MIN + payload.len() <= SHORT_MESSAGE {
+        let mut buffer = [0; SHORT_MESSAGE];
+        add_by(parties, kind, payload, &mut buffer, waiting);
+    } else {
+        let mut buffer = [0; MESSAGE_MAX];
+        add_by(parties, kind, payload, &mut buffer, waiting);
+    }
+}
+
+/// Writes a telegram into a buffer, and puts it behind the messages that wait.
+fn add_by<A: Allocator>(
+    parties: &Parties,
+    kind: u16,
+    payload: &[u8],
+    buffer: &mut [u8],
+    waiting: &mut Waiting<A>,
+)
+    requires fits { length payload.now ≤ PAYLOAD_MAX }
+    requires room { MESSAGE_MIN + length payload.now ≤ length buffer.old }
+    requires place { length waiting.old < WAITING_MAX }
+    ensures { waiting.new ≡ waiting.old ++ tele_text (telegram (addressing_of parties.now) kind payload.now) ∷ [] }
+{
     let telegram = Telegram {
         protocol: parties.protocol,
         kind,
@@ -37,8 +62,7 @@ pub(crate) fn add_telegram<A: Allocator>(
         receiver: parties.peer.name(),
         payload,
     };
-    let mut buffer = [0; MESSAGE_MAX];
-    let size = encode(&telegram, &mut buffer);
+    let size = encode(&telegram, buffer);
     waiting.add(&buffer[..size]).unwrap();
 }
 

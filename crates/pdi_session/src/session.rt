@@ -59,7 +59,10 @@ impl Model for Session {
 impl Session {
     /// A new session of an interlocking.
     pub fn interlocking(config: InterlockingConfig) -> Self
+        // A new session is Idle, with the settings that it is given.
         ensures opened { result ≡ opened (addressing_of config.parties) (Interlocking config.version) }
+        // Every session has settings in range: a protocol type of one octet, two names, a checksum that is
+        // short enough.
         ensures settings { AreSettings result.addressing result.role }
     {
         Session {
@@ -73,8 +76,11 @@ impl Session {
     /// different ones (`are_versions`).
     pub fn field(config: FieldConfig) -> Self
         requires { AreVersions config.versions.items }
+        // A new session is Idle, with the settings that it is given.
         ensures opened { result ≡ opened (addressing_of config.parties)
             (Field config.versions.items config.checksum.items) }
+        // Every session has settings in range: a protocol type of one octet, two names, a checksum that is
+        // short enough.
         ensures settings { AreSettings result.addressing result.role }
     {
         Session {
@@ -86,7 +92,10 @@ impl Session {
 
     /// How far the session is.
     pub fn phase(&self) -> Phase
+        // `phase` answers the phase of the session.
         ensures phase { result ≡ self.now.phase }
+        // Every session has settings in range: a protocol type of one octet, two names, a checksum that is
+        // short enough.
         ensures settings { AreSettings self.now.addressing self.now.role }
     {
         let Session { phase, .. } = self;
@@ -95,13 +104,21 @@ impl Session {
 
     /// The connection is up: an interlocking sends its version, a field element waits for one. In
     /// another phase than Idle nothing happens. The caller keeps room for one message.
-    #[tactic(auto, using(crate::proofs::Growing::stands_on))]
+    #[tactic(auto, using(crate::proofs::one::Growing::stands_on))]
     pub fn up<A: Allocator>(&mut self, waiting: &mut Waiting<A>)
         requires room { HasRoom self.old waiting.old }
+        // `up`, `arrive`, `init_done` and `end` leave the settings and exactly the phase of the two tables, on
+        // any telegram.
         ensures left { self.new ≡ after Event.Up self.old }
+        // `up`, `arrive`, `put` and `init_done` add exactly the messages of their event, behind those that
+        // wait.
         ensures added { waiting.new ≡ waiting.old ++ texts (added_by Event.Up self.old) }
+        // Where a session stands for a history, after a call it stands for that history made longer by the
+        // event.
         ensures stands { (h : History) → StandsFor self.old waiting.old h
             → StandsFor self.new waiting.new (grown Event.Up h) }
+        // Each call keeps the bound on waiting messages: before Initialising none, one or two, by the phase,
+        // and then 64.
         ensures few { FewWait self.old waiting.old → FewWait self.new waiting.new }
     {
         let verdict = match self.side {
@@ -118,7 +135,7 @@ impl Session {
     ///
     /// Refused, and the session is then over: `VersionDiffers`, `OutOfOrder`, `NotOfThisPair`, of
     /// which the last is tested first.
-    #[tactic(auto, using(crate::proofs::Growing::stands_on))]
+    #[tactic(auto, using(crate::proofs::one::Growing::stands_on))]
     pub fn arrive<A: Allocator, T: Taker>(
         &mut self,
         telegram: &Telegram<'_>,
@@ -126,13 +143,23 @@ impl Session {
         taker: &mut T,
     ) -> Result<(), SessionEnd>
         requires room { HasRoom self.old waiting.old }
+        // `arrive` answers exactly whether the tables end the session, and with which detail.
         ensures answer { MatchResult result (λ _. end_of (judged self.old (tele_of telegram.now)) ≡ None)
             (λ end. end_of (judged self.old (tele_of telegram.now)) ≡ Some end.detail) }
+        // `up`, `arrive`, `init_done` and `end` leave the settings and exactly the phase of the two tables, on
+        // any telegram.
         ensures left { self.new ≡ after (Event.Arrives (tele_of telegram.now)) self.old }
+        // `up`, `arrive`, `put` and `init_done` add exactly the messages of their event, behind those that
+        // wait.
         ensures added { waiting.new ≡ waiting.old ++ texts (added_by (Event.Arrives (tele_of telegram.now)) self.old) }
+        // Where a session stands for a history, after a call it stands for that history made longer by the
+        // event.
         ensures stands { (h : History) → StandsFor self.old waiting.old h
             → StandsFor self.new waiting.new (grown (Event.Arrives (tele_of telegram.now)) h) }
+        // `arrive` hands the application exactly the command or status that the tables take.
         ensures taken { FoldsTo T.takes taker.old (taken_by (Event.Arrives (tele_of telegram.now)) self.old) taker.new }
+        // Each call keeps the bound on waiting messages: before Initialising none, one or two, by the phase,
+        // and then 64.
         ensures few { FewWait self.old waiting.old → FewWait self.new waiting.new }
     {
         let verdict = self.judge(telegram);
@@ -153,20 +180,28 @@ impl Session {
     ///
     /// Refused, and the first that holds is named; nothing changes then: `NotEstablished`, `Full`,
     /// `ReservedType`, `TooLong`.
-    #[tactic(auto, using(crate::proofs::Growing::stands_on))]
+    #[tactic(auto, using(crate::proofs::one::Growing::stands_on))]
     pub fn put<A: Allocator>(
         &self,
         kind: u16,
         payload: &[u8],
         waiting: &mut Waiting<A>,
     ) -> Result<(), PutFault>
+        // `put` and `init_done` answer exactly whether they are refused, by the first refusal that holds.
         ensures answer { MatchResult result (λ _. put_refusal self.now kind payload.now (length waiting.old) ≡ None)
             (λ fault. put_refusal self.now kind payload.now (length waiting.old) ≡ Some fault) }
+        // `up`, `arrive`, `put` and `init_done` add exactly the messages of their event, behind those that
+        // wait.
         ensures added { waiting.new
             ≡ waiting.old ++ texts (added_by (Event.Puts kind payload.now (length waiting.old)) self.now) }
+        // A refused `put` or `init_done` changes nothing.
         ensures refused { OnErr result (waiting.new ≡ waiting.old) }
+        // Where a session stands for a history, after a call it stands for that history made longer by the
+        // event.
         ensures stands { (h : History) → StandsFor self.now waiting.old h
             → StandsFor self.now waiting.new (grown (Event.Puts kind payload.now (length waiting.old)) h) }
+        // Each call keeps the bound on waiting messages: before Initialising none, one or two, by the phase,
+        // and then 64.
         ensures few { FewWait self.now waiting.old → FewWait self.now waiting.new }
     {
         if !self.may_put() {
@@ -190,15 +225,25 @@ impl Session {
     /// # Errors
     ///
     /// Refused, and the first that holds is named; nothing changes then: `NotInitialising`, `Full`.
-    #[tactic(auto, using(crate::proofs::Growing::stands_on))]
+    #[tactic(auto, using(crate::proofs::one::Growing::stands_on))]
     pub fn init_done<A: Allocator>(&mut self, waiting: &mut Waiting<A>) -> Result<(), InitFault>
+        // `put` and `init_done` answer exactly whether they are refused, by the first refusal that holds.
         ensures answer { MatchResult result (λ _. init_refusal self.old (length waiting.old) ≡ None)
             (λ fault. init_refusal self.old (length waiting.old) ≡ Some fault) }
+        // `up`, `arrive`, `init_done` and `end` leave the settings and exactly the phase of the two tables, on
+        // any telegram.
         ensures left { self.new ≡ after (Event.InitDone (length waiting.old)) self.old }
+        // `up`, `arrive`, `put` and `init_done` add exactly the messages of their event, behind those that
+        // wait.
         ensures added { waiting.new ≡ waiting.old ++ texts (added_by (Event.InitDone (length waiting.old)) self.old) }
+        // A refused `put` or `init_done` changes nothing.
         ensures refused { OnErr result ((self.new ≡ self.old) × (waiting.new ≡ waiting.old)) }
+        // Where a session stands for a history, after a call it stands for that history made longer by the
+        // event.
         ensures stands { (h : History) → StandsFor self.old waiting.old h
             → StandsFor self.new waiting.new (grown (Event.InitDone (length waiting.old)) h) }
+        // Each call keeps the bound on waiting messages: before Initialising none, one or two, by the phase,
+        // and then 64.
         ensures few { FewWait self.old waiting.old → FewWait self.new waiting.new }
     {
         if !self.is_initialising() {
@@ -213,11 +258,17 @@ impl Session {
     }
 
     /// The connection is closed: the session is over.
-    #[tactic(auto, using(crate::proofs::Growing::stands_on))]
+    #[tactic(auto, using(crate::proofs::one::Growing::stands_on))]
     pub fn end(&mut self)
+        // `up`, `arrive`, `init_done` and `end` leave the settings and exactly the phase of the two tables, on
+        // any telegram.
         ensures left { self.new ≡ after Event.Closes self.old }
+        // Where a session stands for a history, after a call it stands for that history made longer by the
+        // event.
         ensures stands { (waiting : List (List ℕ)) (h : History) → StandsFor self.old waiting h
             → StandsFor self.new waiting (grown Event.Closes h) }
+        // Each call keeps the bound on waiting messages: before Initialising none, one or two, by the phase,
+        // and then 64.
         ensures few { (waiting : List (List ℕ)) → FewWait self.old waiting → FewWait self.new waiting }
     {
         self.phase = Phase::Ended;
@@ -297,6 +348,7 @@ fn is_addressed(parties: &Parties, telegram: &Telegram<'_>) -> bool
 
 /// Whether these are one to four versions, no two of them equal.
 pub fn are_versions(versions: &[u8]) -> bool
+    // `are_versions` tells exactly one to four versions of which no two are equal.
     ensures { result ≡ are_versions versions.now }
 {
     1 <= versions.len() && versions.len() <= VERSIONS_MAX && are_different(versions)

@@ -23,8 +23,10 @@ use std::io::Write;
 /// An error is the writer's; what came before it stays
 /// written.
 pub fn show<W: Write>(octets: &[u8], rule: &CodeRule, writer: &mut W) -> io::Result<bool>
+    // Where `show` answers Ok it has written exactly the stated text of a datagram of any octets.
     ensures written { OnOk result (Appends (W.contents writer.old) (W.contents writer.new)
         (show_text rule.now octets.now)) }
+    // `show` answers whether no line of a datagram's text names a fault.
     ensures clean { IfOk result (λ clean. clean ≡ is_clean rule.now octets.now) }
 {
     match red_pdu::decode(octets) {

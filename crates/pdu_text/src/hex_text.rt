@@ -19,6 +19,8 @@ pub enum HexFault {
 
 /// The initial value that 32 hex digits name, least significant octet of each word first.
 pub fn initial_value(iv: Option<&str>) -> Option<[u32; 4]>
+    // 32 hex digits are the words of an initial value, least significant octet first; no text at all is RFC
+    // 1320's; other texts are refused.
     ensures { result ≡ initial_value_of (option_copied iv.entry) }
 {
     let Some(text) = iv else {
@@ -42,7 +44,9 @@ pub fn initial_value(iv: Option<&str>) -> Option<[u32; 4]>
 ///
 /// Refused: `Hex`, where it spells none; `Memory`, where there was no memory for them.
 pub fn hex_octets(alloc: Global, text: &str) -> Result<Vec<u8>, HexFault>
+    // `hex_octets` answers exactly the octets that a text of hex digits spells.
     ensures ok { IfOk result (λ octets. octets_of text.now ≡ Some octets.items) }
+    // `hex_octets` refuses a text as no hex text only where it is none, or empty.
     ensures hex { result ≡ Err HexFault.Hex → octets_of text.now ≡ None }
 {
     if text.is_empty() {

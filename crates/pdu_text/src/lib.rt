@@ -1,6 +1,8 @@
 //! The text of a datagram, line by line, as `rasta show` prints it, and the writing of texts in general.
 //!
 //! It stands on the codecs alone, and on no end.
+//!
+//! Contracts: what is said of a text that is written is said of an output whose contents are known.
 #![tactic(auto)]
 
 mod datagram;

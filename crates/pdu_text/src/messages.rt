@@ -17,7 +17,9 @@ use std::io::Write;
 /// Writes the lines of a body, those of the unit in a Data or RetrData, and answers whether none of
 /// them names a fault.
 pub fn show_body<W: Write>(writer: &mut W, kind: Kind, body: &[u8]) -> io::Result<bool>
+    // Where `show_body` answers Ok it has written exactly the stated lines for the messages of a body.
     ensures written { OnOk result (Appends (W.contents writer.old) (W.contents writer.new) (unit_lines kind body.now)) }
+    // `show_body` answers whether no line for the messages of a body names a fault.
     ensures clean { IfOk result (λ clean. clean ≡ is_clean_body kind body.now) }
 {
     match kind {

@@ -23,6 +23,7 @@ pub(crate) fn write_fault<W: Write>(
 
 /// Writes octets in hex digits, and a dash for none.
 pub fn write_octets<W: Write>(writer: &mut W, octets: &[u8]) -> io::Result<()>
+    // Where `write_octets` answers Ok it has written octets in hex digits, and no octets as a dash.
     ensures { OnOk result (Appends (W.contents writer.old) (W.contents writer.new) (octets_text octets.now)) }
 {
     match octets {
@@ -33,6 +34,7 @@ pub fn write_octets<W: Write>(writer: &mut W, octets: &[u8]) -> io::Result<()>
 
 /// Writes octets in hex digits of lower case, two for each.
 pub fn write_hex<W: Write>(writer: &mut W, octets: &[u8]) -> io::Result<()>
+    // Where `write_hex` answers Ok it has written octets in two hex digits each, in lower case.
     ensures { OnOk result (Appends (W.contents writer.old) (W.contents writer.new) (encode_lower octets.now)) }
 {
     for octet in octets {
@@ -51,6 +53,7 @@ fn write_octet<W: Write>(writer: &mut W, octet: u8) -> io::Result<()>
 
 /// Writes a text.
 pub fn write_text<W: Write>(writer: &mut W, text: &str) -> io::Result<()>
+    // Where `write_text` answers Ok it has written the text as it is.
     ensures { OnOk result (Appends (W.contents writer.old) (W.contents writer.new) text.now) }
 {
     writer.write_all(text.as_bytes())

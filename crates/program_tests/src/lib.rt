@@ -4,8 +4,16 @@
 #![tactic(auto)]
 
 #[cfg(test)]
+mod overheard_tests;
+#[cfg(test)]
+mod poor;
+#[cfg(test)]
+mod rasta_net_tests;
+#[cfg(test)]
 mod rasta_run_tests;
 #[cfg(test)]
 mod rasta_words_tests;
+#[cfg(test)]
+mod sim_lines_tests;
 #[cfg(test)]
 mod sim_script_tests;

@@ -1,5 +1,6 @@
+use crate::poor::Poor;
 use rasta_run::{run, run_follow, run_words};
-use rasta_status::{Fault, Status};
+use rasta_status::{Fault, Status, report};
 use rasta_words::Following;
 use safe_pdu::CodeLength;
 use std::env::{Env, FillError};
@@ -55,21 +56,21 @@ fn tells_a_failed_output(rt: HostRuntime) -> Result<(), Fail> {
     Ok(())
 }
 
-/// A reader that fails.
+/// A reader that fails in this way.
 #[derive(Drop)]
-struct Broken;
+struct Broken {
+    kind: ErrorKind,
+}
 
 impl Read for Broken {
     fn read(&mut self, _octets: &mut [u8]) -> io::Result<usize> {
-        Err(io::Error::from(ErrorKind::TimedOut))
+        Err(io::Error::from(self.kind))
     }
 }
 
-// A capture that can't be read to its end is a fault of the file, behind what was read; one that can't be printed is one of the
-// output.
-#[test]
-fn tells_what_stops_a_capture(rt: HostRuntime) -> Result<(), Fail> {
-    let following = Following {
+/// What `follow` is asked for a capture of PDUs without a code on standard input.
+fn plain_following() -> Following<'static> {
+    Following {
         code: CodeLength::Zero,
         iv: None,
         messages: false,
@@ -78,21 +79,128 @@ fn tells_what_stops_a_capture(rt: HostRuntime) -> Result<(), Fail> {
         file: "-",
         ports: None,
         json: false,
-    };
+    }
+}
+
+// A capture that can't be read to its end is a fault of the file, behind what was read.
+#[test]
+fn tells_what_stops_a_capture(rt: HostRuntime) -> Result<(), Fail> {
+    let following = plain_following();
     let line: &[u8] =
         b"1.000000\t10.0.0.1\t1\t10.0.0.2\t2\t24000000000000001c004c18020000000100000065000000f40100000a00000005000000\n";
     let said = "0.000000 line 1 1->2 ch 1 red 0 HB sn 101 cs 500 ts 10 cts 5\n";
     let mut out = Vec::new(rt.alloc());
     let mut err = Vec::new(rt.alloc());
-    let reader = Read::chain(line, Broken);
+    let broken = Broken {
+        kind: ErrorKind::TimedOut,
+    };
+    let reader = Read::chain(line, broken);
     let ended = run_follow(rt.alloc(), reader, &following, &mut out, &mut err);
     assert_eq!(rt; ended, Status::Refused);
     assert_eq!(rt; out.as_slice(), said.as_bytes());
     assert_eq!(rt; err.as_slice(), b"fault: file\n".as_slice());
-    err.clear();
-    let ended = run_follow(rt.alloc(), line, &following, &mut Closed, &mut err);
+    Ok(())
+}
+
+// A recording that can't be read to its end is a fault of the file too, though it breaks off between two frames.
+#[test]
+fn tells_what_stops_a_recording(rt: HostRuntime) -> Result<(), Fail> {
+    let mut out = Vec::new(rt.alloc());
+    let mut err = Vec::new(rt.alloc());
+    let front: [u8; 24] = [
+        0xd4, 0xc3, 0xb2, 0xa1, 2, 0, 4, 0, 0, 0, 0, 0, 0, 0, 0, 0, 255, 255, 0, 0, 1, 0, 0, 0,
+    ];
+    let broken = Broken {
+        kind: ErrorKind::TimedOut,
+    };
+    let reader = Read::chain(front.as_slice(), broken);
+    let ended = run_follow(rt.alloc(), reader, &plain_following(), &mut out, &mut err);
+    assert_eq!(rt; ended, Status::Refused);
+    assert!(rt; out.is_empty());
+    assert_eq!(rt; err.as_slice(), b"fault: file\n".as_slice());
+    Ok(())
+}
+
+// Want of memory while a capture is read is no fault of its file.
+#[test]
+fn tells_want_of_memory_in_reading(rt: HostRuntime) -> Result<(), Fail> {
+    let mut out = Vec::new(rt.alloc());
+    let mut err = Vec::new(rt.alloc());
+    let reader = Broken {
+        kind: ErrorKind::OutOfMemory,
+    };
+    let ended = run_follow(rt.alloc(), reader, &plain_following(), &mut out, &mut err);
+    assert_eq!(rt; ended, Status::Refused);
+    assert_eq!(rt; err.as_slice(), b"fault: memory\n".as_slice());
+    Ok(())
+}
+
+// An output that fails ends it where nothing more is there to be read.
+#[test]
+fn tells_an_output_that_fails_behind_a_line(rt: HostRuntime) -> Result<(), Fail> {
+    let mut err = Vec::new(rt.alloc());
+    let line: &[u8] = b"1.000000\t10.0.0.1\t1\t10.0.0.2\t2\t\n";
+    let ended = run_follow(rt.alloc(), line, &plain_following(), &mut Closed, &mut err);
     assert_eq!(rt; ended, Status::Failed);
     assert_eq!(rt; err.as_slice(), b"fault: output\n".as_slice());
+    Ok(())
+}
+
+// Or at the sums alone, behind a capture of no line.
+#[test]
+fn tells_an_output_that_fails_at_the_sums(rt: HostRuntime) -> Result<(), Fail> {
+    let mut err = Vec::new(rt.alloc());
+    let nothing: &[u8] = b"";
+    let ended = run_follow(
+        rt.alloc(),
+        nothing,
+        &plain_following(),
+        &mut Closed,
+        &mut err,
+    );
+    assert_eq!(rt; ended, Status::Failed);
+    assert_eq!(rt; err.as_slice(), b"fault: output\n".as_slice());
+    Ok(())
+}
+
+// Or in the middle, where more is to be written than is kept.
+#[test]
+fn tells_an_output_that_fails_in_mid_capture(rt: HostRuntime) -> Result<(), Fail> {
+    let mut err = Vec::new(rt.alloc());
+    let mut lines = Vec::new(rt.alloc());
+    for _ in 0..400 {
+        lines.extend_from_slice(b"1.000000\t10.0.0.1\t1\t10.0.0.2\t2\t\n")?;
+    }
+    let following = plain_following();
+    let ended = run_follow(
+        rt.alloc(),
+        lines.as_slice(),
+        &following,
+        &mut Closed,
+        &mut err,
+    );
+    assert_eq!(rt; ended, Status::Failed);
+    assert_eq!(rt; err.as_slice(), b"fault: output\n".as_slice());
+    Ok(())
+}
+
+// The longest datagram has 1,258 octets; its line is not too long, by whatever addresses.
+#[test]
+fn reads_the_line_of_the_longest_datagram(rt: HostRuntime) -> Result<(), Fail> {
+    let mut out = Vec::new(rt.alloc());
+    let mut err = Vec::new(rt.alloc());
+    let mut line = Vec::new(rt.alloc());
+    line.extend_from_slice(
+        b"1700000000.000000000\t2001:0db8:0000:0000:0000:0000:0000:0001\t46101\t2001:0db8:0000:0000:0000:0000:0000:0002\t46201\t",
+    )?;
+    for _ in 0..1258 {
+        line.extend_from_slice(b"ff")?;
+    }
+    line.push(b'\n')?;
+    let following = plain_following();
+    let ended = run_follow(rt.alloc(), line.as_slice(), &following, &mut out, &mut err);
+    assert_eq!(rt; ended, Status::Done);
+    assert!(rt; err.is_empty());
     Ok(())
 }
 
@@ -166,7 +274,30 @@ fn passes_over_its_path(rt: HostRuntime) -> Result<(), Fail> {
     Ok(())
 }
 
-// The text of each fault, and how the program ends with it.
+// Want of memory for a file is told as that, and not as a fault of the file.
+#[test]
+fn tells_want_of_memory_for_a_file(rt: HostRuntime) -> Result<(), Fail> {
+    let runs: [&[&str]; 3] = [
+        &["rasta", "follow", "--code", "8", "night.tsv"],
+        &["rasta", "il", "--turns", "1", "il.toml"],
+        &["rasta", "sim", "some.sim"],
+    ];
+    for words in runs {
+        let mut out = Vec::new(rt.alloc());
+        let mut err = Vec::new(rt.alloc());
+        let ended = run(&Poor { rt: &rt }, words, &mut out, &mut err);
+        assert_eq!(rt; ended, Status::Refused, "at {words:?}");
+        assert!(rt; out.is_empty(), "at {words:?}");
+        assert_eq!(rt;
+            err.as_slice(),
+            b"fault: memory\n".as_slice(),
+            "at {words:?}"
+        );
+    }
+    Ok(())
+}
+
+// The text of each fault, the line in which it is told, and how the program ends with it.
 #[test]
 fn names_each_fault(rt: HostRuntime) -> Result<(), Fail> {
     let cases = [
@@ -182,6 +313,11 @@ fn names_each_fault(rt: HostRuntime) -> Result<(), Fail> {
         let line = format!(in rt.alloc(); "{fault}")?;
         assert_eq!(rt; line.as_str(), text);
         assert_eq!(rt; fault.status().code(), code, "at {text}");
+        let mut err = Vec::new(rt.alloc());
+        let ended = report(&mut err, fault);
+        let told = format!(in rt.alloc(); "{text}\n")?;
+        assert_eq!(rt; ended.code(), code, "at {text}");
+        assert_eq!(rt; err.as_slice(), told.as_bytes());
     }
     Ok(())
 }

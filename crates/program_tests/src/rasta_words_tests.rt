@@ -1,6 +1,6 @@
 use capture::read_ports;
 use capture_text::Word;
-use rasta_status::{LogLevel, RunLength};
+use rasta_status::{CountsForm, LogLevel, RunLength, Telling};
 use rasta_words::{Following, Request, Running, WordsFault, command};
 use safe_pdu::CodeLength;
 use settings_file::Word as Ends;
@@ -129,6 +129,8 @@ fn accepts_the_words_of_the_ends(rt: HostRuntime) -> Result<(), Fail> {
                 length: RunLength::Turns(turns),
                 log: LogLevel::Off,
                 expected: None,
+                keep: false,
+                counts: None,
             };
             assert_eq!(rt; found, Request::Net(running));
         }
@@ -145,6 +147,8 @@ fn accepts_the_words_of_the_ends(rt: HostRuntime) -> Result<(), Fail> {
         length: RunLength::UntilEnd,
         log: LogLevel::Off,
         expected: None,
+        keep: false,
+        counts: None,
     };
     assert_eq!(rt; found, Request::Net(running));
     let lists: [&[&str]; 3] = [
@@ -157,6 +161,98 @@ fn accepts_the_words_of_the_ends(rt: HostRuntime) -> Result<(), Fail> {
         assert!(rt; refused, "at {words:?}");
     }
     Ok(())
+}
+
+// An end is kept, and counts are told, where words ask for it; a choice of counts that is none is refused.
+#[test]
+fn accepts_kept_ends_and_counts(rt: HostRuntime) -> Result<(), Fail> {
+    let forms = [("text", CountsForm::Text), ("json", CountsForm::Json)];
+    for (text, form) in forms {
+        for (seconds, every) in [("1", 1), ("60", 60), ("86400", 86_400)] {
+            let words = [
+                "rasta",
+                "il",
+                "--keep",
+                "--stats",
+                text,
+                "--every",
+                seconds,
+                "--until-end",
+                "ends.toml",
+            ];
+            let found = command(rt.alloc(), &words).map_err(|_| "refused")?;
+            let counts = Some(Telling {
+                form,
+                every: Some(every),
+            });
+            assert_eq!(rt; found, Request::Net(kept_until_end(true, counts)));
+        }
+        let words = ["rasta", "il", "--stats", text, "--until-end", "ends.toml"];
+        let found = command(rt.alloc(), &words).map_err(|_| "refused")?;
+        let counts = Some(Telling { form, every: None });
+        assert_eq!(rt; found, Request::Net(kept_until_end(false, counts)));
+    }
+    let lists: [&[&str]; 7] = [
+        &["rasta", "il", "--until-end", "il.toml", "--stats", "xml"],
+        &["rasta", "il", "--until-end", "il.toml", "--stats", ""],
+        &["rasta", "il", "--until-end", "il.toml", "--every", "1"],
+        &[
+            "rasta",
+            "il",
+            "--until-end",
+            "il.toml",
+            "--stats",
+            "text",
+            "--every",
+            "0",
+        ],
+        &[
+            "rasta",
+            "il",
+            "--until-end",
+            "il.toml",
+            "--stats",
+            "text",
+            "--every",
+            "86401",
+        ],
+        &[
+            "rasta",
+            "il",
+            "--until-end",
+            "il.toml",
+            "--stats",
+            "json",
+            "--every",
+            "1.5",
+        ],
+        &[
+            "rasta",
+            "il",
+            "--until-end",
+            "il.toml",
+            "--stats",
+            "json",
+            "--every",
+            "-1",
+        ],
+    ];
+    for words in lists {
+        assert!(rt; command(rt.alloc(), words).is_err(), "at {words:?}");
+    }
+    Ok(())
+}
+
+fn kept_until_end(keep: bool, counts: Option<Telling>) -> Running<'static> {
+    Running {
+        word: Ends::Il,
+        file: "ends.toml",
+        length: RunLength::UntilEnd,
+        log: LogLevel::Off,
+        expected: None,
+        keep,
+        counts,
+    }
 }
 
 // Words that are no command, or that ask for help, are refused by a fault of their own.
@@ -180,6 +276,30 @@ fn refuses_other_words(rt: HostRuntime) -> Result<(), Fail> {
     }
     let help = ["rasta", "--help"];
     assert!(rt; tells(command(rt.alloc(), &help), false));
+    Ok(())
+}
+
+// The help of a word says what stands behind it.
+#[test]
+fn tells_what_a_digest_is_of(rt: HostRuntime) -> Result<(), Fail> {
+    let words = ["rasta", "md4", "--help"];
+    let Err(fault) = command(rt.alloc(), &words) else {
+        return Err(Fail::from("accepted"));
+    };
+    let text = format!(in rt.alloc(); "{fault}")?;
+    assert!(rt; text.contains("The message as hex digits, or the word `empty` for no octets"));
+    Ok(())
+}
+
+// A number of turns that is none is answered by those that there are.
+#[test]
+fn tells_how_many_turns_there_are(rt: HostRuntime) -> Result<(), Fail> {
+    let words = ["rasta", "il", "--turns", "0", "il.toml"];
+    let Err(fault) = command(rt.alloc(), &words) else {
+        return Err(Fail::from("accepted"));
+    };
+    let text = format!(in rt.alloc(); "{fault}")?;
+    assert!(rt; text.contains("--turns, a number from 1 to 1,000,000;"));
     Ok(())
 }
 

@@ -1,6 +1,5 @@
 use linked_list_allocator::LocalHeap;
-use sim_lines::SimStatus;
-use sim_script::run;
+use sim::{SimStatus, run};
 use std::io;
 use std::io::{ErrorKind, Write};
 use std::process::Abort;

@@ -8,7 +8,7 @@ use Rattle.pdi_session.specs.FaultNames.{put_fault_name}
 use Rattle.pdi_session.specs.declared.PutFault.{PutFault}
 use Rattle.pdi_session.specs.declared.PutFault.TheVariants.{Full}
 use Rattle.settings_file.specs.declared.values.Put.{Put as Telegram}
-use Rattle.sim_lines.specs.Lines.{refusal_line}
+use Rattle.log_lines.specs.Reports.{refusal_line}
 use Rattle.stack_end.specs.Dialogue.{session_in}
 use Rattle.stack_end.specs.Ends.{EndState, Put, call}
 use Rattle.stack_end.specs.EndValue.{EndValue, EndDoesAlone, EndStands}

@@ -1,5 +1,5 @@
 -- How an end is expected to stand at the end of a run.
-use Rattle.std.specs.Prelude.{Bool, true, false, ◌&&◌, Option, Some, None}
+use Rattle.std.specs.Prelude.{Bool, true, false, not, ◌&&◌, ◌||◌, Option, Some, None}
 use Rattle.pdi_session.specs.declared.Phase.{Phase}
 use Rattle.pdi_session.specs.declared.Phase.TheVariants as phase
 use Rattle.safe_machine.specs.declared.ConnectionState.{ConnectionState}
@@ -25,11 +25,11 @@ meets None phase settled done = true
 meets (Some Up) phase settled done = is_up phase
 meets (Some Settled) phase settled done = is_up phase && (settled && done)
 
--- lines of input are put where the session is established; where the connection is closed each of them is refused
-abbrev pub takes_lines : ConnectionState → Phase → Bool
-takes_lines state.Closed phase = true
-takes_lines state.Down phase = is_up phase
-takes_lines state.Start phase = is_up phase
-takes_lines state.Up phase = is_up phase
-takes_lines state.RetrReq phase = is_up phase
-takes_lines state.RetrRun phase = is_up phase
+-- lines of input are put where the session is established; where the connection is closed, and not kept, each of them is refused
+abbrev pub takes_lines : (kept : Bool) → ConnectionState → Phase → Bool
+takes_lines kept state.Closed phase = not kept || is_up phase
+takes_lines kept state.Down phase = is_up phase
+takes_lines kept state.Start phase = is_up phase
+takes_lines kept state.Up phase = is_up phase
+takes_lines kept state.RetrReq phase = is_up phase
+takes_lines kept state.RetrRun phase = is_up phase

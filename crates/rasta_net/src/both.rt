@@ -1,9 +1,9 @@
 //! An interlocking and a field element in one process, which take turns.
 
-ghost use Rattle.std.specs.Prelude.{◌≡◌, ◌≤◌, ◌^◌, None, true, IfOk, OnOk};
+ghost use Rattle.std.specs.Prelude.{◌≡◌, ◌≤◌, ◌+◌, ◌%◌, ◌^◌, None, true, IfOk, OnOk};
 ghost use Rattle.rasta_net.specs.Ticking.{greatest_time};
 
-use crate::input::{Feed, is_run_over};
+use crate::input::{Feed, is_run_over, over_at};
 use crate::net::{Run, TURNS_MOST, sent_off};
 use crate::ticking::RunClock;
 use crate::turns::Actor;
@@ -13,6 +13,7 @@ use rasta_status::{Fault, RunLength};
 use std::alloc::Global;
 use std::io::{Input, Write};
 use std::net::Net;
+use std::rt::Files;
 use std::time::Clock;
 
 /// Both ends.
@@ -30,9 +31,10 @@ impl Both<'_> {
     /// # Errors
     ///
     /// Refused as Clock, or as Output.
-    pub fn take_turns<R: Clock, O: Write, E: Write>(
+    pub fn take_turns<R: Clock + Files, O: Write, E: Write>(
         &mut self,
         rt: &R,
+        alloc: Global,
         clock: &mut RunClock,
         watch: &mut Watch,
         turns: u32,
@@ -41,12 +43,17 @@ impl Both<'_> {
     ) -> Result<(), Fault>
         requires later { (self.old.interlocking.end.time ≤ clock.old.last) × (self.old.field_element.end.time ≤ clock.old.last) }
         requires bounded { clock.old.last ≤ greatest_time }
-        ensures { OnOk result ((self.new.interlocking.end.time ≤ clock.new.last) × (self.new.field_element.end.time ≤ clock.new.last)
+        ensures later { OnOk result ((self.new.interlocking.end.time ≤ clock.new.last) × (self.new.field_element.end.time ≤ clock.new.last)
             × (clock.new.last ≤ greatest_time)) }
+        // Turns that end without a fault have read the clock as often as words state turns; that each reading
+        // goes with a turn no contract says.
+        ensures taken { OnOk result (clock.new.readings ≡ (clock.old.readings + turns) % 2 ^ 64) }
     {
         'turns: for _ in 0..turns {
             let now = clock.read(rt)?;
-            let found = self.take_turn(now, out, err)?;
+            let heard = self.take_turn(now, out, err)?;
+            let anew = self.keep(rt, alloc, now, err)?;
+            let found = heard || anew;
             take_rest(
                 watch,
                 RunLength::Turns(turns),
@@ -64,7 +71,7 @@ impl Both<'_> {
     /// # Errors
     ///
     /// Refused as Memory, as File where there is no standard input, as Network, as Clock, or as Output.
-    pub fn run_until_end<R: Net + Clock + Input, O: Write, E: Write>(
+    pub fn run_until_end<R: Net + Clock + Input + Files, O: Write, E: Write>(
         &mut self,
         rt: &R,
         alloc: Global,
@@ -79,7 +86,7 @@ impl Both<'_> {
         ensures { OnOk result ((self.new.interlocking.end.time ≤ clock.new.last) × (self.new.field_element.end.time ≤ clock.new.last)
             × (clock.new.last ≤ greatest_time)) }
     {
-        let mut feed = Feed::open(alloc, rt, rt.reader())?;
+        let mut feed = Feed::open(alloc, rt, watch, rt.reader())?;
         'turns: for _ in 0..TURNS_MOST {
             let now = clock.read(rt)?;
             let heard = self.take_turn(now, out, err)?;
@@ -93,8 +100,10 @@ impl Both<'_> {
             if is_run_over(feed.ended, now, t_max, done) {
                 return Ok(());
             }
-            let found = heard || came || put;
-            take_rest(watch, RunLength::UntilEnd, found, now, self.next_deadline());
+            let anew = self.keep(rt, alloc, now, err)?;
+            let found = heard || came || put || anew;
+            let deadline = earlier(self.next_deadline(), over_at(feed.ended, t_max));
+            take_rest(watch, RunLength::UntilEnd, found, now, deadline);
         }
         Ok(())
     }
@@ -116,10 +125,29 @@ impl Both<'_> {
         Ok((self.interlocking.received(), self.field_element.received()) != before)
     }
 
+    /// Opens either end anew where it is to be, and tells what was counted where that is due; answers whether one was opened.
+    fn keep<R: Files, E: Write>(
+        &mut self,
+        rt: &R,
+        alloc: Global,
+        now: u64,
+        err: &mut E,
+    ) -> Result<bool, Fault>
+        requires now { now ≤ 2 ^ 62 }
+        requires later { (self.old.interlocking.end.time ≤ now) × (self.old.field_element.end.time ≤ now) }
+        ensures { (self.new.interlocking.end.time ≤ now) × (self.new.field_element.end.time ≤ now) }
+    {
+        let field_element = self.field_element.keep(rt, alloc, now, err)?;
+        let interlocking = self.interlocking.keep(rt, alloc, now, err)?;
+        self.field_element.tell_due(now, err);
+        self.interlocking.tell_due(now, err);
+        Ok(field_element || interlocking)
+    }
+
     fn next_deadline(&self) -> Option<u64> {
         earlier(
-            self.interlocking.end.next_deadline(),
-            self.field_element.end.next_deadline(),
+            self.interlocking.next_deadline(),
+            self.field_element.next_deadline(),
         )
     }
 

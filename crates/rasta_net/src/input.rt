@@ -1,16 +1,14 @@
 //! Standard input while ends run: each of its lines is a telegram to be put, and its end is theirs.
 
-ghost use Rattle.std.specs.Prelude.{◌≡◌, ◌≤◌, ◌<◌, ◌+◌, ◌*◌, option_map, length, OnOk, IfOk, IfSome};
+ghost use Rattle.std.specs.Prelude.{◌≡◌, ◌≤◌, ◌<◌, length, IfOk, OnErr, OnOk, IfSome};
 ghost use Rattle.std.specs.Io.KnownBytes.{Appends};
-ghost use Rattle.settings_file.specs.Groups.{put_seen};
-ghost use Rattle.settings_file.specs.Readers.{put_of};
-ghost use Rattle.rasta_net.specs.Feeding.{feed_place, is_over, next_line, none_text, unfed_line};
+ghost use Rattle.rasta_net.specs.Feeding.{cut_after, feed_place, IsNumbered, is_over, left_behind, line_read, line_seen, next_line, none_text, over_time, unfed_line};
 
-use hex::FromHexError;
+use channels::Watch;
 use mio::unix::SourceFd;
 use mio::{Events, Interest, Poll, Token};
 use rasta_status::Fault;
-use settings_file::Put;
+use settings_file::{Put, put};
 use std::alloc::{AllocError, Global};
 use std::io;
 use std::io::{ErrorKind, Read, Write};
@@ -45,13 +43,15 @@ pub struct Feed<I: Read + Drop> {
 }
 
 impl<I: Read + Drop> Feed<I> {
-    /// An input of which nothing was read.
+    /// An input of which nothing was read, and with which a wait ends.
     ///
     /// # Errors
     ///
     /// Refused as Memory, as Network where the system has no means to ask, and as File where there is no standard input.
-    pub fn open<N: Net>(alloc: Global, net: &N, reader: I) -> Result<Self, Fault> {
+    pub fn open<N: Net>(alloc: Global, net: &N, watch: &Watch, reader: I) -> Result<Self, Fault> {
         let readiness = Readiness::open(alloc, net)?;
+        // A file is refused here, and never makes its reader wait.
+        let _watched = watch.add_descriptor(INPUT);
         let lines = Lines::new(alloc);
         Ok(Feed {
             reader,
@@ -118,6 +118,7 @@ impl<I: Read + Drop> Feed<I> {
 /// Writes that a line of standard input is no telegram.
 #[tactic(auto, unfolding(crate::specs::Feeding::none_text))]
 fn write_none<W: Write>(writer: &mut W, number: u64) -> io::Result<()>
+    // A line that is no telegram is named by its number.
     ensures { OnOk result (Appends (W.contents writer.old) (W.contents writer.new) (none_text number)) }
 {
     write!(
@@ -128,11 +129,25 @@ fn write_none<W: Write>(writer: &mut W, number: u64) -> io::Result<()>
 
 /// Whether a run is over whose input ended at a time: all was put and confirmed, or T_max has passed since.
 pub fn is_run_over(ended: Option<u64>, now: u64, t_max: u64, done: bool) -> bool
+    // A run that lasts until its input ends is over once that has ended and all is put and confirmed, or T_max
+    // has passed since.
     ensures { result ≡ is_over ended now t_max done }
 {
     match ended {
         None => false,
         Some(at) => done || t_max <= now.saturating_sub(at),
+    }
+}
+
+/// When that is so by time alone, in milliseconds, where input has ended.
+pub fn over_at(ended: Option<u64>, t_max: u64) -> Option<u64>
+    // A run that lasts until its input ends is over once that has ended and all is put and confirmed, or T_max
+    // has passed since.
+    ensures { result ≡ over_time ended t_max }
+{
+    match ended {
+        None => None,
+        Some(at) => Some(at.saturating_add(t_max)),
     }
 }
 
@@ -237,13 +252,28 @@ impl Lines {
     }
 
     /// Cuts the next line off, and reads it.
-    fn next(&mut self, alloc: Global, ended: bool) -> Result<Line, AllocError> {
+    fn next(&mut self, alloc: Global, ended: bool) -> Result<Line, AllocError>
+        // The next line of input is read as an entry of `puts` is, or named by its number, and what stands
+        // behind it is left.
+        ensures line { IfOk result (λ line. line_seen line ≡ line_read ended self.old.octets.items) }
+        // The next line of input is read as an entry of `puts` is, or named by its number, and what stands
+        // behind it is left.
+        ensures numbered { IfOk result (λ line. IsNumbered line self.new.cut) }
+        // The next line of input is read as an entry of `puts` is, or named by its number, and what stands
+        // behind it is left.
+        ensures left { OnOk result (self.new.octets.items ≡ left_behind ended self.old.octets.items) }
+        // The next line of input is read as an entry of `puts` is, or named by its number, and what stands
+        // behind it is left.
+        ensures cut { OnOk result (self.new.cut ≡ cut_after ended self.old.octets.items self.old.cut) }
+        // The next line of input is read as an entry of `puts` is, or named by its number, and what stands
+        // behind it is left.
+        ensures refused { OnErr result (self.new ≡ self.old) }
+    {
         let Some((size, used)) = line_in(self.octets.as_slice(), ended) else {
             return Ok(Line::Missing);
         };
-        let (front, rest) = self.octets.as_slice().split_at(used);
-        let put = telegram(alloc, &front[..size])?;
-        let rest = Vec::from_slice(alloc, rest)?;
+        let put = put(alloc, &self.octets.as_slice()[..size])?;
+        let rest = Vec::from_slice(alloc, &self.octets.as_slice()[used..])?;
         self.octets = rest;
         self.cut = self.cut.wrapping_add(1);
         match put {
@@ -256,6 +286,7 @@ impl Lines {
 /// How many octets the first line has, and how many go with it: up to a line feed; where none came, all at the end of input, or where
 /// there are as many as are read ahead.
 fn line_in(octets: &[u8], ended: bool) -> Option<(usize, usize)>
+    // A line of input ends at its line feed, or at the end of input, or at 65,536 octets.
     ensures line { result ≡ next_line ended octets.now }
     ensures bounded { IfSome result (λ p. (p.0 ≤ p.1) × (p.1 ≤ length octets.now)) }
 {
@@ -284,31 +315,4 @@ fn unfed(size: usize, ended: bool) -> Option<(usize, usize)>
         return Some((size, size));
     }
     None
-}
-
-/// The telegram that a line spells, `KIND:HEX`, if it spells one.
-fn telegram(alloc: Global, octets: &[u8]) -> Result<Option<Put>, AllocError>
-    ensures { IfOk result (λ r. option_map put_seen r ≡ put_of octets.now) }
-{
-    if octets.len() < 5 || octets[4] != b':' {
-        return Ok(None);
-    }
-    let mut kind = [0u8; 2];
-    let Ok(()) = hex::decode_to_slice(&octets[..4], &mut kind) else {
-        return Ok(None);
-    };
-    match hex::decode(alloc, &octets[5..]) {
-        Ok(payload) => Ok(Some(Put {
-            kind: number_of(kind[0], kind[1]),
-            payload,
-        })),
-        Err(FromHexError::OutOfMemory) => Err(AllocError),
-        Err(_) => Ok(None),
-    }
-}
-
-fn number_of(high: u8, low: u8) -> u16
-    ensures { result ≡ high * 256 + low }
-{
-    u16::from(high) * 256 + u16::from(low)
 }

@@ -36,6 +36,8 @@ pub enum Said {
 impl Listening {
     /// Looks at how many datagrams have come by now, and answers what is to be told of it.
     pub fn look(&mut self, came: u64, now: u64, t_max: u64) -> Said
+        // A channel is told as silent once nothing came for longer than T_max, and as heard again with the next
+        // datagram, and neither twice in turn.
         ensures left { self.new ≡ hears self.old came now t_max }
         ensures said { result ≡ said_of self.old self.new }
     {

@@ -1,23 +1,29 @@
 //! Ends over sockets: the words il, fe and pair.
 
-ghost use Rattle.std.specs.Prelude.{◌≡◌, ◌≢◌, ◌≤◌, ◌<◌, ◌^◌, false, true, is_ok, length, IfOk, OnOk, None};
+ghost use Rattle.std.specs.Prelude.{◌≡◌, ◌≢◌, ◌≤◌, ◌<◌, ◌+◌, ◌%◌, ◌^◌, false, true, is_ok, length, IfOk, OnOk, None};
 ghost use Rattle.settings_file.specs.Whole.{ends_of};
 ghost use Rattle.rasta_net.specs.Reading.{settings_most};
 ghost use Rattle.rasta_net.specs.Ticking.{greatest_time};
+ghost use Rattle.rasta_net.specs.Unopened.{fault_of};
+ghost use Rattle.rasta_status.specs.Status.{status_of};
 
 use crate::both::Both;
+use crate::counting::Teller;
 use crate::drawing::first_number;
-use crate::input::{Feed, is_run_over};
+use crate::input::{Feed, is_run_over, over_at};
+use crate::keeping::Keeper;
 use crate::logging::Log;
 use crate::ticking::RunClock;
-use crate::turns::Actor;
-use crate::waiting::take_rest;
+use crate::turns::{Actor, fault_of_end};
+use crate::unopened::Unopened;
+use crate::waiting::{earlier, take_rest};
 use channels::{UdpChannels, UdpFault, Watch, open_udp};
 use end_settings::Side;
-use overheard::{Ear, Overheard};
-use rasta_status::{Expected, Fault, LogLevel, RunLength, Status, report};
-use settings_file::{Ends, Settings, SettingsFault, Word, settings};
-use stack_end::{End, OpenFault};
+use log_lines::side_name;
+use overheard::Overheard;
+use rasta_status::{Expected, Fault, LogLevel, RunLength, Status, Telling, report};
+use settings_file::{Ends, Settings, SettingsFault, Word, findings, settings, warnings};
+use stack_end::End;
 use std::alloc::Global;
 use std::fmt::Display;
 use std::io::{Input, Write};
@@ -28,7 +34,10 @@ use thiserror::Error;
 
 /// The most octets of a settings file. Some 60,000 short telegrams to put have room, and whatever the file says, it is read within
 /// 200 MB and a second.
-const SETTINGS_MAX: usize = 1_048_576;
+pub const SETTINGS_MAX: usize = 1_048_576;
+
+/// So much that is wrong in a settings file is told at most.
+const TOLD_MOST: usize = 100;
 
 /// How many turns a run has at most that lasts until its input ends: more than there is time for.
 pub(crate) const TURNS_MOST: u64 = 1 << 63;
@@ -44,6 +53,10 @@ pub struct Run {
     pub log: LogLevel,
     /// How they are to stand at the end.
     pub expected: Option<Expected>,
+    /// Whether an end that has lost its connection is opened anew.
+    pub keep: bool,
+    /// How counts are told on standard error, where they are.
+    pub counts: Option<Telling>,
 }
 
 /// Runs `il`, `fe` or `pair` for its turns, or until standard input ends, over the sockets that the text of a settings file names, prints
@@ -59,31 +72,122 @@ pub fn run_net<R: Net + Clock + Input + Files, O: Write, E: Write>(
     out: &mut O,
     err: &mut E,
 ) -> Status
-    // A text that is too long, or that says no settings, is refused.
+    // A text of more than 1,048,576 octets is refused.
     ensures long { settings_most < length text.now → result ≡ Status.Refused }
+    // A text that says no settings is refused.
     ensures unread { is_ok (ends_of run.now.word text.now) ≡ false → result ≡ Status.Refused }
+    // No run over sockets ends as wrong words.
     ensures words { result ≢ Status.WrongWords }
-    // Where nothing is expected, ends may stand as they do.
+    // Where nothing is expected, no run ends with the status of an end that stands otherwise.
     ensures expected { run.now.expected ≡ None → result ≢ Status.Unexpected }
 {
     if text.len() > SETTINGS_MAX {
-        return refuse(&TooLong(text.len()), err);
+        return refuse_long(err);
     }
     let ends = match settings(alloc, run.word, text) {
         Ok(ends) => ends,
         Err(SettingsFault::Memory(_)) => return report(err, Fault::Memory),
-        Err(fault) => return refuse(&fault, err),
+        Err(fault) => return refuse_all(alloc, run.word, text, &fault, err),
     };
+    warn(alloc, &ends, err);
+    let mut unopened = None;
     let done = match &ends {
-        Ends::Il(il) => run_one(rt, alloc, Side::Interlocking, il, run, out, err),
-        Ends::Fe(fe) => run_one(rt, alloc, Side::FieldElement, fe, run, out, err),
-        Ends::Pair(il, fe) => run_two(rt, alloc, il, fe, run, out, err),
+        Ends::Il(il) => run_one(
+            rt,
+            alloc,
+            Side::Interlocking,
+            il,
+            run,
+            &mut unopened,
+            out,
+            err,
+        ),
+        Ends::Fe(fe) => run_one(
+            rt,
+            alloc,
+            Side::FieldElement,
+            fe,
+            run,
+            &mut unopened,
+            out,
+            err,
+        ),
+        Ends::Pair(il, fe) => run_two(rt, alloc, il, fe, run, &mut unopened, out, err),
     };
     match done {
         Ok(true) => Status::Done,
         Ok(false) => Status::Unexpected,
-        Err(Fault::Settings) => refuse(&NoAddress, err),
-        Err(fault) => report(err, fault),
+        Err(fault) => stop(fault, unopened, &ends, err),
+    }
+}
+
+/// Names the fault that ended a run on standard error, and behind it the channel that was not opened, where that is why.
+fn stop<E: Write>(fault: Fault, unopened: Option<Unopened>, ends: &Ends, err: &mut E) -> Status
+    ensures { result ≡ status_of fault }
+{
+    let status = report(err, fault);
+    if fault == Fault::Settings {
+        let _ = writeln!(err, "settings: {NoAddress}");
+    }
+    if let Some(unopened) = unopened {
+        unopened.tell(ends, err);
+    }
+    status
+}
+
+/// Names on standard error that a settings file has more than 1,048,576 octets.
+pub fn refuse_long<E: Write>(err: &mut E) -> Status
+    // A settings file that is too long is refused.
+    ensures { result ≡ Status.Refused }
+{
+    refuse(&TooLong, err)
+}
+
+/// Names the fault of settings on standard error, and behind it all that is wrong with them; where there is no memory for that, the first
+/// fault alone.
+fn refuse_all<E: Write>(
+    alloc: Global,
+    word: Word,
+    text: &str,
+    first: &SettingsFault,
+    err: &mut E,
+) -> Status
+    ensures { result ≡ Status.Refused }
+{
+    match findings(alloc, word, text) {
+        Ok(all) if !all.is_empty() => {
+            let status = report(err, Fault::Settings);
+            for finding in all.iter().take(TOLD_MOST) {
+                let _ = writeln!(err, "settings: {finding}");
+            }
+            let more = all.len().saturating_sub(TOLD_MOST);
+            if more > 0 {
+                let _ = writeln!(err, "settings: {more} more");
+            }
+            status
+        }
+        _ => refuse(first, err),
+    }
+}
+
+/// Names on standard error what in settings is likely to be a mistake.
+fn warn<E: Write>(alloc: Global, ends: &Ends, err: &mut E) {
+    match ends {
+        Ends::Il(il) => warn_of(alloc, Side::Interlocking, il, err),
+        Ends::Fe(fe) => warn_of(alloc, Side::FieldElement, fe, err),
+        Ends::Pair(il, fe) => {
+            warn_of(alloc, Side::Interlocking, il, err);
+            warn_of(alloc, Side::FieldElement, fe, err);
+        }
+    }
+}
+
+fn warn_of<E: Write>(alloc: Global, side: Side, settings: &Settings, err: &mut E) {
+    let Ok(all) = warnings(alloc, settings) else {
+        return;
+    };
+    for warning in &all {
+        let _ = writeln!(err, "warning: {}: {warning}", side_name(side));
     }
 }
 
@@ -96,10 +200,10 @@ fn refuse<D: Display, E: Write>(what: &D, err: &mut E) -> Status
     status
 }
 
-/// A settings file of this many octets is too long.
+/// A settings file is too long.
 #[derive(Clone, Copy, Debug, Error)]
-#[error("at most 1048576 octets expected, {0} found")]
-struct TooLong(usize);
+#[error("at most 1048576 octets expected, more found")]
+struct TooLong;
 
 /// A text of `local` or `remote` is no address.
 #[derive(Clone, Copy, Debug, Error)]
@@ -112,20 +216,23 @@ fn run_one<R: Net + Clock + Input + Files, O: Write, E: Write>(
     side: Side,
     settings: &Settings,
     run: &Run,
+    unopened: &mut Option<Unopened>,
     out: &mut O,
     err: &mut E,
 ) -> Result<bool, Fault>
     ensures { run.now.expected ≡ None → IfOk result (λ met. met ≡ true) }
 {
     let mut watch = watch(rt, alloc)?;
-    let channels = bound(rt, alloc, settings, &watch)?;
+    let channels = bound(rt, alloc, side, settings, &watch, unopened)?;
     let mut clock = RunClock::start(rt)?;
     let now = clock.read(rt)?;
     let mut actor = opened(rt, alloc, channels, side, settings, run, now)?;
     actor.tell_opened(settings, now, err);
     match run.length {
         RunLength::Turns(turns) => {
-            take_turns(rt, &mut clock, &mut watch, &mut actor, turns, out, err)?;
+            take_turns(
+                rt, alloc, &mut clock, &mut watch, &mut actor, turns, out, err,
+            )?;
         }
         RunLength::UntilEnd => {
             let t_max = settings.config.t_max;
@@ -145,8 +252,9 @@ fn run_one<R: Net + Clock + Input + Files, O: Write, E: Write>(
 }
 
 /// The turns of an end, so many of them.
-fn take_turns<R: Clock, O: Write, E: Write>(
+fn take_turns<R: Clock + Files, O: Write, E: Write>(
     rt: &R,
+    alloc: Global,
     clock: &mut RunClock,
     watch: &mut Watch,
     actor: &mut Actor<'_, UdpChannels>,
@@ -156,17 +264,23 @@ fn take_turns<R: Clock, O: Write, E: Write>(
 ) -> Result<(), Fault>
     requires later { actor.old.end.time ≤ clock.old.last }
     requires bounded { clock.old.last ≤ greatest_time }
-    ensures { OnOk result ((actor.new.end.time ≤ clock.new.last) × (clock.new.last ≤ greatest_time)) }
+    ensures later { OnOk result ((actor.new.end.time ≤ clock.new.last) × (clock.new.last ≤ greatest_time)) }
+    // Turns that end without a fault have read the clock as often as words state turns; that each reading goes
+    // with a turn no contract says.
+    ensures taken { OnOk result (clock.new.readings ≡ (clock.old.readings + turns) % 2 ^ 64) }
 {
     'turns: for _ in 0..turns {
         let now = clock.read(rt)?;
-        let found = take_turn(actor, now, out, err)?;
+        let heard = take_turn(actor, now, out, err)?;
+        let anew = actor.keep(rt, alloc, now, err)?;
+        actor.tell_due(now, err);
+        let found = heard || anew;
         take_rest(
             watch,
             RunLength::Turns(turns),
             found,
             now,
-            actor.end.next_deadline(),
+            actor.next_deadline(),
         );
     }
     Ok(())
@@ -203,7 +317,7 @@ fn run_until_end<R: Net + Clock + Input + Files, O: Write, E: Write>(
     requires bounded { clock.old.last ≤ greatest_time }
     ensures { OnOk result ((actor.new.end.time ≤ clock.new.last) × (clock.new.last ≤ greatest_time)) }
 {
-    let mut feed = Feed::open(alloc, rt, rt.reader())?;
+    let mut feed = Feed::open(alloc, rt, watch, rt.reader())?;
     'turns: for _ in 0..TURNS_MOST {
         let now = clock.read(rt)?;
         let heard = take_turn(actor, now, out, err)?;
@@ -213,13 +327,15 @@ fn run_until_end<R: Net + Clock + Input + Files, O: Write, E: Write>(
         if is_run_over(feed.ended, now, t_max, done) {
             return Ok(());
         }
-        let found = heard || came || put;
+        let anew = actor.keep(rt, alloc, now, err)?;
+        actor.tell_due(now, err);
+        let found = heard || came || put || anew;
         take_rest(
             watch,
             RunLength::UntilEnd,
             found,
             now,
-            actor.end.next_deadline(),
+            earlier(actor.next_deadline(), over_at(feed.ended, t_max)),
         );
     }
     Ok(())
@@ -231,14 +347,15 @@ fn run_two<R: Net + Clock + Input + Files, O: Write, E: Write>(
     il: &Settings,
     fe: &Settings,
     run: &Run,
+    unopened: &mut Option<Unopened>,
     out: &mut O,
     err: &mut E,
 ) -> Result<bool, Fault>
     ensures { run.now.expected ≡ None → IfOk result (λ met. met ≡ true) }
 {
     let mut watch = watch(rt, alloc)?;
-    let il_channels = bound(rt, alloc, il, &watch)?;
-    let fe_channels = bound(rt, alloc, fe, &watch)?;
+    let il_channels = bound(rt, alloc, Side::Interlocking, il, &watch, unopened)?;
+    let fe_channels = bound(rt, alloc, Side::FieldElement, fe, &watch, unopened)?;
     let mut clock = RunClock::start(rt)?;
     let now = clock.read(rt)?;
     let mut field_element = opened(rt, alloc, fe_channels, Side::FieldElement, fe, run, now)?;
@@ -251,7 +368,7 @@ fn run_two<R: Net + Clock + Input + Files, O: Write, E: Write>(
     };
     match run.length {
         RunLength::Turns(turns) => {
-            pair.take_turns(rt, &mut clock, &mut watch, turns, out, err)?;
+            pair.take_turns(rt, alloc, &mut clock, &mut watch, turns, out, err)?;
         }
         RunLength::UntilEnd => {
             let t_max = il.config.t_max.max(fe.config.t_max);
@@ -265,27 +382,37 @@ fn watch<R: Net>(rt: &R, alloc: Global) -> Result<Watch, Fault> {
     Watch::open(alloc, rt).map_err(fault_of)
 }
 
-/// The channels of an end, which the wait watches.
+/// The channels of an end, which the wait watches. Why they were not opened is noted.
 fn bound<R: Net>(
     rt: &R,
     alloc: Global,
+    side: Side,
     settings: &Settings,
     watch: &Watch,
+    unopened: &mut Option<Unopened>,
 ) -> Result<UdpChannels, Fault> {
-    let mut channels = open_udp(
-        alloc,
-        rt,
-        settings.local.as_slice(),
-        settings.remote.as_slice(),
-    )
-    .map_err(fault_of)?;
+    let local = settings.local.as_slice();
+    let remote = settings.remote.as_slice();
+    match open_udp(alloc, rt, local, remote) {
+        Ok(channels) => watched(channels, watch),
+        Err(fault) => {
+            *unopened = Some(Unopened { side, fault });
+            Err(fault_of(fault))
+        }
+    }
+}
+
+fn watched(channels: UdpChannels, watch: &Watch) -> Result<UdpChannels, Fault> {
+    let mut channels = channels;
     match watch.add(&mut channels) {
         Ok(()) => Ok(channels),
         Err(_) => Err(Fault::Network),
     }
 }
 
-fn fault_of(fault: UdpFault) -> Fault {
+fn fault_of(fault: UdpFault) -> Fault
+    ensures { result ≡ fault_of fault }
+{
     match fault {
         UdpFault::Memory => Fault::Memory,
         UdpFault::Lists | UdpFault::Address(_) => Fault::Settings,
@@ -306,17 +433,27 @@ fn opened<'a, R: Files>(
     requires { now ≤ 2 ^ 62 }
     ensures { IfOk result (λ actor. actor.end.time ≤ now) }
 {
-    let listens = run.log != LogLevel::Off || run.expected.is_some();
-    let overheard = Overheard {
-        inner: channels,
-        ear: Ear::new(listens),
+    let is_heard = run.log != LogLevel::Off || run.expected.is_some();
+    let listens = is_heard || run.keep || run.counts.is_some();
+    let keeper = Keeper::new(settings.config, now);
+    let t_max = settings.config.t_max;
+    let teller = Teller::new(side, t_max, run.counts, settings.local.len(), now);
+    let Ok(overheard) = Overheard::over(alloc, channels, listens) else {
+        return Err(Fault::Memory);
     };
     let log = Log::new(side, run.log, settings, now);
     let first_sn = first_number(rt, settings.first_sn)?;
     match End::open(alloc, overheard, settings.config, side, first_sn, now) {
-        Ok(end) => Ok(Actor::new(end, side, settings.puts.as_slice(), log)),
-        Err((OpenFault::Memory, _channels)) => Err(Fault::Memory),
-        Err((OpenFault::BadConfig, _channels)) => Err(Fault::Settings),
+        Ok(end) => Ok(Actor::new(
+            end,
+            side,
+            settings.puts.as_slice(),
+            log,
+            keeper,
+            run.keep,
+            teller,
+        )),
+        Err((fault, _channels)) => Err(fault_of_end(fault)),
     }
 }
 

@@ -1,6 +1,6 @@
 //! The clock of a run.
 
-ghost use Rattle.std.specs.Prelude.{◌≡◌, ◌≤◌, ◌<◌, IfOk, OnErr, IfErr};
+ghost use Rattle.std.specs.Prelude.{◌≡◌, ◌≤◌, ◌<◌, ◌+◌, ◌%◌, ◌^◌, IfOk, OnErr, OnOk, IfErr};
 ghost use Rattle.std.specs.Time.{instant_nanos};
 ghost use Rattle.rasta_net.specs.Ticking.{greatest_time, millis_between, time_at};
 
@@ -17,6 +17,8 @@ pub struct RunClock {
     pub began: Instant,
     /// The last reading.
     pub last: u64,
+    /// How often it was read, modulo 2^64: once in each turn.
+    pub readings: u64,
 }
 
 impl RunClock {
@@ -26,10 +28,15 @@ impl RunClock {
     ///
     /// Refused as Clock, where the system gives no time.
     pub fn start<K: Clock>(system: &K) -> Result<Self, Fault>
-        ensures { IfOk result (λ clock. clock.last ≡ 0) }
+        // The time of a run begins at 0.
+        ensures { IfOk result (λ clock. (clock.last ≡ 0) × (clock.readings ≡ 0)) }
     {
         match Instant::now(system) {
-            Ok(began) => Ok(RunClock { began, last: 0 }),
+            Ok(began) => Ok(RunClock {
+                began,
+                last: 0,
+                readings: 0,
+            }),
             Err(_) => Err(Fault::Clock),
         }
     }
@@ -40,14 +47,20 @@ impl RunClock {
     ///
     /// Refused as Clock, where the system gives none or it is above 2^62.
     pub fn read<K: Clock>(&mut self, system: &K) -> Result<u64, Fault>
+        // The time of a run never falls, and is 2^62 ms at most.
         ensures now { IfOk result (λ now. (self.old.last ≤ now) × (now ≤ greatest_time) × (self.new.last ≡ now)) }
         ensures began { self.new.began ≡ self.old.began }
+        // Turns that end without a fault have read the clock as often as words state turns; that each reading
+        // goes with a turn no contract says.
+        ensures counted { OnOk result (self.new.readings ≡ (self.old.readings + 1) % 2 ^ 64) }
         ensures refused { OnErr result (self.new ≡ self.old) }
     {
-        match Instant::now(system) {
-            Ok(seen) => self.at(seen),
-            Err(_) => Err(Fault::Clock),
-        }
+        let Ok(seen) = Instant::now(system) else {
+            return Err(Fault::Clock);
+        };
+        let now = self.at(seen)?;
+        self.readings = self.readings.wrapping_add(1);
+        Ok(now)
     }
 
     /// The time at a reading of the system's clock.
@@ -56,9 +69,13 @@ impl RunClock {
     ///
     /// Refused as Clock exactly where it is above 2^62.
     fn at(&mut self, seen: Instant) -> Result<u64, Fault>
+        // At a reading of the system's clock it is the whole milliseconds since the run began, or the last time
+        // where that is more.
         ensures now { IfOk result (λ now. now ≡ time_at (instant_nanos self.old.began) self.old.last (instant_nanos seen)) }
         ensures bounded { IfOk result (λ now. now ≤ greatest_time) }
         ensures kept { IfOk result (λ now. self.new ≡ record self.old { last = now }) }
+        // At a reading of the system's clock it is the whole milliseconds since the run began, or the last time
+        // where that is more.
         ensures refusal { IfErr result (λ fault. greatest_time
             < time_at (instant_nanos self.old.began) self.old.last (instant_nanos seen)) }
         ensures refused { OnErr result (self.new ≡ self.old) }

@@ -1,3 +1,4 @@
 pub mod Done
 pub mod Refusal
 pub mod Following
+pub mod Starting

@@ -27,7 +27,9 @@ pub fn run_follow<R: Read + Drop, O: Write, E: Write, A: Allocator + Copy>(
     out: &mut O,
     err: &mut E,
 ) -> Status
+    // An initial value that is none is refused by `follow`.
     ensures no_value { initial_value_of (option_copied following.now.iv) ≡ None → result ≡ Status.Refused }
+    // No run of `sim` or `follow` ends as wrong words.
     ensures words { result ≢ Status.WrongWords }
 {
     let Some(asked) = asked(following) else {
@@ -39,6 +41,7 @@ pub fn run_follow<R: Read + Drop, O: Write, E: Write, A: Allocator + Copy>(
 
 /// What the choices of `follow` ask of a capture; nothing where the text for the initial value is none.
 fn asked(following: &Following<'_>) -> Option<Asked>
+    // Each choice of `follow` has its effect on what is asked of a capture.
     ensures { result ≡ asked_under following.now (initial_value_of (option_copied following.now.iv)) }
 {
     let initial_value = initial_value(following.iv)?;
@@ -63,6 +66,7 @@ fn form(json: bool) -> Form
 
 /// Names what stopped a run, and answers how the program ends.
 fn end<E: Write>(err: &mut E, ended: FollowStatus) -> Status
+    // A run of `follow` ends by what stopped it.
     ensures { result ≡ end_of ended }
 {
     match ended {

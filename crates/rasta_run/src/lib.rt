@@ -3,8 +3,8 @@
 
 mod follow;
 mod program;
-mod sim;
+mod scripts;
 
 pub use follow::run_follow;
 pub use program::{run, run_words};
-pub use sim::run_sim;
+pub use scripts::run_sim;

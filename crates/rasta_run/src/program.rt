@@ -5,18 +5,20 @@ ghost use Rattle.clap.specs.Words.{fault_of};
 ghost use Rattle.rasta_words.specs.CommandLine.{rasta_app};
 ghost use Rattle.rasta_run.specs.Done.{DoneAs};
 ghost use Rattle.rasta_run.specs.Refusal.{EndsBy};
+ghost use Rattle.rasta_run.specs.Starting.{run_under};
 
 use crate::follow::run_follow;
-use crate::sim::run_sim;
+use crate::scripts::run_sim;
 use clap::error::ErrorKind;
-use rasta_net::{Run, run_net};
+use rasta_net::{Run, SETTINGS_MAX, refuse_long, run_net};
 use rasta_show::{run_md4, run_show};
 use rasta_status::{Fault, Status, report};
 use rasta_words::{Following, Request, Running, WordsFault, command};
 use std::alloc::{AllocError, Global};
 use std::convert::AsStr;
 use std::env::{Env, FillError};
-use std::io::{Input, Write};
+use std::fmt::Display;
+use std::io::{Input, Read, Write};
 use std::net::Net;
 use std::rt::Files;
 use std::time::Clock;
@@ -44,6 +46,8 @@ pub fn run<R: AllocGlobal + Files + Net + Clock + Input, S: AsStr, O: Write, E: 
     out: &mut O,
     err: &mut E,
 ) -> Status
+    // On words without fault by `clap`'s rules `run` ends as done only where it has done what they ask for.
+    // Of a script, a capture and a run over sockets "done" says no more than that words ask for it (`HasDone`).
     ensures done { result ≡ Status.Done → fault_of rasta_app (map S.text words.now) ≡ []
         → DoneAs (map S.text words.now) (O.contents out.old) (O.contents out.new) }
 {
@@ -66,11 +70,7 @@ fn run_script<R: AllocGlobal + Files, O: Write, E: Write>(
 ) -> Status {
     match fs::open(rt, script) {
         Ok(file) => run_sim(rt.alloc(), file, out, err),
-        Err(error) if matches!(error.kind(), io::ErrorKind::OutOfMemory) => report(
-            err,
-            Fault::Memory,
-        ),
-        Err(_) => report(err, Fault::File),
+        Err(error) => refuse_file(script, &error, err),
     }
 }
 
@@ -88,11 +88,7 @@ fn run_capture<R: AllocGlobal + Files, O: Write, E: Write>(
     };
     match fs::open(rt, path) {
         Ok(file) => run_follow(rt.alloc(), file, following, out, err),
-        Err(error) if matches!(error.kind(), io::ErrorKind::OutOfMemory) => report(
-            err,
-            Fault::Memory,
-        ),
-        Err(_) => report(err, Fault::File),
+        Err(error) => refuse_file(path, &error, err),
     }
 }
 
@@ -103,24 +99,65 @@ fn run_file<R: AllocGlobal + Files + Net + Clock + Input, O: Write, E: Write>(
     out: &mut O,
     err: &mut E,
 ) -> Status {
-    let run = Run {
+    let octets = match file_octets(rt, running.file) {
+        Ok(octets) => octets,
+        Err(error) => return refuse_file(running.file, &error, err),
+    };
+    if octets.len() > SETTINGS_MAX {
+        return refuse_long(err);
+    }
+    match str::from_utf8(octets.as_slice()) {
+        Ok(text) => run_net(rt, rt.alloc(), &run_under(running), text, out, err),
+        Err(_) => report_file(running.file, "no UTF-8 text", err),
+    }
+}
+
+/// How ends are run that words ask for.
+fn run_under(running: &Running<'_>) -> Run
+    ensures { result ≡ run_under running.now }
+{
+    Run {
         word: running.word,
         length: running.length,
         log: running.log,
         expected: running.expected,
-    };
-    match fs::read_to_string(rt, running.file) {
-        Ok(text) => run_net(rt, rt.alloc(), &run, text.as_str(), out, err),
-        Err(error) if matches!(error.kind(), io::ErrorKind::OutOfMemory) => report(
-            err,
-            Fault::Memory,
-        ),
-        Err(_) => report(err, Fault::File),
+        keep: running.keep,
+        counts: running.counts,
     }
+}
+
+/// The octets of a settings file, and of one that is too long so many that this shows.
+fn file_octets<R: AllocGlobal + Files>(rt: &R, path: &str) -> io::Result<Vec<u8>> {
+    let mut octets = Vec::new(rt.alloc());
+    let mut front = fs::open(rt, path)?.take(SETTINGS_MAX as u64 + 1);
+    let _size = front.read_to_end(&mut octets)?;
+    Ok(octets)
+}
+
+/// Names the fault of a file that the system does not give, or the want of memory for it.
+fn refuse_file<E: Write>(path: &str, error: &io::Error, err: &mut E) -> Status
+    ensures { result ≡ Status.Refused }
+{
+    match error.kind() {
+        io::ErrorKind::OutOfMemory => report(err, Fault::Memory),
+        _ => report_file(path, error, err),
+    }
+}
+
+/// Names the fault of a file on standard error, and behind it the file and why.
+fn report_file<D: Display + Drop, E: Write>(path: &str, why: D, err: &mut E) -> Status
+    ensures { result ≡ Status.Refused }
+{
+    let status = report(err, Fault::File);
+    let name = path.escape_debug();
+    let _ = writeln!(err, "file: {name}: {why}");
+    status
 }
 
 /// Prints why the words are no command, or the help that they ask for.
 fn refuse<O: Write, E: Write>(fault: &WordsFault, out: &mut O, err: &mut E) -> Status
+    // Words that are no command end as wrong words, want of memory as refused, a call for help as done or
+    // failed.
     ensures { EndsBy fault.now result }
 {
     match fault {

@@ -26,17 +26,21 @@ pub fn run_show<O: Write, E: Write>(
     out: &mut O,
     err: &mut E,
 ) -> Status
-    // All that was written is the datagram's text, and it has no fault.
+    // `run_show` ends as done only where it wrote the whole text of the octets that the hex text spells, and no
+    // line names a fault.
     ensures done { result ≡ Status.Done
         → HasShown code (option_copied iv.entry) hex.now true (O.contents out.old) (O.contents out.new) }
 
-    // The text has a fault, or nothing was written.
+    // `run_show` ends as refused only where it wrote the whole text and a line names a fault, or wrote nothing.
     ensures refused { result ≡ Status.Refused
         → HasShown code (option_copied iv.entry) hex.now false (O.contents out.old) (O.contents out.new)
         ⊎ (out.new ≡ out.old) }
+    // An initial value that is none is refused by `run_show`, and nothing is written.
     ensures no_value { initial_value_of (option_copied iv.entry) ≡ None
         → (result ≡ Status.Refused) × (out.new ≡ out.old) }
+    // A text that is no hex text is refused by `run_show`, and nothing is written.
     ensures no_octets { octets_of hex.now ≡ None → (result ≡ Status.Refused) × (out.new ≡ out.old) }
+    // No run of `show` or `md4` ends as wrong words.
     ensures words { result ≢ Status.WrongWords }
 {
     match shown(alloc, code, iv, hex, out) {
@@ -49,9 +53,14 @@ pub fn run_show<O: Write, E: Write>(
 /// Runs `md4`: writes the MD4 digest (RFC 1320) of the octets that `hex` spells, as 32 hex digits; the
 /// word `empty` stands for no octets. A text that is no hex text, an empty one included, is `fault: hex`.
 pub fn run_md4<O: Write, E: Write>(alloc: Global, hex: &str, out: &mut O, err: &mut E) -> Status
+    // `run_md4` ends as done only where it wrote the digest of the octets that the hex text spells, or of none
+    // for the word `empty`.
     ensures done { result ≡ Status.Done → HasDigested hex.now (O.contents out.old) (O.contents out.new) }
+    // `run_md4` ends as refused only where it wrote nothing.
     ensures refused { result ≡ Status.Refused → out.new ≡ out.old }
+    // A text that is no hex text is refused by `run_md4`.
     ensures no_octets { message_of hex.now ≡ None → result ≡ Status.Refused }
+    // No run of `show` or `md4` ends as wrong words.
     ensures words { result ≢ Status.WrongWords }
 {
     match digested(alloc, hex, out) {

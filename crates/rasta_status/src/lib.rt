@@ -25,6 +25,7 @@ pub enum Status {
 impl Status {
     /// The exit status.
     pub fn code(self) -> u8
+        // Each end of the program has its exit status.
         ensures { result ≡ status_code self }
     {
         match self {
@@ -66,6 +67,24 @@ pub enum Expected {
     Settled,
 }
 
+/// How counts are told on standard error.
+#[derive(Clone, Copy, Debug, PartialEq, Eq)]
+pub enum CountsForm {
+    /// In words.
+    Text,
+    /// As JSON.
+    Json,
+}
+
+/// Which counts are told, and when: at the end of a run, and before.
+#[derive(Clone, Copy, Debug, PartialEq, Eq)]
+pub struct Telling {
+    /// How they are told.
+    pub form: CountsForm,
+    /// After so many seconds each time, where they are told before the end.
+    pub every: Option<u32>,
+}
+
 /// What the program names on standard error.
 #[derive(Clone, Copy, Debug, PartialEq, Eq, Error)]
 pub enum Fault {
@@ -95,6 +114,7 @@ pub enum Fault {
 impl Fault {
     /// How the program ends with it.
     pub fn status(self) -> Status
+        // Each fault has the end of the program that it brings about.
         ensures { result ≡ status_of self }
     {
         match self {
@@ -107,6 +127,7 @@ impl Fault {
 /// Names a fault on standard error, and answers how the program ends. Where that output fails too,
 /// the status alone tells.
 pub fn report<E: Write>(err: &mut E, fault: Fault) -> Status
+    // `report` answers the end of the program that the fault it names brings about.
     ensures { result ≡ status_of fault }
 {
     let _ = writeln!(err, "{fault}");

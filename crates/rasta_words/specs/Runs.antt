@@ -9,6 +9,9 @@ use Rattle.rasta_status.specs.declared.LogLevel.{LogLevel}
 use Rattle.rasta_status.specs.declared.LogLevel.TheVariants.{Off, State, All}
 use Rattle.rasta_status.specs.declared.Expected.{Expected}
 use Rattle.rasta_status.specs.declared.Expected.TheVariants.{Up, Settled}
+use Rattle.rasta_status.specs.declared.CountsForm.{CountsForm}
+use Rattle.rasta_status.specs.declared.CountsForm.TheVariants as counts_form
+use Rattle.rasta_status.specs.declared.Telling.{Telling}
 use Rattle.rasta_words.specs.Choices.{file_rule, is_flagged}
 use Rattle.rasta_words.specs.declared.command_line.Running.{Running}
 use Rattle.settings_file.specs.declared.Word.{Word}
@@ -19,7 +22,7 @@ ends_word Il = codes "il"
 ends_word Fe = codes "fe"
 ends_word Pair = codes "pair"
 
--- il FILE (--turns N | --until-end) [--log off|state|all] [--expect up|settled], and so for fe and pair
+-- il FILE (--turns N | --until-end) [--log off|state|all] [--expect up|settled] [--keep] [--stats text|json [--every N]], and so for fe and pair
 abbrev pub turns_rule : Rule
 turns_rule = record (new_rule (codes "turns")) { long = Some (codes "turns") }
 
@@ -44,8 +47,26 @@ logged_app name = with_rule (ending_app name) log_rule
 abbrev pub expecting_app : Text → App
 expecting_app name = with_rule (logged_app name) expect_rule
 
+abbrev pub keep_rule : Rule
+keep_rule = record (new_rule (codes "keep")) { long = Some (codes "keep"); action = Some SetTrue }
+
+abbrev pub stats_rule : Rule
+stats_rule = record (new_rule (codes "stats")) { long = Some (codes "stats") }
+
+abbrev pub every_rule : Rule
+every_rule = record (new_rule (codes "every")) { long = Some (codes "every") }
+
+abbrev pub keeping_app : Text → App
+keeping_app name = with_rule (expecting_app name) keep_rule
+
+abbrev pub counting_app : Text → App
+counting_app name = with_rule (keeping_app name) stats_rule
+
+abbrev pub repeating_app : Text → App
+repeating_app name = with_rule (counting_app name) every_rule
+
 abbrev pub net_app : Text → App
-net_app name = with_rule (expecting_app name) file_rule
+net_app name = with_rule (repeating_app name) file_rule
 
 -- how a number of turns is written: in decimal digits, before which a plus may stand
 abbrev pub IsTurns : Text → ℕ → Type 0
@@ -86,12 +107,43 @@ abbrev pub IsEndChosen : Option Text → Option Expected → Type 0
 IsEndChosen None expected = expected ≡ None
 IsEndChosen (Some word) expected = IsEndWritten word expected
 
+-- how the form of counts is written
+abbrev pub form_word : CountsForm → Text
+form_word counts_form.Text = codes "text"
+form_word counts_form.Json = codes "json"
+
+-- how a number of seconds is written: in decimal digits, before which a plus may stand; at most a day
+abbrev pub IsSeconds : Text → ℕ → Type 0
+IsSeconds word seconds =
+    IsNumeral 10 (without_leading_plus word) × (digits_value 10 (without_leading_plus word) ≡ seconds) × (1 ≤ seconds) × (seconds ≤ 86400)
+
+abbrev pub IsWrittenIn : Text → Option ℕ → Type 0
+IsWrittenIn word None = ⊥
+IsWrittenIn word (Some seconds) = IsSeconds word seconds
+
+-- at the end alone, where no seconds are written
+abbrev pub AreSecondsChosen : Option Text → Option ℕ → Type 0
+AreSecondsChosen None every = every ≡ None
+AreSecondsChosen (Some word) every = IsWrittenIn word every
+
+abbrev pub AreTold : Text → Option Text → Option Telling → Type 0
+AreTold form every None = ⊥
+AreTold form every (Some t) = (form ≡ form_word t.form) × AreSecondsChosen every t.every
+
+-- no counts, where no form is written; and then no seconds are
+abbrev pub AreCountsChosen : Option Text → Option Text → Option Telling → Type 0
+AreCountsChosen None None counts = counts ≡ None
+AreCountsChosen None (Some every) counts = ⊥
+AreCountsChosen (Some form) every counts = AreTold form every counts
+
 -- the choices are those of the entries found
 abbrev pub IsRun : List Row → Running → Type 0
 IsRun rows r =
     (first_of (codes "file") rows ≡ Some r.file.now)
     × IsLengthChosen (first_of (codes "turns") rows) (is_flagged (first_of (codes "until-end") rows)) r.length
     × IsLogChosen (first_of (codes "log") rows) r.log × IsEndChosen (first_of (codes "expect") rows) r.expected
+    × (is_flagged (first_of (codes "keep") rows) ≡ r.keep)
+    × AreCountsChosen (first_of (codes "stats") rows) (first_of (codes "every") rows) r.counts
 
 abbrev pub HasNoRun : List Row → Type 0
 HasNoRun rows = (r : Running) → ¬ IsRun rows r

@@ -5,14 +5,14 @@ ghost use Rattle.std.specs.Option.{option_copied};
 ghost use Rattle.clap.specs.declared.Command.TheViews.{out-Command};
 ghost use Rattle.clap.specs.Words.{app_of, fault_of, first_of, found_of, rows_of, subcommand_of, subcommand_rows_of};
 ghost use Rattle.rasta_words.specs.CommandLine.{Asks, FindsNone, HasEntries, HasNoEntries, IsFaultOf, IsFound, Refuses, code_app, coded_app, digest_app, ends_app, file_app, il_app, local_app, md4_app, plain_app, rasta_app, show_app, sim_app};
-ghost use Rattle.rasta_words.specs.Runs.{HasNoRun, IsEndChosen, IsLogChosen, IsLengthChosen, IsRun, ending_app, expected_word, expecting_app, log_word, logged_app, net_app, turns_app, ends_word, IsTurns};
+ghost use Rattle.rasta_words.specs.Runs.{HasNoRun, IsEndChosen, IsLogChosen, IsLengthChosen, IsRun, AreCountsChosen, AreSecondsChosen, IsSeconds, counting_app, ending_app, expected_word, expecting_app, form_word, keeping_app, log_word, logged_app, net_app, repeating_app, turns_app, ends_word, IsTurns};
 ghost use Rattle.capture.specs.declared.ports.PortRange.{PortRange};
 ghost use Rattle.rasta_words.specs.Choices.{ArePortsChosen, HasChoices, HasNoChoices, IsAgeChosen, IsCodeChosen, IsMilliseconds, IsRemarkChosen, chosen_app, code_word, follow_app, is_flagged, length_app, limited_app, only_app, ported_app, summing_app, telling_app};
 
 use capture::{Ports, read_ports};
 use capture_text::Word as Remarkable;
 use clap::{Arg, ArgAction, ArgMatches, Command};
-use rasta_status::{Expected, LogLevel, RunLength};
+use rasta_status::{CountsForm, Expected, LogLevel, RunLength, Telling};
 use safe_pdu::CodeLength;
 use settings_file::Word;
 use std::alloc::{AllocError, Global};
@@ -60,6 +60,10 @@ pub struct Running<'a> {
     pub log: LogLevel,
     /// `--expect`: how they are to stand at the end.
     pub expected: Option<Expected>,
+    /// `--keep`: an end that has lost its connection is opened anew.
+    pub keep: bool,
+    /// `--stats`, and with `--every` after so many seconds each time: how counts are told.
+    pub counts: Option<Telling>,
 }
 
 /// How a recorded connection is followed.
@@ -93,7 +97,7 @@ pub enum WordsFault {
     #[error("error: a code has 0, 8 or 16 octets\n\nUsage: rasta show [--iv <iv>] --code <0|8|16> <hex>\n\nFor more information, try 'rasta show --help'.")]
     BadCode,
     /// A number of turns that is none, both or none of turns and `--until-end`, or a choice of ends that is none.
-    #[error("error: either --until-end is given or --turns, a number from 1 to 1,000,000; a log is off, state or all, and what is expected is up or settled\n\nUsage: rasta <il|fe|pair> [--log <off|state|all>] [--expect <up|settled>] <--turns <turns>|--until-end> <file>\n\nFor more information, try 'rasta --help'.")]
+    #[error("error: either --until-end is given or --turns, a number from 1 to 1,000,000; a log is off, state or all, what is expected is up or settled, and counts are told as text or json, every 1 to 86,400 seconds\n\nUsage: rasta <il|fe|pair> [--log <off|state|all>] [--expect <up|settled>] [--keep] [--stats <text|json> [--every <seconds>]] <--turns <turns>|--until-end> <file>\n\nFor more information, try 'rasta --help'.")]
     BadTurns,
     /// A choice of `follow` that is none.
     #[error("error: a code has 0, 8 or 16 octets, T_max is a number of milliseconds from 1 to 4,294,967,295, ports are one to four ranges as 46101-46102,46201, and lines are chosen by opens, repeat, differs, ahead, late, stale, anew, resent, age, reason or fault\n\nUsage: rasta follow [--code <0|8|16>] [--iv <iv>] [--json] [--messages] [--only <word>] [--ports <ports>] [--t-max <ms>] <file>\n\nFor more information, try 'rasta follow --help'.")]
@@ -113,8 +117,17 @@ pub enum WordsFault {
 /// Refused: `Words`, where clap's rules find a fault in the words, or have no memory; `BadCode`, `BadChoice` or `BadTurns`,
 /// where they find none and yet no command is asked for, as with a code of 9 octets or with 0 turns; `Memory`.
 pub fn command<'a, S: AsStr>(alloc: Global, words: &'a [S]) -> Result<Request<'a>, WordsFault>
+    // The command that `command` answers is the subcommand that `clap` finds, its values the entries found
+    // there, with listed choices.
+    // Ends run for a number of turns or until their input ends, whichever of the two is given; `command`
+    // refuses both and neither (`IsLengthChosen`).
     ensures found { IfOk result (Asks (map S.text words.entry.now)) }
+    // `command` answers a command only where `clap`'s rules find no fault in the words.
     ensures fits { IsOk result → fault_of rasta_app (map S.text words.entry.now) ≡ [] }
+    // Where `command` refuses with an error of `clap`, its kind is that of a fault that `clap`'s rules find, or
+    // want of memory (`IsFaultOf`).
+    // `command` never answers that a word is no text (`IsFaultOf` (NotText)).
+    // Where `command` refuses a code, turns or a choice, the words ask for no command (`Refuses`).
     ensures refused { IfErr result (Refuses (map S.text words.entry.now)) }
 {
     let matches = matched(alloc, words)?;
@@ -172,7 +185,57 @@ fn ends_run<'a>(word: Word, entries: &ArgMatches<'a>) -> Option<Running<'a>>
         )?,
         log: chosen_log(entry(entries, "log"))?,
         expected: chosen_end(entry(entries, "expect"))?,
+        keep: is_chosen(entry(entries, "keep")),
+        counts: chosen_counts(entry(entries, "stats"), entry(entries, "every"))?,
     })
+}
+
+/// Which counts are told, by a word for their form and one for the seconds between two tellings, which needs the first.
+fn chosen_counts(form: Option<&str>, every: Option<&str>) -> Option<Option<Telling>>
+    ensures found { IfSome result (AreCountsChosen (option_copied form.entry) (option_copied every.entry)) }
+    ensures only { (counts : Option Telling) → AreCountsChosen (option_copied form.entry) (option_copied every.entry) counts
+        → result ≡ Some counts }
+{
+    match (form, every) {
+        (None, None) => Some(None),
+        (None, Some(_)) => None,
+        (Some(form), every) => Some(Some(Telling {
+            form: counts_form(form)?,
+            every: chosen_seconds(every)?,
+        })),
+    }
+}
+
+fn counts_form(word: &str) -> Option<CountsForm>
+    ensures found { IfSome result (λ form. word.now ≡ form_word form) }
+    ensures only { (form : CountsForm) → word.now ≡ form_word form → result ≡ Some form }
+{
+    match word {
+        "text" => Some(CountsForm::Text),
+        "json" => Some(CountsForm::Json),
+        _ => None,
+    }
+}
+
+/// The seconds that a word names; none where there is no word.
+fn chosen_seconds(word: Option<&str>) -> Option<Option<u32>>
+    ensures found { IfSome result (AreSecondsChosen (option_copied word.entry)) }
+    ensures only { (every : Option ℕ) → AreSecondsChosen (option_copied word.entry) every → result ≡ Some every }
+{
+    match word {
+        None => Some(None),
+        Some(word) => Some(Some(seconds(word)?)),
+    }
+}
+
+fn seconds(word: &str) -> Option<u32>
+    ensures found { IfSome result (IsSeconds word.now) }
+    ensures only { (seconds : ℕ) → IsSeconds word.now seconds → result ≡ Some seconds }
+{
+    match word.parse::<u32>() {
+        Ok(seconds) if 1 <= seconds && seconds <= 86_400 => Some(seconds),
+        _ => None,
+    }
 }
 
 /// How long ends run: for the turns that a word tells, or until the end of input; one of the two is to be given.
@@ -446,7 +509,7 @@ fn net_command<'a>(alloc: Global, name: &'a str, about: &'a str) -> Result<Comma
     ensures app { IfOk result (λ command. app_of command ≡ net_app name.entry.now) }
     ensures local { IfOk result (λ command. (out-Command command).has_globals ≡ false) }
 {
-    let command = expecting_command(alloc, name, about)?;
+    let command = repeating_command(alloc, name, about)?;
     let file = Arg::new(alloc, "file")
         .required(true)
         .help("The settings file");
@@ -454,6 +517,55 @@ fn net_command<'a>(alloc: Global, name: &'a str, about: &'a str) -> Result<Comma
 }
 
 /// The command of ends over sockets with all but its file.
+fn repeating_command<'a>(
+    alloc: Global,
+    name: &'a str,
+    about: &'a str,
+) -> Result<Command<'a>, AllocError>
+    ensures app { IfOk result (λ command. app_of command ≡ repeating_app name.entry.now) }
+    ensures local { IfOk result (λ command. (out-Command command).has_globals ≡ false) }
+{
+    let command = counting_command(alloc, name, about)?;
+    let every = Arg::new(alloc, "every").long("every").help(
+        "With --stats: tells the counts each time so many seconds have passed, too, 1 to 86,400",
+    );
+    command.arg(every)
+}
+
+/// The command of ends over sockets with all but its file and the seconds between two tellings.
+fn counting_command<'a>(
+    alloc: Global,
+    name: &'a str,
+    about: &'a str,
+) -> Result<Command<'a>, AllocError>
+    ensures app { IfOk result (λ command. app_of command ≡ counting_app name.entry.now) }
+    ensures local { IfOk result (λ command. (out-Command command).has_globals ≡ false) }
+{
+    let command = keeping_command(alloc, name, about)?;
+    let stats = Arg::new(alloc, "stats").long("stats").help(
+        "Tells on standard error what was counted, at the end: text or json",
+    );
+    command.arg(stats)
+}
+
+/// The command of ends over sockets with how long they run, its log, how they are to stand, and whether they are kept.
+fn keeping_command<'a>(
+    alloc: Global,
+    name: &'a str,
+    about: &'a str,
+) -> Result<Command<'a>, AllocError>
+    ensures app { IfOk result (λ command. app_of command ≡ keeping_app name.entry.now) }
+    ensures local { IfOk result (λ command. (out-Command command).has_globals ≡ false) }
+{
+    let command = expecting_command(alloc, name, about)?;
+    let keep = Arg::new(alloc, "keep")
+        .long("keep")
+        .action(ArgAction::SetTrue)
+        .help("Opens an end anew that has lost its connection");
+    command.arg(keep)
+}
+
+/// The command of ends over sockets with how long they run, its log, and how they are to stand.
 fn expecting_command<'a>(
     alloc: Global,
     name: &'a str,

@@ -126,6 +126,7 @@ pub struct Recording {
 impl Recording {
     /// Nothing was taken yet.
     pub fn new() -> Self
+        // A recording begins with its first four octets, and no interface.
         ensures { result ≡ opened }
     {
         Recording {
@@ -136,6 +137,7 @@ impl Recording {
 
     /// How many octets are to be taken next.
     pub fn wants(&self) -> u32
+        // How many octets are taken next.
         ensures { result ≡ wanted self.now.part }
     {
         match self.part {
@@ -156,8 +158,12 @@ impl Recording {
     /// The first fault of a block. The recording is then as before, and cannot go on.
     pub fn take(&mut self, octets: &[u8]) -> Result<Event, FileFault>
         requires { length octets.now ≤ 2 ^ 32 }
+        // A block, of any octets, says exactly what the definitions say, or its first fault is named.
         ensures event { result ≡ event_of (step_of self.old octets.now) }
+        // What stands next after a block, and which interfaces are known, is exactly the stated step; a fault
+        // changes nothing.
         ensures next { self.new ≡ going_on self.old (step_of self.old octets.now) }
+        // A frame lies within its block.
         ensures within { IfOk result (EndsWithin octets.now) }
     {
         match take_step(self, octets) {

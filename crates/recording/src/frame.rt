@@ -26,6 +26,7 @@ pub enum Link {
 impl Link {
     /// The link of a LINKTYPE number, where it is known here.
     pub fn numbered(number: u32) -> Option<Link>
+        // The LINKTYPE numbers that are known are 0, 1, 101, 108, 113, 228 and 276.
         ensures { result ≡ link_of number }
     {
         match number {
@@ -85,8 +86,14 @@ pub(crate) struct Packet {
 /// Why there is none; of several reasons the one that is met first from the front.
 pub fn find_datagram(link: Link, octets: &[u8]) -> Result<Found, Passed>
     requires { length octets.now < 2 ^ 32 }
+    // The UDP datagram of a frame is found at exactly the places that the definitions say, or the first reason
+    // why there is none is named.
+    // Of it, of an IPv6 packet: what stands behind up to five headers, and which fragments are told (`in_ipv6`,
+    // `upper_of`).
     ensures found { result ≡ found_in link octets.now }
+    // A payload ends within its frame.
     ensures fits { IfOk result (λ found. found.end ≤ length octets.now) }
+    // A payload begins before it ends.
     ensures order { IfOk result (λ found. found.start ≤ found.end) }
 {
     match find_packet(link, octets) {

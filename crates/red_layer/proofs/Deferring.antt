@@ -1,7 +1,7 @@
 -- The three ways of an early part, over what is kept: f sees a kept part as its octets.
 use Rattle.std.proofs.Common.{◌≡◌, ◌≢◌, ℕ, true, false, cond, List, [], length, refl, sym, ap, ◌∙◌, arith}
 use Rattle.std.proofs.lemmas.Bool.Decides.{nat_tests}
-use Rattle.deferral.specs.FiniteMap.{put_in, has_number}
+use Rattle.red_layer.specs.FiniteMap.{put_in, has_number}
 use Rattle.red_layer.specs.declared.RedEvent.TheVariants.{Wait, Full, Again}
 use Rattle.red_layer.specs.Parts.{Part, map_parts, is_nil}
 use Rattle.red_layer.specs.Redundancy.{Receiver, deferred}

@@ -1,3 +1,5 @@
+pub mod FiniteMap
+pub mod Entries
 pub mod Runs
 pub mod Views
 pub mod Deferring

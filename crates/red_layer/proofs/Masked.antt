@@ -3,7 +3,7 @@ use Rattle.std.proofs.Common.{◌≡◌, ◌≢◌, ℕ, zero, suc, ◌+◌, ◌
 use Rattle.std.proofs.lemmas.Bool.{false≢true}
 use Rattle.std.proofs.lemmas.Bool.Decides.{nat_tests, leb_tells, eqb_tells}
 use Rattle.red_pdu.specs.declared.RedFault.{RedFault}
-use Rattle.deferral.specs.FiniteMap.{Rises, put_in, has_number, part_under}
+use Rattle.red_layer.specs.FiniteMap.{Rises, put_in, has_number, part_under}
 use Rattle.red_layer.specs.Parts.{Part, IsBelow, is_nil}
 use Rattle.red_layer.specs.Redundancy.{Receiver, Stepped, Input, Datagram, Tick, run_from, after_run, follow, is_due, released, after_release, arrival, decoded, heard, passed_by, after, opened}
 use Rattle.red_layer.specs.Service.{accepted, arrivals_of, arrivals, passed_along}
@@ -12,7 +12,7 @@ use Rattle.red_layer.specs.Laws.{Masking, FirstMissingLaw}
 use Rattle.red_layer.proofs.Views.{IsBelow-put_in}
 use Rattle.octets.proofs.Choices.{by_cond, by_test}
 use Rattle.red_layer.proofs.Ordered.{after_run-rises, IsBelow-weaken}
-use Rattle.deferral.proofs.FiniteMap.{Rises-put_in, has-none, has-some, length-put_in, part-absent, part-below, part-of_has, part-put_in}
+use Rattle.red_layer.proofs.FiniteMap.{Rises-put_in, has-none, has-some, length-put_in, part-absent, part-below, part-of_has, part-put_in}
 
 -- no number past the greatest has arrived
 pub has-past_greatest : (n : ℕ) (arrived : List Part) → greatest arrived < n → has_number n arrived ≡ false

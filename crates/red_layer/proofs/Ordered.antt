@@ -2,13 +2,13 @@
 use Rattle.std.proofs.Common.{◌≡◌, ◌≢◌, ℕ, ◌+◌, ◌*◌, ◌≤◌, true, false, cond, eqb, ltb, List, [], ◌∷◌, ◌++◌, length, Result, Ok, Err, refl, sym, ⊎_elim, inl, inr, subst, arith}
 use Rattle.std.proofs.lemmas.Bool.Decides.{nat_tests, leb_tells, eqb_tells}
 use Rattle.red_pdu.specs.declared.RedFault.{RedFault}
-use Rattle.deferral.specs.FiniteMap.{Rises, put_in, has_number}
+use Rattle.red_layer.specs.FiniteMap.{Rises, put_in, has_number}
 use Rattle.red_layer.specs.Parts.{Part, IsBelow, is_nil}
 use Rattle.red_layer.specs.Redundancy.{Receiver, Stepped, Input, Datagram, Tick, run_from, after_run, follow, least_waiting, is_due, released, after_release, arrival, decoded, heard, passed_by, after, opened}
 use Rattle.red_layer.specs.Service.{IsAmong, AreAmong, HaveArrived, accepted, arrivals_of, passed_along, moments}
 use Rattle.red_layer.specs.Laws.{ServiceLaw}
 use Rattle.octets.proofs.Choices.{by_cond, by_test}
-use Rattle.deferral.proofs.FiniteMap.{Rises-put_in, Rises-weaken}
+use Rattle.red_layer.proofs.FiniteMap.{Rises-put_in, Rises-weaken}
 
 -- the run from n on
 pub run_from-rises : (n : ℕ) (es : List Part) → Rises n (run_from n es)

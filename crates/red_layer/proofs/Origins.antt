@@ -2,7 +2,7 @@
 use Rattle.std.proofs.Common.{◌≡◌, ◌≢◌, ℕ, ◌+◌, ◌*◌, ◌≤◌, cond, eqb, ltb, List, [], ◌∷◌, ◌++◌, length, Result, Ok, Err, refl, sym, ap, ◌∙◌, inl, inr, arith, append-nil, append_assoc}
 use Rattle.std.proofs.lemmas.Bool.Decides.{nat_tests}
 use Rattle.red_pdu.specs.declared.RedFault.{RedFault}
-use Rattle.deferral.specs.FiniteMap.{has_number}
+use Rattle.red_layer.specs.FiniteMap.{has_number}
 use Rattle.red_layer.specs.Parts.{Part}
 use Rattle.red_layer.specs.Redundancy.{Receiver, Stepped, Input, Datagram, Tick, run_from, follow, least_waiting, is_due, released, after_release, arrival, decoded, heard, passed_by, after, opened}
 use Rattle.red_layer.specs.Service.{IsAmong, AreAmong, accepted, passed_along, after_along}
@@ -10,7 +10,7 @@ use Rattle.red_layer.specs.Laws.{BoundedLaw, OriginLaw, OneMoreLaw}
 use Rattle.red_layer.proofs.Views.{length-after_run}
 use Rattle.octets.proofs.Choices.{by_cond, by_test}
 use Rattle.red_layer.proofs.Ordered.{run_from-among, after_run-among, put_in-among, AreAmong-more, AreAmong-append}
-use Rattle.deferral.proofs.FiniteMap.{length-put_in}
+use Rattle.red_layer.proofs.FiniteMap.{length-put_in}
 
 AreAmong-cons : (p : Part) (ps qs : List Part) → AreAmong ps qs → AreAmong ps (p ∷ qs)
 AreAmong-cons p [] qs h = tt

@@ -1,10 +1,10 @@
 -- Laws of the run of consecutive numbers at the front of the waiting parts.
 use Rattle.std.proofs.Common.{◌≡◌, ◌≢◌, ℕ, ◌+◌, ◌≤◌, List, [], ◌∷◌, Some, None, refl, ap, ◌∙◌, ⊎_elim, arith}
 use Rattle.std.proofs.lemmas.Bool.Decides.{nat_tests, eqb_tells}
-use Rattle.deferral.specs.FiniteMap.{Rises, part_under, take_out}
+use Rattle.red_layer.specs.FiniteMap.{Rises, part_under, take_out}
 use Rattle.red_layer.specs.Parts.{map_parts, IsBelow}
 use Rattle.red_layer.specs.Redundancy.{run_from, after_run}
-use Rattle.deferral.proofs.FiniteMap.{front_part}
+use Rattle.red_layer.proofs.FiniteMap.{front_part}
 
 pub IsBelow-take_out : {T : Type 0} (high n : ℕ) (es : List (ℕ × T)) → IsBelow high es → IsBelow high (take_out n es)
 IsBelow-take_out high n [] h = tt

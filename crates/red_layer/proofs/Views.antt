@@ -1,7 +1,7 @@
 -- Parts that are kept, against the lists of octets that are seen of them.
 use Rattle.std.proofs.Common.{◌≡◌, ℕ, suc, ◌+◌, ◌<◌, ◌≤◌, List, [], ◌∷◌, length, Some, refl, ap, ⊎_elim, arith}
 use Rattle.std.proofs.lemmas.Bool.Decides.{nat_tests, leb_tells, eqb_tells}
-use Rattle.deferral.specs.FiniteMap.{Rises, put_in, has_number, least_of}
+use Rattle.red_layer.specs.FiniteMap.{Rises, put_in, has_number, least_of}
 use Rattle.std.specs.Option.{is_none}
 use Rattle.red_layer.specs.Parts.{map_parts, IsBelow, is_nil}
 use Rattle.red_layer.specs.Redundancy.{after_run}

@@ -1,3 +1,4 @@
+pub mod FiniteMap
 pub mod Parts
 pub mod Sound
 pub mod Redundancy

@@ -1,6 +1,6 @@
 -- FirstMissing, QNear, and when a deferral deadline falls. They share nothing with the receiver's step but what an arrival is.
 use Rattle.std.specs.Prelude.{◌≡◌, ℕ, zero, suc, ◌+◌, ◌<◌, ◌≤◌, ◌==◌, nat_lt, Bool, true, false, ◌||◌, List, [], ◌∷◌, ◌++◌, Option, Some, None, unwrap_or, ⊤, if◌then◌else◌, max}
-use Rattle.deferral.specs.FiniteMap.{has_number, part_under}
+use Rattle.red_layer.specs.FiniteMap.{has_number, part_under}
 use Rattle.red_layer.specs.Parts.{Part}
 use Rattle.red_layer.specs.Redundancy.{Input, Datagram, Tick}
 use Rattle.red_layer.specs.Service.{arrivals_of}

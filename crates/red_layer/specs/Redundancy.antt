@@ -2,7 +2,7 @@
 -- is expected, a finite map of the parts that wait, and the moment since which they wait
 -- (redundancy layer of DIN VDE V 0831-200:2015; the rules are the profile's, docs/PROFILE.md).
 use Rattle.std.specs.Prelude.{ℕ, ◌+◌, ◌*◌, ◌==◌, nat_le, nat_lt, Bool, not, ◌&&◌, List, [], ◌∷◌, ◌++◌, length, Option, Some, None, Result, Ok, Err, if◌then◌else◌}
-use Rattle.deferral.specs.FiniteMap.{put_in, has_number}
+use Rattle.red_layer.specs.FiniteMap.{put_in, has_number}
 use Rattle.octets.specs.declared.limits.TheConstants.{REACH}
 use Rattle.red_pdu.specs.RedText.{red_seen}
 use Rattle.red_pdu.specs.declared.RedFault.{RedFault}

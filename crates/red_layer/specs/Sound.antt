@@ -1,6 +1,6 @@
 -- What every receiving half keeps: what waits lies above the expected number, in the range of sequence numbers.
 use Rattle.std.specs.Prelude.{◌≡◌, ℕ, ◌+◌, ◌^◌, ◌≤◌, List, length}
-use Rattle.deferral.specs.FiniteMap.{Rises}
+use Rattle.red_layer.specs.FiniteMap.{Rises}
 use Rattle.red_layer.specs.Parts.{IsBelow}
 use Rattle.octets.specs.declared.limits.TheConstants.{Q_MAX, T_SEQ_MAX}
 

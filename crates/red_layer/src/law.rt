@@ -5,28 +5,32 @@ ghost use Rattle.red_layer.specs.Laws.{ArrivalLaw, ServiceLaw, Masking, FirstMis
 /// The laws of the layer's step, which do nothing when they are called: they hold of every list of
 /// datagrams and ticks from the opening.
 pub fn order_law()
-    // A part arrives exactly with a datagram that is a redundancy PDU.
+    // What arrives with octets is exactly the number and upper part that the grammar of the redundancy PDU
+    // spells.
     ensures arrivals { ArrivalLaw }
 
-    // The parts of octets are octets.
+    // The parts that arrive with octets are octets.
     ensures octets { PartsLaw }
 
-    // What goes up has strictly rising numbers, and each part has arrived by its moment.
+    // Over every list of datagrams and ticks what goes up has strictly rising numbers, and each part has
+    // arrived by its moment.
     ensures service { ServiceLaw }
 
-    // While arrivals are near and no deadline falls, what goes up is, for each number below the
-    // first missing one and in order, the part that arrived first under it.
+    // While arrivals are near and no deferral deadline falls, what goes up is one part for each number below
+    // the first missing one, in order.
+    // While arrivals are near and no deferral deadline falls, what goes up under a number is the part that came
+    // first under it.
     ensures masking { Masking }
 
-    // The first missing number is the least that has not arrived.
+    // The first missing number is the least that has not arrived, and there is no other such number.
     ensures missing { FirstMissingLaw }
 
-    // At most q parts wait.
+    // Over every list of datagrams and ticks at most q parts wait.
     ensures bounded { BoundedLaw }
 
-    // What goes up in a step waited before it, or arrives with it; and so does what then waits.
+    // What goes up or waits after a step, of any receiver, waited before it or arrived with it.
     ensures origin { OriginLaw }
 
-    // How the states and what goes up grow with one input more.
+    // One input more at the end of a list makes one step more of its state, and appends what goes up.
     ensures one_more { OneMoreLaw }
 {}

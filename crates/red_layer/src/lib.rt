@@ -2,27 +2,30 @@
 //! drops repeats and lets early ones wait for at most T_seq, and the numbers for sending.
 //!
 //! The redundancy layer of DIN VDE V 0831-200:2015, in this project's profile.
+//!
+//! Contracts: a deferral queue is a finite map from numbers to parts, with a number of places.
 #![tactic(auto)]
 
 ghost use Rattle.std.specs.Prelude.{◌≡◌, ℕ, ◌+◌, ◌*◌, ◌%◌, ◌^◌, ◌<◌, ◌≤◌, List, ◌∷◌, length, IfOk, IsSome, Ok, Err, MatchResult};
 ghost use Rattle.std.specs.List.{FoldsTo};
 ghost use Rattle.octets.specs.declared.limits.TheConstants.{SAFE_PDU_MAX};
-ghost use Rattle.deferral.specs.FiniteMap.{Rises, take_out, part_under};
+ghost use Rattle.red_layer.specs.FiniteMap.{Rises, take_out, part_under};
 ghost use Rattle.red_layer.specs.Parts.{map_parts, IsBelow};
 ghost use Rattle.red_layer.specs.Redundancy.{Input, decoded, run_from, after_run, follow, released, after_release, deferred, arrival, judged, passed_by, after, opened, deadline_of};
 
 use arrayvec::ArrayVec;
-use deferral::Deferral;
 use octets::copy_of;
 use octets::limits::{REACH, SAFE_PDU_MAX};
 use red_pdu::{RedFault, RedPdu, decode};
 use std::alloc::{Allocator, Global};
 use std::marker::Model;
 
+mod deferral;
 mod law;
 #[cfg(test)]
 mod tests;
 
+pub use deferral::{Deferral, DeferralFault};
 pub use law::order_law;
 pub use octets::limits::{Q_MAX, T_SEQ_MAX};
 
@@ -61,7 +64,9 @@ pub trait Upward {
     fn up(&mut self, seq: u32, upper: &[u8])
         requires ready { ready self.old seq }
         requires sized { length upper.now ≤ SAFE_PDU_MAX }
+        // A part that goes up does to what takes it exactly what its `passes` says.
         ensures passed { passes self.old (seq, upper.now) self.new }
+        // What has taken a part may then take one with the next number.
         ensures ready { ready self.new (seq + 1) };
 
     /// What may take a part with this number may take one with a greater number.
@@ -126,6 +131,7 @@ impl<A: Allocator> RedLayer<A> {
     pub fn open(alloc: A, config: RedConfig) -> Result<Self, OpenFault>
         requires q { config.q ≤ Q_MAX }
         requires t_seq { config.t_seq ≤ T_SEQ_MAX }
+        // A receiving half that is opened has its settings, expects number 0, and nothing waits.
         ensures { IfOk result (λ layer. layer ≡ opened config.q config.t_seq) }
     {
         match Deferral::new(alloc, config.q) {
@@ -145,9 +151,14 @@ impl<A: Allocator> RedLayer<A> {
     pub fn arrive<U: Upward>(&mut self, octets: &[u8], now: u64, up: &mut U) -> RedEvent
         requires now { now ≤ 2 ^ 62 }
         requires ready { U.ready up.old self.old.expected }
+        // `arrive` answers, on any octets and times up to 2^62 ms, what the step of the profile does with the
+        // datagram.
         ensures event { result ≡ (judged now octets.now self.old).event }
+        // `arrive` and `tick` leave, on any octets and times up to 2^62 ms, exactly the state of the step.
         ensures left { self.new ≡ after (Input.Datagram octets.now now) self.old }
+        // `arrive` and `tick` hand up exactly the parts of the step, in order.
         ensures passed { FoldsTo U.passes up.old (passed_by (Input.Datagram octets.now now) self.old) up.new }
+        // After `arrive` and `tick` the layer above may take a part with the expected number.
         ensures ready { U.ready up.new self.new.expected }
     {
         self.tick(now, up);
@@ -162,8 +173,11 @@ impl<A: Allocator> RedLayer<A> {
     pub fn tick<U: Upward>(&mut self, now: u64, up: &mut U)
         requires now { now ≤ 2 ^ 62 }
         requires ready { U.ready up.old self.old.expected }
+        // `arrive` and `tick` leave, on any octets and times up to 2^62 ms, exactly the state of the step.
         ensures left { self.new ≡ after (Input.Tick now) self.old }
+        // `arrive` and `tick` hand up exactly the parts of the step, in order.
         ensures passed { FoldsTo U.passes up.old (passed_by (Input.Tick now) self.old) up.new }
+        // After `arrive` and `tick` the layer above may take a part with the expected number.
         ensures ready { U.ready up.new self.new.expected }
     {
         if let Some(least) = self.waiting.least() {
@@ -175,9 +189,10 @@ impl<A: Allocator> RedLayer<A> {
 
     /// When the waiting ends, exactly while something waits; it may be past.
     pub fn deadline(&self) -> Option<u64>
+        // `deadline` is the end of the wait, exactly while something waits.
         ensures moment { result ≡ deadline_of self.now }
 
-        // No more than q parts wait.
+        // At most q parts wait in a `RedLayer`.
         ensures bounded { length self.now.waiting ≤ self.now.q }
     {
         match self.waiting.least() {
@@ -321,6 +336,7 @@ impl Model for Numbers {
 impl Numbers {
     /// No number was taken so far.
     pub fn new() -> Self
+        // The numbers for sending begin with 0.
         ensures { result ≡ 0 }
     {
         Numbers { taken: 0 }
@@ -328,7 +344,9 @@ impl Numbers {
 
     /// The next number; behind the last one of 32 bits comes 0.
     pub fn next(&mut self) -> u32
+        // `next` answers the number that is due.
         ensures value { result ≡ self.old }
+        // After each number the one above it is due, after the last of 32 bits 0.
         ensures left { self.new ≡ (self.old + 1) % 2 ^ 32 }
     {
         let number = self.taken;

@@ -1,6 +1,6 @@
+use crate::deferral::Deferral;
 use crate::{Numbers, OpenFault, RedConfig, RedEvent, RedLayer, Upward};
 use arrayvec::ArrayVec;
-use deferral::Deferral;
 use linked_list_allocator::LocalHeap;
 use red_pdu::RedFault;
 use std::test::Fail;

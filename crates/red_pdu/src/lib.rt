@@ -26,6 +26,7 @@ pub enum RedFault {
 impl RedFault {
     /// The fault's number, as it is printed: its place among the faults, from 1.
     pub fn number(self) -> u8
+        // Each fault has its number.
         ensures { result ≡ red_number self }
     {
         match self {
@@ -37,6 +38,7 @@ impl RedFault {
 
     /// The fault's name, as it is printed.
     pub fn name(self) -> &'static str
+        // Each fault has its name.
         ensures { result.now ≡ red_name self }
     {
         match self {
@@ -63,17 +65,18 @@ pub struct RedPdu<'a> {
 /// Refused, and the first that holds is named: `Short`, `Length`, `Reserve`.
 #[tactic(auto, using(crate::proofs::RedLemmas::red_spelled))]
 pub fn decode(octets: &[u8]) -> Result<RedPdu<'_>, RedFault>
-    // What is read is spelled so.
+    // What `decode` accepts is the text, by the grammar, of the sequence number and the upper part that it
+    // answers.
     ensures found { IfOk result (λ pdu. RedText pdu.seq pdu.upper.now octets.now) }
 
-    // What is spelled so is read.
+    // `decode` accepts every text of the grammar, with its sequence number and upper part.
     ensures only { (seq : ℕ) (upper : List ℕ) → RedText seq upper octets.now
         → IsOkAnd result (λ pdu. (pdu.seq ≡ seq) × (pdu.upper.now ≡ upper)) }
 
-    // Which fault it is.
+    // The fault that `decode` names is the first that holds.
     ensures fault { IfErr result (FirstFault octets.now) }
 
-    // What it is, by places.
+    // What `decode` answers is what stands at the places: sequence number and upper part, or the first fault.
     ensures exact { seen_of result ≡ red_seen octets.now }
 {
     if octets.len() < RED_HEADER {
@@ -97,8 +100,11 @@ pub fn decode(octets: &[u8]) -> Result<RedPdu<'_>, RedFault>
 pub fn encode(seq: u32, upper: &[u8], buffer: &mut [u8]) -> usize
     requires fits { length upper.now ≤ SAFE_PDU_MAX }
     requires room { RED_HEADER + length upper.now ≤ length buffer.old }
+    // `encode` answers how many octets it wrote: 8 and those of the upper part.
     ensures size { result ≡ RED_HEADER + length upper.now }
+    // What `encode` writes in front of the buffer is the text of its sequence number and upper part.
     ensures written { RedText seq upper.now (take result buffer.new) }
+    // `encode` leaves the rest of the buffer.
     ensures rest { drop result buffer.new ≡ drop result buffer.old }
 {
     let size = RED_HEADER + upper.len();
@@ -113,6 +119,7 @@ pub fn encode(seq: u32, upper: &[u8], buffer: &mut [u8]) -> usize
 pub fn read_back<'a>(seq: u32, upper: &[u8], buffer: &'a mut [u8]) -> Result<RedPdu<'a>, RedFault>
     requires fits { length upper.now ≤ SAFE_PDU_MAX }
     requires room { RED_HEADER + length upper.now ≤ length buffer.old }
+    // What is encoded decodes to the same value.
     ensures { IsOkAnd result (λ pdu. (pdu.seq ≡ seq) × (pdu.upper.now ≡ upper.now)) }
 {
     let size = encode(seq, upper, buffer);
@@ -122,8 +129,10 @@ pub fn read_back<'a>(seq: u32, upper: &[u8], buffer: &'a mut [u8]) -> Result<Red
 /// A law, which does nothing when it is called: an accepted text has one value, and a value one
 /// text, so encoding what was decoded gives the same octets.
 pub fn one_spelling()
+    // A text has one value.
     ensures value { (seq other : ℕ) (upper rest octets : List ℕ) → RedText seq upper octets
         → RedText other rest octets → (seq ≡ other) × (upper ≡ rest) }
+    // A value has one text, so encoding what was decoded gives the same octets.
     ensures text { (seq : ℕ) (upper octets again : List ℕ) → RedText seq upper octets
         → RedText seq upper again → octets ≡ again }
 {}

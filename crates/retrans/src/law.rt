@@ -6,13 +6,13 @@ ghost use Rattle.retrans.specs.Units.{Numbered, Rises, above, octets_of, renumbe
 /// A law, which does nothing when it is called: what stays of units that are numbered anew, and where the
 /// confirmed units stand in a list with rising numbers.
 pub fn units_law()
-    // Units under new numbers are the same units.
+    // Numbering anew keeps the units.
     ensures kept { (first : ℕ) (units : List (List ℕ)) → octets_of (renumbered first units) ≡ units }
 
-    // New numbers rise.
+    // Numbers given anew rise.
     ensures rising { (first : ℕ) (units : List (List ℕ)) → Rises (renumbered first units) }
 
-    // The confirmed units stand in front of the others.
+    // Units under rising numbers are those confirmed up to a number, in front, and the others.
     ensures front { (confirmed : ℕ) (units : List Numbered) → Rises units
         → units ≡ up_to confirmed units ++ above confirmed units }
 {}

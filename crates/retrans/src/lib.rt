@@ -3,6 +3,9 @@
 //!
 //! The sending side of the safety and retransmission layer of DIN VDE V 0831-200:2015. Numbers are
 //! kept without wrap.
+//!
+//! Contracts: an `Unconfirmed` is a list of units, each under the number of the PDU that carried it
+//! last.
 #![tactic(auto)]
 
 mod law;

@@ -34,6 +34,7 @@ impl<A: Allocator> Unconfirmed<A> {
     ///
     /// The error is that memory was refused.
     pub fn new(alloc: A, n: usize) -> Result<Self, AllocError>
+        // A new `Unconfirmed` has no unit, and room for as many as were asked for.
         ensures { IfOk result (λ kept. kept ≡ record { room = n; units = [] }) }
     {
         let ring = HeapCircularBuffer::with_capacity(alloc, n)?;
@@ -42,8 +43,11 @@ impl<A: Allocator> Unconfirmed<A> {
 
     /// How many units are unconfirmed.
     pub fn len(&self) -> usize
+        // `len` answers how many units are unconfirmed.
         ensures len { result ≡ length self.now.units }
+        // No more units are unconfirmed than there is room for.
         ensures within { result ≤ self.now.room }
+        // The numbers of the units rise without wrap.
         ensures rising { Rises self.now.units }
     {
         self.ring.len()
@@ -51,6 +55,7 @@ impl<A: Allocator> Unconfirmed<A> {
 
     /// The unit at a place, from 0 for the one sent first, with its number.
     pub fn get(&self, place: usize) -> Option<&NumberedUnit>
+        // `get` answers the unit at a place with its number, and none where there is none.
         ensures { seen_of result ≡ slice_get self.now.units place }
     {
         self.ring.get(place)
@@ -62,12 +67,16 @@ impl<A: Allocator> Unconfirmed<A> {
     /// The unit comes back exactly where there is no room, and then all stays as it was.
     pub fn sent(&mut self, number: u64, unit: Unit) -> Result<(), Unit>
         requires { All (λ u. u.number < number) self.old.units }
+        // `sent` accepts a unit exactly where there is room.
         ensures room { IsOk result ↔ (length self.old.units < self.old.room) }
+        // A unit that `sent` accepts stands at the end, under its number, and all others stay.
         ensures added { OnOk result (self.new ≡ record {
           room = self.old.room;
           units = self.old.units ++ record { number = number; octets = unit.items } ∷ [];
         }) }
+        // Where `sent` refuses a unit nothing changes.
         ensures full { OnErr result (self.new ≡ self.old) }
+        // A unit that `sent` refuses is given back.
         ensures given_back { IfErr result (λ back. back ≡ unit) }
     {
         match self.ring.try_push_back((number, unit)) {
@@ -78,6 +87,7 @@ impl<A: Allocator> Unconfirmed<A> {
 
     /// Drops the units whose numbers are at or below a confirmed one. They stand in front.
     pub fn confirm(&mut self, number: u64)
+        // `confirm` drops exactly the units up to a number.
         ensures { self.new ≡ record { room = self.old.room; units = above number self.old.units } }
     {
         drop_confirmed(&mut self.ring, number);
@@ -87,6 +97,7 @@ impl<A: Allocator> Unconfirmed<A> {
     /// last number below 2^64.
     pub fn renumber(&mut self, first: u64)
         requires { first + length self.old.units ≤ 2 ^ 64 }
+        // `renumber` gives consecutive numbers from the one asked for, and keeps the units in order.
         ensures { self.new ≡ record { room = self.old.room; units = renumbered first (octets_of self.old.units) } }
     {
         renumber_all(&mut self.ring, first);

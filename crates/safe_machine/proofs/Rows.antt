@@ -17,7 +17,8 @@ use Rattle.safe_machine.specs.State.{State, opened, leave}
 use Rattle.safe_machine.specs.declared.arrival.Decision.{Decision}
 use Rattle.safe_machine.specs.Decision.{decide}
 use Rattle.safe_machine.specs.declared.arrival.Decision.TheVariants.{Nothing, Drops, Shuts, Leaves, Rejects, Accepts, Connects, Takes, Asks, Resumes, AnswersNext, AnswersEarly}
-use Rattle.safe_machine.specs.Step.{arrive, arrive_answer, send, tick}
+use Rattle.safe_machine.specs.Step.{arrive, send, tick}
+use Rattle.safe_machine.specs.Turns.{arrive_answer}
 use Rattle.safe_machine.specs.World.Side.{Il, Fe}
 use Rattle.safe_machine.specs.World.{Event, start, run, Genuine}
 use Rattle.safe_machine.specs.World.Event.{Open, Send, Arrive}

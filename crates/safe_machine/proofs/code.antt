@@ -1,5 +1,5 @@
--- What the functions of the crate rely on: what is kept of a state, by each step.
-pub mod Views
+-- What the functions of the crate rely on.
+pub mod Sending
 pub mod Arriving
 pub mod Reaching
 pub mod Nearing

@@ -9,6 +9,7 @@ pub mod Runs
 pub mod Numbers
 pub mod Counting
 pub mod Ring
+pub mod RingMoves
 pub mod Carriers
 pub mod Kept
 pub mod OneMachine
@@ -20,4 +21,5 @@ pub mod Texts
 pub mod Requests
 pub mod MovesLaw
 pub mod Few
-pub mod Deadlines
+pub mod Turning
+pub mod Confirming

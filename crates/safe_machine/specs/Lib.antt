@@ -10,10 +10,12 @@ pub mod Table
 pub mod Decision
 pub mod Deadlines
 pub mod Step
+pub mod Turns
 pub mod World
 pub mod Law
 pub mod InOrder
 pub mod Moves
+pub mod Turned
 pub mod Octets
 pub mod inner
 pub mod Reached

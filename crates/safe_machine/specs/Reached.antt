@@ -29,10 +29,6 @@ pub record IsReached (v : View) : Type 0 where
   pub read : AreRead moves
   pub stands : StandsFor v (moved moves (opened settings first began))
 
--- it stands for some state
-abbrev pub Known : View → Type 0
-Known v = (s : State) × StandsFor v s
-
 -- What a move makes in a state with few unconfirmed units: an answer makes most, a RetrResp, each unit again, a heartbeat and, where the
 -- end asks as well, a RetrReq, behind the goodbye of its guard.
 pub record FewMade (m : Move) (s : State) : Type 0 where

@@ -1,4 +1,4 @@
--- One end of a connection, and its single moves.
+-- A history of one end: all that it made and took, and its single moves, by which the laws go. What is kept of it takes turns: `Turns`.
 use Rattle.std.specs.Prelude.{ℕ, ◌+◌, ◌%◌, List, [], ◌∷◌, ◌++◌, drop, length, if◌then◌else◌}
 use Rattle.safe_pdu.specs.declared.Kind.{Kind}
 use Rattle.safe_pdu.specs.declared.Kind.TheVariants.{ConnReq, RetrReq, RetrResp, DiscReq, Heartbeat, RetrData}

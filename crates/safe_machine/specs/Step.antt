@@ -1,19 +1,17 @@
--- The steps of one end.
-use Rattle.std.specs.Prelude.{ℕ, ◌+◌, ◌&&◌, nat_lt, nat_le, Bool, List, [], length, if◌then◌else◌}
+-- The steps of a history, by which the laws go. What a step does is what `Turns` says of what is kept: `Turned`.
+use Rattle.std.specs.Prelude.{ℕ, ◌+◌, nat_le, Bool, List, [], length, if◌then◌else◌}
 use Rattle.safe_pdu.specs.declared.Kind.TheVariants.{ConnResp, DiscReq, Heartbeat, Data}
-use Rattle.safe_machine.specs.declared.ConnectionState.{ConnectionState}
 use Rattle.safe_machine.specs.declared.ConnectionState.TheVariants.{Closed, Start, Up, RetrRun}
 use Rattle.safe_pdu.specs.Pdu.{Pdu}
 use Rattle.safe_pdu.specs.Bodies.{window_of}
 use Rattle.safe_machine.specs.Made.{opening_body, leaving_body, carries}
 use Rattle.safe_machine.specs.State.{State, unconfirmed, make, move_to, pass, hand_up, note_request, reply, ask, leave}
-use Rattle.safe_machine.specs.declared.Step.{Step as Outcome}
-use Rattle.safe_machine.specs.declared.Step.TheVariants.{Left}
 use Rattle.safe_machine.specs.declared.arrival.Decision.{Decision}
 use Rattle.safe_machine.specs.Connections.{in_turn}
 pub use Rattle.safe_machine.specs.Connections.{is_live, is_connected}
-use Rattle.safe_machine.specs.View.{View, kept_of}
-use Rattle.safe_machine.specs.Decision.{answer_of, cs_step, cts_step, decide, distance}
+use Rattle.safe_machine.specs.View.{kept_of}
+use Rattle.safe_machine.specs.Turns.{is_open}
+use Rattle.safe_machine.specs.Decision.{cs_step, cts_step, decide, distance}
 use Rattle.safe_machine.specs.Deadlines.{beat_due, by_guard}
 pub use Rattle.safe_machine.specs.Made.{last_time}
 use Rattle.safe_machine.specs.declared.arrival.Decision.TheVariants.{Nothing, Drops, Shuts, Leaves, Rejects, Accepts, Connects, Takes, Asks, Resumes, AnswersNext, AnswersEarly}
@@ -83,14 +81,6 @@ respond p now s = carry_out p now (decide (kept_of s) p now) s
 abbrev pub arrive : Pdu → ℕ → State → State
 arrive p now s = respond p now (guard now s)
 
--- an answer, unless the guard leaves
-abbrev pub unless_guarded : ℕ → View → Outcome → Outcome
-unless_guarded now v answer = by_guard now v Left answer
-
--- how an arrival is answered
-abbrev pub arrive_answer : Pdu → ℕ → View → Outcome
-arrive_answer p now v = unless_guarded now v (answer_of (decide v p now))
-
 -- a heartbeat where one is due by time
 abbrev pub heartbeat : ℕ → State → State
 heartbeat now s = if beat_due now (kept_of s) then make Heartbeat [] now s else s
@@ -99,16 +89,9 @@ heartbeat now s = if beat_due now (kept_of s) then make Heartbeat [] now s else 
 abbrev pub tick : ℕ → State → State
 tick now s = heartbeat now (guard now s)
 
--- units go out in turn while fewer await their confirmation than the peer's window has places
-abbrev pub is_open : ConnectionState → (awaiting window : ℕ) → Bool
-is_open connection awaiting window = in_turn connection && nat_lt awaiting window
-
+-- a unit may be sent
 abbrev pub may_send : State → Bool
 may_send s = is_open s.connection (length (unconfirmed s)) s.window
-
--- the same of what an end keeps
-abbrev pub has_room : View → Bool
-has_room v = is_open v.connection (length v.ring) v.window
 
 -- a unit goes out
 abbrev pub send : List ℕ → ℕ → State → State

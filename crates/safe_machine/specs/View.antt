@@ -1,6 +1,5 @@
 -- What a machine keeps of a state: each list as its count, and the unconfirmed units.
-use Rattle.std.specs.Prelude.{◌≡◌, ℕ, Bool, true, false, List, length, drop, map}
-use Rattle.std.specs.List.{FoldsTo}
+use Rattle.std.specs.Prelude.{◌≡◌, ℕ, Bool, true, false, List, length, map}
 use Rattle.octets.specs.declared.limits.TheConstants.{WINDOW_MAX}
 use Rattle.retrans.specs.Units.{Numbered}
 use Rattle.safe_pdu.specs.declared.CodeRule.{CodeRule}
@@ -80,14 +79,10 @@ kept_of s = beside (ring_of s) s
 abbrev pub StandsFor : View → State → Type 0
 StandsFor m s = m ≡ kept_of s
 
+-- the text of a PDU made; only what writes or reads it looks inside
+unfoldable pub text_of : CodeRule → Made → List ℕ
+text_of rule m = safe_text rule m.pdu
+
 -- the texts of PDUs made
 abbrev pub texts : CodeRule → List Made → List (List ℕ)
-texts rule ms = map (λ (m : Made). safe_text rule m.pdu) ms
-
--- The octets of what was made between two states were handed out, in order.
-abbrev pub HandsOut : {O : Type 0} → (O → List ℕ → O → Type 0) → O → State → State → O → Type 0
-HandsOut makes before s t after = FoldsTo makes before (texts s.settings.rule (drop (length s.made) t.made)) after
-
--- The units that were taken between two states were handed up, in order.
-abbrev pub HandsUp : {U : Type 0} → (U → List ℕ → U → Type 0) → U → State → State → U → Type 0
-HandsUp takes before s t after = FoldsTo takes before (drop (length s.taken) t.taken) after
+texts rule ms = map (text_of rule) ms

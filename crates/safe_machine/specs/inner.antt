@@ -1,4 +1,3 @@
 -- What serves the contracts of functions inside the crate, and no promise.
-pub mod Doing
 pub mod Allows
 pub mod Sound

@@ -4,20 +4,18 @@ ghost use Rattle.std.specs.Prelude.{◌≡◌, ◌+◌, ◌<◌, ◌≤◌, ◌^
 ghost use Rattle.std.specs.List.{FoldsTo};
 ghost use Rattle.safe_pdu.specs.Pdu.{Pdu, pdu_of};
 ghost use Rattle.safe_pdu.specs.Bodies.{IsBody};
-ghost use Rattle.safe_machine.specs.State.{State};
-ghost use Rattle.safe_machine.specs.Decision.{answer_of, decide, cs_step, cts_step, distance, answering, as_client, by_cell, by_connection, by_table, in_down, is_ours, is_foreign, tested, cs_fits, cts_fits, unconfirming};
+ghost use Rattle.safe_machine.specs.Decision.{answer_of, decide, cs_step, cts_step, distance, answering, as_client, by_cell, by_connection, by_table, in_down};
+ghost use Rattle.safe_machine.specs.Decision.{is_ours, is_foreign, tested, cs_fits, cts_fits, unconfirming};
 ghost use Rattle.safe_machine.specs.Table.{cell, request_row, run_row, start_row, up_row};
 ghost use Rattle.safe_machine.specs.Numbers.{ahead};
-ghost use Rattle.safe_machine.specs.Octets.{arrive_octets, heard_answer};
+ghost use Rattle.safe_machine.specs.Octets.{heard_answer, hears, hears_units};
 ghost use Rattle.safe_machine.specs.Properties.{HandsIf, IsNextData, IsRecent, OnlyConfirms, index_step};
-ghost use Rattle.safe_machine.specs.Reached.{IsReached, Known};
+ghost use Rattle.safe_machine.specs.Reached.{IsReached};
 ghost use Rattle.safe_machine.specs.inner.Sound.{Sound};
 ghost use Rattle.safe_machine.specs.declared.ConnectionState.TheVariants.{Up};
 ghost use Rattle.safe_pdu.specs.Places.{safe_seen};
-ghost use Rattle.safe_machine.specs.Step.{arrive, arrive_answer, carry_out, guard, respond};
-ghost use Rattle.safe_machine.specs.View.{HandsUp, StandsFor};
-ghost use Rattle.safe_machine.specs.inner.Doing.{Does};
-ghost use Rattle.safe_machine.specs.inner.Allows.{Allows, handed_by};
+ghost use Rattle.safe_machine.specs.Turns.{Out, arrive_answer, arrives, carries_out, guards, handed_by, hands, responds};
+ghost use Rattle.safe_machine.specs.inner.Allows.{Allows};
 
 use super::endpoint::{Endpoint, VERSION, low};
 use super::{ConnectionState, Detail, DropCause, PduOut, Reason, Role, Step, UnitIn};
@@ -37,9 +35,9 @@ impl<A: Allocator> Endpoint<A> {
         requires reached { IsReached self.old }
         requires reach { self.old.expected < 2 ^ 62 }
         requires ready { U.ready units.old }
-        ensures does { Does O.makes (arrive_octets octets.now now) self.old out.old self.new out.new }
-        ensures taken { (s : State) → StandsFor self.old s
-            → HandsUp U.takes units.old s (arrive_octets octets.now now s) units.new }
+        ensures left { self.new ≡ (hears octets.now now self.old).left }
+        ensures made { Out O.makes self.old.settings.rule out.old (hears octets.now now self.old) out.new }
+        ensures taken { FoldsTo U.takes units.old (hears_units octets.now now self.old) units.new }
         ensures answer { result ≡ heard_answer (safe_seen self.old.settings.rule octets.now) now self.old }
         ensures reached { IsReached self.new }
         ensures near { self.new.expected ≤ self.old.expected + index_step }
@@ -67,11 +65,10 @@ impl<A: Allocator> Endpoint<A> {
         requires sound { Sound self.old }
         requires body { IsBody pdu.now.kind pdu.now.body.now }
         requires reach { self.old.expected < 2 ^ 62 }
-        requires known { Known self.old }
         requires ready { U.ready units.old }
-        ensures does { Does O.makes (arrive (pdu_of pdu.now) now) self.old out.old self.new out.new }
-        ensures taken { (s : State) → StandsFor self.old s
-            → HandsUp U.takes units.old s (arrive (pdu_of pdu.now) now s) units.new }
+        ensures left { self.new ≡ (arrives (pdu_of pdu.now) now self.old).left }
+        ensures made { Out O.makes self.old.settings.rule out.old (arrives (pdu_of pdu.now) now self.old) out.new }
+        ensures taken { FoldsTo U.takes units.old (hands (pdu_of pdu.now) now self.old) units.new }
         ensures answer { result ≡ arrive_answer (pdu_of pdu.now) now self.old }
         ensures ready { U.ready units.new }
     {
@@ -93,9 +90,9 @@ impl<A: Allocator> Endpoint<A> {
         requires sound { Sound self.old }
         requires body { IsBody pdu.now.kind pdu.now.body.now }
         requires reach { self.old.expected < 2 ^ 62 }
-        requires known { Known self.old }
         requires ready { U.ready units.old }
-        ensures does { Does O.makes (respond (pdu_of pdu.now) now) self.old out.old self.new out.new }
+        ensures left { self.new ≡ (responds (pdu_of pdu.now) now self.old).left }
+        ensures made { Out O.makes self.old.settings.rule out.old (responds (pdu_of pdu.now) now self.old) out.new }
         ensures taken { FoldsTo U.takes units.old
             (handed_by (decide self.old (pdu_of pdu.now) now) (pdu_of pdu.now)) units.new }
         ensures answer { result ≡ answer_of (decide self.old (pdu_of pdu.now) now) }
@@ -234,6 +231,7 @@ impl<A: Allocator> Endpoint<A> {
     }
 
     /// How far a PDU lies ahead of the expected one.
+    #[tactic(auto, unfolding(crate::specs::Numbers::ahead, crate::specs::Numbers::sn_of))]
     pub(crate) fn distance(&self, pdu: &SafePdu<'_>) -> u32
         ensures { result ≡ distance self.now (pdu_of pdu.now) }
     {
@@ -248,6 +246,7 @@ impl<A: Allocator> Endpoint<A> {
     }
 
     /// How many PDUs it confirms beyond those that were confirmed.
+    #[tactic(auto, unfolding(crate::specs::Numbers::ahead, crate::specs::Numbers::sn_of))]
     pub(crate) fn cs_step(&self, pdu: &SafePdu<'_>) -> u32
         ensures { result ≡ cs_step self.now (pdu_of pdu.now) }
     {
@@ -263,6 +262,7 @@ impl<A: Allocator> Endpoint<A> {
     }
 
     /// How far it confirms the own time beyond what was confirmed.
+    #[tactic(auto, unfolding(crate::specs::Numbers::ahead, crate::specs::Numbers::sn_of))]
     pub(crate) fn cts_step(&self, pdu: &SafePdu<'_>) -> u32
         ensures { result ≡ cts_step self.now (pdu_of pdu.now) }
     {
@@ -282,7 +282,9 @@ impl<A: Allocator> Endpoint<A> {
         requires reach { self.old.expected < 2 ^ 62 }
         requires allows { Allows self.old (pdu_of pdu.now) now decision }
         requires ready { U.ready units.old }
-        ensures does { Does O.makes (carry_out (pdu_of pdu.now) now decision) self.old out.old self.new out.new }
+        ensures left { self.new ≡ (carries_out (pdu_of pdu.now) now decision self.old).left }
+        ensures made { Out O.makes self.old.settings.rule out.old
+            (carries_out (pdu_of pdu.now) now decision self.old) out.new }
         ensures taken { FoldsTo U.takes units.old (handed_by decision (pdu_of pdu.now)) units.new }
         ensures ready { U.ready units.new }
     {
@@ -304,7 +306,8 @@ impl<A: Allocator> Endpoint<A> {
     /// The guard, and then what octets bring that are no PDU.
     fn arrive_fault<O: PduOut>(&mut self, fault: SafeFault, now: u64, out: &mut O) -> Step
         requires few { self.old.made < 2 ^ 40 }
-        ensures does { Does O.makes (guard now) self.old out.old self.new out.new }
+        ensures left { self.new ≡ (guards now self.old).left }
+        ensures made { Out O.makes self.old.settings.rule out.old (guards now self.old) out.new }
         ensures answer { result ≡ heard_answer (Err fault) now self.old }
     {
         match self.overdue(now) {
@@ -468,6 +471,7 @@ fn request_row(kind: Kind) -> Cell
 }
 
 /// How far a 32-bit number lies ahead of another.
+#[tactic(auto, unfolding(crate::specs::Numbers::ahead))]
 fn steps_ahead(from: u32, to: u32) -> u32
     ensures { result ≡ ahead from to }
 {

@@ -1,20 +1,17 @@
 //! What an end does by its decision, each decision apart.
 
-ghost use Rattle.std.specs.Prelude.{◌≡◌, ◌+◌, ◌-◌, ◌<◌, ◌≤◌, ◌^◌, List, [], length, Some, slice_get, IfSome};
+ghost use Rattle.std.specs.Prelude.{◌≡◌, ◌+◌, ◌-◌, ◌<◌, ◌≤◌, ◌^◌, [], length, slice_get, IfSome};
 ghost use Rattle.octets.specs.declared.limits.TheConstants.{WINDOW_MAX};
-ghost use Rattle.retrans.specs.Units.{Numbered, above, octets_of};
+ghost use Rattle.retrans.specs.Units.{octets_of};
 ghost use Rattle.std.specs.List.{FoldsTo};
 ghost use Rattle.safe_pdu.specs.Pdu.{pdu_of};
-ghost use Rattle.safe_pdu.specs.SafeText.{safe_text};
 ghost use Rattle.safe_pdu.specs.Bodies.{IsBody, window_of};
 ghost use Rattle.safe_machine.specs.Made.{carries, opening_body};
-ghost use Rattle.safe_machine.specs.State.{State, ask, next_made, reply, resend};
 ghost use Rattle.safe_machine.specs.Decision.{cs_step, cts_step, distance};
-ghost use Rattle.safe_machine.specs.declared.arrival.Decision.TheVariants.{Accepts, AnswersEarly, AnswersNext, Connects, Rejects, Resumes, Takes};
-ghost use Rattle.safe_machine.specs.Step.{carry_out, take_unit, answered_ahead};
-ghost use Rattle.safe_machine.specs.View.{beside};
-ghost use Rattle.safe_machine.specs.inner.Doing.{AllUnits, Does, Hands, Turns};
-ghost use Rattle.safe_machine.specs.inner.Allows.{carried};
+ghost use Rattle.safe_machine.specs.Turns.{Out, accepts, answers_ahead, answers_early, answers_next, asks, connects, rejects, replies, resends, takes_next, takes_unit};
+ghost use Rattle.safe_machine.specs.Turns.{both_confirmed, carried, counted, next_made, passed, requested, resumes, units_confirmed, windowed};
+ghost use Rattle.safe_machine.specs.View.{text_of};
+ghost use Rattle.safe_machine.specs.inner.Sound.{AllUnits};
 
 use super::endpoint::Endpoint;
 use super::{ConnectionState, Detail, PduOut, Reason, UnitIn};
@@ -26,7 +23,8 @@ impl<A: Allocator> Endpoint<A> {
     pub(crate) fn reject<O: PduOut>(&mut self, pdu: &SafePdu<'_>, now: u64, out: &mut O)
         requires few { self.old.made < 2 ^ 39 }
         requires reach { self.old.expected < 2 ^ 62 }
-        ensures does { Does O.makes (carry_out (pdu_of pdu.now) now Rejects) self.old out.old self.new out.new }
+        ensures left { self.new ≡ (rejects (pdu_of pdu.now) now self.old).left }
+        ensures made { Out O.makes self.old.settings.rule out.old (rejects (pdu_of pdu.now) now self.old) out.new }
     {
         self.pass(pdu, 0);
         self.goodbye(Reason::WrongVersion, Detail::Unspecified, now, out);
@@ -40,7 +38,8 @@ impl<A: Allocator> Endpoint<A> {
         requires body { IsBody Kind.ConnReq pdu.now.body.now }
         requires opening { IsBody Kind.ConnResp (opening_body self.old.settings.n_sendmax) }
         requires empty { self.old.ring ≡ [] }
-        ensures does { Does O.makes (carry_out (pdu_of pdu.now) now Accepts) self.old out.old self.new out.new }
+        ensures left { self.new ≡ (accepts (pdu_of pdu.now) now self.old).left }
+        ensures made { Out O.makes self.old.settings.rule out.old (accepts (pdu_of pdu.now) now self.old) out.new }
     {
         let index = self.made;
         self.pass(pdu, 0);
@@ -58,7 +57,8 @@ impl<A: Allocator> Endpoint<A> {
         requires reach { self.old.expected < 2 ^ 62 }
         requires number { cs_step self.old (pdu_of pdu.now) < self.old.made - self.old.confirmed }
         requires time { cts_step self.old (pdu_of pdu.now) ≤ now - self.old.confirmed_at }
-        ensures does { Does O.makes (carry_out (pdu_of pdu.now) now Connects) self.old out.old self.new out.new }
+        ensures left { self.new ≡ (connects (pdu_of pdu.now) now self.old).left }
+        ensures made { Out O.makes self.old.settings.rule out.old (connects (pdu_of pdu.now) now self.old) out.new }
     {
         self.confirm_both(pdu, now);
         self.pass(pdu, 0);
@@ -82,8 +82,9 @@ impl<A: Allocator> Endpoint<A> {
         requires number { cs_step self.old (pdu_of pdu.now) < self.old.made - self.old.confirmed }
         requires time { cts_step self.old (pdu_of pdu.now) ≤ now - self.old.confirmed_at }
         requires ready { U.ready units.old }
-        ensures does { Does O.makes
-            (carry_out (pdu_of pdu.now) now (Takes connection)) self.old out.old self.new out.new }
+        ensures left { self.new ≡ (takes_next connection (pdu_of pdu.now) now self.old).left }
+        ensures made { Out O.makes self.old.settings.rule out.old
+            (takes_next connection (pdu_of pdu.now) now self.old) out.new }
         ensures taken { FoldsTo U.takes units.old (carried (pdu_of pdu.now)) units.new }
         ensures ready { U.ready units.new }
     {
@@ -96,9 +97,10 @@ impl<A: Allocator> Endpoint<A> {
     /// Asks for a retransmission.
     pub(crate) fn ask<O: PduOut>(&mut self, now: u64, out: &mut O)
         requires few { self.old.made < 2 ^ 40 }
-        ensures does { Does O.makes (ask now) self.old out.old self.new out.new }
+        ensures left { self.new ≡ (asks now self.old).left }
+        ensures made { Out O.makes self.old.settings.rule out.old (asks now self.old) out.new }
     {
-        self.say(Kind::RetrReq, &[], now, out);
+        self.make(Kind::RetrReq, &[], now, out);
         self.move_to(ConnectionState::RetrReq);
     }
 
@@ -108,7 +110,7 @@ impl<A: Allocator> Endpoint<A> {
         requires reach { self.old.expected < 2 ^ 62 }
         requires number { cs_step self.old (pdu_of pdu.now) < self.old.made - self.old.confirmed }
         requires time { cts_step self.old (pdu_of pdu.now) ≤ now - self.old.confirmed_at }
-        ensures turns { Turns (carry_out (pdu_of pdu.now) now Resumes) self.old self.new }
+        ensures { self.new ≡ resumes (pdu_of pdu.now) self.old }
     {
         let distance = self.distance(pdu);
         self.confirm_both(pdu, now);
@@ -124,7 +126,8 @@ impl<A: Allocator> Endpoint<A> {
         requires sized { AllUnits self.old.ring }
         requires number { cs_step self.old (pdu_of pdu.now) < self.old.made - self.old.confirmed }
         requires time { cts_step self.old (pdu_of pdu.now) ≤ now - self.old.confirmed_at }
-        ensures does { Does O.makes (carry_out (pdu_of pdu.now) now AnswersNext) self.old out.old self.new out.new }
+        ensures left { self.new ≡ (answers_next (pdu_of pdu.now) now self.old).left }
+        ensures made { Out O.makes self.old.settings.rule out.old (answers_next (pdu_of pdu.now) now self.old) out.new }
     {
         self.confirm_both(pdu, now);
         self.note_request(0);
@@ -139,7 +142,8 @@ impl<A: Allocator> Endpoint<A> {
         requires short { length self.old.ring ≤ WINDOW_MAX }
         requires sized { AllUnits self.old.ring }
         requires number { cs_step self.old (pdu_of pdu.now) < self.old.made - self.old.confirmed }
-        ensures does { Does O.makes (carry_out (pdu_of pdu.now) now AnswersEarly) self.old out.old self.new out.new }
+        ensures left { self.new ≡ (answers_early (pdu_of pdu.now) now self.old).left }
+        ensures made { Out O.makes self.old.settings.rule out.old (answers_early (pdu_of pdu.now) now self.old) out.new }
     {
         let misses = self.connection.in_turn();
         self.answer_ahead(pdu, now, out);
@@ -155,7 +159,8 @@ impl<A: Allocator> Endpoint<A> {
         requires short { length self.old.ring ≤ WINDOW_MAX }
         requires sized { AllUnits self.old.ring }
         requires number { cs_step self.old (pdu_of pdu.now) < self.old.made - self.old.confirmed }
-        ensures does { Does O.makes (answered_ahead (pdu_of pdu.now) now) self.old out.old self.new out.new }
+        ensures left { self.new ≡ (answers_ahead (pdu_of pdu.now) now self.old).left }
+        ensures made { Out O.makes self.old.settings.rule out.old (answers_ahead (pdu_of pdu.now) now self.old) out.new }
         ensures few { self.new.made < 2 ^ 40 }
     {
         let distance = self.distance(pdu);
@@ -170,7 +175,8 @@ impl<A: Allocator> Endpoint<A> {
         requires short { length self.old.ring ≤ WINDOW_MAX }
         requires sized { AllUnits self.old.ring }
         requires made { self.old.confirmed < self.old.made }
-        ensures does { Does O.makes (reply now) self.old out.old self.new out.new }
+        ensures left { self.new ≡ (replies now self.old).left }
+        ensures made { Out O.makes self.old.settings.rule out.old (replies now self.old) out.new }
         ensures few { self.new.made < 2 ^ 40 }
     {
         self.make(Kind::RetrResp, &[], now, out);
@@ -185,9 +191,9 @@ impl<A: Allocator> Endpoint<A> {
         requires few { self.old.made < 2 ^ 39 }
         requires short { length self.old.ring ≤ WINDOW_MAX }
         requires sized { AllUnits self.old.ring }
-        ensures resent { (ring : List Numbered) (s : State) → self.old ≡ beside ring s
-            → (self.new ≡ beside ring (resend (octets_of ring) now s))
-            × Hands O.makes out.old s (resend (octets_of ring) now s) out.new }
+        ensures left { self.new ≡ (resends (octets_of self.old.ring) now self.old).left }
+        ensures made { Out O.makes self.old.settings.rule out.old
+            (resends (octets_of self.old.ring) now self.old) out.new }
         ensures few { self.new.made ≤ self.old.made + WINDOW_MAX }
         ensures ring { self.new.ring ≡ self.old.ring }
     {
@@ -201,10 +207,9 @@ impl<A: Allocator> Endpoint<A> {
         requires few { self.old.made < 2 ^ 40 }
         requires inside { place < length self.old.ring }
         requires sized { IfSome (slice_get self.old.ring place) (λ u. IsBody Kind.RetrData u.octets) }
-        ensures counted { self.new ≡ record self.old { made = self.old.made + 1; last_made = now; since = 0 } }
-        ensures made { (u : Numbered) → slice_get self.old.ring place ≡ Some u → (ring : List Numbered) (s : State)
-            → self.old ≡ beside ring s
-            → O.makes out.old (safe_text s.settings.rule (next_made s Kind.RetrData u.octets now).pdu) out.new }
+        ensures left { self.new ≡ counted now self.old }
+        ensures made { IfSome (slice_get self.old.ring place) (λ u. O.makes out.old
+            (text_of self.old.settings.rule (next_made self.old Kind.RetrData u.octets now)) out.new) }
     {
         let unit = self.unit_at(place);
         self.hand_out(Kind::RetrData, unit, now, out);
@@ -222,7 +227,7 @@ impl<A: Allocator> Endpoint<A> {
     /// Notes that a RetrReq at a distance was handled.
     fn note_request(&mut self, distance: u32)
         requires { self.old.expected < 2 ^ 62 }
-        ensures left { self.new ≡ record self.old { answered = self.old.expected + distance } }
+        ensures { self.new ≡ requested distance self.old }
     {
         self.answered = self.expected + u64::from(distance);
     }
@@ -230,11 +235,7 @@ impl<A: Allocator> Endpoint<A> {
     /// Has a PDU at a distance behind it.
     fn pass(&mut self, pdu: &SafePdu<'_>, distance: u32)
         requires { self.old.expected < 2 ^ 62 }
-        ensures left { self.new ≡ record self.old {
-          expected = self.old.expected + distance + 1;
-          last_sn = pdu.now.sn;
-          last_ts = pdu.now.ts;
-        } }
+        ensures { self.new ≡ passed (pdu_of pdu.now) distance self.old }
     {
         self.expected += u64::from(distance) + 1;
         self.last_sn = pdu.sn;
@@ -244,7 +245,7 @@ impl<A: Allocator> Endpoint<A> {
     /// Keeps the window that a ConnReq or ConnResp tells.
     fn set_window(&mut self, pdu: &SafePdu<'_>)
         requires { IsBody Kind.ConnReq pdu.now.body.now }
-        ensures left { self.new ≡ record self.old { window = window_of pdu.now.body.now } }
+        ensures { self.new ≡ windowed (window_of pdu.now.body.now) self.old }
     {
         self.window = u64::from(read_opening(pdu.body).n_sendmax);
     }
@@ -254,11 +255,7 @@ impl<A: Allocator> Endpoint<A> {
         requires few { self.old.made < 2 ^ 40 }
         requires number { cs_step self.old (pdu_of pdu.now) < self.old.made - self.old.confirmed }
         requires time { cts_step self.old (pdu_of pdu.now) ≤ now - self.old.confirmed_at }
-        ensures left { self.new ≡ record self.old {
-          confirmed = self.old.confirmed + cs_step self.old (pdu_of pdu.now);
-          ring = above (self.old.confirmed + cs_step self.old (pdu_of pdu.now)) self.old.ring;
-          confirmed_at = self.old.confirmed_at + cts_step self.old (pdu_of pdu.now);
-        } }
+        ensures { self.new ≡ both_confirmed (pdu_of pdu.now) self.old }
     {
         self.confirm_units(pdu);
         self.confirmed_at += u64::from(self.cts_step(pdu));
@@ -268,10 +265,7 @@ impl<A: Allocator> Endpoint<A> {
     fn confirm_units(&mut self, pdu: &SafePdu<'_>)
         requires few { self.old.made < 2 ^ 40 }
         requires fits { cs_step self.old (pdu_of pdu.now) < self.old.made - self.old.confirmed }
-        ensures left { self.new ≡ record self.old {
-          confirmed = self.old.confirmed + cs_step self.old (pdu_of pdu.now);
-          ring = above (self.old.confirmed + cs_step self.old (pdu_of pdu.now)) self.old.ring;
-        } }
+        ensures { self.new ≡ units_confirmed (pdu_of pdu.now) self.old }
     {
         let step = self.cs_step(pdu);
         self.confirmed += u64::from(step);
@@ -290,7 +284,8 @@ impl<A: Allocator> Endpoint<A> {
         requires few { self.old.made < 2 ^ 40 }
         requires since { self.old.since < 2 ^ 40 }
         requires ready { U.ready units.old }
-        ensures does { Does O.makes (take_unit (pdu_of pdu.now) now) self.old out.old self.new out.new }
+        ensures left { self.new ≡ (takes_unit (pdu_of pdu.now) now self.old).left }
+        ensures made { Out O.makes self.old.settings.rule out.old (takes_unit (pdu_of pdu.now) now self.old) out.new }
         ensures taken { FoldsTo U.takes units.old (carried (pdu_of pdu.now)) units.new }
         ensures ready { U.ready units.new }
     {

@@ -1,18 +1,16 @@
 //! What a machine keeps, and the single moves on it.
 
-ghost use Rattle.std.specs.Prelude.{◌≡◌, ◌+◌, ◌<◌, ◌≤◌, ◌^◌, List, [], true, ◌%◌};
-ghost use Rattle.retrans.specs.Units.{Numbered};
-ghost use Rattle.safe_pdu.specs.SafeText.{safe_text};
+ghost use Rattle.std.specs.Prelude.{◌≡◌, ◌+◌, ◌<◌, ◌≤◌, ◌^◌, List, [], length, true, ◌%◌};
+ghost use Rattle.safe_pdu.specs.SafeText.{code_octets};
 ghost use Rattle.safe_pdu.specs.Bodies.{IsBody};
 ghost use Rattle.safe_machine.specs.Made.{opening_body, leaving_body};
-ghost use Rattle.safe_machine.specs.State.{State, make, next_made, leave};
-ghost use Rattle.safe_machine.specs.View.{beside, settings_of};
-ghost use Rattle.safe_machine.specs.inner.Doing.{Does, leaves_units};
+ghost use Rattle.safe_machine.specs.Turns.{Out, counted, leaves, next_made};
+ghost use Rattle.safe_machine.specs.View.{settings_of, text_of};
 ghost use Rattle.safe_machine.specs.Numbers.{sn_of};
 ghost use Rattle.safe_machine.specs.Connections.{is_live, in_turn, is_connected};
 
 use super::{ConnectionState, Detail, MachineConfig, PduOut, Reason, Role};
-use octets::limits::SAFE_PDU_MAX;
+use octets::limits::{SAFE_HEADER, SAFE_PDU_MAX};
 use octets::places::put_u16;
 use retrans::Unconfirmed;
 use safe_pdu::{Kind, SafePdu, encode};
@@ -21,6 +19,10 @@ use std::marker::Model;
 
 /// The version of this profile, 0303 in ASCII.
 pub(crate) const VERSION: [u8; 4] = [0x30, 0x33, 0x30, 0x33];
+
+/// A PDU of so many octets is short: its buffer costs less than a longest one's, which is cleared each time. A telegram with 20 octets of payload
+/// makes one.
+const SHORT_PDU: usize = 128;
 
 /// The counters of one end, and the units that it holds for another sending.
 #[derive(Drop)]
@@ -85,8 +87,8 @@ impl<A: Allocator> Endpoint<A> {
     /// Leaves the connection, from any state.
     pub(crate) fn leave<O: PduOut>(&mut self, reason: Reason, detail: Detail, now: u64, out: &mut O)
         requires few { self.old.made < 2 ^ 40 }
-        ensures does { Does O.makes (leave reason detail now) self.old out.old self.new out.new }
-        ensures few { self.new.made ≤ self.old.made + 1 }
+        ensures left { self.new ≡ (leaves reason detail now self.old).left }
+        ensures made { Out O.makes self.old.settings.rule out.old (leaves reason detail now self.old) out.new }
     {
         if self.connection.is_live() {
             self.goodbye(reason, detail, now, out);
@@ -103,55 +105,43 @@ impl<A: Allocator> Endpoint<A> {
         out: &mut O,
     )
         requires few { self.old.made < 2 ^ 40 }
-        ensures does { Does O.makes
-            (make Kind.DiscReq (leaving_body reason detail) now) self.old out.old self.new out.new }
-        ensures few { self.new.made ≤ self.old.made + 1 }
+        ensures left { self.new ≡ counted now self.old }
+        ensures made { O.makes out.old (text_of self.old.settings.rule
+            (next_made self.old Kind.DiscReq (leaving_body reason detail) now)) out.new }
     {
         let body = leaving_octets(reason, detail);
-        self.say(Kind::DiscReq, &body, now, out);
+        self.make(Kind::DiscReq, &body, now, out);
     }
 
     /// Makes a ConnReq or ConnResp.
     pub(crate) fn say_opening<O: PduOut>(&mut self, kind: Kind, now: u64, out: &mut O)
         requires few { self.old.made < 2 ^ 40 }
         requires body { IsBody kind (opening_body self.old.settings.n_sendmax) }
-        requires plain { leaves_units kind ≡ true }
-        ensures does { Does O.makes
-            (λ s. make kind (opening_body s.settings.n_sendmax) now s) self.old out.old self.new out.new }
+        ensures left { self.new ≡ counted now self.old }
+        ensures made { O.makes out.old (text_of self.old.settings.rule
+            (next_made self.old kind (opening_body self.old.settings.n_sendmax) now)) out.new }
     {
         let body = opening_octets(self.config.n_sendmax);
-        self.say(kind, &body, now, out);
+        self.make(kind, &body, now, out);
     }
 
     /// Makes a heartbeat.
     pub(crate) fn beat<O: PduOut>(&mut self, now: u64, out: &mut O)
         requires few { self.old.made < 2 ^ 40 }
-        ensures does { Does O.makes (make Kind.Heartbeat [] now) self.old out.old self.new out.new }
-        ensures few { self.new.made ≤ self.old.made + 1 }
+        ensures left { self.new ≡ counted now self.old }
+        ensures made { O.makes out.old
+            (text_of self.old.settings.rule (next_made self.old Kind.Heartbeat [] now)) out.new }
     {
-        self.say(Kind::Heartbeat, &[], now, out);
-    }
-
-    /// Makes a PDU that leaves the unconfirmed units as they are.
-    pub(crate) fn say<O: PduOut>(&mut self, kind: Kind, body: &[u8], now: u64, out: &mut O)
-        requires body { IsBody kind body.now }
-        requires plain { leaves_units kind ≡ true }
-        requires few { self.old.made < 2 ^ 40 }
-        ensures does { Does O.makes (make kind body.now now) self.old out.old self.new out.new }
-        ensures few { self.new.made ≤ self.old.made + 1 }
-    {
-        self.make(kind, body, now, out);
+        self.make(Kind::Heartbeat, &[], now, out);
     }
 
     /// Makes a PDU: hands it out and counts it.
     pub(crate) fn make<O: PduOut>(&mut self, kind: Kind, body: &[u8], now: u64, out: &mut O)
         requires body { IsBody kind body.now }
         requires few { self.old.made < 2 ^ 40 }
-        ensures left { (ring : List Numbered) (s : State) → self.old ≡ beside ring s
-            → self.new ≡ beside ring (make kind body.now now s) }
-        ensures made { (ring : List Numbered) (s : State) → self.old ≡ beside ring s
-            → O.makes out.old (safe_text s.settings.rule (next_made s kind body.now now).pdu) out.new }
-        ensures counted { self.new ≡ record self.old { made = self.old.made + 1; last_made = now; since = 0 } }
+        ensures left { self.new ≡ counted now self.old }
+        ensures made { O.makes out.old
+            (text_of self.old.settings.rule (next_made self.old kind body.now now)) out.new }
     {
         self.hand_out(kind, body, now, out);
         self.count(now);
@@ -160,8 +150,30 @@ impl<A: Allocator> Endpoint<A> {
     /// Hands out a PDU, before it is counted.
     pub(crate) fn hand_out<O: PduOut>(&self, kind: Kind, body: &[u8], now: u64, out: &mut O)
         requires body { IsBody kind body.now }
-        ensures { (ring : List Numbered) (s : State) → self.now ≡ beside ring s
-            → O.makes out.old (safe_text s.settings.rule (next_made s kind body.now now).pdu) out.new }
+        ensures { O.makes out.old (text_of self.now.settings.rule (next_made self.now kind body.now now)) out.new }
+    {
+        if SAFE_HEADER + body.len() + self.config.rule.length.octets() <= SHORT_PDU {
+            let mut buffer = [0; SHORT_PDU];
+            self.write_out(kind, body, now, &mut buffer, out);
+        } else {
+            let mut buffer = [0; SAFE_PDU_MAX];
+            self.write_out(kind, body, now, &mut buffer, out);
+        }
+    }
+
+    /// Writes a PDU into a buffer, and hands it out.
+    #[tactic(auto, unfolding(crate::specs::View::text_of))]
+    fn write_out<O: PduOut>(
+        &self,
+        kind: Kind,
+        body: &[u8],
+        now: u64,
+        buffer: &mut [u8],
+        out: &mut O,
+    )
+        requires body { IsBody kind body.now }
+        requires room { SAFE_HEADER + length body.now + code_octets self.now.settings.rule.length ≤ length buffer.old }
+        ensures { O.makes out.old (text_of self.now.settings.rule (next_made self.now kind body.now now)) out.new }
     {
         let pdu = SafePdu {
             kind,
@@ -173,12 +185,12 @@ impl<A: Allocator> Endpoint<A> {
             cts: self.last_ts,
             body,
         };
-        let mut buffer = [0; SAFE_PDU_MAX];
-        let size = encode(&pdu, &self.config.rule, &mut buffer);
+        let size = encode(&pdu, &self.config.rule, buffer);
         out.made(&buffer[..size]);
     }
 
     /// The sequence number of the next PDU.
+    #[tactic(auto, unfolding(crate::specs::Numbers::sn_of))]
     fn next_sn(&self) -> u32
         ensures { result ≡ sn_of self.now.first self.now.made }
     {
@@ -188,7 +200,7 @@ impl<A: Allocator> Endpoint<A> {
     /// Counts a PDU that was handed out.
     pub(crate) fn count(&mut self, now: u64)
         requires few { self.old.made < 2 ^ 40 }
-        ensures { self.new ≡ record self.old { made = self.old.made + 1; last_made = now; since = 0 } }
+        ensures { self.new ≡ counted now self.old }
     {
         self.made += 1;
         self.last_made = now;

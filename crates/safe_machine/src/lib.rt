@@ -2,6 +2,11 @@
 //! law of two ends over a network that loses, repeats, delays and reorders.
 //!
 //! The safety and retransmission layer of DIN VDE V 0831-200:2015, in this project's profile.
+//!
+//! Contracts: the glossary says what genuine, timely and in order mean of lists, and fresh of a
+//! PDU. Moves are sound where the PDUs heard have numbers of 32 bits and the units sent 45 to 1,206
+//! octets, and well formed where each PDU heard has a body that fits its type as well. An opening
+//! is legal where its settings are those of an end.
 #![tactic(auto)]
 
 ghost use Rattle.std.specs.Prelude.{◌≡◌};
@@ -108,6 +113,7 @@ pub enum Reason {
 impl Reason {
     /// The reason's number in a DiscReq.
     pub fn number(self) -> u16
+        // Each reason of a DiscReq has its number.
         ensures { result ≡ reason_number self }
     {
         match self {
@@ -147,6 +153,7 @@ pub enum Detail {
 impl Detail {
     /// The detail's number in a DiscReq.
     pub fn number(self) -> u16
+        // Each detail of a DiscReq has its number.
         ensures { result ≡ detail_number self }
     {
         match self {

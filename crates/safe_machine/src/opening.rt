@@ -2,11 +2,10 @@
 
 ghost use Rattle.std.specs.Prelude.{◌≡◌, []};
 ghost use Rattle.octets.specs.declared.limits.TheConstants.{WINDOW_MAX};
-ghost use Rattle.std.specs.List.{FoldsTo};
 ghost use Rattle.safe_pdu.specs.Bodies.{IsBody};
 ghost use Rattle.safe_machine.specs.Made.{opening_body};
-ghost use Rattle.safe_machine.specs.State.{blank, opened};
-ghost use Rattle.safe_machine.specs.View.{StandsFor, beside, settings_of, texts};
+ghost use Rattle.safe_machine.specs.Turns.{Out, opens, unsaid};
+ghost use Rattle.safe_machine.specs.View.{settings_of};
 ghost use Rattle.safe_machine.specs.Settings.{are_two, in_range, is_coded, is_legal};
 ghost use Rattle.safe_machine.specs.declared.Role.TheVariants.{Client};
 
@@ -31,9 +30,8 @@ pub(crate) fn begin<A: Allocator, O: PduOut>(
 ) -> Endpoint<A>
     requires room { ring ≡ record { room = WINDOW_MAX; units = [] } }
     requires body { IsBody Kind.ConnReq (opening_body config.n_sendmax) }
-    ensures stands { StandsFor result (opened (settings_of role config) first now) }
-    ensures made { FoldsTo O.makes out.old
-        (texts config.rule (opened (settings_of role config) first now).made) out.new }
+    ensures left { result ≡ (opens (settings_of role config) first now).left }
+    ensures made { Out O.makes config.rule out.old (opens (settings_of role config) first now) out.new }
 {
     match role {
         Role::Client => {
@@ -55,7 +53,7 @@ fn blank<A: Allocator>(
     ring: Unconfirmed<A>,
 ) -> Endpoint<A>
     requires room { ring ≡ record { room = WINDOW_MAX; units = [] } }
-    ensures { result ≡ beside [] (blank (settings_of role config) first now connection) }
+    ensures { result ≡ unsaid (settings_of role config) first now connection }
 {
     Endpoint {
         config,
@@ -79,6 +77,7 @@ fn blank<A: Allocator>(
 impl MachineConfig {
     /// Whether an end may be opened with these settings.
     pub fn is_legal(&self, role: Role) -> bool
+        // `MachineConfig::is_legal` tells exactly the settings with which a machine is opened.
         ensures { result ≡ is_legal (settings_of role self.now) }
     {
         let _role = role;

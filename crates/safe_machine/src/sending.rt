@@ -3,12 +3,10 @@
 ghost use Rattle.std.specs.Prelude.{◌≡◌, ◌+◌, ◌<◌, ◌≤◌, ◌^◌, [], ◌∷◌, ◌++◌, length, true};
 ghost use Rattle.octets.specs.declared.limits.TheConstants.{UNIT_MAX};
 ghost use Rattle.safe_pdu.specs.Bodies.{IsBody};
-ghost use Rattle.safe_machine.specs.State.{State, make};
 ghost use Rattle.safe_machine.specs.Moves.{IsUnitSized};
 ghost use Rattle.safe_machine.specs.Reached.{IsReached};
-ghost use Rattle.safe_machine.specs.Step.{send, has_room, may_send, guard, heartbeat, tick};
-ghost use Rattle.safe_machine.specs.View.{StandsFor};
-ghost use Rattle.safe_machine.specs.inner.Doing.{AllBelow, Does};
+ghost use Rattle.safe_machine.specs.Turns.{Out, beats, guards, has_room, sends, sends_unit, ticks};
+ghost use Rattle.safe_machine.specs.inner.Sound.{AllBelow};
 ghost use Rattle.safe_machine.specs.Deadlines.{deadline_of, timeout_of, beat_due, overdue};
 
 use super::endpoint::Endpoint;
@@ -22,8 +20,7 @@ use std::cmp::min;
 impl<A: Allocator> Endpoint<A> {
     /// Whether a unit may be sent: units go out in turn, and the peer's window is open.
     pub(crate) fn may_send(&self) -> bool
-        ensures kept { result ≡ has_room self.now }
-        ensures stands { (s : State) → StandsFor self.now s → result ≡ may_send s }
+        ensures { result ≡ has_room self.now }
     {
         self.connection.in_turn() && (self.ring.len() as u64) < self.window
     }
@@ -33,7 +30,8 @@ impl<A: Allocator> Endpoint<A> {
         requires reached { IsReached self.old }
         requires size { IsUnitSized unit.now }
         requires open { has_room self.old ≡ true }
-        ensures does { Does O.makes (send unit.now now) self.old out.old self.new out.new }
+        ensures left { self.new ≡ (sends unit.now now self.old).left }
+        ensures made { Out O.makes self.old.settings.rule out.old (sends unit.now now self.old) out.new }
         ensures reached { IsReached self.new }
         ensures near { self.new.expected ≡ self.old.expected }
         ensures kept { self.new.ring ≡ self.old.ring ++ record { number = self.old.made; octets = unit.now } ∷ [] }
@@ -47,9 +45,8 @@ impl<A: Allocator> Endpoint<A> {
         requires few { self.old.made < 2 ^ 40 }
         requires room { length self.old.ring < self.old.room }
         requires above { AllBelow self.old.made self.old.ring }
-        requires made { self.old.confirmed < self.old.made }
-        ensures does { Does O.makes (make Kind.Data unit.now now) self.old out.old self.new out.new }
-        ensures ring { self.new.ring ≡ self.old.ring ++ record { number = self.old.made; octets = unit.now } ∷ [] }
+        ensures left { self.new ≡ (sends_unit unit.now now self.old).left }
+        ensures made { Out O.makes self.old.settings.rule out.old (sends_unit unit.now now self.old) out.new }
     {
         let number = self.made;
         self.make(Kind::Data, unit, now, out);
@@ -70,8 +67,8 @@ impl<A: Allocator> Endpoint<A> {
     /// The guard, and then a heartbeat where one is due by time.
     pub(crate) fn tick<O: PduOut>(&mut self, now: u64, out: &mut O)
         requires few { self.old.made < 2 ^ 39 }
-        ensures does { Does O.makes (tick now) self.old out.old self.new out.new }
-        ensures few { self.new.made ≤ self.old.made + 2 }
+        ensures left { self.new ≡ (ticks now self.old).left }
+        ensures made { Out O.makes self.old.settings.rule out.old (ticks now self.old) out.new }
     {
         self.guard(now, out);
         self.beat_by_time(now, out);
@@ -80,8 +77,8 @@ impl<A: Allocator> Endpoint<A> {
     /// The guard.
     pub(crate) fn guard<O: PduOut>(&mut self, now: u64, out: &mut O)
         requires few { self.old.made < 2 ^ 40 }
-        ensures does { Does O.makes (guard now) self.old out.old self.new out.new }
-        ensures few { self.new.made ≤ self.old.made + 1 }
+        ensures left { self.new ≡ (guards now self.old).left }
+        ensures made { Out O.makes self.old.settings.rule out.old (guards now self.old) out.new }
     {
         if let Some((reason, detail)) = self.overdue(now) {
             self.leave(reason, detail, now, out);
@@ -107,8 +104,8 @@ impl<A: Allocator> Endpoint<A> {
     /// Makes a heartbeat where one is due by time.
     fn beat_by_time<O: PduOut>(&mut self, now: u64, out: &mut O)
         requires few { self.old.made < 2 ^ 40 }
-        ensures does { Does O.makes (heartbeat now) self.old out.old self.new out.new }
-        ensures few { self.new.made ≤ self.old.made + 1 }
+        ensures left { self.new ≡ (beats now self.old).left }
+        ensures made { Out O.makes self.old.settings.rule out.old (beats now self.old) out.new }
     {
         if self.beat_due(now) {
             self.beat(now, out);

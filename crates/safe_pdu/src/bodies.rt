@@ -51,7 +51,9 @@ fn are_zeros(octets: &[u8]) -> bool
 /// What the body of a ConnReq or ConnResp says.
 pub fn read_opening(body: &[u8]) -> Opening<'_>
     requires { IsBody Kind.ConnReq body.now }
+    // The version in the body of an opening is its first four octets.
     ensures version { result.version.now ≡ version_of body.now }
+    // The N_sendmax in the body of an opening is the number behind the version.
     ensures window { result.n_sendmax ≡ window_of body.now }
 {
     let (version, _) = body.split_at(4);
@@ -62,7 +64,9 @@ pub fn read_opening(body: &[u8]) -> Opening<'_>
 /// What the body of a DiscReq says.
 pub fn read_leaving(body: &[u8]) -> Leaving
     requires { IsBody Kind.DiscReq body.now }
+    // The detail in the body of a DiscReq is its first number.
     ensures detail { result.detail ≡ detail_of body.now }
+    // The reason in the body of a DiscReq is the number behind the detail.
     ensures reason { result.reason ≡ reason_of body.now }
 {
     let detail = u16_at(body, 0);

@@ -19,16 +19,17 @@ use octets::places::{put_octets, put_u16, put_u32, u16_at, u32_at};
 ///
 /// Refused, and the first that holds is named: `Short`, `Length`, `Code`, `BadType`, `Body`.
 pub fn decode<'a>(octets: &'a [u8], rule: &CodeRule) -> Result<SafePdu<'a>, SafeFault>
-    // What is read is spelled so.
+    // What `decode` accepts is the text, under the rule of the code, of the PDU answered: one of eight types
+    // with a body that fits.
     ensures found { IfOk result (λ pdu. SafeText (pdu_of pdu) rule.now octets.now) }
 
-    // What is spelled so is read.
+    // `decode` accepts every text under the rule of the code, and answers its PDU.
     ensures only { (p : Pdu) → SafeText p rule.now octets.now → IsOkAnd result (λ pdu. pdu_of pdu ≡ p) }
 
-    // Which fault it is.
+    // The fault that `decode` names is the first that holds under the rule of the code.
     ensures fault { IfErr result (FirstFault rule.now octets.now) }
 
-    // What it is, by places.
+    // What `decode` answers is what stands at the places: the fields, or the first fault.
     ensures exact { seen_of result ≡ safe_seen rule.now octets.now }
 {
     read_places(octets, rule)
@@ -101,8 +102,11 @@ fn put_header(pdu: &SafePdu<'_>, size: u16, buffer: &mut [u8])
 pub fn encode(pdu: &SafePdu<'_>, rule: &CodeRule, buffer: &mut [u8]) -> usize
     requires body { IsBody pdu.now.kind pdu.now.body.now }
     requires room { SAFE_HEADER + length pdu.now.body.now + code_octets rule.now.length ≤ length buffer.old }
+    // `encode` answers how many octets it wrote: 28, those of the body and those of the code.
     ensures size { result ≡ SAFE_HEADER + length pdu.now.body.now + code_octets rule.now.length }
+    // What `encode` writes in front of the buffer is the text of its PDU under the rule of the code.
     ensures written { SafeText (pdu_of pdu.now) rule.now (take result buffer.new) }
+    // `encode` leaves the rest of the buffer.
     ensures rest { drop result buffer.new ≡ drop result buffer.old }
 {
     let front = SAFE_HEADER + pdu.body.len();
@@ -121,6 +125,7 @@ pub fn read_back<'a>(
 ) -> Result<SafePdu<'a>, SafeFault>
     requires body { IsBody pdu.now.kind pdu.now.body.now }
     requires room { SAFE_HEADER + length pdu.now.body.now + code_octets rule.now.length ≤ length buffer.old }
+    // What is encoded decodes, under the same rule of the code, to the same PDU.
     ensures { IsOkAnd result (λ again. pdu_of again ≡ pdu_of pdu.now) }
 {
     let size = encode(pdu, rule, buffer);
@@ -129,12 +134,11 @@ pub fn read_back<'a>(
 
 /// A law of the texts, which does nothing when it is called.
 pub fn text_law()
-    // Fields are read by place: octets that are texts under two rules of one length of code are of
-    // one PDU, whatever the two initial values. So a text has one value.
+    // Octets that are texts under two rules of one length of code are of one PDU, whatever the initial values.
     ensures by_place { (p q : Pdu) (r s : CodeRule) (octets : List ℕ) → SafeText p r octets
         → SafeText q s octets → r.length ≡ s.length → p ≡ q }
 
-    // A value has one text under a rule, so encoding what was decoded gives the same octets.
+    // A PDU has one text under a rule of the code, so encoding what was decoded gives the same octets.
     ensures one_text { (p : Pdu) (rule : CodeRule) (octets again : List ℕ) → SafeText p rule octets
         → SafeText p rule again → octets ≡ again }
 
@@ -142,23 +146,23 @@ pub fn text_law()
     ensures is_asked { (p : Pdu) (rule : CodeRule) (own peer : ℕ) (octets : List ℕ) → SafeText p rule octets
         → p.receiver ≡ own → p.sender ≡ peer → IsAsked rule own peer octets }
 
-    // A text under a rule is read as its PDU under that rule.
+    // A text is read, by places, as its PDU.
     ensures complete { (p : Pdu) (rule : CodeRule) (octets : List ℕ) → SafeText p rule octets
         → safe_seen rule octets ≡ Ok p }
 
     // Octets that read as a PDU are its text.
     ensures read { ReadLaw }
 
-    // What reads under two rules of one length of code reads as one PDU.
+    // Octets that read as PDUs under two rules of one length of code read as one.
     ensures read_alike { ReadAlikeLaw }
 
-    // An end is asked about what reads as a PDU with its own and its peer's identifier.
+    // An end is asked about octets that read as a PDU with its own and its peer's identifier.
     ensures read_asked { ReadAskedLaw }
 
-    // The test of octets that an end is asked about tells exactly them.
+    // The test of what an end is asked about tells exactly the octets that it is asked about.
     ensures asked { AskedLaw }
 
-    // The test of a text tells exactly the texts.
+    // The test of a text tells exactly the texts of a PDU under a rule.
     ensures test { (p : Pdu) (rule : CodeRule) (octets : List ℕ) → IsTrue (is_text p rule octets)
         ↔ SafeText p rule octets }
 {}

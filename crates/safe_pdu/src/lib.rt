@@ -4,6 +4,9 @@
 //! body, code (0, 8 or 16).
 //!
 //! The safety and retransmission layer of DIN VDE V 0831-200:2015, in this project's profile.
+//!
+//! Contracts: they are of any rule of the code: 0, 8 or 16 octets of the digest, under any initial
+//! value.
 #![tactic(auto)]
 
 ghost use Rattle.std.specs.Prelude.{◌≡◌, ◌↔◌, ◌+◌, ◌≤◌, ◌++◌, length, take, drop, IsTrue};
@@ -45,6 +48,7 @@ pub enum Kind {
 impl Kind {
     /// The type with a number; `None` for a number that no type has.
     pub fn of(number: u16) -> Option<Self>
+        // A number has its type, or none.
         ensures { result ≡ kind_of number }
     {
         match number {
@@ -62,6 +66,7 @@ impl Kind {
 
     /// The type's number in a PDU.
     pub fn number(self) -> u16
+        // Each type has its number.
         ensures { result ≡ kind_number self }
     {
         match self {
@@ -78,6 +83,7 @@ impl Kind {
 
     /// The type's name, as it is printed.
     pub fn name(self) -> &'static str
+        // Each type has its name.
         ensures { result.now ≡ kind_name self }
     {
         match self {
@@ -107,6 +113,7 @@ pub enum CodeLength {
 impl CodeLength {
     /// The number of octets.
     pub fn octets(self) -> usize
+        // A code has 0, 8 or 16 octets by its length.
         ensures { result ≡ code_octets self }
     {
         match self {
@@ -129,6 +136,8 @@ pub struct CodeRule {
 impl CodeRule {
     /// Whether a code is the one over what stands before it.
     pub fn confirms(&self, front: &[u8], code: &[u8]) -> bool
+        // `confirms` accepts exactly the code of a rule: the first 0, 8 or 16 octets of the digest of what
+        // stands before it.
         ensures { result ≡ bytes_eq code.now (code_over self.now front.now) }
     {
         let digest = md4::digest(self.initial_value, front);
@@ -168,6 +177,7 @@ pub enum SafeFault {
 impl SafeFault {
     /// The fault's number, as it is printed: its place among the faults, from 1.
     pub fn number(self) -> u8
+        // Each fault has its number.
         ensures { result ≡ safe_number self }
     {
         match self {
@@ -181,6 +191,7 @@ impl SafeFault {
 
     /// The fault's name, as it is printed.
     pub fn name(self) -> &'static str
+        // Each fault has its name.
         ensures { result.now ≡ safe_name self }
     {
         match self {

@@ -1,15 +1,13 @@
 -- Names: what stands in a name's place is a name with its filling, and is read as that name.
-use Rattle.std.proofs.Common.{◌≡◌, ◌≢◌, ◌==◌, nat_lt, ◌<◌, ℕ, zero, suc, ◌+◌, ◌-◌, true, false, ◌⊎◌, List, [], ◌∷◌, ◌++◌, length, take, drop, Some, None, Ok, Err, refl, sym, ap, ◌∙◌, inl, inr, arith, append_assoc}
+use Rattle.std.proofs.Common.{◌≡◌, ◌≢◌, ◌==◌, nat_lt, ◌<◌, ℕ, zero, suc, ◌-◌, true, false, ◌⊎◌, List, [], ◌∷◌, ◌++◌, length, take, drop, Some, None, Ok, Err, refl, sym, ap, ◌∙◌, inl, inr, arith}
 use Rattle.std.proofs.Math.ListN.{replicate}
 use Rattle.std.proofs.Math.Seq.{take-append_seam, drop-append_seam}
 use Rattle.std.proofs.lemmas.Bool.{and_parts, cases_Bool, eqb-true, eqb-false, ltb-false, ne_eqb, le-ltb}
 use Rattle.std.proofs.lemmas.Bool.Decides.{nat_tests}
-use Rattle.std.proofs.lemmas.List.{take-append-drop, length-drop, length-take, length-replicate, drop-replicate}
-use Rattle.octets.proofs.Fields.{drop_further}
-use Rattle.std.proofs.lemmas.Str.{IsUtf8-from_ascii}
+use Rattle.std.proofs.lemmas.List.{take-append-drop, length-drop, length-take}
 use Rattle.std.proofs.lemmas.Str.Ascii.{IsAscii-nil, IsAscii-cons}
 use Rattle.std.specs.List.{list_all}
-use Rattle.std.specs.Str.{IsAscii, IsUtf8}
+use Rattle.std.specs.Str.{IsAscii}
 use Rattle.sci_telegram.specs.declared.NameFault.{NameFault}
 use Rattle.sci_telegram.specs.declared.NameFault.TheVariants.{Empty, Long, Character}
 use Rattle.octets.specs.declared.limits.TheConstants.{NAME_LENGTH, FILLING}
@@ -17,7 +15,7 @@ use Rattle.sci_telegram.specs.Names.{HasCharacters, IsName, filled, is_character
 use Rattle.sci_telegram.specs.Places.{HoldsNoName, name_at, name_seen, name_size}
 
 -- a character is no filling, and ASCII
-character_plain : (c : ℕ) → is_character c ≡ true → (c == FILLING) ≡ false
+pub character_plain : (c : ℕ) → is_character c ≡ true → (c == FILLING) ≡ false
 character_plain c h = grind (arith, nat_tests)
 
 character_ascii : (c : ℕ) → is_character c ≡ true → c < 128
@@ -97,7 +95,7 @@ pub record Spelled (field name : List ℕ) : Type 0 where
   pub is : IsName name
   pub spelled : field ≡ filled name
 
-spelled_at : (size : ℕ) (field : List ℕ) → length field ≡ NAME_LENGTH → IsName (take size field)
+pub spelled_at : (size : ℕ) (field : List ℕ) → length field ≡ NAME_LENGTH → IsName (take size field)
     → list_all (λ octet. octet == FILLING) (drop size field) ≡ true → Spelled field (take size field)
 spelled_at size field long is filling =
     let back : drop size field ≡ replicate (NAME_LENGTH - length (take size field)) FILLING =
@@ -131,33 +129,3 @@ at_spelled size field name long seen =
 
 pub seen_spelled : (field name : List ℕ) → length field ≡ NAME_LENGTH → Some name ≡ name_seen field → Spelled field name
 seen_spelled field name long seen = at_spelled (name_size field) field name long seen
-
--- what is no text is no name
-pub no_text : (size : ℕ) (field text : List ℕ) → text ≡ take size field → ¬ IsUtf8 text → None ≡ name_at size field
-no_text size field text is none =
-    elim (read_cases (take size field)) [
-      | inl (reads, name) ↦ absurd (none (rw is (IsUtf8-from_ascii (take size field) (HasCharacters-ascii (take size field) name.2))))
-      | inr (fault, reads) ↦ sym (name_at-none size field (λ ok. cc))
-    ]
-
--- characters, and filling written behind them
-fill_size : (place : ℕ) (name fill : List ℕ) → IsName name → fill ≡ drop (length name) (replicate NAME_LENGTH FILLING)
-    → place + length name + length fill ≡ place + NAME_LENGTH
-fill_size place name fill is fill-is =
-    omega (arith, is.1, ap length (fill-is ∙ drop-replicate (length name) NAME_LENGTH FILLING), length-replicate (NAME_LENGTH - length name) FILLING)
-
-pub named_front : (place : ℕ) (name fill old mid new : List ℕ) → IsName name → fill ≡ drop (length name) (replicate NAME_LENGTH FILLING)
-    → take (place + length name) mid ≡ take place old ++ name → take (place + length name + length fill) new ≡ take (place + length name) mid ++ fill
-    → take (place + NAME_LENGTH) new ≡ take place old ++ filled name
-named_front place name fill old mid new is fill-is first second =
-    ap (λ (n : ℕ). take n new) (sym (fill_size place name fill is fill-is)) ∙ second ∙ ap (λ (front : List ℕ). front ++ fill) first
-    ∙ append_assoc (take place old) name fill
-    ∙ ap (λ (filling : List ℕ). take place old ++ (name ++ filling)) (fill-is ∙ drop-replicate (length name) NAME_LENGTH FILLING)
-
-pub named_rest : (place : ℕ) (name fill old mid new : List ℕ) → IsName name → fill ≡ drop (length name) (replicate NAME_LENGTH FILLING)
-    → drop (place + length name) mid ≡ drop (place + length name) old → drop (place + length name + length fill) new ≡ drop (place + length name + length fill) mid
-    → drop (place + NAME_LENGTH) new ≡ drop (place + NAME_LENGTH) old
-named_rest place name fill old mid new is fill-is first second =
-    let size = fill_size place name fill is fill-is in
-    ap (λ (n : ℕ). drop n new) (sym size) ∙ second ∙ ap (λ (n : ℕ). drop n mid) size
-    ∙ drop_further (place + length name) (place + NAME_LENGTH) mid old (omega (arith, is.1)) first

@@ -50,10 +50,10 @@ tele_spelled t octets fits sized reads sender receiver =
     }
 
 -- a front of known length, and what follows it
-front_of : (n : ℕ) (a b xs : List ℕ) → xs ≡ a ++ b → length a ≡ n → take n xs ≡ a
+pub front_of : (n : ℕ) (a b xs : List ℕ) → xs ≡ a ++ b → length a ≡ n → take n xs ≡ a
 front_of n a b xs e long = rw (e, ← long) (take-append_seam a b)
 
-rest_of : (n : ℕ) (a b xs : List ℕ) → xs ≡ a ++ b → length a ≡ n → drop n xs ≡ b
+pub rest_of : (n : ℕ) (a b xs : List ℕ) → xs ≡ a ++ b → length a ≡ n → drop n xs ≡ b
 rest_of n a b xs e long = rw (e, ← long) (drop-append_seam a b)
 
 -- what is spelled so stands at its places

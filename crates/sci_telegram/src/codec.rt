@@ -1,11 +1,10 @@
 //! Reading and writing a telegram.
 
-ghost use Rattle.std.specs.Prelude.{◌≡◌, ◌==◌, ℕ, ◌+◌, ◌≤◌, ◌++◌, List, length, take, drop, Ok, IfOk, IfErr, IsOkAnd};
-ghost use Rattle.std.specs.List.{list_all};
+ghost use Rattle.std.specs.Prelude.{◌≡◌, ◌==◌, ℕ, ◌+◌, ◌≤◌, ◌++◌, not, List, length, take, drop, count_by, Ok, IfOk, IfErr, IsOkAnd};
 ghost use Rattle.sci_telegram.specs.Names.{filled};
 ghost use Rattle.sci_telegram.specs.Tele.{Tele, characters_of, tele_of};
 ghost use Rattle.sci_telegram.specs.TeleText.{TeleText};
-ghost use Rattle.sci_telegram.specs.Places.{FirstFault, name_found, name_seen, name_size, seen_of, tele_seen};
+ghost use Rattle.sci_telegram.specs.Places.{FirstFault, name_found, name_seen, seen_of, tele_seen};
 
 use super::{FILLING, KIND, NAME_LENGTH, Name, RECEIVER, SENDER, TeleFault, Telegram};
 use octets::limits::{MESSAGE_MAX, MESSAGE_MIN, PAYLOAD_MAX};
@@ -14,18 +13,17 @@ use octets::places::{put_octets, put_u16, u16_at};
 /// A name's place, filling alone.
 const UNNAMED: [u8; NAME_LENGTH] = [FILLING; NAME_LENGTH];
 
-/// How many octets stand before the first filling.
+/// How many octets are no filling.
 fn characters_in(field: &[u8]) -> usize
-    ensures { result ≡ name_size field.now }
+    ensures { result ≡ count_by (λ octet. not (octet == FILLING)) field.now }
 {
-    field.iter().take_while(|octet| **octet != FILLING).count()
-}
-
-/// Whether all octets are filling.
-fn is_filling(octets: &[u8]) -> bool
-    ensures { result ≡ list_all (λ octet. octet == FILLING) octets.now }
-{
-    octets.iter().all(|octet| *octet == FILLING)
+    let mut count = 0;
+    for octet in field {
+        if *octet != FILLING {
+            count += 1;
+        }
+    }
+    count
 }
 
 /// The name that stands in its place of 20 octets.
@@ -33,14 +31,9 @@ fn name_in(field: &[u8]) -> Option<Name<'_>>
     requires { length field.now ≡ NAME_LENGTH }
     ensures { name_found result ≡ name_seen field.now }
 {
-    let (characters, filling) = field.split_at(characters_in(field));
-    if !is_filling(filling) {
-        return None;
-    }
-    let Ok(text) = str::from_utf8(characters) else {
-        return None;
-    };
-    Name::new(text).ok()
+    // Where so many characters stand in front, what stands behind them is filling.
+    let (characters, _) = field.split_at(characters_in(field));
+    Name::of_octets(characters)
 }
 
 /// Reads a message, of any octets. It copies none of them: the answer is a view.
@@ -50,16 +43,16 @@ fn name_in(field: &[u8]) -> Option<Name<'_>>
 /// Refused, and the first that holds is named: `Short`, `Long`, `Name`.
 #[tactic(auto, unfolding(crate::specs::Places::tele_seen))]
 pub fn decode(octets: &[u8]) -> Result<Telegram<'_>, TeleFault>
-    // What is read is spelled so.
+    // What `decode` accepts is the text, by the grammar, of the telegram that it answers.
     ensures found { IfOk result (λ telegram. TeleText (tele_of telegram) octets.now) }
 
-    // What is spelled so is read.
+    // `decode` accepts every text of the grammar, and answers its telegram.
     ensures only { (t : Tele) → TeleText t octets.now → IsOkAnd result (λ telegram. tele_of telegram ≡ t) }
 
-    // Which fault it is.
+    // The fault that `decode` names is the first that holds.
     ensures fault { IfErr result (FirstFault octets.now) }
 
-    // What it is, by places.
+    // What `decode` answers is what stands at the places, the names without their filling, or the first fault.
     ensures exact { seen_of result ≡ tele_seen octets.now }
 {
     if octets.len() < MESSAGE_MIN {
@@ -93,9 +86,9 @@ fn put_name(buffer: &mut [u8], place: usize, name: Name<'_>)
     ensures rest { drop (place + NAME_LENGTH) buffer.new ≡ drop (place + NAME_LENGTH) buffer.old }
 {
     let characters = name.as_str().as_bytes();
+    // Filling of the whole place first, since what has one length takes two moves and no call.
+    put_octets(buffer, place, &UNNAMED);
     put_octets(buffer, place, characters);
-    let (_, filling) = UNNAMED.split_at(characters.len());
-    put_octets(buffer, place + characters.len(), filling);
 }
 
 /// Writes a telegram in front of the buffer, leaves the rest of it, and answers how many octets were
@@ -103,8 +96,11 @@ fn put_name(buffer: &mut [u8], place: usize, name: Name<'_>)
 pub fn encode(telegram: &Telegram<'_>, buffer: &mut [u8]) -> usize
     requires fits { length telegram.now.payload.now ≤ PAYLOAD_MAX }
     requires room { MESSAGE_MIN + length telegram.now.payload.now ≤ length buffer.old }
+    // `encode` answers how many octets it wrote: 43 and those of the payload.
     ensures size { result ≡ MESSAGE_MIN + length telegram.now.payload.now }
+    // What `encode` writes in front of the buffer is the text of its telegram.
     ensures written { TeleText (tele_of telegram.now) (take result buffer.new) }
+    // `encode` leaves the rest of the buffer.
     ensures rest { drop result buffer.new ≡ drop result buffer.old }
 {
     put_octets(buffer, 0, &[telegram.protocol]);
@@ -122,6 +118,7 @@ pub fn read_back<'a>(
 ) -> Result<Telegram<'a>, TeleFault>
     requires fits { length telegram.now.payload.now ≤ PAYLOAD_MAX }
     requires room { MESSAGE_MIN + length telegram.now.payload.now ≤ length buffer.old }
+    // What is encoded decodes to the same telegram.
     ensures { IsOkAnd result (λ again. tele_of again ≡ tele_of telegram.now) }
 {
     let size = encode(telegram, buffer);
@@ -131,9 +128,12 @@ pub fn read_back<'a>(
 /// A law, which does nothing when it is called: an accepted text has one value, and a value one
 /// text, so encoding what was decoded gives the same octets; and a text is seen as its value.
 pub fn one_spelling()
+    // A text has one telegram.
     ensures value { (t other : Tele) (octets : List ℕ) → TeleText t octets → TeleText other octets
         → t ≡ other }
+    // A telegram has one text, so encoding what was decoded gives the same octets.
     ensures text { (t : Tele) (octets again : List ℕ) → TeleText t octets → TeleText t again
         → octets ≡ again }
+    // A text is read, by places, as its telegram.
     ensures read { (t : Tele) (octets : List ℕ) → TeleText t octets → tele_seen octets ≡ Ok t }
 {}

@@ -86,6 +86,7 @@ pub enum TeleFault {
 impl TeleFault {
     /// The fault's number, as it is printed: its place among the faults, from 1.
     pub fn number(self) -> u8
+        // Each fault of a telegram has its number.
         ensures { result ≡ telegram_number self }
     {
         match self {
@@ -97,6 +98,7 @@ impl TeleFault {
 
     /// The fault's name, as it is printed.
     pub fn name(self) -> &'static str
+        // Each fault of a telegram has its name.
         ensures { result.now ≡ telegram_name self }
     {
         match self {

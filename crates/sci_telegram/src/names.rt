@@ -2,7 +2,9 @@
 
 ghost use Rattle.std.specs.Prelude.{◌≡◌, IfOk, IfErr, IsOkAnd};
 ghost use Rattle.std.specs.List.{list_all};
+ghost use Rattle.std.specs.Result.{result_ok};
 ghost use Rattle.sci_telegram.specs.Names.{IsName, FirstNameFault, is_character, name_read};
+ghost use Rattle.sci_telegram.specs.Places.{name_found};
 ghost use Rattle.sci_telegram.specs.Tele.{characters_of, name_of, owned_characters};
 
 use super::{FILLING, NAME_LENGTH, Name, NameFault, OwnedName};
@@ -29,16 +31,16 @@ impl<'a> Name<'a> {
     ///
     /// Refused, and the first that holds is named: `Empty`, `Long` (counted in octets), `Character`.
     pub fn new(text: &'a str) -> Result<Self, NameFault>
-        // What is made is that text, and a name.
+        // What `Name::new` makes keeps the characters of its text, which is a name.
         ensures found { IfOk result (λ name. (characters_of name ≡ text.now) × IsName text.now) }
 
-        // What is a name is made.
+        // `Name::new` accepts every text that is a name.
         ensures only { IsName text.now → IsOkAnd result (λ name. characters_of name ≡ text.now) }
 
-        // Which fault it is.
+        // The fault that `Name::new` names is the first that holds.
         ensures fault { IfErr result (FirstNameFault text.now) }
 
-        // What it is, as a function of the text.
+        // What `Name::new` answers is one function of the text: its characters, or the first fault.
         ensures exact { name_of result ≡ name_read text.now }
     {
         if text.is_empty() {
@@ -53,9 +55,23 @@ impl<'a> Name<'a> {
         Ok(Name { characters: text })
     }
 
+    /// The name that octets spell.
+    pub(super) fn of_octets(octets: &'a [u8]) -> Option<Self>
+        ensures { name_found result ≡ result_ok (name_read octets.now) }
+    {
+        if octets.is_empty() || octets.len() > NAME_LENGTH || !fit_name(octets) {
+            return None;
+        }
+        // What may stand in a name is ASCII, and so it is text.
+        let characters = unsafe { str::from_utf8_unchecked(octets) };
+        Some(Name { characters })
+    }
+
     /// The characters, without the filling.
     pub fn as_str(self) -> &'a str
+        // `as_str` answers the characters of a name.
         ensures characters { result.now ≡ characters_of self.entry }
+        // The characters of every `Name` are a name: 1 to 20 of 0x21 to 0x7e without 0x5f.
         ensures well_formed { IsName result.now }
     {
         self.characters
@@ -65,6 +81,7 @@ impl<'a> Name<'a> {
 impl OwnedName {
     /// A copy of a name.
     pub fn new(name: Name<'_>) -> Self
+        // An `OwnedName` keeps the characters of the name that it is made of.
         ensures { owned_characters result ≡ characters_of name.entry }
     {
         let mut text = ArrayString::new();
@@ -74,6 +91,7 @@ impl OwnedName {
 
     /// The name, as a view.
     pub fn name(&self) -> Name<'_>
+        // `OwnedName::name` answers the characters that are kept.
         ensures { characters_of result ≡ owned_characters self.now }
     {
         Name {

@@ -1,6 +1,7 @@
 -- The groups of settings.
 use Rattle.std.specs.Prelude.{ℕ, ◌-◌, List, Option, Some, None, Result, Ok, Err}
 use Rattle.toml.specs.Data.{Data}
+use Rattle.settings_file.specs.declared.keys.Key.{Key}
 use Rattle.settings_file.specs.declared.keys.Key.TheVariants as key
 use Rattle.settings_file.specs.declared.keys.KeyFault.{KeyFault}
 use Rattle.settings_file.specs.declared.values.Limits.{Limits}
@@ -16,16 +17,27 @@ use Rattle.octets.specs.declared.limits.TheConstants.{MWA_MAX, PDU_LIMIT_HIGHEST
 use Rattle.end_settings.specs.Lists.{versions_in, checksum_in}
 use Rattle.settings_file.specs.Readers.{first_number_at, number_at, wrong_at, name_at, code_at, checksum_at, initial_value_at, versions_at}
 
+-- the number at the key of a limit; that of t_h is below T_max
+abbrev pub limit_at : Data → ℕ → Key → Result ℕ KeyFault
+limit_at d t_max key.NSendmax = number_at d key.NSendmax 1 WINDOW_MAX (Some 20)
+limit_at d t_max key.NMaxpacket = number_at d key.NMaxpacket 1 UNIT_MESSAGES (Some 3)
+limit_at d t_max key.Deferral = number_at d key.Deferral 1 Q_MAX (Some 4)
+limit_at d t_max key.TMax = number_at d key.TMax T_MAX_LOWEST T_MAX_HIGHEST (Some 1800)
+limit_at d t_max key.THeartbeat = number_at d key.THeartbeat T_H_LOWEST (t_max - 1) (Some 300)
+limit_at d t_max key.TSeq = number_at d key.TSeq T_SEQ_LOWEST T_SEQ_MAX (Some 50)
+limit_at d t_max key.Mwa = number_at d key.Mwa 1 MWA_MAX (Some 10)
+limit_at d t_max k = number_at d k PDU_LIMIT_LOWEST PDU_LIMIT_HIGHEST (Some PDU_LIMIT_HIGHEST)
+
 abbrev pub limits_of : Data → Result Limits KeyFault
 limits_of d = do
-  n_sendmax ← number_at d key.NSendmax 1 WINDOW_MAX (Some 20)
-  n_maxpacket ← number_at d key.NMaxpacket 1 UNIT_MESSAGES (Some 3)
-  deferral ← number_at d key.Deferral 1 Q_MAX (Some 4)
-  t_max ← number_at d key.TMax T_MAX_LOWEST T_MAX_HIGHEST (Some 1800)
-  t_heartbeat ← number_at d key.THeartbeat T_H_LOWEST (t_max - 1) (Some 300)
-  t_seq ← number_at d key.TSeq T_SEQ_LOWEST T_SEQ_MAX (Some 50)
-  mwa ← number_at d key.Mwa 1 MWA_MAX (Some 10)
-  pdu_limit ← number_at d key.PduLimit PDU_LIMIT_LOWEST PDU_LIMIT_HIGHEST (Some PDU_LIMIT_HIGHEST)
+  n_sendmax ← limit_at d 0 key.NSendmax
+  n_maxpacket ← limit_at d 0 key.NMaxpacket
+  deferral ← limit_at d 0 key.Deferral
+  t_max ← limit_at d 0 key.TMax
+  t_heartbeat ← limit_at d t_max key.THeartbeat
+  t_seq ← limit_at d t_max key.TSeq
+  mwa ← limit_at d t_max key.Mwa
+  pdu_limit ← limit_at d t_max key.PduLimit
   Ok (record { n_sendmax = n_sendmax; n_maxpacket = n_maxpacket; deferral = deferral; t_max = t_max; t_heartbeat = t_heartbeat; t_seq = t_seq; mwa = mwa; pdu_limit = pdu_limit })
 
 -- who an end is, and who its peer

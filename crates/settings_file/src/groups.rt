@@ -2,7 +2,7 @@
 
 ghost use Rattle.std.specs.Prelude.{◌≡◌};
 ghost use Rattle.toml.specs.View.{view};
-ghost use Rattle.settings_file.specs.Groups.{limits_of, identity_of, identity_seen, beginning_of, beginning_seen};
+ghost use Rattle.settings_file.specs.Groups.{limit_at, limits_of, identity_of, identity_seen, beginning_of, beginning_seen};
 ghost use Rattle.settings_file.specs.Readers.{read_as};
 
 use crate::keys::{Expected, Key, KeyFault};
@@ -60,26 +60,14 @@ pub fn begun(side: Side, table: &Value) -> Result<Beginning, KeyFault>
 pub fn limited(table: &Value) -> Result<Limits, KeyFault>
     ensures { result ≡ limits_of (view table.now) }
 {
-    let n_sendmax = number(table, Key::NSendmax, 1, WINDOW_MAX as u64, Some(20))?;
-    let n_maxpacket = number(table, Key::NMaxpacket, 1, UNIT_MESSAGES as u64, Some(3))?;
-    let deferral = number(table, Key::Deferral, 1, Q_MAX as u64, Some(4))?;
-    let t_max = number(table, Key::TMax, T_MAX_LOWEST, T_MAX_HIGHEST, Some(1_800))?;
-    let t_heartbeat = number(
-        table,
-        Key::THeartbeat,
-        T_H_LOWEST,
-        t_max.saturating_sub(1),
-        Some(300),
-    )?;
-    let t_seq = number(table, Key::TSeq, T_SEQ_LOWEST, T_SEQ_MAX, Some(50))?;
-    let mwa = number(table, Key::Mwa, 1, MWA_MAX as u64, Some(10))?;
-    let pdu_limit = number(
-        table,
-        Key::PduLimit,
-        PDU_LIMIT_LOWEST,
-        PDU_LIMIT_HIGHEST,
-        Some(PDU_LIMIT_HIGHEST),
-    )?;
+    let n_sendmax = limit(table, 0, Key::NSendmax)?;
+    let n_maxpacket = limit(table, 0, Key::NMaxpacket)?;
+    let deferral = limit(table, 0, Key::Deferral)?;
+    let t_max = limit(table, 0, Key::TMax)?;
+    let t_heartbeat = limit(table, t_max, Key::THeartbeat)?;
+    let t_seq = limit(table, t_max, Key::TSeq)?;
+    let mwa = limit(table, t_max, Key::Mwa)?;
+    let pdu_limit = limit(table, t_max, Key::PduLimit)?;
     Ok(Limits {
         n_sendmax,
         n_maxpacket,
@@ -90,4 +78,26 @@ pub fn limited(table: &Value) -> Result<Limits, KeyFault>
         mwa,
         pdu_limit,
     })
+}
+
+/// The number at the key of a limit, of which `t_h` is below T_max.
+pub fn limit(table: &Value, t_max: u64, key: Key) -> Result<u64, KeyFault>
+    ensures { result ≡ limit_at (view table.now) t_max key }
+{
+    match key {
+        Key::NSendmax => number(table, key, 1, WINDOW_MAX as u64, Some(20)),
+        Key::NMaxpacket => number(table, key, 1, UNIT_MESSAGES as u64, Some(3)),
+        Key::Deferral => number(table, key, 1, Q_MAX as u64, Some(4)),
+        Key::TMax => number(table, key, T_MAX_LOWEST, T_MAX_HIGHEST, Some(1_800)),
+        Key::THeartbeat => number(table, key, T_H_LOWEST, t_max.saturating_sub(1), Some(300)),
+        Key::TSeq => number(table, key, T_SEQ_LOWEST, T_SEQ_MAX, Some(50)),
+        Key::Mwa => number(table, key, 1, MWA_MAX as u64, Some(10)),
+        _ => number(
+            table,
+            key,
+            PDU_LIMIT_LOWEST,
+            PDU_LIMIT_HIGHEST,
+            Some(PDU_LIMIT_HIGHEST),
+        ),
+    }
 }

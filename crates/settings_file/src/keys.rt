@@ -83,6 +83,8 @@ pub enum Expected {
     Addresses,
     /// Texts of four hex digits, a colon, and hex digits.
     Puts,
+    /// Such a text, as an entry of `puts`.
+    Put,
     /// Another number than the own identifier.
     AnotherId,
     /// No such key at this end, or not beside its sibling.
@@ -154,6 +156,7 @@ impl From<AllocError> for ReadFault {
 impl Key {
     /// The key as it stands in a file.
     pub fn text(self) -> &'static str
+        // Each key has its text, as it stands in a file.
         ensures { result.now ≡ text_of self }
     {
         match self {
@@ -195,6 +198,7 @@ impl fmt::Display for Expected {
             Expected::DifferentVersions => "one to four different numbers from 0 to 255",
             Expected::Addresses => "one to four texts, as many in local as in remote,",
             Expected::Puts => "a list of texts KIND:HEX",
+            Expected::Put => "a text KIND:HEX",
             Expected::AnotherId => "another number than id",
             Expected::Absent => "no such key here",
         };
@@ -223,7 +227,7 @@ impl fmt::Display for KeyFault {
 }
 
 /// How the keys of a table are named: `il.`, `fe.`, or nothing at the top of a file.
-fn prefix(table: Option<Side>) -> &'static str {
+pub(crate) fn prefix(table: Option<Side>) -> &'static str {
     match table {
         None => "",
         Some(Side::Interlocking) => "il.",

@@ -57,11 +57,11 @@ pub fn addresses(alloc: Global, table: &Value, key: Key) -> Result<Vec<String>, 
     }
 }
 
-// One put, if the text spells one.
-fn put(alloc: Global, text: &str) -> Result<Option<Put>, AllocError>
-    ensures { IfOk result (λ r. option_map put_seen r ≡ put_of text.now) }
+/// The telegram that a text spells as `KIND:HEX`, if it spells one.
+pub fn put(alloc: Global, octets: &[u8]) -> Result<Option<Put>, AllocError>
+    // `put` answers exactly the telegram that a text spells as `KIND:HEX`, or none.
+    ensures { IfOk result (λ r. option_map put_seen r ≡ put_of octets.now) }
 {
-    let octets = text.as_bytes();
     if octets.len() < 5 || octets[4] != b':' {
         return Ok(None);
     }
@@ -94,7 +94,7 @@ fn put_list(alloc: Global, items: &[Value]) -> Result<Option<Vec<Put>>, AllocErr
         let Some(text) = item.as_str() else {
             return Ok(None);
         };
-        let Some(put) = put(alloc, text)? else {
+        let Some(put) = put(alloc, text.as_bytes())? else {
             return Ok(None);
         };
         all.push(put)?;

@@ -126,13 +126,13 @@ fn is_list(key: &str) -> bool
     key == "local" || key == "remote" || key == "puts"
 }
 
-fn knows(key: &str) -> bool
+pub fn knows(key: &str) -> bool
     ensures { result ≡ is_known key.now }
 {
     is_identity(key) || is_beginning(key) || is_limit(key) || is_list(key)
 }
 
-fn names_end(key: &str) -> bool
+pub fn names_end(key: &str) -> bool
     ensures { result ≡ is_end key.now }
 {
     key == "il" || key == "fe"
@@ -160,7 +160,7 @@ fn strange_key(table: &Table) -> Option<&str>
     None
 }
 
-fn unknown(alloc: Global, table: Option<Side>, key: &str) -> SettingsFault
+pub fn unknown(alloc: Global, table: Option<Side>, key: &str) -> SettingsFault
     ensures { MakesUnknown result table key.now }
 {
     match String::from_str(alloc, key) {
@@ -193,7 +193,7 @@ fn of_end(
     }
 }
 
-fn document(alloc: Global, text: &str) -> Result<Table, SettingsFault>
+pub fn document(alloc: Global, text: &str) -> Result<Table, SettingsFault>
     ensures ok { IfOk result (λ t. parse_document text.now ≡ Some (table_view t)) }
     ensures err { IfErr result (IsNoDocument text.now) }
 {
@@ -239,7 +239,9 @@ fn feeds(octets: &[u8]) -> usize
 ///
 /// Refused as by `settings`.
 pub fn single(alloc: Global, side: Side, text: &str) -> Result<Settings, SettingsFault>
+    // The settings of a file for one end are those that its text says.
     ensures ok { IfOk result (λ s. file_settings side text.now ≡ Ok (settings_seen s)) }
+    // Where they are refused the fault is that of the text.
     ensures err { IfErr result (IsWrong (file_settings side text.now)) }
 {
     let table = document(alloc, text)?;

@@ -2,7 +2,9 @@ pub mod Dialogue
 pub mod Ends
 pub mod Datagrams
 pub mod Talk
+pub mod Turns
 pub mod Fields
+pub mod Turned
 pub mod Later
 pub mod Kept
 pub mod EndValue

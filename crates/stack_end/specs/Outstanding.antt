@@ -5,11 +5,8 @@ use Rattle.packing.specs.UnitText.{unit_text}
 use Rattle.sci_telegram.specs.TeleText.{tele_text}
 use Rattle.pdi_session.specs.Settings.{Addressing}
 use Rattle.pdi_session.specs.Telegrams.{telegram}
-use Rattle.safe_machine.specs.State.{unconfirmed}
 use Rattle.safe_machine.specs.View.{View}
-use Rattle.stack_end.specs.Dialogue.{session_in}
-use Rattle.stack_end.specs.Ends.{EndState}
-use Rattle.stack_end.specs.Fields.{Fields}
+use Rattle.stack_end.specs.Turns.{Fields}
 
 -- the octets of each
 abbrev pub each : {N : Type 0} → List N → (N → List ℕ) → List (List ℕ)
@@ -29,9 +26,7 @@ pub record GoesOut (v : Fields) (waited : List (List ℕ)) (w : Fields) : Type 0
 abbrev pub put_message : Addressing → ℕ → List ℕ → List ℕ
 put_message addressing kind payload = tele_text (telegram addressing kind payload)
 
--- from one state of an end to another: the telegram that was put in is the last of the messages that wait or stand in units added to those
--- unconfirmed, and no other message is among them but those that waited
-pub record PutOut (kind : ℕ) (payload : List ℕ) (x y : EndState) : Type 0 where
-  pub units : List (List (List ℕ))
-  pub unconfirmed : unconfirmed y.machine ≡ unconfirmed x.machine ++ map unit_text units
-  pub messages : flat_map (λ u. u) units ++ y.session.waiting ≡ x.session.waiting ++ put_message (session_in x.session).addressing kind payload ∷ []
+-- The telegram that was put in is the last of the messages that wait or stand in units added to those unconfirmed, and no other message is
+-- among them but those that waited.
+abbrev pub PutOut : (kind : ℕ) → List ℕ → Fields → Fields → Type 0
+PutOut kind payload v w = GoesOut v (v.waiting ++ put_message v.session.addressing kind payload ∷ []) w

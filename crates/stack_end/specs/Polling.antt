@@ -7,7 +7,7 @@ use Rattle.channels.specs.declared.ChannelFault.{ChannelFault}
 use Rattle.stack_end.specs.Ends.{EndState, Deliver, Tick, call}
 use Rattle.octets.specs.declared.limits.TheConstants.{RED_PDU_MAX}
 use Rattle.stack_end.specs.Recent.{DatagramRecent, TickRecent}
-use Rattle.stack_end.specs.EndValue.{EndValue, EndDoes, EndStands, channels_of}
+use Rattle.stack_end.specs.EndValue.{EndValue, EndDoes, EndStands, channels_of, inside}
 
 -- How many octets a datagram may have that a poll takes, and how many datagrams it hands in at most, so that it ends whatever comes.
 abbrev pub buffer_size : ℕ
@@ -33,7 +33,7 @@ abbrev pub Hears : {C A T : Type 0} → (C → Told) → (T → Item → T → T
 Hears {C = C} {A = A} told takes now s d t =
     (size : ℕ) × (buffer : List ℕ) × (asked : EndValue C A)
     × (take size buffer ≡ d.1) × Asked told (Ok (Some (d.0, size))) buffer s.0 asked × EndDoes told takes (call (Deliver d.0 d.1 now)) asked s.1 t.0 t.1
-    × ((x : EndState) → EndStands told asked x → DatagramRecent takes now d.1 x s.1 t.1)
+    × DatagramRecent takes now d.1 (inside asked) s.1 t.1
 
 -- the channels were asked once more, and had this answer; who takes heard nothing of it
 abbrev pub AskedOnce : {C A T : Type 0} → (C → Told) → Result (Option (ℕ × ℕ)) ChannelFault → With C A T → With C A T → Type 0
@@ -60,4 +60,4 @@ HeardUntilFault {C = C} {A = A} {T = T} told takes most now s t =
 abbrev pub Polled : {C A T : Type 0} → (C → Told) → (T → Item → T → Type 0) → (most now : ℕ) → With C A T → With C A T → Type 0
 Polled {C = C} {A = A} {T = T} told takes most now s t =
     (left : With C A T) × HeardAll told takes most now s left × EndDoes told takes (call (Tick now)) left.0 left.1 t.0 t.1
-    × ((x : EndState) → EndStands told left.0 x → TickRecent takes now x left.1 t.1)
+    × TickRecent takes now (inside left.0) left.1 t.1

@@ -4,16 +4,15 @@ ghost use Rattle.std.specs.Prelude.{◌≡◌, ◌≤◌, ◌^◌, ℕ, ◌∷�
 ghost use Rattle.pdi_session.specs.SessionStep.{put_refusal};
 ghost use Rattle.stack_end.specs.Dialogue.{session_in};
 ghost use Rattle.stack_end.specs.Ends.{Call, Deliver, EndState, Put, call};
-ghost use Rattle.stack_end.specs.EndValue.{EndDoes, EndDoesAlone, EndStands};
-ghost use Rattle.stack_end.specs.Fields.{can_pack};
+ghost use Rattle.stack_end.specs.EndValue.{EndDoes, EndDoesAlone, EndStands, EndTurns, EndTurnsAlone, inside};
 ghost use Rattle.stack_end.specs.Outstanding.{PutOut};
 ghost use Rattle.stack_end.specs.Hearing.{HasHeard, TakesPart};
 ghost use Rattle.stack_end.specs.Recent.{DatagramRecent, TickRecent};
+ghost use Rattle.stack_end.specs.Turns.{above, arrives, can_pack, passes, puts, turn};
 
 use crate::End;
 use channels::Channels;
 use pdi_session::{PutFault, Taker};
-use safe_machine::unit_law;
 use std::alloc::Allocator;
 
 impl<C: Channels, A: Allocator> End<C, A> {
@@ -27,22 +26,19 @@ impl<C: Channels, A: Allocator> End<C, A> {
     )
         requires now { now ≤ 2 ^ 62 }
         requires later { self.old.time ≤ now }
+        ensures turns { EndTurns C.told T.takes (arrives now octets.now) self.old taker.old self.new taker.new }
         ensures does { EndDoes C.told T.takes (call (Deliver channel octets.now now))
             self.old taker.old self.new taker.new }
         // Nothing waits then, or the machine may not send.
-        ensures packs { (x : EndState) → EndStands C.told self.new x → can_pack x ≡ false }
+        ensures packs { can_pack (inside self.new).upper ≡ false }
         // What is taken is recent.
-        ensures recent { (x : EndState) → EndStands C.told self.old x
-            → DatagramRecent T.takes now octets.now x taker.old taker.new }
+        ensures recent { DatagramRecent T.takes now octets.now (inside self.old) taker.old taker.new }
         // Whatever came, and on whatever channel: the redundancy layer has heard it, unless the guard leaves.
-        ensures hears { (x y : EndState) → EndStands C.told self.old x → EndStands C.told self.new y
-            → HasHeard now octets.now x y }
+        ensures hears { HasHeard now octets.now (inside self.old) (inside self.new) }
         // What the machine hands up of a part reaches the application.
-        ensures passes { (x : EndState) → EndStands C.told self.old x
-            → TakesPart T.takes now octets.now x taker.old taker.new }
+        ensures passes { TakesPart T.takes now octets.now (inside self.old) taker.old taker.new }
         // The end is left as any other channel would leave it.
-        ensures any_channel { (x : EndState) (other : ℕ) → EndStands C.told self.old x
-            → EndStands C.told self.new (call (Deliver other octets.now now) x) }
+        ensures any_channel { (other : ℕ) → inside self.new ≡ (turn (Deliver other octets.now now) (inside self.old)).left }
         ensures time { self.new.time ≡ now }
     {
         let _channel = channel;
@@ -54,11 +50,12 @@ impl<C: Channels, A: Allocator> End<C, A> {
     pub(crate) fn let_time_pass<T: Taker>(&mut self, now: u64, taker: &mut T)
         requires now { now ≤ 2 ^ 62 }
         requires later { self.old.time ≤ now }
+        ensures turns { EndTurns C.told T.takes (passes now) self.old taker.old self.new taker.new }
         ensures does { EndDoes C.told T.takes (call (Call.Tick now)) self.old taker.old self.new taker.new }
         // Nothing waits then, or the machine may not send.
-        ensures packs { (x : EndState) → EndStands C.told self.new x → can_pack x ≡ false }
+        ensures packs { can_pack (inside self.new).upper ≡ false }
         // What is taken is recent.
-        ensures recent { (x : EndState) → EndStands C.told self.old x → TickRecent T.takes now x taker.old taker.new }
+        ensures recent { TickRecent T.takes now (inside self.old) taker.old taker.new }
         ensures time { self.new.time ≡ now }
     {
         self.layers.tick(now, taker);
@@ -69,16 +66,16 @@ impl<C: Channels, A: Allocator> End<C, A> {
     pub(crate) fn put_behind(&mut self, kind: u16, payload: &[u8], now: u64) -> Result<(), PutFault>
         requires now { now ≤ 2 ^ 62 }
         requires later { self.old.time ≤ now }
+        ensures turns { OnOk result (EndTurnsAlone C.told (above (puts kind payload.now now)) self.old self.new) }
         ensures does { OnOk result (EndDoesAlone C.told (call (Put kind payload.now now)) self.old self.new) }
         // Nothing waits then, or the machine may not send.
-        ensures packs { OnOk result ((x : EndState) → EndStands C.told self.new x → can_pack x ≡ false) }
+        ensures packs { OnOk result (can_pack (inside self.new).upper ≡ false) }
         // What was put in stands last among all that was put in.
         ensures last { OnOk result ((x : EndState) → EndStands C.told self.old x
             → (y : EndState) × EndStands C.told self.new y
             × (y.session.history.put ≡ x.session.history.put ++ (kind, payload.now) ∷ [])) }
         // It waits, or stands in an unconfirmed unit, and so does all that waited.
-        ensures kept { OnOk result ((x y : EndState) → EndStands C.told self.old x → EndStands C.told self.new y
-            → PutOut kind payload.now x y) }
+        ensures kept { OnOk result (PutOut kind payload.now (inside self.old).upper (inside self.new).upper) }
         ensures time { OnOk result (self.new.time ≡ now) }
         ensures refused { OnErr result (self.new ≡ self.old) }
         ensures answer { (x : EndState) → EndStands C.told self.old x
@@ -86,7 +83,6 @@ impl<C: Channels, A: Allocator> End<C, A> {
             (λ _. put_refusal (session_in x.session) kind payload.now (length x.session.waiting) ≡ None)
             (λ fault. put_refusal (session_in x.session) kind payload.now (length x.session.waiting) ≡ Some fault) }
     {
-        unit_law();
         self.layers.put(kind, payload, now)?;
         self.time = now;
         Ok(())

@@ -1,6 +1,7 @@
 //! One end of a connection, as an application opens it.
 
-ghost use Rattle.std.specs.Prelude.{◌≡◌, ◌≤◌, ◌^◌, ◌↔◌, ℕ, ◌∷◌, ◌++◌, [], List, true, false, length, Option, option_map, Some, None, Ok, Err, IfOk, IfSome, OnOk, OnErr, IfErr, IsErrAnd, MatchResult, if◌then◌else◌};
+ghost use Rattle.std.specs.Prelude.{◌≡◌, ◌≤◌, ◌^◌, ◌↔◌, ℕ, ◌∷◌, ◌++◌, [], List, true, false, length, Option, option_map, Some, None, Ok, Err, IfOk, IfSome};
+ghost use Rattle.std.specs.Prelude.{OnOk, OnErr, IfErr, IsErrAnd, MatchResult, if◌then◌else◌};
 ghost use Rattle.std.specs.List.{FoldsTo};
 ghost use Rattle.std.specs.Borrow.{sem};
 ghost use Rattle.channels.specs.Told.{SendsOne};
@@ -10,8 +11,8 @@ ghost use Rattle.pdi_session.specs.SessionStep.{init_refusal, put_refusal};
 ghost use Rattle.stack_end.specs.Dialogue.{phase_in, session_in};
 ghost use Rattle.stack_end.specs.Ends.{Call, Close, Deliver, EndState, InitDone, Put, call, is_settled, is_shut, opened_end};
 ghost use Rattle.stack_end.specs.Datagrams.{sent_at_opening};
-ghost use Rattle.stack_end.specs.EndValue.{EndAsks, EndDoes, EndDoesAlone, EndStands, channels_of};
-ghost use Rattle.stack_end.specs.Fields.{can_pack};
+ghost use Rattle.stack_end.specs.EndValue.{EndAsks, EndDoes, EndDoesAlone, EndStands, EndTurns, EndTurnsAlone, channels_of, inside};
+ghost use Rattle.stack_end.specs.Turns.{above, arrives, can_pack, closes, completes, passes, puts, turn};
 ghost use Rattle.stack_end.specs.Outstanding.{PutOut};
 ghost use Rattle.stack_end.specs.Hearing.{HasHeard, TakesPart};
 ghost use Rattle.stack_end.specs.Recent.{DatagramRecent, TickRecent};
@@ -26,7 +27,7 @@ use crate::{OpenFault, POLL_BUFFER, POLL_DATAGRAMS, PollFault, opening};
 use channels::{ChannelFault, Channels};
 use end_settings::{EndConfig, Side};
 use pdi_session::{InitFault, Phase, PutFault, Taker};
-use safe_machine::ConnectionState;
+use safe_machine::{ConnectionState, unit_law};
 use std::alloc::{Allocator, Global};
 use std::cmp::min;
 use std::marker::Model;
@@ -71,10 +72,15 @@ impl<C: Channels, A: Allocator + Copy> End<C, A> {
         first_sn: u32,
         now: u64,
     ) -> Result<Self, (OpenFault, C)>
+        // `open` answers BadConfig exactly where the settings are not fit for the side.
         ensures bad_config { IsErrAnd result (λ e. e.0 ≡ BadConfig)
             ↔ (are_fit (side_of side) (settings_of config) ≡ false) }
+        // Where `open` is refused it hands its channels back as they were.
         ensures back { IfErr result (λ e. e.1 ≡ channels) }
+        // An opened end stands for the new end of its settings, side, first sequence number and time.
         ensures stands { IfOk result (λ end. EndStands C.told end (opened_end side config first_sn now)) }
+        // Each PDU made at the opening is sent under its index on every channel in order, or the sending is
+        // counted as failed.
         ensures sent { IfOk result (λ end. FoldsTo SendsOne (C.told channels)
             (sent_at_opening (opened_end side config first_sn now)) (C.told (channels_of end))) }
     {
@@ -93,22 +99,30 @@ impl<C: Channels, A: Allocator> End<C, A> {
     pub fn arrive<T: Taker>(&mut self, channel: usize, octets: &[u8], now: u64, taker: &mut T)
         requires now { now ≤ 2 ^ 62 }
         requires later { self.old.time ≤ now }
+        // An arrival is the turn `arrives`: it leaves what that leaves, sends what that sends, each datagram on
+        // every channel in order, and the application takes what that takes.
+        ensures turns { EndTurns C.told T.takes (arrives now octets.now) self.old taker.old self.new taker.new }
+        // From every state that an end stands for, a call leads to the state after its step (docs/END.md), on
+        // any octets and times (`EndWent`, `EndWentAlone` (stands)). Each PDU that a call makes is sent under
+        // its index on every channel in order, or the sending is counted as failed (`Sent`). What the
+        // application takes in an arrival or a tick is handed to the taker in order (`Took`).
         ensures does { EndDoes C.told T.takes (call (Deliver channel octets.now now))
             self.old taker.old self.new taker.new }
-        // Nothing waits then, or the machine may not send.
-        ensures packs { (x : EndState) → EndStands C.told self.new x → can_pack x ≡ false }
-        // What is taken is recent.
-        ensures recent { (x : EndState) → EndStands C.told self.old x
-            → DatagramRecent T.takes now octets.now x taker.old taker.new }
-        // Whatever came, and on whatever channel: the redundancy layer has heard it, unless the guard leaves.
-        ensures hears { (x y : EndState) → EndStands C.told self.old x → EndStands C.told self.new y
-            → HasHeard now octets.now x y }
-        // What the machine hands up of a part reaches the application.
-        ensures passes { (x : EndState) → EndStands C.told self.old x
-            → TakesPart T.takes now octets.now x taker.old taker.new }
-        // The end is left as any other channel would leave it.
-        ensures any_channel { (x : EndState) (other : ℕ) → EndStands C.told self.old x
-            → EndStands C.told self.new (call (Deliver other octets.now now) x) }
+        // After an arrival, a tick, a poll that is not refused, an accepted put or end of the initialisation no
+        // message waits, or the machine may not send.
+        ensures packs { can_pack (inside self.new).upper ≡ false }
+        // Parts of an arrival or a tick go up one by one; at each the application takes what the session takes
+        // there, and it is as before or the end reads the part's confirmed timestamp as less than T_max old.
+        ensures recent { DatagramRecent T.takes now octets.now (inside self.old) taker.old taker.new }
+        // Where an end is not closed and its guard does not leave, its redundancy layer has heard what arrived,
+        // on whatever channel it came.
+        ensures hears { HasHeard now octets.now (inside self.old) (inside self.new) }
+        // Where an arrival lets one part up, the application takes what the session takes of the units that the
+        // machine hands up of it.
+        ensures passes { TakesPart T.takes now octets.now (inside self.old) taker.old taker.new }
+        // An arrival leaves the end as it would on any other channel.
+        ensures any_channel { (other : ℕ) → inside self.new ≡ (turn (Deliver other octets.now now) (inside self.old)).left }
+        // The time of an end is that of its last accepted call.
         ensures time { self.new.time ≡ now }
     {
         self.take_datagram(channel, octets, now, taker);
@@ -118,11 +132,21 @@ impl<C: Channels, A: Allocator> End<C, A> {
     pub fn tick<T: Taker>(&mut self, now: u64, taker: &mut T)
         requires now { now ≤ 2 ^ 62 }
         requires later { self.old.time ≤ now }
+        // A tick is the turn `passes`: it leaves what that leaves, sends what that sends, and the application
+        // takes what that takes.
+        ensures turns { EndTurns C.told T.takes (passes now) self.old taker.old self.new taker.new }
+        // From every state that an end stands for, a call leads to the state after its step (docs/END.md), on
+        // any octets and times (`EndWent`, `EndWentAlone` (stands)). Each PDU that a call makes is sent under
+        // its index on every channel in order, or the sending is counted as failed (`Sent`). What the
+        // application takes in an arrival or a tick is handed to the taker in order (`Took`).
         ensures does { EndDoes C.told T.takes (call (Call.Tick now)) self.old taker.old self.new taker.new }
-        // Nothing waits then, or the machine may not send.
-        ensures packs { (x : EndState) → EndStands C.told self.new x → can_pack x ≡ false }
-        // What is taken is recent.
-        ensures recent { (x : EndState) → EndStands C.told self.old x → TickRecent T.takes now x taker.old taker.new }
+        // After an arrival, a tick, a poll that is not refused, an accepted put or end of the initialisation no
+        // message waits, or the machine may not send.
+        ensures packs { can_pack (inside self.new).upper ≡ false }
+        // Parts of an arrival or a tick go up one by one; at each the application takes what the session takes
+        // there, and it is as before or the end reads the part's confirmed timestamp as less than T_max old.
+        ensures recent { TickRecent T.takes now (inside self.old) taker.old taker.new }
+        // The time of an end is that of its last accepted call.
         ensures time { self.new.time ≡ now }
     {
         self.let_time_pass(now, taker);
@@ -136,18 +160,29 @@ impl<C: Channels, A: Allocator> End<C, A> {
     pub fn put(&mut self, kind: u16, payload: &[u8], now: u64) -> Result<(), PutFault>
         requires now { now ≤ 2 ^ 62 }
         requires later { self.old.time ≤ now }
+        // An accepted put is the turn `puts`: it leaves what that leaves and sends what that sends, and the
+        // application takes nothing.
+        ensures turns { OnOk result (EndTurnsAlone C.told (above (puts kind payload.now now)) self.old self.new) }
+        // From every state that an end stands for, a call leads to the state after its step (docs/END.md), on
+        // any octets and times (`EndWent`, `EndWentAlone` (stands)). Each PDU that a call makes is sent under
+        // its index on every channel in order, or the sending is counted as failed (`Sent`). In a put, an end
+        // of the initialisation and a closing the application takes nothing (`EndWentAlone` (took_none)).
         ensures does { OnOk result (EndDoesAlone C.told (call (Put kind payload.now now)) self.old self.new) }
-        // Nothing waits then, or the machine may not send.
-        ensures packs { OnOk result ((x : EndState) → EndStands C.told self.new x → can_pack x ≡ false) }
-        // What was put in stands last among all that was put in.
+        // After an arrival, a tick, a poll that is not refused, an accepted put or end of the initialisation no
+        // message waits, or the machine may not send.
+        ensures packs { OnOk result (can_pack (inside self.new).upper ≡ false) }
+        // An accepted telegram stands last among what was put in.
         ensures last { OnOk result ((x : EndState) → EndStands C.told self.old x
             → (y : EndState) × EndStands C.told self.new y
             × (y.session.history.put ≡ x.session.history.put ++ (kind, payload.now) ∷ [])) }
-        // It waits, or stands in an unconfirmed unit, and so does all that waited.
-        ensures kept { OnOk result ((x y : EndState) → EndStands C.told self.old x → EndStands C.told self.new y
-            → PutOut kind payload.now x y) }
+        // Behind an accepted put, what waited and then its telegram stand in units added to the unconfirmed
+        // ones, or wait, in order.
+        ensures kept { OnOk result (PutOut kind payload.now (inside self.old).upper (inside self.new).upper) }
+        // The time of an end is that of its last accepted call.
         ensures time { OnOk result (self.new.time ≡ now) }
+        // A refused put or end of the initialisation changes nothing.
         ensures refused { OnErr result (self.new ≡ self.old) }
+        // A put is accepted exactly where the session does not refuse it, and else its refusal is named.
         ensures answer { (x : EndState) → EndStands C.told self.old x
             → MatchResult result
             (λ _. put_refusal (session_in x.session) kind payload.now (length x.session.waiting) ≡ None)
@@ -164,11 +199,23 @@ impl<C: Channels, A: Allocator> End<C, A> {
     pub fn init_done(&mut self, now: u64) -> Result<(), InitFault>
         requires now { now ≤ 2 ^ 62 }
         requires later { self.old.time ≤ now }
+        // An accepted end of the initialisation is the turn `completes`: it leaves what that leaves and sends
+        // what that sends, and the application takes nothing.
+        ensures turns { OnOk result (EndTurnsAlone C.told (above (completes now)) self.old self.new) }
+        // From every state that an end stands for, a call leads to the state after its step (docs/END.md), on
+        // any octets and times (`EndWent`, `EndWentAlone` (stands)). Each PDU that a call makes is sent under
+        // its index on every channel in order, or the sending is counted as failed (`Sent`). In a put, an end
+        // of the initialisation and a closing the application takes nothing (`EndWentAlone` (took_none)).
         ensures does { OnOk result (EndDoesAlone C.told (call (InitDone now)) self.old self.new) }
-        // Nothing waits then, or the machine may not send.
-        ensures packs { OnOk result ((x : EndState) → EndStands C.told self.new x → can_pack x ≡ false) }
+        // After an arrival, a tick, a poll that is not refused, an accepted put or end of the initialisation no
+        // message waits, or the machine may not send.
+        ensures packs { OnOk result (can_pack (inside self.new).upper ≡ false) }
+        // The time of an end is that of its last accepted call.
         ensures time { OnOk result (self.new.time ≡ now) }
+        // A refused put or end of the initialisation changes nothing.
         ensures refused { OnErr result (self.new ≡ self.old) }
+        // An end of the initialisation is accepted exactly where the session does not refuse it, and else its
+        // refusal is named.
         ensures answer { (x : EndState) → EndStands C.told self.old x
             → MatchResult result (λ _. init_refusal (session_in x.session) (length x.session.waiting) ≡ None)
             (λ fault. init_refusal (session_in x.session) (length x.session.waiting) ≡ Some fault) }
@@ -182,7 +229,15 @@ impl<C: Channels, A: Allocator> End<C, A> {
     pub fn close(&mut self, now: u64)
         requires now { now ≤ 2 ^ 62 }
         requires later { self.old.time ≤ now }
+        // A closing is the turn `closes`: it leaves what that leaves and sends what that sends, and the
+        // application takes nothing.
+        ensures turns { EndTurnsAlone C.told (above (closes now)) self.old self.new }
+        // From every state that an end stands for, a call leads to the state after its step (docs/END.md), on
+        // any octets and times (`EndWent`, `EndWentAlone` (stands)). Each PDU that a call makes is sent under
+        // its index on every channel in order, or the sending is counted as failed (`Sent`). In a put, an end
+        // of the initialisation and a closing the application takes nothing (`EndWentAlone` (took_none)).
         ensures does { EndDoesAlone C.told (call (Close now)) self.old self.new }
+        // The time of an end is that of its last accepted call.
         ensures time { self.new.time ≡ now }
     {
         self.layers.close(now);
@@ -198,12 +253,22 @@ impl<C: Channels, A: Allocator> End<C, A> {
     pub fn poll<T: Taker>(&mut self, now: u64, taker: &mut T) -> Result<(), PollFault>
         requires now { now ≤ 2 ^ 62 }
         requires later { self.old.time ≤ now }
+        // A poll that is not refused is `arrive` of what the channels answered, in order, each before the next
+        // is asked for, and then `tick` (`Polled`). It hands in at most 64 datagrams, and fewer only where
+        // nothing more had come (`HeardAll`). What is taken at each is recent, as at an arrival (`Hears`,
+        // `Polled`). It asks its channels with room for 2,048 octets, no fewer than the longest datagram has
+        // (`Asked`).
         ensures done { OnOk result
             (Polled C.told T.takes most_datagrams now (self.old, taker.old) (self.new, taker.new)) }
+        // A refused poll has handed in fewer than 64 datagrams, in order, until a reception failed, and makes
+        // no tick. What is taken at each is recent, as at an arrival (`Hears`). It asks its channels with room
+        // for 2,048 octets, no fewer than the longest datagram has (`Asked`).
         ensures failed { OnErr result
             (HeardUntilFault C.told T.takes most_datagrams now (self.old, taker.old) (self.new, taker.new)) }
-        // Nothing waits then, or the machine may not send.
-        ensures packs { OnOk result ((x : EndState) → EndStands C.told self.new x → can_pack x ≡ false) }
+        // After an arrival, a tick, a poll that is not refused, an accepted put or end of the initialisation no
+        // message waits, or the machine may not send.
+        ensures packs { OnOk result (can_pack (inside self.new).upper ≡ false) }
+        // No poll leaves an end with a later time than that of the poll.
         ensures time { self.new.time ≤ now }
     {
         let mut buffer = [0; POLL_BUFFER];
@@ -279,14 +344,18 @@ impl<C: Channels, A: Allocator> End<C, A> {
     /// The earliest time at which `tick` does something, if nothing arrives and nothing is put in: a deadline of the safety machine (T_max,
     /// T_h, the limit of PDUs) or of the redundancy layer (T_seq). It may be past; `None` where no time does, as in a closed end.
     pub fn next_deadline(&self) -> Option<u64>
-        // Before it a tick leaves the end as it is, but for its time, and sends nothing.
+        // Before `next_deadline` a tick leaves machine and redundancy layer of an end that is not closed as
+        // they are, and nothing goes up.
         ensures before { (x : EndState) → EndStands C.told self.now x → is_shut x ≡ false → (now : ℕ)
             → IsBefore now result → IsQuiet now x }
-        // From it on it does not.
+        // From `next_deadline` on, up to 2^62 ms, a tick changes the machine, or the deferral deadline has
+        // fallen.
         ensures after { (x : EndState) → EndStands C.told self.now x → (now : ℕ) → now ≤ 2 ^ 62 → IsReachedAt now result
             → HasFallen now x }
+        // A closed end has no deadline.
         ensures closed { (x : EndState) → EndStands C.told self.now x → is_shut x ≡ true → result ≡ None }
     {
+        unit_law();
         match self.layers.upper.machine.state() {
             ConnectionState::Closed => None,
             _ => earliest(
@@ -298,7 +367,10 @@ impl<C: Channels, A: Allocator> End<C, A> {
 
     /// The channels, to be looked at or changed by their owner.
     pub fn channels(&mut self) -> &mut C
+        // Behind a loan of its channels an end has them as their owner left them, and nothing else of it
+        // changed.
         ensures* writes_back { sem 𝓛 (lends_channels C.row A.row A.Allocator self.entry result) }
+        // The channels that `channels` lends are those of the end.
         ensures now { result.now ≡ channels_of self.old }
     {
         let layers = &mut self.layers;
@@ -308,6 +380,7 @@ impl<C: Channels, A: Allocator> End<C, A> {
 
     /// The channels, to be looked at.
     pub fn channels_seen(&self) -> &C
+        // `channels_seen` shows the channels of the end.
         ensures { result.now ≡ channels_of self.now }
     {
         &self.layers.upper.channels
@@ -315,10 +388,13 @@ impl<C: Channels, A: Allocator> End<C, A> {
 
     /// The state of the connection.
     pub fn state(&self) -> ConnectionState
+        // `state` answers the state of the connection.
         ensures state { EndAsks C.told (λ x. x.machine.connection) self.now result }
-        // No more messages, units and parts are kept than there is room for.
+        // At most 64 messages wait, no more units are unconfirmed than the peer's window has, nor than 32, and
+        // at most q parts are deferred.
         ensures bounded { (x : EndState) → EndStands C.told self.now x → IsBounded x }
     {
+        unit_law();
         let _confirmed = self.layers.upper.machine.unconfirmed();
         let _wait = self.layers.red.deadline();
         self.layers.upper.machine.state()
@@ -326,6 +402,7 @@ impl<C: Channels, A: Allocator> End<C, A> {
 
     /// The phase of the session.
     pub fn phase(&self) -> Phase
+        // `phase` answers the phase of the session.
         ensures { EndAsks C.told (λ x. phase_in x.session) self.now result }
     {
         self.layers.upper.session.phase()
@@ -333,8 +410,10 @@ impl<C: Channels, A: Allocator> End<C, A> {
 
     /// Whether all that was put in is done with: the end is not closed, no message waits, and no unit is unconfirmed.
     pub fn settled(&self) -> bool
+        // `settled` tells exactly whether the end is not closed, no message waits and no unit is unconfirmed.
         ensures { EndAsks C.told is_settled self.now result }
     {
+        unit_law();
         self.layers.upper.machine.state() != ConnectionState::Closed
             && self.layers.upper.waiting.len() == 0
             && self.layers.upper.machine.unconfirmed() == 0
@@ -342,6 +421,7 @@ impl<C: Channels, A: Allocator> End<C, A> {
 
     /// The octets of the ConnReq that a field element took, with which it joined a connection.
     pub fn request(&self) -> Option<&[u8]>
+        // `request` answers the octets of the ConnReq that the end took, where it took one.
         ensures { (x : EndState) → EndStands C.told self.now x → option_map (λ octets. octets.now) result ≡ x.request }
     {
         match &self.layers.upper.request {

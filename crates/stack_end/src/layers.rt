@@ -1,13 +1,11 @@
 //! The layers of an end together: what comes goes up through them, and what waits goes out.
 
-ghost use Rattle.std.specs.Prelude.{◌≡◌, ℕ, ◌∷◌, ◌++◌, [], false, ◌≤◌, ◌^◌, length, Some, None, MatchResult, OnOk, OnErr};
+ghost use Rattle.std.specs.Prelude.{◌≡◌, ◌≤◌, ◌^◌, length, Some, None, MatchResult, OnOk, OnErr};
 ghost use Rattle.pdi_session.specs.SessionStep.{init_refusal, put_refusal};
 ghost use Rattle.red_layer.specs.Redundancy.{Datagram, Tick as RedTick};
-ghost use Rattle.stack_end.specs.Ends.{Call, Close, Deliver, EndState, InitDone, Put, did, goes_on};
-ghost use Rattle.stack_end.specs.Fields.{BothAlone, BothDo, BothStand, Stands, can_pack, fields_of};
-ghost use Rattle.stack_end.specs.Recent.{DatagramRecent, InputRecent, TickRecent};
+ghost use Rattle.stack_end.specs.Fields.{BothDo, BothDoAlone};
 ghost use Rattle.stack_end.specs.Kept.{IsKept};
-ghost use Rattle.stack_end.specs.Outstanding.{GoesOut, put_message};
+ghost use Rattle.stack_end.specs.Turns.{above, arrives, closes, completes, goes_on, passes, puts};
 
 use crate::telling::tell_change;
 use crate::upper::Upper;
@@ -32,12 +30,7 @@ impl<C: Channels, A: Allocator> Layers<C, A> {
         requires now { now ≤ 2 ^ 62 }
         requires kept { IsKept self.old }
         // The channel plays no part.
-        ensures does { BothDo T.takes (did (Deliver 0 octets.now now))
-            self.old.red (fields_of C.told self.old.upper) taker.old
-            self.new.red (fields_of C.told self.new.upper) taker.new }
-        ensures packs { (x : EndState) → Stands (fields_of C.told self.new.upper) x → can_pack x ≡ false }
-        ensures recent { (x : EndState) → BothStand self.old.red (fields_of C.told self.old.upper) x
-            → DatagramRecent T.takes now octets.now x taker.old taker.new }
+        ensures does { BothDo C.told T.takes (arrives now octets.now) self.old taker.old self.new taker.new }
         ensures kept { IsKept self.new }
     {
         match self.upper.machine.state() {
@@ -56,12 +49,7 @@ impl<C: Channels, A: Allocator> Layers<C, A> {
     fn deliver<T: Taker>(&mut self, octets: &[u8], now: u64, taker: &mut T)
         requires now { now ≤ 2 ^ 62 }
         requires kept { IsKept self.old }
-        ensures does { BothDo T.takes (goes_on now (Datagram octets.now now))
-            self.old.red (fields_of C.told self.old.upper) taker.old
-            self.new.red (fields_of C.told self.new.upper) taker.new }
-        ensures packs { (x : EndState) → Stands (fields_of C.told self.new.upper) x → can_pack x ≡ false }
-        ensures recent { (x : EndState) → BothStand self.old.red (fields_of C.told self.old.upper) x
-            → InputRecent T.takes now (Datagram octets.now now) x taker.old taker.new }
+        ensures does { BothDo C.told T.takes (goes_on now (Datagram octets.now now)) self.old taker.old self.new taker.new }
         ensures kept { IsKept self.new }
     {
         match self.upper.machine.state() {
@@ -77,12 +65,7 @@ impl<C: Channels, A: Allocator> Layers<C, A> {
     pub(crate) fn tick<T: Taker>(&mut self, now: u64, taker: &mut T)
         requires now { now ≤ 2 ^ 62 }
         requires kept { IsKept self.old }
-        ensures does { BothDo T.takes (did (Call.Tick now))
-            self.old.red (fields_of C.told self.old.upper) taker.old
-            self.new.red (fields_of C.told self.new.upper) taker.new }
-        ensures packs { (x : EndState) → Stands (fields_of C.told self.new.upper) x → can_pack x ≡ false }
-        ensures recent { (x : EndState) → BothStand self.old.red (fields_of C.told self.old.upper) x
-            → TickRecent T.takes now x taker.old taker.new }
+        ensures does { BothDo C.told T.takes (passes now) self.old taker.old self.new taker.new }
         ensures kept { IsKept self.new }
     {
         match self.upper.machine.state() {
@@ -101,12 +84,7 @@ impl<C: Channels, A: Allocator> Layers<C, A> {
     fn wait<T: Taker>(&mut self, now: u64, taker: &mut T)
         requires now { now ≤ 2 ^ 62 }
         requires kept { IsKept self.old }
-        ensures does { BothDo T.takes (goes_on now (RedTick now))
-            self.old.red (fields_of C.told self.old.upper) taker.old
-            self.new.red (fields_of C.told self.new.upper) taker.new }
-        ensures packs { (x : EndState) → Stands (fields_of C.told self.new.upper) x → can_pack x ≡ false }
-        ensures recent { (x : EndState) → BothStand self.old.red (fields_of C.told self.old.upper) x
-            → InputRecent T.takes now (RedTick now) x taker.old taker.new }
+        ensures does { BothDo C.told T.takes (goes_on now (RedTick now)) self.old taker.old self.new taker.new }
         ensures kept { IsKept self.new }
     {
         match self.upper.machine.state() {
@@ -121,17 +99,12 @@ impl<C: Channels, A: Allocator> Layers<C, A> {
     /// Puts in a command or status, which is sent where the machine may send.
     pub(crate) fn put(&mut self, kind: u16, payload: &[u8], now: u64) -> Result<(), PutFault>
         requires kept { IsKept self.old }
-        ensures does { OnOk result (BothAlone (did (Put kind payload.now now))
-            self.old.red (fields_of C.told self.old.upper) self.new.red (fields_of C.told self.new.upper)) }
+        ensures does { OnOk result (BothDoAlone C.told (above (puts kind payload.now now)) self.old self.new) }
         ensures refused { OnErr result (self.new ≡ self.old) }
         ensures answer { MatchResult result
             (λ _. put_refusal self.old.upper.session kind payload.now (length self.old.upper.waiting) ≡ None)
             (λ fault. put_refusal self.old.upper.session kind payload.now (length self.old.upper.waiting)
             ≡ Some fault) }
-        ensures packs { OnOk result ((x : EndState) → Stands (fields_of C.told self.new.upper) x → can_pack x ≡ false) }
-        ensures goes_out { OnOk result (GoesOut (fields_of C.told self.old.upper)
-            (self.old.upper.waiting ++ put_message self.old.upper.session.addressing kind payload.now ∷ [])
-            (fields_of C.told self.new.upper)) }
         ensures kept { IsKept self.new }
     {
         self.upper.put(kind, payload, now)
@@ -140,13 +113,11 @@ impl<C: Channels, A: Allocator> Layers<C, A> {
     /// The end of the initialisation is sent behind the status put in.
     pub(crate) fn init_done(&mut self, now: u64) -> Result<(), InitFault>
         requires kept { IsKept self.old }
-        ensures does { OnOk result (BothAlone (did (InitDone now))
-            self.old.red (fields_of C.told self.old.upper) self.new.red (fields_of C.told self.new.upper)) }
+        ensures does { OnOk result (BothDoAlone C.told (above (completes now)) self.old self.new) }
         ensures refused { OnErr result (self.new ≡ self.old) }
         ensures answer { MatchResult result
             (λ _. init_refusal self.old.upper.session (length self.old.upper.waiting) ≡ None)
             (λ fault. init_refusal self.old.upper.session (length self.old.upper.waiting) ≡ Some fault) }
-        ensures packs { OnOk result ((x : EndState) → Stands (fields_of C.told self.new.upper) x → can_pack x ≡ false) }
         ensures kept { IsKept self.new }
     {
         self.upper.init_done(now)
@@ -155,8 +126,7 @@ impl<C: Channels, A: Allocator> Layers<C, A> {
     /// The user closes the connection.
     pub(crate) fn close(&mut self, now: u64)
         requires kept { IsKept self.old }
-        ensures does { BothAlone (did (Close now))
-            self.old.red (fields_of C.told self.old.upper) self.new.red (fields_of C.told self.new.upper) }
+        ensures does { BothDoAlone C.told (above (closes now)) self.old self.new }
         ensures kept { IsKept self.new }
     {
         let seen = self.upper.seen();

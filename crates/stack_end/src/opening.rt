@@ -2,6 +2,7 @@
 
 ghost use Rattle.std.specs.Prelude.{◌≡◌, ◌≤◌, ◌↔◌, ◌%◌, ◌^◌, false, true, length, IfOk, IfErr, IsErrAnd, OnOk, OnErr};
 ghost use Rattle.octets.specs.declared.limits.TheConstants.{CHANNELS_MAX, WINDOW_MAX};
+ghost use Rattle.safe_machine.specs.Turned.{HasMade};
 ghost use Rattle.safe_machine.specs.View.{StandsFor};
 ghost use Rattle.std.specs.List.{FoldsTo};
 ghost use Rattle.channels.specs.Told.{SendsOne};
@@ -12,7 +13,7 @@ ghost use Rattle.pdi_session.specs.Settings.{AreVersions, Field, Interlocking, a
 ghost use Rattle.pdi_session.specs.SessionStep.{opened as session_opened};
 ghost use Rattle.stack_end.specs.Datagrams.{sent_at_opening};
 ghost use Rattle.stack_end.specs.Ends.{opened_end};
-ghost use Rattle.stack_end.specs.Fields.{BothStand, fields_of};
+ghost use Rattle.stack_end.specs.Fields.{BothStand, inside_of};
 ghost use Rattle.stack_end.specs.Kept.{IsKept};
 ghost use Rattle.stack_end.specs.declared.OpenFault.TheVariants.{BadConfig};
 
@@ -43,8 +44,7 @@ pub(crate) fn open<C: Channels, A: Allocator + Copy>(
     ensures bad_config { IsErrAnd result (λ e. e.0 ≡ BadConfig)
         ↔ (are_fit (side_of side) (settings_of config) ≡ false) }
     ensures back { IfErr result (λ e. e.1 ≡ channels) }
-    ensures stands { IfOk result (λ layers. BothStand layers.red (fields_of C.told layers.upper)
-        (opened_end side config first_sn now)) }
+    ensures stands { IfOk result (λ layers. BothStand (inside_of layers) (opened_end side config first_sn now)) }
     ensures sent { IfOk result (λ layers. FoldsTo SendsOne (C.told channels)
         (sent_at_opening (opened_end side config first_sn now)) (C.told layers.upper.channels)) }
     ensures kept { IfOk result (λ layers. IsKept layers) }
@@ -105,6 +105,7 @@ fn open_machine<C: Channels, A: Allocator>(
     requires window { config.now.n_sendmax ≤ WINDOW_MAX }
     requires first { numbers.old ≡ 0 }
     ensures stands { IfOk result (λ machine. StandsFor machine (opened_end side config.now first_sn now).machine) }
+    ensures has_made { IfOk result (λ machine. HasMade machine) }
     ensures near { IfOk result (λ machine. machine.expected ≡ 0) }
     ensures sent { OnOk result (FoldsTo SendsOne (C.told channels.old)
         (sent_at_opening (opened_end side config.now first_sn now)) (C.told channels.new)) }

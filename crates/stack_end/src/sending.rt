@@ -1,15 +1,19 @@
 //! The PDUs that go out: each gets its number, and is sent on every channel.
 
-ghost use Rattle.std.specs.Prelude.{◌≡◌, ◌+◌, ◌%◌, ◌^◌};
+ghost use Rattle.std.specs.Prelude.{◌≡◌, ◌+◌, ◌≤◌, ◌%◌, ◌^◌, length};
+ghost use Rattle.octets.specs.declared.limits.TheConstants.{SAFE_PDU_MAX};
 ghost use Rattle.std.specs.List.{FoldsTo};
 ghost use Rattle.red_pdu.specs.RedText.{red_text};
 ghost use Rattle.channels.specs.Told.{SendsOne};
 ghost use Rattle.stack_end.specs.Datagrams.{on_channels};
 
 use channels::Channels;
-use octets::limits::RED_PDU_MAX;
+use octets::limits::{RED_HEADER, RED_PDU_MAX};
 use red_layer::Numbers;
 use safe_machine::PduOut;
+
+/// A datagram of so many octets is short: its buffer costs less than a longest one's, which is cleared each time.
+const SHORT_DATAGRAM: usize = 136;
 
 /// Gives the PDUs that a machine makes their numbers, and sends each on every channel.
 #[derive(Drop)]
@@ -31,10 +35,25 @@ impl<'a, 'b, C: Channels> PduOut for ToChannels<'a, 'b, C> {
         (C.told t.channels.now) };
 
     fn made(&mut self, pdu: &[u8]) {
-        let mut buffer = [0; RED_PDU_MAX];
-        let size = red_pdu::encode(self.numbers.next(), pdu, &mut buffer);
-        send_on_all(self.channels, self.count, &buffer[..size]);
+        let number = self.numbers.next();
+        if RED_HEADER + pdu.len() <= SHORT_DATAGRAM {
+            let mut buffer = [0; SHORT_DATAGRAM];
+            send_by(self.channels, self.count, number, pdu, &mut buffer);
+        } else {
+            let mut buffer = [0; RED_PDU_MAX];
+            send_by(self.channels, self.count, number, pdu, &mut buffer);
+        }
     }
+}
+
+/// Writes a redundancy PDU into a buffer, and sends it on every channel.
+fn send_by<C: Channels>(channels: &mut C, count: usize, number: u32, pdu: &[u8], buffer: &mut [u8])
+    requires fits { length pdu.now ≤ SAFE_PDU_MAX }
+    requires room { RED_HEADER + length pdu.now ≤ length buffer.old }
+    ensures { FoldsTo SendsOne (C.told channels.old) (on_channels count (red_text number pdu.now)) (C.told channels.new) }
+{
+    let size = red_pdu::encode(number, pdu, buffer);
+    send_on_all(channels, count, &buffer[..size]);
 }
 
 /// Sends a datagram on every channel in order. A channel that does not take it has lost it.

@@ -30,6 +30,9 @@ pub(crate) fn tell_opened<C: Channels>(channels: &mut C, state: ConnectionState)
 pub(crate) fn tell_event<C: Channels>(channels: &mut C, octets: &[u8], event: RedEvent)
     ensures { C.told channels.new ≡ C.told channels.old }
 {
+    if !channels.hears_notes() {
+        return;
+    }
     let number = match red_pdu::decode(octets) {
         Ok(pdu) => Some(pdu.seq),
         Err(_) => None,
@@ -51,6 +54,9 @@ pub(crate) fn tell_step<C: Channels>(
 )
     ensures { C.told channels.new ≡ C.told channels.old }
 {
+    if !channels.hears_notes() {
+        return;
+    }
     channels.note(&Note::Step(number, step));
     let phases = phases.as_slice();
     if phases.is_empty() {
@@ -89,6 +95,9 @@ fn tell_take<C: Channels>(channels: &mut C, message: &[u8])
 pub(crate) fn tell_change<C: Channels>(channels: &mut C, before: Seen, after: Seen)
     ensures { C.told channels.new ≡ C.told channels.old }
 {
+    if !channels.hears_notes() {
+        return;
+    }
     if after.state != before.state {
         channels.note(&Note::State(after.state));
     }

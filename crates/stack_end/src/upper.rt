@@ -1,19 +1,13 @@
 //! All of an end but its redundancy layer.
 
-ghost use Rattle.std.specs.Prelude.{◌≡◌, ◌⊎◌, ◌∷◌, ◌++◌, [], ◌+◌, ◌*◌, ◌<◌, ◌≤◌, ◌^◌, ℕ, length, true, false, if◌then◌else◌, OnOk, OnErr, MatchResult, Some, None};
+ghost use Rattle.std.specs.Prelude.{◌≡◌, ◌+◌, ◌*◌, ◌<◌, ◌≤◌, ◌^◌, length, if◌then◌else◌, OnOk, OnErr, MatchResult, Some, None};
 ghost use Rattle.octets.specs.declared.limits.TheConstants.{SAFE_PDU_MAX, UNIT_MESSAGES};
-ghost use Rattle.safe_machine.specs.Moves.Move.{Guards, Leaves, Ticks};
-ghost use Rattle.safe_machine.specs.declared.Reason.TheVariants.{ClosedByUser};
-ghost use Rattle.safe_machine.specs.declared.Detail.TheVariants.{Unspecified};
 ghost use Rattle.pdi_session.specs.SessionStep.{FewWait, init_refusal, put_refusal};
 ghost use Rattle.safe_machine.specs.Properties.{index_step};
-ghost use Rattle.red_layer.specs.Redundancy.{Datagram, Tick as RedTick, passed_by};
-ghost use Rattle.stack_end.specs.Recent.{RecentAt, TakesRecent};
-ghost use Rattle.channels.specs.Told.{SendsOne};
-ghost use Rattle.stack_end.specs.Dialogue.{Leaving};
-ghost use Rattle.stack_end.specs.Outstanding.{GoesOut, put_message};
-ghost use Rattle.stack_end.specs.Ends.{EndState, InitDone, Put, did, leaves, moved, part, receives, sends, settle, with_input};
-ghost use Rattle.stack_end.specs.Fields.{Asks, BothDo, BothStand, Stands, Does, DoesAlone, can_pack, fields_of, heard_alone, leaving_at, noted_from, packed_once, rises_from};
+ghost use Rattle.red_layer.specs.Redundancy.{Datagram, Tick as RedTick, after, passed_by};
+ghost use Rattle.stack_end.specs.Fields.{Does, DoesAlone, Keeps, fields_of};
+ghost use Rattle.stack_end.specs.Turns.{can_pack, closes, completes, goes_up, guards, hears, judged_at, leaves, notes, packs_once, part, parts, puts, sends};
+ghost use Rattle.stack_end.specs.Turns.{settles, ticks};
 
 use crate::judging::{Phases, ToSession};
 use crate::sending::ToChannels;
@@ -25,7 +19,7 @@ use octets::limits::{SAFE_PDU_MAX, UNIT_MESSAGES};
 use packing::{Waiting, pack};
 use pdi_session::{InitFault, PutFault, Session, Taker};
 use red_layer::{Numbers, RedLayer, Upward};
-use safe_machine::{ConnectionState, Detail, Machine, Reason, Step, unit_law};
+use safe_machine::{ConnectionState, Detail, Machine, Reason, Step};
 use std::alloc::{Allocator, Global};
 
 /// All of an end but its redundancy layer.
@@ -70,20 +64,10 @@ impl<C: Channels, A: Allocator> Upper<C, A> {
     fn hear<T: Taker>(&mut self, octets: &[u8], now: u64, taker: &mut T) -> Heard
         requires reach { self.old.machine.expected < 2 ^ 62 }
         requires few { FewWait self.old.session self.old.waiting }
-        ensures does { Does T.takes (heard_alone now octets.now)
-            (fields_of C.told self.old) taker.old
-            (fields_of C.told self.new) taker.new }
-        ensures asks { Asks (leaving_at now octets.now)
-            (fields_of C.told self.old) result.asked }
-        // Where something is taken, the PDU is recent.
-        ensures recent { (x : EndState) → Stands (fields_of C.told self.old) x
-            → (taker.new ≡ taker.old) ⊎ RecentAt now octets.now x }
-        ensures same { self.new.max ≡ self.old.max }
-        ensures near { self.new.machine.expected ≤ self.old.machine.expected + index_step }
-        ensures few { FewWait self.new.session self.new.waiting }
+        ensures does { Does C.told T.takes (hears now octets.now) self.old taker.old self.new taker.new }
+        ensures asks { result.asked ≡ (judged_at now octets.now (fields_of self.old)).leaving }
+        ensures keeps { Keeps index_step self.old self.new }
     {
-        unit_law();
-        let _before = self.machine.state();
         let mut out = ToChannels {
             channels: &mut self.channels,
             numbers: &mut self.numbers,
@@ -107,12 +91,8 @@ impl<C: Channels, A: Allocator> Upper<C, A> {
     /// The session goes up with the connection.
     fn rise(&mut self, before: ConnectionState)
         requires few { FewWait self.old.session self.old.waiting }
-        ensures does { DoesAlone (rises_from before)
-            (fields_of C.told self.old)
-            (fields_of C.told self.new) }
-        ensures same { self.new.max ≡ self.old.max }
-        ensures near { self.new.machine.expected ≡ self.old.machine.expected }
-        ensures few { FewWait self.new.session self.new.waiting }
+        ensures does { DoesAlone C.told (goes_up before) self.old self.new }
+        ensures keeps { Keeps 0 self.old self.new }
     {
         match (before, self.machine.state()) {
             (ConnectionState::Start, ConnectionState::Up) => self.session.up(&mut self.waiting),
@@ -122,15 +102,9 @@ impl<C: Channels, A: Allocator> Upper<C, A> {
 
     /// Leaves the connection, where this is asked for.
     fn leave(&mut self, asked: Option<(Reason, Detail)>, now: u64)
-        ensures does { DoesAlone (leaves now asked)
-            (fields_of C.told self.old)
-            (fields_of C.told self.new) }
-        ensures same { self.new.max ≡ self.old.max }
-        ensures near { self.new.machine.expected ≡ self.old.machine.expected }
-        ensures few { FewWait self.old.session self.old.waiting → FewWait self.new.session self.new.waiting }
+        ensures does { DoesAlone C.told (leaves now asked) self.old self.new }
+        ensures keeps { Keeps 0 self.old self.new }
     {
-        unit_law();
-        let _before = self.machine.state();
         if let Some((reason, detail)) = asked {
             let mut out = ToChannels {
                 channels: &mut self.channels,
@@ -143,12 +117,8 @@ impl<C: Channels, A: Allocator> Upper<C, A> {
 
     /// Where the machine is closed the session ends.
     fn settle(&mut self)
-        ensures does { DoesAlone settle
-            (fields_of C.told self.old)
-            (fields_of C.told self.new) }
-        ensures same { self.new.max ≡ self.old.max }
-        ensures near { self.new.machine.expected ≡ self.old.machine.expected }
-        ensures few { FewWait self.old.session self.old.waiting → FewWait self.new.session self.new.waiting }
+        ensures does { DoesAlone C.told settles self.old self.new }
+        ensures keeps { Keeps 0 self.old self.new }
     {
         if self.machine.state() == ConnectionState::Closed {
             self.session.end();
@@ -160,15 +130,8 @@ impl<C: Channels, A: Allocator> Upper<C, A> {
         requires reach { self.old.machine.expected < 2 ^ 62 }
         requires sized { length octets.now ≤ SAFE_PDU_MAX }
         requires few { FewWait self.old.session self.old.waiting }
-        ensures does { Does T.takes (part now octets.now)
-            (fields_of C.told self.old) taker.old
-            (fields_of C.told self.new) taker.new }
-        // Where something is taken, the PDU is recent.
-        ensures recent { (x : EndState) → Stands (fields_of C.told self.old) x
-            → (taker.new ≡ taker.old) ⊎ RecentAt now octets.now x }
-        ensures same { self.new.max ≡ self.old.max }
-        ensures near { self.new.machine.expected ≤ self.old.machine.expected + index_step }
-        ensures few { FewWait self.new.session self.new.waiting }
+        ensures does { Does C.told T.takes (part now octets.now) self.old taker.old self.new taker.new }
+        ensures keeps { Keeps index_step self.old self.new }
     {
         let before = self.machine.state();
         let asked = self.hear_and_tell(number, octets, now, taker);
@@ -191,17 +154,9 @@ impl<C: Channels, A: Allocator> Upper<C, A> {
     ) -> Option<(Reason, Detail)>
         requires reach { self.old.machine.expected < 2 ^ 62 }
         requires few { FewWait self.old.session self.old.waiting }
-        ensures does { Does T.takes (heard_alone now octets.now)
-            (fields_of C.told self.old) taker.old
-            (fields_of C.told self.new) taker.new }
-        ensures asks { Asks (leaving_at now octets.now)
-            (fields_of C.told self.old) result }
-        // Where something is taken, the PDU is recent.
-        ensures recent { (x : EndState) → Stands (fields_of C.told self.old) x
-            → (taker.new ≡ taker.old) ⊎ RecentAt now octets.now x }
-        ensures same { self.new.max ≡ self.old.max }
-        ensures near { self.new.machine.expected ≤ self.old.machine.expected + index_step }
-        ensures few { FewWait self.new.session self.new.waiting }
+        ensures does { Does C.told T.takes (hears now octets.now) self.old taker.old self.new taker.new }
+        ensures asks { result ≡ (judged_at now octets.now (fields_of self.old)).leaving }
+        ensures keeps { Keeps index_step self.old self.new }
     {
         let before = self.seen();
         let heard = self.hear(octets, now, taker);
@@ -236,12 +191,8 @@ impl<C: Channels, A: Allocator> Upper<C, A> {
     /// The octets are kept, where the connection started with them.
     fn note_request(&mut self, before: ConnectionState, octets: &[u8])
         requires sized { length octets.now ≤ SAFE_PDU_MAX }
-        ensures does { DoesAlone (noted_from before octets.now)
-            (fields_of C.told self.old)
-            (fields_of C.told self.new) }
-        ensures same { self.new.max ≡ self.old.max }
-        ensures near { self.new.machine.expected ≡ self.old.machine.expected }
-        ensures few { FewWait self.old.session self.old.waiting → FewWait self.new.session self.new.waiting }
+        ensures does { DoesAlone C.told (notes before octets.now) self.old self.new }
+        ensures keeps { Keeps 0 self.old self.new }
     {
         match (before, self.machine.state()) {
             (ConnectionState::Down, ConnectionState::Start) => self.request = Some(copy_of(octets)),
@@ -251,15 +202,9 @@ impl<C: Channels, A: Allocator> Upper<C, A> {
 
     /// The guard alone.
     pub(crate) fn guard(&mut self, now: u64)
-        ensures does { DoesAlone (moved (Guards now))
-            (fields_of C.told self.old)
-            (fields_of C.told self.new) }
-        ensures same { self.new.max ≡ self.old.max }
-        ensures near { self.new.machine.expected ≡ self.old.machine.expected }
-        ensures few { FewWait self.old.session self.old.waiting → FewWait self.new.session self.new.waiting }
+        ensures does { DoesAlone C.told (guards now) self.old self.new }
+        ensures keeps { Keeps 0 self.old self.new }
     {
-        unit_law();
-        let _before = self.machine.state();
         let mut out = ToChannels {
             channels: &mut self.channels,
             numbers: &mut self.numbers,
@@ -271,15 +216,9 @@ impl<C: Channels, A: Allocator> Upper<C, A> {
 
     /// The guard, and a heartbeat where one is due.
     pub(crate) fn tick(&mut self, now: u64)
-        ensures does { DoesAlone (moved (Ticks now))
-            (fields_of C.told self.old)
-            (fields_of C.told self.new) }
-        ensures same { self.new.max ≡ self.old.max }
-        ensures near { self.new.machine.expected ≡ self.old.machine.expected }
-        ensures few { FewWait self.old.session self.old.waiting → FewWait self.new.session self.new.waiting }
+        ensures does { DoesAlone C.told (ticks now) self.old self.new }
+        ensures keeps { Keeps 0 self.old self.new }
     {
-        unit_law();
-        let _before = self.machine.state();
         let mut out = ToChannels {
             channels: &mut self.channels,
             numbers: &mut self.numbers,
@@ -291,12 +230,8 @@ impl<C: Channels, A: Allocator> Upper<C, A> {
 
     /// The user closes the connection.
     pub(crate) fn close(&mut self, now: u64)
-        ensures does { DoesAlone (moved (Leaves ClosedByUser Unspecified now))
-            (fields_of C.told self.old)
-            (fields_of C.told self.new) }
-        ensures same { self.new.max ≡ self.old.max }
-        ensures near { self.new.machine.expected ≡ self.old.machine.expected }
-        ensures few { FewWait self.old.session self.old.waiting → FewWait self.new.session self.new.waiting }
+        ensures does { DoesAlone C.told (closes now) self.old self.new }
+        ensures keeps { Keeps 0 self.old self.new }
     {
         self.leave(Some((Reason::ClosedByUser, Detail::Unspecified)), now);
         self.settle();
@@ -306,20 +241,12 @@ impl<C: Channels, A: Allocator> Upper<C, A> {
     pub(crate) fn put(&mut self, kind: u16, payload: &[u8], now: u64) -> Result<(), PutFault>
         requires some { 1 ≤ self.old.max }
         requires most { self.old.max ≤ UNIT_MESSAGES }
-        ensures does { OnOk result (DoesAlone (did (Put kind payload.now now))
-            (fields_of C.told self.old)
-            (fields_of C.told self.new)) }
+        ensures does { OnOk result (DoesAlone C.told (puts kind payload.now now) self.old self.new) }
         ensures refused { OnErr result (self.new ≡ self.old) }
         ensures answer { MatchResult result
             (λ _. put_refusal self.old.session kind payload.now (length self.old.waiting) ≡ None)
             (λ fault. put_refusal self.old.session kind payload.now (length self.old.waiting) ≡ Some fault) }
-        ensures packs { OnOk result ((x : EndState) → Stands (fields_of C.told self.new) x → can_pack x ≡ false) }
-        ensures kept { OnOk result (GoesOut (fields_of C.told self.old)
-            (self.old.waiting ++ put_message self.old.session.addressing kind payload.now ∷ [])
-            (fields_of C.told self.new)) }
-        ensures same { self.new.max ≡ self.old.max }
-        ensures near { self.new.machine.expected ≡ self.old.machine.expected }
-        ensures few { FewWait self.old.session self.old.waiting → FewWait self.new.session self.new.waiting }
+        ensures keeps { Keeps 0 self.old self.new }
     {
         match self.session.put(kind, payload, &mut self.waiting) {
             Ok(()) => {
@@ -334,16 +261,11 @@ impl<C: Channels, A: Allocator> Upper<C, A> {
     pub(crate) fn init_done(&mut self, now: u64) -> Result<(), InitFault>
         requires some { 1 ≤ self.old.max }
         requires most { self.old.max ≤ UNIT_MESSAGES }
-        ensures does { OnOk result (DoesAlone (did (InitDone now))
-            (fields_of C.told self.old)
-            (fields_of C.told self.new)) }
+        ensures does { OnOk result (DoesAlone C.told (completes now) self.old self.new) }
         ensures refused { OnErr result (self.new ≡ self.old) }
         ensures answer { MatchResult result (λ _. init_refusal self.old.session (length self.old.waiting) ≡ None)
             (λ fault. init_refusal self.old.session (length self.old.waiting) ≡ Some fault) }
-        ensures packs { OnOk result ((x : EndState) → Stands (fields_of C.told self.new) x → can_pack x ≡ false) }
-        ensures same { self.new.max ≡ self.old.max }
-        ensures near { self.new.machine.expected ≡ self.old.machine.expected }
-        ensures few { FewWait self.old.session self.old.waiting → FewWait self.new.session self.new.waiting }
+        ensures keeps { Keeps 0 self.old self.new }
     {
         let seen = self.seen();
         match self.session.init_done(&mut self.waiting) {
@@ -361,21 +283,11 @@ impl<C: Channels, A: Allocator> Upper<C, A> {
     fn pack_one(&mut self, now: u64) -> bool
         requires some { 1 ≤ self.old.max }
         requires most { self.old.max ≤ UNIT_MESSAGES }
-        ensures does { DoesAlone (packed_once now)
-            (fields_of C.told self.old)
-            (fields_of C.told self.new) }
-        ensures packs { Asks can_pack (fields_of C.told self.old) result }
+        ensures does { DoesAlone C.told (packs_once now) self.old self.new }
+        ensures packs { result ≡ can_pack (fields_of self.old) }
         ensures fewer { length self.new.waiting + (if result then 1 else 0) ≤ length self.old.waiting }
-        ensures same { self.new.max ≡ self.old.max }
-        ensures near { self.new.machine.expected ≡ self.old.machine.expected }
-        ensures few { FewWait self.old.session self.old.waiting → FewWait self.new.session self.new.waiting }
-        // No message is let go.
-        ensures kept { GoesOut (fields_of C.told self.old) self.old.waiting (fields_of C.told self.new) }
-        // Where it did not, nothing waits or the machine may not send.
-        ensures done { result ≡ false → (x : EndState) → Stands (fields_of C.told self.new) x → can_pack x ≡ false }
+        ensures keeps { Keeps 0 self.old self.new }
     {
-        unit_law();
-        let _before = self.machine.state();
         if !self.machine.may_send() {
             return false;
         }
@@ -395,16 +307,8 @@ impl<C: Channels, A: Allocator> Upper<C, A> {
     pub(crate) fn send_waiting(&mut self, now: u64)
         requires some { 1 ≤ self.old.max }
         requires most { self.old.max ≤ UNIT_MESSAGES }
-        ensures does { DoesAlone (sends now)
-            (fields_of C.told self.old)
-            (fields_of C.told self.new) }
-        ensures same { self.new.max ≡ self.old.max }
-        ensures near { self.new.machine.expected ≡ self.old.machine.expected }
-        ensures few { FewWait self.old.session self.old.waiting → FewWait self.new.session self.new.waiting }
-        // No message is let go.
-        ensures kept { GoesOut (fields_of C.told self.old) self.old.waiting (fields_of C.told self.new) }
-        // Nothing waits then, or the machine may not send.
-        ensures packs { (x : EndState) → Stands (fields_of C.told self.new) x → can_pack x ≡ false }
+        ensures does { DoesAlone C.told (sends now) self.old self.new }
+        ensures keeps { Keeps 0 self.old self.new }
     {
         let mut packs = true;
         while packs {
@@ -431,11 +335,7 @@ impl<'a, 'b, C: Channels, A: Allocator, T: Taker> Upward for ToUpper<'a, 'b, C, 
     ghost passes = { λ s p t.
         (t.upper.ghost_name ≡ s.upper.ghost_name) × (t.taker.ghost_name ≡ s.taker.ghost_name) × (t.now ≡ s.now)
         × (t.upper.now.max ≡ s.upper.now.max)
-        × Does T.takes (part s.now p.1)
-        (fields_of C.told s.upper.now) s.taker.now
-        (fields_of C.told t.upper.now) t.taker.now
-        × ((x : EndState) → Stands (fields_of C.told s.upper.now) x
-        → (t.taker.now ≡ s.taker.now) ⊎ RecentAt s.now p.1 x) };
+        × Does C.told T.takes (part s.now p.1) s.upper.now s.taker.now t.upper.now t.taker.now };
 
     ghost ready = { λ s n. (s.upper.now.machine.expected ≤ 321 * n) × FewWait s.upper.now.session s.upper.now.waiting };
 
@@ -458,12 +358,8 @@ impl<C: Channels, A: Allocator> Upper<C, A> {
         requires now { now ≤ 2 ^ 62 }
         requires reach { self.old.machine.expected ≤ 321 * red.old.expected }
         requires few { FewWait self.old.session self.old.waiting }
-        ensures does { BothDo T.takes (receives now (Datagram octets.now now))
-            red.old (fields_of C.told self.old) taker.old
-            red.new (fields_of C.told self.new) taker.new }
-        ensures recent { (x : EndState) → BothStand red.old (fields_of C.told self.old) x
-            → TakesRecent T.takes now (passed_by (Datagram octets.now now) x.red)
-            (with_input (Datagram octets.now now) x) taker.old taker.new }
+        ensures layer { red.new ≡ after (Datagram octets.now now) red.old }
+        ensures does { Does C.told T.takes (parts now (passed_by (Datagram octets.now now) red.old)) self.old taker.old self.new taker.new }
         ensures reach { self.new.machine.expected ≤ 321 * red.new.expected }
         ensures same { self.new.max ≡ self.old.max }
         ensures few { FewWait self.new.session self.new.waiting }
@@ -487,11 +383,8 @@ impl<C: Channels, A: Allocator> Upper<C, A> {
         requires now { now ≤ 2 ^ 62 }
         requires reach { self.old.machine.expected ≤ 321 * red.old.expected }
         requires few { FewWait self.old.session self.old.waiting }
-        ensures does { BothDo T.takes (receives now (RedTick now))
-            red.old (fields_of C.told self.old) taker.old
-            red.new (fields_of C.told self.new) taker.new }
-        ensures recent { (x : EndState) → BothStand red.old (fields_of C.told self.old) x
-            → TakesRecent T.takes now (passed_by (RedTick now) x.red) (with_input (RedTick now) x) taker.old taker.new }
+        ensures layer { red.new ≡ after (RedTick now) red.old }
+        ensures does { Does C.told T.takes (parts now (passed_by (RedTick now) red.old)) self.old taker.old self.new taker.new }
         ensures reach { self.new.machine.expected ≤ 321 * red.new.expected }
         ensures same { self.new.max ≡ self.old.max }
         ensures few { FewWait self.new.session self.new.waiting }

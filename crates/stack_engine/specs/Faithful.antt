@@ -2,7 +2,7 @@
 use Rattle.std.specs.Prelude.{ℕ, ◌<◌, ◌≤◌, ◌≡◌, ◌≢◌, ◌⊎◌, true, false, Option, Some, None, List, [], ◌∷◌, ◌++◌, drop, length}
 use Rattle.std.specs.List.{AllByRecursion, list_any}
 use Rattle.std.specs.Prelude.{◌==◌}
-use Rattle.deferral.specs.FiniteMap.{has_number}
+use Rattle.red_layer.specs.FiniteMap.{has_number}
 use Rattle.red_layer.specs.Parts.{Part}
 use Rattle.red_layer.specs.Redundancy.{Datagram}
 use Rattle.red_layer.specs.Service.{arrivals, arrivals_of}

@@ -83,6 +83,7 @@ fn are_octets(octets: &[u8])
 impl<'a> Call<'a> {
     /// How many octets the telegram has that is put in.
     pub fn put_size(&self) -> usize
+        // `put_size` answers how many octets the payload of a put has, and 0 of any other call.
         ensures { result ≡ put_size self.now }
     {
         match self {

@@ -119,6 +119,7 @@ impl<A: Allocator + Copy> History<A> {
 impl<A: Allocator> History<A> {
     /// How many events there are.
     pub fn len(&self) -> usize
+        // A `History` tells how many events it has, whether it has none, and the event at a place.
         ensures { result ≡ length self.now.events }
     {
         self.entries.len()
@@ -126,6 +127,7 @@ impl<A: Allocator> History<A> {
 
     /// Whether nothing happened.
     pub fn is_empty(&self) -> bool
+        // A `History` tells how many events it has, whether it has none, and the event at a place.
         ensures { result ≡ is_nil self.now.events }
     {
         self.entries.is_empty()
@@ -133,6 +135,7 @@ impl<A: Allocator> History<A> {
 
     /// The event at a place, from 0.
     pub fn get(&self, place: usize) -> Option<Event<'_>>
+        // A `History` tells how many events it has, whether it has none, and the event at a place.
         ensures { option_map event_of result ≡ slice_get self.now.events place }
     {
         let (entry, octets) = self.entries.get(place)?;

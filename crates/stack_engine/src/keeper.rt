@@ -54,6 +54,7 @@ impl<A: Allocator> Model for Keeper<A> {
 impl<A: Allocator + Copy> Keeper<A> {
     /// Nothing is kept, and there is no room.
     pub fn new(alloc: A) -> Self
+        // A new `Keeper` of datagrams, as the ends of a pair have it for channels, keeps none.
         ensures { result.datagrams ≡ [] }
     {
         Keeper {
@@ -71,8 +72,11 @@ impl<A: Allocator + Copy> Keeper<A> {
     /// The error is that memory was refused.
     pub fn reserve(&mut self, datagrams: usize) -> Result<(), AllocError>
         requires { datagrams ≤ 1000 }
+        // Making room in a `Keeper` leaves the datagrams kept as they are.
         ensures same { self.new.datagrams ≡ self.old.datagrams }
+        // `reserve` makes a place in a `Keeper` for each of that many datagrams, or is refused.
         ensures places { OnOk result (datagrams ≤ self.new.places) }
+        // It makes room for 1,258 octets of each.
         ensures octets { OnOk result (datagrams * RED_PDU_MAX ≤ self.new.octets) }
     {
         self.remarks.try_reserve(datagrams + EVENT_REMARKS)?;
@@ -81,6 +85,7 @@ impl<A: Allocator + Copy> Keeper<A> {
 
     /// Forgets remarks from the first on.
     pub fn forget(&mut self, remarks: usize)
+        // Forgetting remarks changes neither the datagrams of a `Keeper` nor its room.
         ensures { self.new ≡ self.old }
     {
         forget_first(&mut self.remarks, remarks);
@@ -105,6 +110,7 @@ impl<A: Allocator> Keeper<A> {
 
     /// How many datagrams were kept.
     pub fn len(&self) -> usize
+        // A `Keeper` tells how many datagrams it keeps.
         ensures { result ≡ length self.now.datagrams }
     {
         self.datagrams.len()
@@ -112,6 +118,8 @@ impl<A: Allocator> Keeper<A> {
 
     /// Whether a datagram with this upper part was kept behind the first `dead`. The newest are tried first.
     pub fn has_part(&self, dead: usize, part: &[u8]) -> bool
+        // `has_part` tells exactly whether a datagram that a `Keeper` keeps behind the first `dead` has this
+        // upper part.
         ensures { result ≡ has_part part.now (drop dead self.now.datagrams) }
     {
         let mut place = self.len();

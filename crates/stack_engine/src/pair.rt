@@ -59,6 +59,7 @@ impl<A: Allocator + Copy> Pair<A> {
 
     /// Neither end was opened, and nothing happened. It takes no memory.
     pub fn new(alloc: A) -> Self
+        // A new `Pair` has accepted no event.
         ensures { result ≡ [] }
     {
         Pair {
@@ -76,10 +77,19 @@ impl<A: Allocator + Copy> Pair<A> {
     /// Refused, and then nothing changes; the first that holds is named: `EndNotOpen`, `BadConfig`, `Clock`, `Memory` where a
     /// growth was refused, `Put` and `Init` with their faults.
     pub fn apply(&mut self, event: &Event<'_>) -> Result<(), ApplyFault>
+        // An event that `apply` accepts stands last in the history.
         ensures ok { OnOk result (self.new ≡ self.old ++ event_of event.now ∷ []) }
+        // An event that `apply` refuses changes nothing in the history.
         ensures err { OnErr result (self.new ≡ self.old) }
+        // `apply` accepts an event only where the definition does.
+        // A refusal of `apply` has the definition's name, or is Memory where the definition names none or one
+        // of the session's (`NamesRefusal`).
         ensures refusal { MatchResult result (λ _. refusal (event_of event.now) (run self.old start) ≡ None)
             (λ fault. NamesRefusal fault (refusal (event_of event.now) (run self.old start))) }
+        // After every `apply` and `run` the history has, where it is genuine, the four promises headline,
+        // fresh, confirmed and settled (`Promises` (genuine)).
+        // After every `apply` and `run` the history has, where it is faithful, the promise nothing_lost
+        // (`Promises` (faithful)).
         ensures promises { Promises self.new }
     {
         let result = self.happen(event);
@@ -116,9 +126,18 @@ impl<A: Allocator + Copy> Pair<A> {
     ///
     /// The error is that memory was refused for one of them: then those before it happened, and none behind it.
     pub fn run(&mut self, events: &[Event<'_>]) -> Result<usize, Memory>
+        // Where memory was found, `run` makes the history longer by exactly those of its events that the
+        // definition accepts, in turn.
         ensures ok { OnOk result (Ran self.old (events_of events.now) self.new) }
+        // The answer of `run` is by how many events the history grew.
         ensures count { IfOk result (λ count. length self.new ≡ length self.old + count) }
+        // Where memory was refused, `run` made the history longer by what the definition accepts of the events
+        // in front of one, and that one is refused for nothing that is tested before memory.
         ensures memory { OnErr result (RanBefore self.old (events_of events.now) self.new) }
+        // After every `apply` and `run` the history has, where it is genuine, the four promises headline,
+        // fresh, confirmed and settled (`Promises` (genuine)).
+        // After every `apply` and `run` the history has, where it is faithful, the promise nothing_lost
+        // (`Promises` (faithful)).
         ensures promises { Promises self.new }
     {
         let mut count = 0;
@@ -139,7 +158,12 @@ impl<A: Allocator + Copy> Pair<A> {
 
     /// The events that were accepted, in order, and what they promise.
     pub fn history(&self) -> &History<A>
+        // `history` answers the events that were accepted, in order.
         ensures events { result.now.events ≡ self.now }
+        // After every `apply` and `run` the history has, where it is genuine, the four promises headline,
+        // fresh, confirmed and settled (`Promises` (genuine)).
+        // After every `apply` and `run` the history has, where it is faithful, the promise nothing_lost
+        // (`Promises` (faithful)).
         ensures promises { Promises self.now }
     {
         pair_law();
@@ -148,6 +172,7 @@ impl<A: Allocator + Copy> Pair<A> {
 
     /// How many incarnations of an end there are in the report.
     pub fn incarnations(&self, side: Side) -> usize
+        // `incarnations` answers how often an end was opened.
         ensures { result ≡ length (report_of (side_of side) (run self.now start)) }
     {
         self.sides.incarnations(side)
@@ -155,6 +180,8 @@ impl<A: Allocator + Copy> Pair<A> {
 
     /// The report on one incarnation of an end: what was put in and taken, and to whom it is joined. The first opened one has place 0.
     pub fn report(&self, side: Side, place: usize) -> Option<Entry<'_, A>>
+        // `report` shows of an incarnation what was put in and taken, the lists of the promises, and to which
+        // of the interlocking it is joined.
         ensures { option_map seen_entry result ≡ slice_get (report_of (side_of side) (run self.now start)) place }
     {
         self.sides.entry(side, place)
@@ -163,6 +190,7 @@ impl<A: Allocator + Copy> Pair<A> {
     /// Whether the delivery of this datagram to an end would break the premise of the promises at once: the end is open, its part bears
     /// both identifiers and a valid code, and is no live PDU of the peer.
     pub fn breaks_premise(&self, side: Side, datagram: &[u8]) -> bool
+        // `breaks_premise` answers as its definition does for the ends that the pair's history leads to.
         ensures { result ≡ breaks_premise (side_of side) datagram.now (run self.now start) }
     {
         self.sides.breaks_premise(side, datagram)
@@ -170,6 +198,7 @@ impl<A: Allocator + Copy> Pair<A> {
 
     /// The end of the present incarnation; `None` where it was never opened.
     pub fn end_of(&self, side: Side) -> Option<&End<Keeper<A>, A>>
+        // `end_of` shows the end of the present incarnation, and none exactly where it was never opened.
         ensures { IsEnd result (present (side_of side) (run self.now start)) }
     {
         self.sides.end_of(side)

@@ -45,6 +45,7 @@ impl<T, A: Allocator> Model for Texts<T, A> {
 impl<T: Drop, A: Allocator + Copy> Texts<T, A> {
     /// No text, and no room.
     pub fn new(alloc: A) -> Self
+        // New `Texts` are an empty list.
         ensures { result.texts ≡ [] }
     {
         Texts {
@@ -59,8 +60,11 @@ impl<T: Drop, A: Allocator + Copy> Texts<T, A> {
     ///
     /// The error is that memory was refused.
     pub fn reserve(&mut self, places: usize, octets: usize) -> Result<(), AllocError>
+        // Making room in `Texts` leaves the list as it is.
         ensures same { self.new.texts ≡ self.old.texts }
+        // `reserve` makes the places in `Texts` that are asked for, or is refused.
         ensures places { OnOk result (places ≤ self.new.places) }
+        // It makes room for as many octets as are asked for.
         ensures octets { OnOk result (octets ≤ self.new.octets) }
     {
         self.kept.try_reserve(places)?;
@@ -71,8 +75,11 @@ impl<T: Drop, A: Allocator + Copy> Texts<T, A> {
     pub fn add(&mut self, head: T, text: &[u8])
         requires place { 1 ≤ self.old.places }
         requires room { length text.now ≤ self.old.octets }
+        // A text that is added to `Texts`, where there is room, stands last with its head.
         ensures added { self.new.texts ≡ self.old.texts ++ (head, text.now) ∷ [] }
+        // Adding a text uses up one place of `Texts` at most.
         ensures places { self.old.places ≤ self.new.places + 1 }
+        // Adding a text uses up as many octets as it has at most.
         ensures octets { self.old.octets ≤ self.new.octets + length text.now }
     {
         let from = self.octets.len();
@@ -87,6 +94,7 @@ impl<T, A: Allocator> Texts<T, A> {
 
     /// How many texts there are.
     pub fn len(&self) -> usize
+        // `Texts` tell how many texts they are, whether none, and the text at a place with its head.
         ensures { result ≡ length self.now.texts }
     {
         self.kept.len()
@@ -94,6 +102,7 @@ impl<T, A: Allocator> Texts<T, A> {
 
     /// Whether there is none.
     pub fn is_empty(&self) -> bool
+        // `Texts` tell how many texts they are, whether none, and the text at a place with its head.
         ensures { result ≡ is_nil self.now.texts }
     {
         self.kept.is_empty()
@@ -101,6 +110,7 @@ impl<T, A: Allocator> Texts<T, A> {
 
     /// For how many texts there is a place.
     pub fn places(&self) -> usize
+        // `Texts` tell their room in texts and in octets.
         ensures { result ≡ self.now.places }
     {
         self.kept.capacity() - self.kept.len()
@@ -108,6 +118,7 @@ impl<T, A: Allocator> Texts<T, A> {
 
     /// For how many octets there is room.
     pub fn room(&self) -> usize
+        // `Texts` tell their room in texts and in octets.
         ensures { result ≡ self.now.octets }
     {
         self.octets.capacity() - self.octets.len()
@@ -115,6 +126,7 @@ impl<T, A: Allocator> Texts<T, A> {
 
     /// The text at a place, from 0, with its head.
     pub fn get(&self, place: usize) -> Option<(&T, &[u8])>
+        // `Texts` tell how many texts they are, whether none, and the text at a place with its head.
         ensures { option_map seen_text result ≡ slice_get self.now.texts place }
     {
         let kept = self.kept.get(place)?;

@@ -1,8 +1,8 @@
 use Rattle.std.proofs.Common.{◌≡◌, ◌+◌, length, Some, refl, sym, ap, ◌∙◌, subst, arith}
 use Rattle.std.specs.List.{FoldsTo}
-use Rattle.deferral.specs.FiniteMap.{part_under, Rises}
+use Rattle.red_layer.specs.FiniteMap.{part_under, Rises}
 use Rattle.red_layer.proofs.pass_run.Goals as goal
-use Rattle.deferral.proofs.FiniteMap.{Rises-first, Rises-none, take_out-none}
+use Rattle.red_layer.proofs.FiniteMap.{Rises-first, Rises-none, take_out-none}
 use Rattle.red_layer.proofs.Runs.{IsBelow-take_out, run_from-first, after_run-first, run_from-none, after_run-none, Rises-map_parts}
 
 pub loop-part-preserved : goal.loop-part-preserved

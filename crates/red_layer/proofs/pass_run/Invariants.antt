@@ -1,6 +1,6 @@
 use Rattle.std.proofs.Common.{◌≡◌, ◌≤◌, ◌+◌, ◌-◌, ◌^◌, length}
 use Rattle.std.specs.List.{FoldsTo}
-use Rattle.deferral.specs.FiniteMap.{Rises}
+use Rattle.red_layer.specs.FiniteMap.{Rises}
 use Rattle.red_layer.specs.Parts.{map_parts, IsBelow}
 use Rattle.red_layer.specs.Redundancy.{run_from, after_run}
 use Rattle.red_layer.proofs.pass_run.Given as goal

@@ -13,7 +13,9 @@ use Rattle.safe_machine.specs.Step.{carry_out, arrive, guard, take_unit, tests_p
 use Rattle.safe_machine.specs.Moves.{moved}
 use Rattle.safe_machine.specs.Reached.{IsReached}
 use Rattle.safe_machine.specs.View.{View, kept_of}
-use Rattle.safe_machine.specs.inner.Doing.{Turns}
+use Rattle.safe_machine.specs.Moves.Move.{Guards, Hears}
+use Rattle.safe_machine.specs.Turns.{arrives, guards}
+use Rattle.safe_machine.proofs.one.Turning.{turns_law_holds}
 use Rattle.safe_machine.proofs.one.Legal.{legal}
 use Rattle.safe_machine.proofs.one.Deciding.{Fits, decide-fits}
 use Rattle.safe_machine.proofs.two.Lone.{lone-guard, arrive-by}
@@ -28,7 +30,7 @@ leave-expected reason detail now s = leave-cases (λ t. t.expected ≡ s.expecte
 unit-expected : (p : Pdu) (now : ℕ) (s : State) → (take_unit p now s).expected ≡ s.expected
 unit-expected p now s = unit-cases (λ t. t.expected ≡ s.expected) p now s (λ _. refl) (λ _ _. refl) (λ _. refl)
 
-near-decided : (p : Pdu) (now : ℕ) (d : Decision) (s : State) → s.settings.n_sendmax ≤ 32 → Fits s p now d → (carry_out p now d s).expected ≤ s.expected + index_step
+near-decided : (p : Pdu) (now : ℕ) (d : Decision) (s : State) → s.settings.n_sendmax ≤ 32 → Fits (kept_of s) p now d → (carry_out p now d s).expected ≤ s.expected + index_step
 near-decided p now (Leaves reason detail) s small f = omega (arith, leave-expected reason detail now s)
 near-decided p now (Takes to) s small f = omega (arith, unit-expected p now (move_to to (pass p 0 (tests_passed p s))))
 near-decided p now Resumes s small f = omega (arith, f.table.near, small)
@@ -47,18 +49,19 @@ near-arrive p now s small =
     let l = lone-guard now s in
     let still : g.settings.n_sendmax ≤ 32 = subst (λ (k : Settings). k.n_sendmax ≤ 32) (sym l.settings) small in
     arrive-by (λ (t : State). t.expected ≤ s.expected + index_step) p now s (omega (arith, l.expected))
-    (λ _ _. omega (arith, near-decided p now (decide (kept_of g) p now) g still (decide-fits g p now), l.expected))
+    (λ _ _. omega (arith, near-decided p now (decide (kept_of g) p now) g still (decide-fits (kept_of g) p now), l.expected))
 
 -- one arrival
-pub reached-near : (p : Pdu) (now : ℕ) (v w : View) → IsReached v → Turns (arrive p now) v w → w.expected ≤ v.expected + index_step
-reached-near p now v w r turns =
+pub reached-near : (p : Pdu) (now : ℕ) (v w : View) → IsReached v → w ≡ (arrives p now v).left → w.expected ≤ v.expected + index_step
+reached-near p now v w r e =
     let t = moved r.moves (opened r.settings r.first r.began) in
+    let stands = (turns_law_holds (Hears p now) v t tt r.stands).stands in
     let before : v.expected ≡ t.expected = ap (λ (x : View). x.expected) r.stands in
-    let after : w.expected ≡ (arrive p now t).expected = ap (λ (x : View). x.expected) (turns t r.stands) in
+    let after : w.expected ≡ (arrive p now t).expected = ap (λ (x : View). x.expected) (e ∙ stands) in
     omega (arith, before, after, near-arrive p now t (legal t.settings (legal-reached v r)).window_most)
 
 -- octets that are no PDU move it not at all
-pub reached-still : (now : ℕ) (v w : View) → IsReached v → Turns (guard now) v w → w.expected ≡ v.expected
-reached-still now v w r turns =
+pub reached-still : (now : ℕ) (v w : View) → IsReached v → w ≡ (guards now v).left → w.expected ≡ v.expected
+reached-still now v w r e =
     let t = moved r.moves (opened r.settings r.first r.began) in
-    ap (λ (x : View). x.expected) (turns t r.stands) ∙ ((lone-guard now t).expected ∙ sym (ap (λ (x : View). x.expected) r.stands))
+    ap (λ (x : View). x.expected) (e ∙ (turns_law_holds (Guards now) v t tt r.stands).stands) ∙ ((lone-guard now t).expected ∙ sym (ap (λ (x : View). x.expected) r.stands))

@@ -1,6 +1,6 @@
 -- What holds of every machine, since it stands for a state that moves lead to from an opening.
-use Rattle.std.proofs.Common.{◌≡◌, ℕ, zero, suc, ◌+◌, ◌<◌, ◌≤◌, List, [], ◌∷◌, ◌++◌, length, drop, Bool, true, false, refl, sym, ap, subst, ◌∙◌, arith, ◌⊎◌, inl, inr, ⊎_elim}
-use Rattle.std.specs.Prelude.{if◌then◌else◌, ◌&&◌, ◌==◌, nat_le, nat_lt}
+use Rattle.std.proofs.Common.{◌≡◌, ℕ, zero, suc, ◌+◌, ◌<◌, ◌≤◌, List, [], ◌∷◌, ◌++◌, length, drop, true, refl, sym, ap, subst, ◌∙◌, arith, ◌⊎◌, inl, inr, ⊎_elim}
+use Rattle.std.specs.Prelude.{◌&&◌, ◌==◌, nat_le}
 use Rattle.std.specs.List.{list_all}
 use Rattle.std.proofs.lemmas.Bool.{leb-true, false≢true, cond_both, and_parts}
 use Rattle.std.proofs.lemmas.List.{drop_all, length-drop}
@@ -21,7 +21,7 @@ use Rattle.safe_machine.specs.Settings.{Settings, is_legal}
 use Rattle.safe_machine.specs.declared.arrival.Decision.{Decision}
 use Rattle.safe_machine.specs.Decision.{decide, distance}
 use Rattle.safe_machine.specs.declared.arrival.Decision.TheVariants.{Nothing, Drops, Shuts, Leaves, Takes, Resumes, AnswersNext, AnswersEarly}
-use Rattle.safe_machine.specs.Step.{take_unit, tests_passed, carry_out, guard, respond, heartbeat, send, may_send, confirm_units, has_room}
+use Rattle.safe_machine.specs.Step.{take_unit, tests_passed, carry_out, guard, respond, heartbeat, send, confirm_units}
 use Rattle.safe_machine.specs.Moves.{Move, move, moved, IsUnitSized}
 use Rattle.safe_machine.specs.Moves.Move.{Guards, Hears, Ticks, Sends, Leaves as LeavesNow}
 use Rattle.safe_machine.specs.State.{State, opened, blank, make, move_to, pass, note_request, resend, reply, unconfirmed, leave}
@@ -33,13 +33,14 @@ use Rattle.safe_machine.proofs.one.Kept.{Kept, AllowsMove, Anything, anything, k
 use Rattle.safe_machine.proofs.one.Legal.{legal as lawful}
 use Rattle.safe_machine.proofs.one.Texts.{Texts, own-legal, kept-texts, texts-make, AllSized, sized-run, texts-drop}
 use Rattle.safe_machine.specs.Reached.{IsRead, AreRead, IsReached}
-use Rattle.safe_machine.specs.inner.Sound.{Sound}
-use Rattle.safe_machine.specs.View.{View, StandsFor, kept_of}
-use Rattle.safe_machine.specs.inner.Doing.{Turns, AllUnits, AllBelow}
+use Rattle.safe_machine.specs.inner.Sound.{AllBelow, AllUnits, Sound}
+use Rattle.safe_machine.specs.Turned.{MaySend, turn}
+use Rattle.safe_machine.specs.View.{View, kept_of}
+use Rattle.safe_machine.proofs.one.Turning.{tells_law_holds, turns_law_holds}
 use Rattle.safe_machine.proofs.one.Resending.{resend-settings, resend-connection}
-use Rattle.safe_machine.specs.Connections.{in_turn, is_connected}
+use Rattle.safe_machine.specs.Connections.{is_connected}
 use Rattle.safe_machine.proofs.one.StepCases.{leave-cases, guard-cases, heartbeat-cases, unit-cases, send-cases, early-cases}
-use Rattle.safe_machine.proofs.one.ConnectionFacts.{turn-connected, connected-up}
+use Rattle.safe_machine.proofs.one.ConnectionFacts.{turn-connected, turn-live, connected-up}
 
 moved-snoc : (ms : List Move) (m : Move) (s : State) → moved (ms ++ m ∷ []) s ≡ move m (moved ms s)
 moved-snoc [] m s = refl
@@ -48,21 +49,6 @@ moved-snoc (n ∷ ms) m s = moved-snoc ms m (move n s)
 read-snoc : (ms : List Move) (m : Move) → AreRead ms → IsRead m → AreRead (ms ++ m ∷ [])
 read-snoc [] m h k = (k, tt)
 read-snoc (n ∷ ms) m h k = (h.0, read-snoc ms m h.1 k)
-
--- one move more
-pub reached-move : (m : Move) (v w : View) → IsReached v → IsRead m → Turns (move m) v w → IsReached w
-reached-move m v w r read turns =
-    record {
-      settings = r.settings;
-      first = r.first;
-      began = r.began;
-      moves = r.moves ++ m ∷ [];
-      legal = r.legal;
-      read = read-snoc r.moves m r.read read;
-      stands =
-          subst (λ t. StandsFor w t) (sym (moved-snoc r.moves m (opened r.settings r.first r.began)))
-          (turns (moved r.moves (opened r.settings r.first r.began)) r.stands);
-    }
 
 -- bounds of a state, that every move keeps
 pub record Sure (s : State) : Type 0 where
@@ -107,7 +93,7 @@ waits-unit p now s on h =
     unit-cases Waits p now s (λ _. (λ e. absurd (connected-up s.connection on e), omega (arith, h))) (λ _ few. (λ e. absurd (connected-up s.connection on e), few))
     (λ _. (λ e. absurd (connected-up s.connection on e), h))
 
-waits-decided : (p : Pdu) (now : ℕ) (d : Decision) (s : State) → Fits s p now d → Waits s → Waits (carry_out p now d s)
+waits-decided : (p : Pdu) (now : ℕ) (d : Decision) (s : State) → Fits (kept_of s) p now d → Waits s → Waits (carry_out p now d s)
 waits-decided p now Nothing s f h = h
 waits-decided p now (Drops cause) s f h = h
 waits-decided p now Shuts s f h = (λ e. cc, h.1)
@@ -141,7 +127,7 @@ sure-move (Hears p now) s a h =
     let b = bounded-guard now s h.bounded in
     let w = waits-guard now s (waits s h) in
     arrive-by Sure p now s (sure g b.0 w)
-    (λ _ _. sure (respond p now g) (bounded-respond now p g b.0 b.1 w.0 (opening-window p.kind p.body a.1)) (waits-decided p now (decide (kept_of g) p now) g (decide-fits g p now) w))
+    (λ _ _. sure (respond p now g) (bounded-respond now p g b.0 b.1 w.0 (opening-window p.kind p.body a.1)) (waits-decided p now (decide (kept_of g) p now) g (decide-fits (kept_of g) p now) w))
 sure-move (Ticks now) s a h =
     let g = guard now s in
     let b = bounded-guard now s h.bounded in
@@ -292,26 +278,29 @@ reached-sound v r =
       opening = (own-legal t.settings legal).window;
     })
 
--- how many units are unconfirmed
-pub units-count : (v : View) (s : State) → StandsFor v s → length v.ring ≡ length (unconfirmed s)
-units-count v s h = ap (λ (w : View). length w.ring) h ∙ (sym (octets_of-length (ring_of s)) ∙ ap length (ring_of-units s))
+-- an end that sends has made the PDU that was last confirmed
+pub reached-may : (m : Move) (v : View) → IsReached v → MaySend m v
+reached-may (Sends unit now) v r = λ turn. (reached-sound v r).live (turn-live v.connection turn)
+reached-may _ v r = tt
+
+-- one move more
+pub reached-turn : (m : Move) (v w : View) → IsReached v → IsRead m → w ≡ (turn m v).left → IsReached w
+reached-turn m v w r read e =
+    let s = moved r.moves (opened r.settings r.first r.began) in
+    record {
+      settings = r.settings;
+      first = r.first;
+      began = r.began;
+      moves = r.moves ++ m ∷ [];
+      legal = r.legal;
+      read = read-snoc r.moves m r.read read;
+      stands = e ∙ ((turns_law_holds m v s (reached-may m v r) r.stands).stands ∙ ap kept_of (sym (moved-snoc r.moves m (opened r.settings r.first r.began))));
+    }
 
 -- no more units are unconfirmed than the peer's window has
 pub reached-window : (v : View) → IsReached v → length v.ring ≤ v.window
 reached-window v r =
     let t : State = moved r.moves (opened r.settings r.first r.began) in
-    let count : length v.ring ≡ length (unconfirmed t) = units-count v t r.stands in
+    let count : length v.ring ≡ length (unconfirmed t) = (tells_law_holds v t r.stands).awaiting in
     let window : v.window ≡ t.window = ap (λ (w : View). w.window) r.stands in
     omega (arith, (sure-reached v r).bounded.in_window)
-
--- whether a unit may be sent
-pub room-is : (v : View) (s : State) → StandsFor v s → has_room v ≡ may_send s
-room-is v s h =
-    ap has_room h
-    ∙ ap (λ (n : ℕ). in_turn s.connection && nat_lt n s.window) (sym (octets_of-length (ring_of s)) ∙ ap length (ring_of-units s))
-
-pub send-sends : (unit : List ℕ) (now : ℕ) (v : View) (s : State) → StandsFor v s → has_room v ≡ true → send unit now s ≡ make Data unit now s
-send-sends unit now v s h e = ap (λ (b : Bool). if b then make Data unit now s else s) (sym (room-is v s h) ∙ e)
-
-pub send-turns : (unit : List ℕ) (now : ℕ) (v w : View) → has_room v ≡ true → Turns (make Data unit now) v w → Turns (send unit now) v w
-send-turns unit now v w e turns s h = subst (λ t. StandsFor w t) (sym (send-sends unit now v s h e)) (turns s h)

@@ -22,13 +22,15 @@ use Rattle.safe_machine.specs.Ring.{carried_at, ring_of}
 use Rattle.safe_machine.specs.Moves.{moved}
 use Rattle.safe_machine.specs.Reached.{IsReached}
 use Rattle.safe_machine.specs.View.{View, beside, kept_of}
-use Rattle.safe_machine.specs.inner.Doing.{Turns}
+use Rattle.safe_machine.specs.Moves.Move.{Guards, Hears}
+use Rattle.safe_machine.specs.Turns.{arrives, guards}
+use Rattle.safe_machine.proofs.one.Turning.{turns_law_holds}
 use Rattle.safe_machine.specs.Properties.{StopsOnly}
 use Rattle.safe_machine.proofs.one.Deciding.{Fits, decide-fits}
 use Rattle.safe_machine.proofs.two.Lone.{lone-guard, arrive-by}
 use Rattle.safe_machine.proofs.one.Ring.{ring_of-units, ring-resend}
 use Rattle.retrans.proofs.UnitLemmas.{octets-renumbered}
-use Rattle.safe_machine.proofs.code.Views.{plain-ring, ring-step, answer-ring}
+use Rattle.safe_machine.proofs.one.RingMoves.{plain-ring, ring-step, answer-ring}
 use Rattle.safe_machine.proofs.code.Reaching.{reached-sound}
 use Rattle.safe_machine.proofs.one.StepCases.{leave-cases, guard-cases, unit-cases, early-cases}
 use Rattle.safe_machine.proofs.one.ConnectionFacts.{closed≢down}
@@ -78,7 +80,7 @@ fits-within p s e = ltb-true (cs_step (kept_of s) p) (length s.made - s.confirme
 confirmed-stops : (p : Pdu) (s t : State) → cs_fits (kept_of s) p ≡ true → octets_of (ring_of t) ≡ octets_of (ring_of (confirm_units p s)) → Stops p s t
 confirmed-stops p s t fits e = inr (e ∙ ap octets_of (sym (ring-step p s (fits-within p s fits))))
 
-stops-decided : (p : Pdu) (now : ℕ) (d : Decision) (s : State) → (s.connection ≡ Down → ring_of s ≡ []) → Fits s p now d → Stops p s (carry_out p now d s)
+stops-decided : (p : Pdu) (now : ℕ) (d : Decision) (s : State) → (s.connection ≡ Down → ring_of s ≡ []) → Fits (kept_of s) p now d → Stops p s (carry_out p now d s)
 stops-decided p now Nothing s down f = inl refl
 stops-decided p now (Drops cause) s down f = inl refl
 stops-decided p now Shuts s down f = inl refl
@@ -115,21 +117,21 @@ stops-arrive p now s down =
     λ e. ring ∙ down (elim l.connection [ inl same ↦ sym same ∙ e | inr closed ↦ absurd (closed≢down (sym closed ∙ e)) ]) in
     let number : g.confirmed + cs_step (kept_of g) p ≡ s.confirmed + cs_step (kept_of s) p = omega (arith, step, l.confirmed) in
     arrive-by (Stops p s) p now s (inl (ap octets_of ring))
-    (λ _ _. elim (stops-decided p now (decide (kept_of g) p now) g down_g (decide-fits g p now)) [
+    (λ _ _. elim (stops-decided p now (decide (kept_of g) p now) g down_g (decide-fits (kept_of g) p now)) [
       | inl e ↦ inl (e ∙ ap octets_of ring)
       | inr e ↦ inr (e ∙ (ap (λ (n : ℕ). octets_of (above n (ring_of g))) number ∙ ap (λ r. octets_of (above (s.confirmed + cs_step (kept_of s) p) r)) ring))
     ])
 
 -- as a machine has it
-pub reached-stops : (p : Pdu) (now : ℕ) (v w : View) → IsReached v → Turns (arrive p now) v w → StopsOnly (v.confirmed + cs_step v p) v w
-reached-stops p now v w r turns =
+pub reached-stops : (p : Pdu) (now : ℕ) (v w : View) → IsReached v → w ≡ (arrives p now v).left → StopsOnly (v.confirmed + cs_step v p) v w
+reached-stops p now v w r is =
     let t = moved r.moves (opened r.settings r.first r.began) in
     let down : t.connection ≡ Down → ring_of t ≡ [] =
     λ e. sym (ap (λ (x : View). x.ring) r.stands) ∙ (reached-sound v r).down (ap (λ (x : View). x.connection) r.stands ∙ e) in
     subst (λ (x : View). StopsOnly (x.confirmed + cs_step x p) x w) (sym r.stands)
-    (subst (λ (y : View). StopsOnly (t.confirmed + cs_step (kept_of t) p) (beside (ring_of t) t) y) (sym (turns t r.stands)) (stops-arrive p now t down))
+    (subst (λ (y : View). StopsOnly (t.confirmed + cs_step (kept_of t) p) (beside (ring_of t) t) y) (sym (is ∙ (turns_law_holds (Hears p now) v t tt r.stands).stands)) (stops-arrive p now t down))
 
-pub reached-keeps : (now : ℕ) (v w : View) → IsReached v → Turns (guard now) v w → octets_of w.ring ≡ octets_of v.ring
-reached-keeps now v w r turns =
+pub reached-keeps : (now : ℕ) (v w : View) → IsReached v → w ≡ (guards now v).left → octets_of w.ring ≡ octets_of v.ring
+reached-keeps now v w r is =
     let t = moved r.moves (opened r.settings r.first r.began) in
-    ap octets_of (ap (λ (x : View). x.ring) (turns t r.stands) ∙ (ring-guard now t ∙ sym (ap (λ (x : View). x.ring) r.stands)))
+    ap octets_of (ap (λ (x : View). x.ring) (is ∙ (turns_law_holds (Guards now) v t tt r.stands).stands) ∙ (ring-guard now t ∙ sym (ap (λ (x : View). x.ring) r.stands)))

@@ -176,7 +176,7 @@ bounded-replied s t b r few made =
     )
 
 -- confirming
-confirmed-made : (x : State) (p : Pdu) → cs_fits (kept_of x) p ≡ true → x.confirmed + cs_step (kept_of x) p < length x.made
+pub confirmed-made : (x : State) (p : Pdu) → cs_fits (kept_of x) p ≡ true → x.confirmed + cs_step (kept_of x) p < length x.made
 confirmed-made x p fits = omega (arith, ltb-true (cs_step (kept_of x) p) (length x.made - x.confirmed) fits)
 
 bounded-confirmed : (x : State) (p : Pdu) (connection : ConnectionState) (window : ℕ) → Bounded x → length x.made ≤ 4294901795 → cs_fits (kept_of x) p ≡ true → window ≤ 32 →
@@ -197,7 +197,7 @@ bounded-confirmed x p connection window b few fits small in_window none =
     }
 
 bounded-carry : (now : ℕ) (p : Pdu) (x : State) → Bounded x → Ready x → (x.connection ≡ Down → x.made ≡ []) → (1 ≤ is_opening p.kind → window_of p.body ≤ 32) →
-    (e : Decision) → Fits x p now e → Bounded (carry_out p now e x)
+    (e : Decision) → Fits (kept_of x) p now e → Bounded (carry_out p now e x)
 bounded-carry now p x b ready down window Nothing f = b
 bounded-carry now p x b ready down window (Drops cause) f = b
 bounded-carry now p x b ready down window Shuts f = bounded-closed x b
@@ -266,7 +266,7 @@ bounded-carry now p x b ready down window AnswersEarly f =
     bt.0
 
 pub bounded-respond : (now : ℕ) (p : Pdu) (x : State) → Bounded x → Ready x → (x.connection ≡ Down → x.made ≡ []) → (1 ≤ is_opening p.kind → window_of p.body ≤ 32) → Bounded (respond p now x)
-bounded-respond now p x b ready down window = bounded-carry now p x b ready down window (decide (kept_of x) p now) (decide-fits x p now)
+bounded-respond now p x b ready down window = bounded-carry now p x b ready down window (decide (kept_of x) p now) (decide-fits (kept_of x) p now)
 
 -- the guard
 pub bounded-guard : (now : ℕ) (x : State) → Bounded x → Bounded (guard now x) × Ready (guard now x)

@@ -75,7 +75,7 @@ module _ (A : Pdu → Type 0) (U : List ℕ → Type 0) (P : State → Type 0) (
       let u = confirm_units p s in
       k.silent u (confirm_time p u) (refl, refl, refl, refl, refl) (k.confirms p s fits h)
 
-  kept-decided : (p : Pdu) (now : ℕ) (d : Decision) (s : State) → A p → Fits s p now d → P s → P (carry_out p now d s)
+  pub kept-decided : (p : Pdu) (now : ℕ) (d : Decision) (s : State) → A p → Fits (kept_of s) p now d → P s → P (carry_out p now d s)
   kept-decided p now Nothing s a f h = h
   kept-decided p now (Drops cause) s a f h = h
   kept-decided p now Shuts s a f h = k.silent s (move_to Closed s) (refl, refl, refl, refl, refl) h
@@ -123,7 +123,7 @@ module _ (A : Pdu → Type 0) (U : List ℕ → Type 0) (P : State → Type 0) (
   kept-move (Guards now) s a h = kept-guard now s h
   kept-move (Hears p now) s a h =
       let g = guard now s in
-      arrive-by P p now s (kept-guard now s h) (λ _ _. kept-decided p now (decide (kept_of g) p now) g a (decide-fits g p now) (kept-guard now s h))
+      arrive-by P p now s (kept-guard now s h) (λ _ _. kept-decided p now (decide (kept_of g) p now) g a (decide-fits (kept_of g) p now) (kept-guard now s h))
   kept-move (Ticks now) s a h =
       let g = guard now s in
       heartbeat-cases P now g (λ _. k.plain Heartbeat [] now g refl refl (kept-guard now s h)) (kept-guard now s h)

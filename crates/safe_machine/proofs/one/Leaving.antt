@@ -52,7 +52,7 @@ quiet-send unit now s = send-cases (λ t. Quiet s.connection t.connection) unit 
 take_unit-connection : (p : Pdu) (now : ℕ) (y : State) → (take_unit p now y).connection ≡ y.connection
 take_unit-connection p now y = unit-cases (λ t. t.connection ≡ y.connection) p now y (λ _. refl) (λ _ _. refl) (λ _. refl)
 
-down-decided : (x : State) (p : Pdu) (now : ℕ) (d : Decision) → Fits x p now d → (carry_out p now d x).connection ≡ Down → x.connection ≡ Down
+down-decided : (x : State) (p : Pdu) (now : ℕ) (d : Decision) → Fits (kept_of x) p now d → (carry_out p now d x).connection ≡ Down → x.connection ≡ Down
 down-decided x p now Nothing f e = e
 down-decided x p now (Drops cause) f e = e
 down-decided x p now Rejects f e = f.0
@@ -71,7 +71,7 @@ down-decided x p now _ f e = cc
 pub arrive-down : (p : Pdu) (now : ℕ) (s : State) → (arrive p now s).connection ≡ Down → s.connection ≡ Down
 arrive-down p now s =
     arrive-by (λ t. t.connection ≡ Down → s.connection ≡ Down) p now s (quiet-guard now s).1
-    (λ _ _ e. (quiet-guard now s).1 (down-decided (guard now s) p now (decide (kept_of (guard now s)) p now) (decide-fits (guard now s) p now) e))
+    (λ _ _ e. (quiet-guard now s).1 (down-decided (guard now s) p now (decide (kept_of (guard now s)) p now) (decide-fits (kept_of (guard now s)) p now) e))
 
 -- who joins has heard its peer
 pub arrive-joins : (p : Pdu) (now : ℕ) (s : State) → joins s.connection (arrive p now s).connection ≡ true → is_stranger s p ≡ false

@@ -118,7 +118,7 @@ met-arrive clock other now n p x y later h peer bounded bounded_peer short both 
     let m = r.1 in
     let incoming : Incoming r.0 m r.2 s y =
     record { pair = hs; peer = peer; few = omega (arith, bs.0.few); few_peer = omega (arith, bounded_peer.few); small = bs.0.small; at = r.3 } in
-    let fits = decide-fits s m.pdu now in
+    let fits = decide-fits (kept_of s) m.pdu now in
     let steps : Steps now s (respond m.pdu now s) y =
     steps-carry now other now r.0 m r.2 s y (omega arith) (λ live. omega (arith, guarded live)) incoming both_s.receives both_s.sends (decide (kept_of s) m.pdu now) fits in
     subst (λ (q : Pdu). Arrived clock other now q x (respond q now s) y) r.4
@@ -129,13 +129,13 @@ met-arrive clock other now n p x y later h peer bounded bounded_peer short both 
   where
     took_fresh : (clock now i : ℕ) (m : Made) (rest : List Made) (x y : State) → Incoming i m rest (guard now x) y → (guard now x).taken ≡ x.taken → (guard now x).settings.t_max ≤ 60000 →
         (is_live (guard now x).connection ≡ true → now < (guard now x).confirmed_at + (guard now x).settings.t_max) → Timed now (guard now x) y →
-        (e : Decision) → Fits (guard now x) m.pdu now e → (carry_out m.pdu now e (guard now x)).taken ≢ x.taken → Fresh x m.pdu now y.made
+        (e : Decision) → Fits (kept_of (guard now x)) m.pdu now e → (carry_out m.pdu now e (guard now x)).taken ≢ x.taken → Fresh x m.pdu now y.made
     took_fresh clock now i m rest x y a same short guarded h e f new =
         elim (carry-taken m.pdu now (guard now x) e) [
           | inr nothing ↦ absurd (new (nothing ∙ same))
           | inl is ↦
               let g = guard now x in
-              let took : Fits g m.pdu now (Takes is.0) = subst (λ (d : Decision). Fits g m.pdu now d) is.1 f in
+              let took : Fits (kept_of g) m.pdu now (Takes is.0) = subst (λ (d : Decision). Fits (kept_of g) m.pdu now d) is.1 f in
               let live = listens-live g.connection g.settings.client took.table.listens_now in
               let r = fresh-take now now i m rest g y is.0 (omega arith) (guarded live) short a h took in
               let whole : g ≡ x = guard-live now x live in

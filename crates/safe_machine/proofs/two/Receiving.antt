@@ -122,21 +122,21 @@ listens-started Closed client expected made l h = cc
 listens-started Down client expected made l h = cc
 listens-started _ client expected made l h = h
 
-pub by_table-started : (x : State) (p : Pdu) → Solo x → ByTable x p → (1 ≤ x.expected) × (1 ≤ length x.made)
+pub by_table-started : (x : State) (p : Pdu) → Solo x → ByTable (kept_of x) p → (1 ≤ x.expected) × (1 ≤ length x.made)
 by_table-started x p h t = listens-started x.connection x.settings.client x.expected x.made t.listens_now h.started
 
 -- and the PDU lies where its number says
-pub incoming-arrival : (i : ℕ) (m : Made) (rest : List Made) (x y : State) → Incoming i m rest x y → ByTable x m.pdu → Arrival (distance (kept_of x) m.pdu) m rest x y
+pub incoming-arrival : (i : ℕ) (m : Made) (rest : List Made) (x y : State) → Incoming i m rest x y → ByTable (kept_of x) m.pdu → Arrival (distance (kept_of x) m.pdu) m rest x y
 incoming-arrival i m rest x y a t =
     let s = by_table-started x m.pdu a.pair.0 t in
     let same : i ≡ x.expected + distance (kept_of x) m.pdu = sym (reach i m rest x y a.peer a.pair.2 a.few_peer s.0 a.at (omega (arith, t.near, a.small))) in
     record { pair = a.pair; peer = a.peer; few = a.few; at = subst (λ (n : ℕ). drop n y.made ≡ m ∷ rest) same a.at }
 
-pub incoming-next : (i : ℕ) (m : Made) (rest : List Made) (x y : State) → Incoming i m rest x y → ByTable x m.pdu → distance (kept_of x) m.pdu ≡ 0 → Arrival 0 m rest x y
+pub incoming-next : (i : ℕ) (m : Made) (rest : List Made) (x y : State) → Incoming i m rest x y → ByTable (kept_of x) m.pdu → distance (kept_of x) m.pdu ≡ 0 → Arrival 0 m rest x y
 incoming-next i m rest x y a t none = subst (λ (n : ℕ). Arrival n m rest x y) none (incoming-arrival i m rest x y a t)
 
 -- Each decision keeps the invariant.
-pair-carry : (now i : ℕ) (m : Made) (rest : List Made) (x y : State) → Incoming i m rest x y → (e : Decision) → Fits x m.pdu now e → Pair (carry_out m.pdu now e x) y
+pair-carry : (now i : ℕ) (m : Made) (rest : List Made) (x y : State) → Incoming i m rest x y → (e : Decision) → Fits (kept_of x) m.pdu now e → Pair (carry_out m.pdu now e x) y
 pair-carry now i m rest x y a Nothing f = a.pair
 pair-carry now i m rest x y a (Drops cause) f = a.pair
 pair-carry now i m rest x y a Shuts f = pair-closed x y a.pair
@@ -162,4 +162,4 @@ pair-carry now i m rest x y a AnswersEarly f =
 
 -- Whatever PDU of the peer comes, the invariant is kept.
 pub pair-respond : (now i : ℕ) (m : Made) (rest : List Made) (x y : State) → Incoming i m rest x y → Pair (respond m.pdu now x) y
-pair-respond now i m rest x y a = pair-carry now i m rest x y a (decide (kept_of x) m.pdu now) (decide-fits x m.pdu now)
+pair-respond now i m rest x y a = pair-carry now i m rest x y a (decide (kept_of x) m.pdu now) (decide-fits (kept_of x) m.pdu now)

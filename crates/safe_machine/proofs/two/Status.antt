@@ -128,9 +128,9 @@ mute-arrive now n p il made h b dead genuine =
     (λ on meant.
     let r = among-dropped p n made (genuine on meant) in
     let plain : is_opening p.kind ≡ 0 = ap (λ (q : Pdu). is_opening q.kind) (sym r.4) ∙ every-at NotOpening n r.0 made r.1 r.2 dead r.5 r.3 in
-    mute-carry p now il s plain hs ls bs (decide (kept_of s) p now) (decide-fits s p now))
+    mute-carry p now il s plain hs ls bs (decide (kept_of s) p now) (decide-fits (kept_of s) p now))
   where
-    mute-carry : (p : Pdu) (now : ℕ) (il s : State) → is_opening p.kind ≡ 0 → Mute s → Lone il s → Bounded s → (e : Decision) → Fits s p now e →
+    mute-carry : (p : Pdu) (now : ℕ) (il s : State) → is_opening p.kind ≡ 0 → Mute s → Lone il s → Bounded s → (e : Decision) → Fits (kept_of s) p now e →
         Mute (carry_out p now e s) × Lone il (carry_out p now e s) × Bounded (carry_out p now e s)
     mute-carry p now il s plain h l b Nothing f = (h, l, b)
     mute-carry p now il s plain h l b (Drops cause) f = (h, l, b)
@@ -157,9 +157,9 @@ deaf-arrive now n p fe made on_fe b quiet genuine =
     (λ on meant.
     let r = among-dropped p n made (genuine on meant) in
     let plain : needs_peer p.kind ≡ 0 = ap (λ (q : Pdu). needs_peer q.kind) (sym r.4) ∙ every-at Quiet 0 r.0 made r.1 r.2 quiet (omega arith) r.3 in
-    deaf-carry p now fe s plain on_s ls bs (decide (kept_of s) p now) (decide-fits s p now))
+    deaf-carry p now fe s plain on_s ls bs (decide (kept_of s) p now) (decide-fits (kept_of s) p now))
   where
-    deaf-carry : (p : Pdu) (now : ℕ) (fe s : State) → needs_peer p.kind ≡ 0 → s.connection ≢ Down → Lone fe s → Bounded s → (e : Decision) → Fits s p now e →
+    deaf-carry : (p : Pdu) (now : ℕ) (fe s : State) → needs_peer p.kind ≡ 0 → s.connection ≢ Down → Lone fe s → Bounded s → (e : Decision) → Fits (kept_of s) p now e →
         ((carry_out p now e s).connection ≢ Down) × Lone fe (carry_out p now e s) × Bounded (carry_out p now e s)
     deaf-carry p now fe s plain on l b Nothing f = (on, l, b)
     deaf-carry p now fe s plain on l b (Drops cause) f = (on, l, b)
@@ -191,9 +191,9 @@ still-arrive now n p fe made still b dead genuine =
     (λ on meant.
     let r = among-dropped p n made (genuine on meant) in
     let plain : is_opening p.kind ≡ 0 = ap (λ (q : Pdu). is_opening q.kind) (sym r.4) ∙ every-at NotOpening n r.0 made r.1 r.2 dead r.5 r.3 in
-    subst (λ t. P (respond p now t)) (sym same) (still-carry p now fe plain still b (decide (kept_of fe) p now) (decide-fits fe p now)))
+    subst (λ t. P (respond p now t)) (sym same) (still-carry p now fe plain still b (decide (kept_of fe) p now) (decide-fits (kept_of fe) p now)))
   where
-    still-carry : (p : Pdu) (now : ℕ) (s : State) → is_opening p.kind ≡ 0 → (s.connection ≡ Down) ⊎ (s.connection ≡ Closed) → Bounded s → (e : Decision) → Fits s p now e →
+    still-carry : (p : Pdu) (now : ℕ) (s : State) → is_opening p.kind ≡ 0 → (s.connection ≡ Down) ⊎ (s.connection ≡ Closed) → Bounded s → (e : Decision) → Fits (kept_of s) p now e →
         Lone s (carry_out p now e s) × Bounded (carry_out p now e s) × (((carry_out p now e s).connection ≡ Down) ⊎ ((carry_out p now e s).connection ≡ Closed)) × ((carry_out p now e s).made ≡ s.made) × ((carry_out p now e s).confirmed_at ≡ s.confirmed_at)
     still-carry p now s plain h b Nothing f = (lone-refl s, b, h, refl, refl)
     still-carry p now s plain h b (Drops cause) f = (lone-refl s, b, h, refl, refl)

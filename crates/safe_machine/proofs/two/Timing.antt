@@ -225,7 +225,7 @@ arrival-coming d m rest x y a needs =
     record { at = a.at; beyond = omega arith; late = sound.late (omega arith); told = told.behind; within = a.pair.1.within }
 
 pub steps-carry : (clock other now i : ℕ) (m : Made) (rest : List Made) (x y : State) → clock ≤ now → (is_live x.connection ≡ true → now < x.confirmed_at + 60000) →
-    Incoming i m rest x y → Timed clock x y → Timed other y x → (e : Decision) → Fits x m.pdu now e → Steps now x (carry_out m.pdu now e x) y
+    Incoming i m rest x y → Timed clock x y → Timed other y x → (e : Decision) → Fits (kept_of x) m.pdu now e → Steps now x (carry_out m.pdu now e x) y
 steps-carry clock other now i m rest x y later guarded a h g Nothing f = steps-none clock other now x y later h g
 steps-carry clock other now i m rest x y later guarded a h g (Drops cause) f = steps-none clock other now x y later h g
 steps-carry clock other now i m rest x y later guarded a h g Shuts f =
@@ -299,7 +299,7 @@ guard-passed now s =
 
 -- A unit that is taken was carried by a PDU whose basis this end made less than t_max before.
 pub fresh-take : (clock now i : ℕ) (m : Made) (rest : List Made) (x y : State) (to : ConnectionState) → clock ≤ now → now < x.confirmed_at + x.settings.t_max → x.settings.t_max ≤ 60000 →
-    Incoming i m rest x y → Timed clock x y → Fits x m.pdu now (Takes to) →
+    Incoming i m rest x y → Timed clock x y → Fits (kept_of x) m.pdu now (Takes to) →
     (b : Made) × (rb : List Made) × (1 ≤ m.behind) × (drop (m.behind - 1) x.made ≡ b ∷ rb) × (now < b.time + x.settings.t_max)
 fresh-take clock now i m rest x y to later guarded short a h f =
     let r = incoming-next i m rest x y a f.table f.next in

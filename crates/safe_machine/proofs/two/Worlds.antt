@@ -295,7 +295,7 @@ reply-connection : (now : ℕ) (s : State) → (reply now s).connection ≡ s.co
 reply-connection now s = resend-connection (unconfirmed s) now (make RetrResp [] now s)
 
 -- an end that is not in Down stays so
-on-carry : (p : Pdu) (now : ℕ) (s : State) → s.connection ≢ Down → (e : Decision) → Fits s p now e → (carry_out p now e s).connection ≢ Down
+on-carry : (p : Pdu) (now : ℕ) (s : State) → s.connection ≢ Down → (e : Decision) → Fits (kept_of s) p now e → (carry_out p now e s).connection ≢ Down
 on-carry p now s on Nothing f = on
 on-carry p now s on (Drops cause) f = on
 on-carry p now s on Shuts f = closed≢down
@@ -319,7 +319,7 @@ on-carry p now s on AnswersEarly f =
 on-arrive : (p : Pdu) (now : ℕ) (s : State) → s.connection ≢ Down → (arrive p now s).connection ≢ Down
 on-arrive p now s on =
     let g = guard now s in
-    on-carry p now g (on-lone s g (lone-guard now s) on) (decide (kept_of g) p now) (decide-fits g p now)
+    on-carry p now g (on-lone s g (lone-guard now s) on) (decide (kept_of g) p now) (decide-fits (kept_of g) p now)
 
 -- what a field element in Down does
 abbrev AfterDown : ℕ → State → State → Type 0
@@ -334,7 +334,7 @@ after-down index s t apart settled untouched =
 down-deaf : (s : State) → s.connection ≡ Down → (listens s.connection s.settings.client ≡ false) × (is_live s.connection ≡ false)
 down-deaf s e = (ap (λ (c : ConnectionState). listens c s.settings.client) e, ap is_live e)
 
-down-carry : (index : ℕ) (p : Pdu) (now : ℕ) (s : State) → s.connection ≡ Down → Untouched s → (e : Decision) → Fits s p now e → AfterDown index s (carry_out p now e s)
+down-carry : (index : ℕ) (p : Pdu) (now : ℕ) (s : State) → s.connection ≡ Down → Untouched s → (e : Decision) → Fits (kept_of s) p now e → AfterDown index s (carry_out p now e s)
 down-carry index p now s down k Nothing f = after-down index s s (joins-same s.connection s.connection (inl refl)) (inl down, ap units k.made, k.taken) (λ e. k)
 down-carry index p now s down k (Drops cause) f = after-down index s s (joins-same s.connection s.connection (inl refl)) (inl down, ap units k.made, k.taken) (λ e. k)
 down-carry index p now s down k Shuts f =
@@ -370,7 +370,7 @@ fe-arrive_met w p now h m genuine = elim (down_or w.fe.connection) [ inl down �
         let r = pair-arrive now w.dead_il p w.fe w.il (m.solo_fe, m.fe_sends, m.il_sends) m.solo_il h.bounded_fe h.bounded_il genuine in
         let k = h.idle down in
         let same : guard now w.fe ≡ w.fe = guard-idle now w.fe (ap is_live down) in
-        let c = down-carry (length w.il_before) p now w.fe down k.0 (decide (kept_of w.fe) p now) (decide-fits w.fe p now) in
+        let c = down-carry (length w.il_before) p now w.fe down k.0 (decide (kept_of w.fe) p now) (decide-fits (kept_of w.fe) p now) in
         let after : AfterDown (length w.il_before) w.fe (arrive p now w.fe) = subst (λ (s : State). AfterDown (length w.il_before) w.fe (respond p now s)) (sym same) c in
         let joined : JoinedTo (length w.il_before) (arrive p now w.fe) (joined_after w (arrive p now w.fe)) =
         subst (λ (q : Option ℕ). JoinedTo (length w.il_before) (arrive p now w.fe) (if joins w.fe.connection (arrive p now w.fe).connection then Some (length w.il_before) else q)) (sym k.1) after.0 in

@@ -1,22 +1,12 @@
--- What each decision hands up, and what it lets its branch rely on.
-use Rattle.std.specs.Prelude.{◌≡◌, ◌<◌, ◌≤◌, ℕ, ◌-◌, if◌then◌else◌, List, [], ◌∷◌}
+-- What each decision lets its branch rely on.
+use Rattle.std.specs.Prelude.{◌≡◌, ◌<◌, ◌≤◌, ℕ, ◌-◌, []}
 use Rattle.safe_machine.specs.declared.arrival.Decision.{Decision}
 use Rattle.safe_machine.specs.declared.arrival.Decision.TheVariants.{Accepts, Connects, Takes, Resumes, AnswersNext, AnswersEarly}
 use Rattle.safe_pdu.specs.Pdu.{Pdu}
 use Rattle.safe_pdu.specs.Bodies.{IsBody}
 use Rattle.safe_pdu.specs.declared.Kind.TheVariants.{ConnReq}
-use Rattle.safe_machine.specs.Made.{carries}
 use Rattle.safe_machine.specs.Decision.{cs_step, cts_step}
 use Rattle.safe_machine.specs.View.{View}
-
--- the unit that a PDU carries
-abbrev pub carried : Pdu → List (List ℕ)
-carried p = if carries p.kind then p.body ∷ [] else []
-
--- the units that a decision hands up
-abbrev pub handed_by : Decision → Pdu → List (List ℕ)
-handed_by (Takes connection) p = carried p
-handed_by _ p = []
 
 -- what a branch relies on
 abbrev pub Passes : View → Pdu → ℕ → Type 0

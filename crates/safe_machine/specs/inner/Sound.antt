@@ -1,13 +1,21 @@
 -- The bounds that every machine keeps.
-use Rattle.std.specs.Prelude.{◌≡◌, ◌<◌, ◌≤◌, ◌^◌, true, length, []}
+use Rattle.std.specs.Prelude.{◌≡◌, ◌<◌, ◌≤◌, ◌^◌, ℕ, true, List, length, [], All}
 use Rattle.octets.specs.declared.limits.TheConstants.{WINDOW_MAX}
+use Rattle.retrans.specs.Units.{Numbered}
 use Rattle.safe_pdu.specs.Bodies.{IsBody}
-use Rattle.safe_pdu.specs.declared.Kind.TheVariants.{ConnReq}
+use Rattle.safe_pdu.specs.declared.Kind.TheVariants.{ConnReq, RetrData}
 use Rattle.safe_machine.specs.declared.ConnectionState.TheVariants.{Down}
 use Rattle.safe_machine.specs.Connections.{is_live}
 use Rattle.safe_machine.specs.Made.{opening_body}
 use Rattle.safe_machine.specs.View.{View}
-use Rattle.safe_machine.specs.inner.Doing.{AllUnits, AllBelow}
+
+-- each number below one
+abbrev pub AllBelow : ℕ → List Numbered → Type 0
+AllBelow number units = All (λ (u : Numbered). u.number < number) units
+
+-- each with the octets of a unit
+abbrev pub AllUnits : List Numbered → Type 0
+AllUnits units = All (λ (u : Numbered). IsBody RetrData u.octets) units
 
 pub record Sound (v : View) : Type 0 where
   pub few : v.made < 2 ^ 33

@@ -5,7 +5,7 @@ use Rattle.red_layer.specs.Parts.{is_nil}
 use Rattle.red_layer.proofs.Views.{map_parts-put_in, IsBelow-put_in, is_nil-least}
 use Rattle.red_layer.proofs.Deferring.{deferred-again, deferred-full, deferred-wait, one_more}
 use Rattle.red_layer.proofs.RedLayer.defer.Goals as goal
-use Rattle.deferral.proofs.FiniteMap.{Rises-put_in, length-put_in}
+use Rattle.red_layer.proofs.FiniteMap.{Rises-put_in, length-put_in}
 
 pub returns-then-has-clause-event : goal.returns-then-has-clause-event
 returns-then-has-clause-event g c =

@@ -1,5 +1,5 @@
 use Rattle.std.proofs.Common.{length, ap, arith, sym, subst, ◌∙◌}
-use Rattle.deferral.specs.FiniteMap.{Rises}
+use Rattle.red_layer.specs.FiniteMap.{Rises}
 use Rattle.red_layer.specs.Parts.{map_parts}
 use Rattle.red_layer.proofs.Views.{Rises-unmap, length-after_run, length-map_parts}
 use Rattle.red_layer.proofs.RedLayer.follow.Goals as goal

@@ -1,5 +1,5 @@
 use Rattle.std.proofs.Common.{◌+◌, subst}
-use Rattle.deferral.specs.FiniteMap.{Rises}
+use Rattle.red_layer.specs.FiniteMap.{Rises}
 use Rattle.red_layer.proofs.RedLayer.judge.Goals as goal
 use Rattle.red_layer.proofs.Runs.{Rises-map_parts}
 

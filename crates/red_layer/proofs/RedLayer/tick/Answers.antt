@@ -1,5 +1,5 @@
 use Rattle.std.proofs.Common.{sym, subst}
-use Rattle.deferral.specs.FiniteMap.{Rises}
+use Rattle.red_layer.specs.FiniteMap.{Rises}
 use Rattle.red_layer.proofs.Views.{Rises-least}
 use Rattle.red_layer.proofs.RedLayer.tick.Goals as goal
 

@@ -12,6 +12,9 @@ use Rattle.safe_machine.proofs.one.Few.{few_law_holds}
 use Rattle.safe_machine.proofs.one.Ring.{ring_of-units}
 use Rattle.safe_machine.proofs.one.Requests.{requests_law_holds}
 use Rattle.safe_machine.proofs.two.OneMore.{one_more_law_holds}
+use Rattle.safe_machine.proofs.code.Properties.{recent_law_holds}
+use Rattle.safe_machine.proofs.one.Confirming.{made_law_holds}
+use Rattle.safe_machine.proofs.one.Turning.{octets_law_holds, opening_law_holds, tells_law_holds, turns_law_holds}
 use Rattle.safe_machine.proofs.law.unit_law.Goals as goal
 
 pub returns : goal.returns
@@ -32,6 +35,12 @@ returns c = record {
   ring = ring_of-units;
   texts = texts_law_holds;
   few = few_law_holds;
+  turns = turns_law_holds;
+  made = made_law_holds;
+  octets = octets_law_holds;
+  recent = recent_law_holds;
+  openings = opening_law_holds;
+  tells = tells_law_holds;
   in_order = order_law_holds;
   stays = stays_law_holds;
   one_more = one_more_law_holds;

@@ -5,7 +5,10 @@ use Rattle.stack_end.proofs.judging.judge_messages.Goals as goal
 
 pub returns-in-Some-clause-judged : goal.returns-in-Some-clause-judged
 returns-in-Some-clause-judged g c =
-    along-stop_at g.T.Taker.takes c.args.messages.now c.loop-message.message-index record { ref_ptr = (0, 0); now = [] } (talk c.args.session.now c.args.waiting.now c.args.taker.now) (talk c.loop-message.session c.loop-message.waiting c.loop-message.taker) (talk c.judge_message-asked.new.session c.judge_message-asked.new.waiting c.judge_message-asked.new.taker) c.judge_message-asked.result c.in-Some.leaving c.loop-message-test.true
+    along-stop_at g.T.Taker.takes c.args.messages.now c.loop-message.message-index record { ref_ptr = (0, 0); now = [] }
+    (talk c.args.session.now c.args.waiting.now c.args.taker.now) (talk c.loop-message.session c.loop-message.waiting c.loop-message.taker)
+    (talk c.judge_message-asked.new.session c.judge_message-asked.new.waiting c.judge_message-asked.new.taker) c.judge_message-asked.result
+    c.in-Some.leaving c.loop-message-test.true
     c.loop-message.invariant.along c.judge_message-asked.ensures.judged c.in-Some.is
 
 pub loop-message-preserved : goal.loop-message-preserved
@@ -13,7 +16,10 @@ loop-message-preserved g c =
     record {
       few = c.judge_message-asked.ensures.few;
       along =
-          along-at g.T.Taker.takes c.args.messages.now c.loop-message.message-index record { ref_ptr = (0, 0); now = [] } (talk c.args.session.now c.args.waiting.now c.args.taker.now) (talk c.loop-message.session c.loop-message.waiting c.loop-message.taker) (talk c.judge_message-asked.new.session c.judge_message-asked.new.waiting c.judge_message-asked.new.taker) c.judge_message-asked.result c.loop-message-test.true
+          along-at g.T.Taker.takes c.args.messages.now c.loop-message.message-index record { ref_ptr = (0, 0); now = [] }
+          (talk c.args.session.now c.args.waiting.now c.args.taker.now) (talk c.loop-message.session c.loop-message.waiting c.loop-message.taker)
+          (talk c.judge_message-asked.new.session c.judge_message-asked.new.waiting c.judge_message-asked.new.taker) c.judge_message-asked.result
+          c.loop-message-test.true
           c.loop-message.invariant.along c.judge_message-asked.ensures.judged c.in_default.is;
     }
 

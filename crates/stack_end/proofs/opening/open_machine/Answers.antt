@@ -1,16 +1,35 @@
-use Rattle.std.proofs.Common.{◌≡◌, ◌∙◌, ap, refl, rules, subst}
+use Rattle.std.proofs.Common.{◌≡◌, ◌∙◌, ◌%◌, ◌^◌, ap, length, refl, rules, subst, sym, zero-add}
 use Rattle.std.specs.List.{FoldsTo}
 use Rattle.octets.proofs.Steps.{FoldsTo-keeps}
 use Rattle.channels.specs.Told.{SendsOne}
 use Rattle.safe_machine.specs.Settings.{Settings}
+use Rattle.safe_machine.specs.Turned.{HasMade}
 use Rattle.safe_machine.specs.State.{opened}
-use Rattle.safe_machine.specs.View.{settings_of as machine_settings}
+use Rattle.safe_machine.specs.Turns.{opens}
+use Rattle.safe_machine.specs.View.{kept_of, settings_of as machine_settings}
 use Rattle.end_settings.specs.EndSettings.{EndSettings, connection_of, rule_of}
 use Rattle.end_settings.specs.Configured.{settings_of, side_of}
 use Rattle.end_settings.specs.declared.Side.TheVariants.{Interlocking}
 use Rattle.stack_end.specs.Datagrams.{sendings}
-use Rattle.stack_end.proofs.Uppers.{sends-all}
+use Rattle.stack_end.specs.Turns.{datagrams, number_behind}
+use Rattle.safe_machine.proofs.one.Turning.{opening_law_holds}
+use Rattle.stack_end.proofs.Going.{datagrams-out}
+use Rattle.stack_end.proofs.Turning.{behind-wrap, datagrams-are, opens-made}
 use Rattle.stack_end.proofs.opening.open_machine.Goals as goal
+
+pub returns-in-Ok-clause-stands : goal.returns-in-Ok-clause-stands
+returns-in-Ok-clause-stands g c =
+    let settings : EndSettings = settings_of c.args.config.now in
+    let machine = machine_settings c.role-role.result c.machine.result in
+    let is : machine ≡ connection_of (side_of c.args.side) settings = ap (λ r. machine_settings r c.machine.result) c.role-role.ensures
+    ∙ c.machine.ensures c.args.side in
+    c.in-Ok.ensures.left ∙ ((opening_law_holds machine c.args.first_sn c.args.now).stands
+    ∙ ap (λ (q : Settings). kept_of (opened q c.args.first_sn c.args.now)) is)
+
+pub returns-in-Ok-clause-has_made : goal.returns-in-Ok-clause-has_made
+returns-in-Ok-clause-has_made g c =
+    let machine = machine_settings c.role-role.result c.machine.result in
+    subst HasMade (sym c.in-Ok.ensures.left) (opens-made machine c.args.first_sn c.args.now)
 
 pub returns-in-Ok-clause-sent : goal.returns-in-Ok-clause-sent
 returns-in-Ok-clause-sent g c =
@@ -19,11 +38,36 @@ returns-in-Ok-clause-sent g c =
     let is : machine_settings c.role-role.result c.machine.result ≡ connection_of (side_of c.args.side) settings =
     ap (λ r. machine_settings r c.machine.result) c.role-role.ensures ∙ c.machine.ensures c.args.side in
     let rule : c.machine.result.rule ≡ rule_of settings = ap (λ (s : Settings). s.rule) (c.machine.ensures Interlocking) in
-    let made = (opened (machine_settings c.role-role.result c.machine.result) c.args.first_sn c.args.now).made in
-    let all =
-    sends-all (λ s. told s.channels.now) (λ s. s.numbers.now) (λ s. s.count) _ (λ s pdu t r. (r.2, r.3, r.4)) settings c.machine.result.rule made 0 _ _
-    c.in-Ok.ensures.made refl c.requires.first rule in
+    let machine = machine_settings c.role-role.result c.machine.result in
+    let made = (opens machine c.args.first_sn c.args.now).made in
+    let out = datagrams-out (λ s. told s.channels.now) (λ s. s.numbers.now) (λ s. s.count) _ (λ s pdu t r. (r.2, r.3, r.4)) c.machine.result.rule made _ _
+    c.in-Ok.ensures.made in
+    let spelled =
+    ap (λ r. datagrams r settings.channels c.args.numbers.now made) rule
+    ∙ (ap (λ n. datagrams (rule_of settings) settings.channels n made) c.requires.first ∙ datagrams-are settings 0 made) in
+    let first = subst (λ xs. FoldsTo SendsOne (told c.args.channels.now) xs (told c.open.new.out.channels.now)) spelled out.0 in
     let sent =
-    subst (λ (q : Settings). FoldsTo SendsOne (told c.args.channels.now) (sendings settings 0 (opened q c.args.first_sn c.args.now).made) (told c.open.new.out.channels.now)) is all.0 in
+    subst (λ (q : Settings). FoldsTo SendsOne (told c.args.channels.now) (sendings settings 0 (opened q c.args.first_sn c.args.now).made)
+    (told c.open.new.out.channels.now)) is
+    (subst (λ ms. FoldsTo SendsOne (told c.args.channels.now) (sendings settings 0 ms) (told c.open.new.out.channels.now))
+    (sym (opening_law_holds machine c.args.first_sn c.args.now).made) first) in
     let same = FoldsTo-keeps (λ s. s.channels.ghost_name) _ (λ s x t h. h.0) _ _ _ c.in-Ok.ensures.made in
     search (rules, sent, same)
+
+pub returns-in-Ok-clause-numbered : goal.returns-in-Ok-clause-numbered
+returns-in-Ok-clause-numbered g c =
+    let settings : EndSettings = settings_of c.args.config.now in
+    let is : machine_settings c.role-role.result c.machine.result ≡ connection_of (side_of c.args.side) settings =
+    ap (λ r. machine_settings r c.machine.result) c.role-role.ensures ∙ c.machine.ensures c.args.side in
+    let machine = machine_settings c.role-role.result c.machine.result in
+    let made = (opens machine c.args.first_sn c.args.now).made in
+    let out = datagrams-out (λ s. g.C.Channels.told s.channels.now) (λ s. s.numbers.now) (λ s. s.count) _ (λ s pdu t r. (r.2, r.3, r.4)) c.machine.result.rule
+    made _ _ c.in-Ok.ensures.made in
+    let numbered =
+    out.1
+    ∙ (ap (λ n. number_behind n made) c.requires.first
+    ∙ (behind-wrap 0 made
+    ∙ (ap (λ n. n % 2 ^ 32) (zero-add (length made)) ∙ ap (λ ms. length ms % 2 ^ 32) (sym (opening_law_holds machine c.args.first_sn c.args.now).made)
+    ∙ ap (λ (q : Settings). length (opened q c.args.first_sn c.args.now).made % 2 ^ 32) is))) in
+    let same = FoldsTo-keeps (λ s. s.numbers.ghost_name) _ (λ s x t h. h.1) _ _ _ c.in-Ok.ensures.made in
+    search (rules, numbered, same)

@@ -1,6 +1,6 @@
 use Rattle.std.proofs.Common.{◌≡◌, ℕ, suc, ◌-◌, length, Some, sym, ap, subst, ◌∙◌, arith}
 use Rattle.std.proofs.Math.Seq.{take-length}
-use Rattle.stack_engine.proofs.Making.{IsLeft, all-left, go-back, found, none-left}
+use Rattle.stack_engine.proofs.code.Making.{IsLeft, all-left, go-back, found, none-left}
 use Rattle.stack_engine.proofs.openings.latest_maker_of.Goals as goal
 
 pub loop-number-init : goal.loop-number-init

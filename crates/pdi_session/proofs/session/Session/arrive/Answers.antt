@@ -1,5 +1,5 @@
 use Rattle.sci_telegram.specs.Tele.{tele_of}
-use Rattle.pdi_session.proofs.TableLemmas.{few_judged}
+use Rattle.pdi_session.proofs.one.TableLemmas.{few_judged}
 use Rattle.pdi_session.proofs.session.Session.arrive.Goals as goal
 
 pub returns-in-Goes-clause-few : goal.returns-in-Goes-clause-few

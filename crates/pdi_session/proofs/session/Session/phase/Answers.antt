@@ -1,6 +1,6 @@
 use Rattle.std.proofs.Common.{subst}
 use Rattle.pdi_session.specs.Settings.{AreSettings}
-use Rattle.pdi_session.proofs.Sides.{side_checksum}
+use Rattle.pdi_session.proofs.one.Sides.{side_checksum}
 use Rattle.pdi_session.proofs.session.Session.phase.Goals as goal
 
 pub returns-clause-settings : goal.returns-clause-settings

@@ -1,26 +1,34 @@
-use Rattle.std.proofs.Common.{sym, ap, subst}
+use Rattle.std.proofs.Common.{sym, ap, refl, subst, ◌∙◌}
+use Rattle.std.specs.List.{FoldsTo}
 use Rattle.safe_pdu.specs.Pdu.{pdu_of}
-use Rattle.safe_machine.specs.State.{leave}
-use Rattle.safe_machine.specs.Step.{arrive, respond}
-use Rattle.safe_machine.specs.Decision.{decide}
-use Rattle.safe_machine.specs.View.{HandsUp}
-use Rattle.safe_machine.proofs.code.Views.{does-as}
-use Rattle.safe_machine.proofs.code.Arriving.{arrive-left, arrive-goes, hands-up}
+use Rattle.safe_machine.specs.Turns.{Out, Turn}
+use Rattle.safe_machine.proofs.code.Arriving.{arrives-goes, arrives-left, hands-goes, hands-left}
 use Rattle.safe_machine.proofs.endpoint.Endpoint.arrive.Goals as goal
 
-pub returns-in-Some-clause-does : goal.returns-in-Some-clause-does
-returns-in-Some-clause-does g c =
-    does-as g.O.PduOut.makes (leave c.in-Some.reason c.in-Some.detail c.args.now) (arrive (pdu_of c.args.pdu.now) c.args.now) c.args.self.now c.leave.new.self c.args.out.now c.leave.new.out
-    (λ s h. arrive-left (pdu_of c.args.pdu.now) c.args.now c.args.self.now s c.in-Some.reason c.in-Some.detail h (sym c.in-Some.ensures)) c.leave.ensures.does
+pub returns-in-Some-clause-left : goal.returns-in-Some-clause-left
+returns-in-Some-clause-left g c =
+    let is = arrives-left (pdu_of c.args.pdu.now) c.args.now c.args.self.now c.in-Some.reason c.in-Some.detail c.in-Some.ensures in
+    c.leave.ensures.left ∙ ap (λ (t : Turn). t.left) (sym is)
 
-pub returns-clause-does : goal.returns-clause-does
-returns-clause-does g c =
-    does-as g.O.PduOut.makes (respond (pdu_of c.args.pdu.now) c.args.now) (arrive (pdu_of c.args.pdu.now) c.args.now) c.args.self.now c.respond.new.self c.args.out.now c.respond.new.out
-    (λ s h. arrive-goes (pdu_of c.args.pdu.now) c.args.now c.args.self.now s h (sym c.in_default.ensures)) c.respond.ensures.does
+pub returns-in-Some-clause-made : goal.returns-in-Some-clause-made
+returns-in-Some-clause-made g c =
+    let is = arrives-left (pdu_of c.args.pdu.now) c.args.now c.args.self.now c.in-Some.reason c.in-Some.detail c.in-Some.ensures in
+    subst (λ t. Out g.O.PduOut.makes c.args.self.now.settings.rule c.args.out.now t c.leave.new.out) (sym is) c.leave.ensures.made
+
+pub returns-in-Some-clause-taken : goal.returns-in-Some-clause-taken
+returns-in-Some-clause-taken g c =
+    subst (λ us. FoldsTo g.U.UnitIn.takes c.args.units.now us c.args.units.now)
+    (sym (hands-left (pdu_of c.args.pdu.now) c.args.now c.args.self.now c.in-Some.reason c.in-Some.detail c.in-Some.ensures)) refl
+
+pub returns-clause-left : goal.returns-clause-left
+returns-clause-left g c = c.respond.ensures.left ∙ ap (λ (t : Turn). t.left) (sym (arrives-goes (pdu_of c.args.pdu.now) c.args.now c.args.self.now c.in_default.ensures))
+
+pub returns-clause-made : goal.returns-clause-made
+returns-clause-made g c =
+    subst (λ t. Out g.O.PduOut.makes c.args.self.now.settings.rule c.args.out.now t c.respond.new.out)
+    (sym (arrives-goes (pdu_of c.args.pdu.now) c.args.now c.args.self.now c.in_default.ensures)) c.respond.ensures.made
 
 pub returns-clause-taken : goal.returns-clause-taken
-returns-clause-taken g c s h =
-    let v = c.args.self.now in
-    let p = pdu_of c.args.pdu.now in
-    subst (λ t. HandsUp g.U.UnitIn.takes c.args.units.now s t c.respond.new.units) (sym (arrive-goes p c.args.now v s h (sym c.in_default.ensures)))
-    (hands-up g.U.UnitIn.takes c.args.units.now c.respond.new.units p c.args.now (decide v p c.args.now) s (ap (λ w. decide w p c.args.now) (sym h)) c.respond.ensures.taken)
+returns-clause-taken g c =
+    subst (λ us. FoldsTo g.U.UnitIn.takes c.args.units.now us c.respond.new.units)
+    (sym (hands-goes (pdu_of c.args.pdu.now) c.args.now c.args.self.now c.in_default.ensures)) c.respond.ensures.taken

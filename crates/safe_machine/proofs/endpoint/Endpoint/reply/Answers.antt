@@ -1,15 +1,18 @@
-use Rattle.std.proofs.Common.{ℕ, ap, refl, ◌∙◌}
-use Rattle.retrans.specs.Units.{Kept, renumbered, octets_of}
-use Rattle.safe_machine.specs.View.{View}
-use Rattle.safe_machine.proofs.code.Views.{reply-does}
+use Rattle.std.proofs.Common.{◌≡◌, ◌∙◌, [], subst}
+use Rattle.retrans.specs.Units.{octets_of}
+use Rattle.safe_pdu.specs.declared.Kind.TheVariants.{Heartbeat}
+use Rattle.safe_machine.specs.Turns.{Out, next_made, resends}
+use Rattle.safe_machine.specs.View.{View, text_of}
+use Rattle.safe_machine.proofs.code.Sending.{replies-out}
 use Rattle.safe_machine.proofs.endpoint.Endpoint.reply.Goals as goal
 
-pub returns-clause-does : goal.returns-clause-does
-returns-clause-does g c =
-    reply-does g.O.PduOut.makes c.args.now c.make.new.self.made c.args.self.now c.make.new.self c.resend_all.new.self _ c.beat.new.self c.args.out.now c.make.new.out
-    c.resend_all.new.out c.beat.new.out c.requires.made refl c.make.ensures.counted c.make.ensures.left c.make.ensures.made c.resend_all.ensures.resent
-    (ap (λ (v : View). record v { ring = c.renumber.new.self.units; room = c.renumber.new.self.room }) c.self-2.view_is
-    ∙ (ap (λ (k : Kept). record c.resend_all.new.self { ring = k.units; room = k.room }) c.renumber.ensures
-    ∙ (ap (λ (v : View). record c.resend_all.new.self { ring = renumbered c.self.inside.made (octets_of v.ring); room = v.room }) c.self-2.view_is
-    ∙ ap (λ (k : ℕ). record c.resend_all.new.self { ring = renumbered k (octets_of c.resend_all.new.self.ring) }) (ap (λ (v : View). v.made) c.self.view_is))))
-    c.beat.ensures.does
+pub returns-clause-made : goal.returns-clause-made
+returns-clause-made g c =
+    let makes = g.O.PduOut.makes in
+    let now = c.args.now in
+    let after = c.resend_all.new in
+    let again = subst (λ (w : View). Out makes w.settings.rule c.make.new.out (resends (octets_of w.ring) now w) after.out) c.make.ensures.left c.resend_all.ensures.made in
+    let left = subst (λ (w : View). after.self ≡ (resends (octets_of w.ring) now w).left) c.make.ensures.left c.resend_all.ensures.left in
+    let last =
+    subst (λ (w : View). makes after.out (text_of w.settings.rule (next_made w Heartbeat [] now)) c.beat.new.out) (c.self-2.view_is ∙ left) c.beat.ensures.made in
+    replies-out makes now c.args.self.now c.args.out.now c.make.new.out after.out c.beat.new.out c.make.ensures.made again last

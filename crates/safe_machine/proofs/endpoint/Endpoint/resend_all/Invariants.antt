@@ -1,16 +1,14 @@
-use Rattle.std.proofs.Common.{◌≡◌, ◌+◌, List, take}
-use Rattle.retrans.specs.Units.{Numbered, octets_of}
-use Rattle.safe_machine.specs.State.{State, resend}
-use Rattle.safe_machine.specs.View.{beside}
-use Rattle.safe_machine.specs.inner.Doing.{Hands}
+use Rattle.std.proofs.Common.{◌≡◌, ◌+◌, take}
+use Rattle.retrans.specs.Units.{octets_of}
+use Rattle.safe_machine.specs.Turns.{Out, resends}
 use Rattle.safe_machine.proofs.endpoint.Endpoint.resend_all.Given as goal
 
 abbrev pub invariant-loop-place : goal.invariant-loop-place
 invariant-loop-place g l =
+    let so_far = resends (octets_of (take l.place l.fn.self.ring)) l.now l.fn.self in
     record {
-      ring : l.self.ring ≡ l.fn.self.ring;
       few : l.self.made ≡ l.fn.self.made + l.place;
-      resent :
-          (ring : List Numbered) (s : State) → l.fn.self ≡ beside ring s →
-          (l.self ≡ beside ring (resend (octets_of (take l.place ring)) l.now s)) × Hands g.O.PduOut.makes l.fn.out s (resend (octets_of (take l.place ring)) l.now s) l.out;
+      ring : l.self.ring ≡ l.fn.self.ring;
+      left : l.self ≡ so_far.left;
+      made : Out g.O.PduOut.makes l.fn.self.settings.rule l.fn.out so_far l.out;
     }

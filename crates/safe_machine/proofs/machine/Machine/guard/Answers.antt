@@ -1,10 +1,10 @@
 use Rattle.std.proofs.Common.{arith}
 use Rattle.safe_machine.specs.Moves.Move.{Guards}
-use Rattle.safe_machine.proofs.code.Reaching.{reached-move, reached-sound}
+use Rattle.safe_machine.proofs.code.Reaching.{reached-sound, reached-turn}
 use Rattle.safe_machine.proofs.machine.Machine.guard.Goals as goal
 
 pub guard-requires : goal.guard-requires
 guard-requires g c = record { few = omega (arith, (reached-sound c.self.inside.end c.self.invariant).few) }
 
 pub invariant_of-self : goal.invariant_of-self
-invariant_of-self g c = reached-move (Guards c.args.now) c.self.inside.end c.guard.new.self c.self.invariant tt (λ s h. (c.guard.ensures.does s h).0)
+invariant_of-self g c = reached-turn (Guards c.args.now) c.self.inside.end c.guard.new.self c.self.invariant tt c.guard.ensures.left

@@ -2,6 +2,7 @@ use Rattle.std.proofs.Common.{refl, sym, ◌∙◌, []}
 use Rattle.std.proofs.lemmas.Bool.{false≢true}
 use Rattle.safe_machine.specs.View.{settings_of}
 use Rattle.safe_machine.proofs.one.Texts.{own-legal}
+use Rattle.safe_machine.proofs.one.Turning.{opening_law_holds}
 use Rattle.safe_machine.proofs.machine.Machine.open.Goals as goal
 
 pub returns-then-not-is_legal-clause-bad_config : goal.returns-then-not-is_legal-clause-bad_config
@@ -19,7 +20,7 @@ invariant_of-result g c =
       moves = [];
       legal = sym c.if-not-is_legal.ensures;
       read = tt;
-      stands = c.begin-end.ensures.stands;
+      stands = c.begin-end.ensures.left ∙ (opening_law_holds (settings_of c.args.role c.args.config) c.args.first_sn c.args.now).stands;
     }
 
 pub returns-in-Ok-clause-bad_config : goal.returns-in-Ok-clause-bad_config

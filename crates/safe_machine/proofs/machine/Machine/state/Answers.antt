@@ -1,10 +1,12 @@
-use Rattle.std.proofs.Common.{subst}
-use Rattle.safe_machine.specs.Reached.{Known}
-use Rattle.safe_machine.specs.Moves.{moved}
-use Rattle.safe_machine.specs.State.{opened}
+use Rattle.std.proofs.Common.{◌≡◌, ◌<◌, ◌∙◌, ap, subst, sym, true}
+use Rattle.safe_machine.specs.Connections.{in_turn}
+use Rattle.safe_machine.specs.View.{View}
+use Rattle.safe_machine.proofs.code.Reaching.{reached-sound}
+use Rattle.safe_machine.proofs.one.ConnectionFacts.{turn-live}
 use Rattle.safe_machine.proofs.machine.Machine.state.Goals as goal
 
-pub returns-clause-known : goal.returns-clause-known
-returns-clause-known g c =
-    let h = c.self.invariant in
-    subst Known c.self.view_is (moved h.moves (opened h.settings h.first h.began), h.stands)
+pub returns-clause-confirmed : goal.returns-clause-confirmed
+returns-clause-confirmed g c turn =
+    let end = c.self.inside.end in
+    let now_turn : in_turn end.connection ≡ true = sym (ap (λ m. in_turn m.end.connection) c.self-inside.view_is) ∙ turn in
+    subst (λ (v : View). v.confirmed < v.made) c.self.view_is ((reached-sound end c.self.invariant).live (turn-live end.connection now_turn))

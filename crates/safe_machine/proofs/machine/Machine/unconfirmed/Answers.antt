@@ -1,12 +1,8 @@
-use Rattle.std.proofs.Common.{◌≤◌, length, ap, arith, subst, ◌∙◌}
+use Rattle.std.proofs.Common.{◌≤◌, length, ap, arith, subst}
 use Rattle.octets.specs.declared.limits.TheConstants.{WINDOW_MAX}
 use Rattle.safe_machine.specs.View.{View}
-use Rattle.safe_machine.proofs.code.Reaching.{reached-sound, reached-window, units-count}
+use Rattle.safe_machine.proofs.code.Reaching.{reached-sound, reached-window}
 use Rattle.safe_machine.proofs.machine.Machine.unconfirmed.Goals as goal
-
-pub returns-clause-counts : goal.returns-clause-counts
-returns-clause-counts g c s h =
-    c.len.ensures.len ∙ (ap (λ m. length m.end.ring) c.self-inside.view_is ∙ (ap (λ (v : View). length v.ring) c.self.view_is ∙ units-count c.args.self.now s h))
 
 pub returns-clause-window : goal.returns-clause-window
 returns-clause-window g c =

@@ -1,6 +1,27 @@
-use Rattle.std.proofs.Common.{subst, sym}
-use Rattle.stack_end.specs.EndValue.{EndStands}
+use Rattle.std.proofs.Common.{◌≡◌, false, sym, subst}
+use Rattle.stack_end.specs.Ends.{Tick}
+use Rattle.stack_end.specs.EndValue.{inside}
+use Rattle.stack_end.specs.Fields.{inside_of}
+use Rattle.stack_end.specs.Recent.{TickRecent}
+use Rattle.stack_end.specs.Turns.{Inside, can_pack, passes}
+use Rattle.stack_end.proofs.Ending.{layers-do, layers-turn}
+use Rattle.stack_end.proofs.Taking.{passes-empties, tick-recent}
 use Rattle.stack_end.proofs.end.End.let_time_pass.Goals as goal
 
+pub returns-clause-turns : goal.returns-clause-turns
+returns-clause-turns g c =
+    layers-turn g.C.Channels.told g.T.Taker.takes (passes c.args.now) c.self.inside.layers c.tick.new.self c.self.inside.time c.args.now c.args.self.now
+    c.args.taker.now c.tick.new.taker c.self.view_is c.tick.ensures.does
+
+pub returns-clause-does : goal.returns-clause-does
+returns-clause-does g c = layers-do g.C.Channels.told g.T.Taker.takes (Tick c.args.now) _ _ _ _ _ _ c.self.view_is c.tick.ensures.does
+
+pub returns-clause-packs : goal.returns-clause-packs
+returns-clause-packs g c =
+    subst (λ (i : Inside). can_pack i.upper ≡ false) (sym c.tick.ensures.does.left)
+    (passes-empties c.args.now (inside_of c.self.inside.layers) c.self.invariant.some)
+
 pub returns-clause-recent : goal.returns-clause-recent
-returns-clause-recent g c x h = c.tick.ensures.recent x (subst (λ v. EndStands g.C.Channels.told v x) (sym c.self.view_is) h).both
+returns-clause-recent g c =
+    subst (λ v. TickRecent g.T.Taker.takes c.args.now (inside v) c.args.taker.now c.tick.new.taker) c.self.view_is
+    (tick-recent g.T.Taker.takes c.args.now (inside_of c.self.inside.layers) c.args.taker.now c.tick.new.taker c.tick.ensures.does.taken)

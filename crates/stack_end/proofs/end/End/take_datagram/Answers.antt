@@ -1,25 +1,44 @@
-use Rattle.std.proofs.Common.{◌∙◌, refl, subst, sym}
-use Rattle.stack_end.specs.Ends.{Deliver, EndState, did}
-use Rattle.stack_end.specs.EndValue.{EndStands}
-use Rattle.stack_end.proofs.Hearing.{did-red, took-part}
-use Rattle.stack_end.proofs.Putting.{timed}
+use Rattle.std.proofs.Common.{◌≡◌, ◌∙◌, ap, false, sym, subst}
+use Rattle.stack_end.specs.Ends.{Deliver}
+use Rattle.stack_end.specs.EndValue.{inside}
+use Rattle.stack_end.specs.Fields.{inside_of}
+use Rattle.stack_end.specs.Hearing.{HasHeard, TakesPart}
+use Rattle.stack_end.specs.Recent.{DatagramRecent}
+use Rattle.stack_end.specs.Turns.{Inside, arrives, can_pack, turn}
+use Rattle.stack_end.proofs.Ending.{layers-do, layers-turn}
+use Rattle.stack_end.proofs.Taking.{arrives-empties, datagram-recent, has-heard, takes-part}
 use Rattle.stack_end.proofs.end.End.take_datagram.Goals as goal
 
-pub returns-clause-recent : goal.returns-clause-recent
-returns-clause-recent g c x h = c.arrive.ensures.recent x (subst (λ v. EndStands g.C.Channels.told v x) (sym c.self.view_is) h).both
+pub returns-clause-turns : goal.returns-clause-turns
+returns-clause-turns g c =
+    layers-turn g.C.Channels.told g.T.Taker.takes (arrives c.args.now c.args.octets.now) c.self.inside.layers c.arrive.new.self c.self.inside.time c.args.now c.args.self.now
+    c.args.taker.now c.arrive.new.taker c.self.view_is c.arrive.ensures.does
 
-pub returns-clause-any_channel : goal.returns-clause-any_channel
-returns-clause-any_channel g c x other h =
-    let k = subst (λ v. EndStands g.C.Channels.told v x) (sym c.self.view_is) h in
-    let y : EndState = did (Deliver other c.args.octets.now c.args.now) x in
-    record { both = timed _ _ y c.args.now (c.arrive.ensures.does x k.both).stands; time = refl }
+pub returns-clause-does : goal.returns-clause-does
+returns-clause-does g c =
+    layers-do g.C.Channels.told g.T.Taker.takes (Deliver c.args.channel c.args.octets.now c.args.now) _ _ _ _ _ _ c.self.view_is c.arrive.ensures.does
+
+pub returns-clause-packs : goal.returns-clause-packs
+returns-clause-packs g c =
+    subst (λ (i : Inside). can_pack i.upper ≡ false) (sym c.arrive.ensures.does.left)
+    (arrives-empties c.args.now c.args.octets.now (inside_of c.self.inside.layers) c.self.invariant.some)
+
+pub returns-clause-recent : goal.returns-clause-recent
+returns-clause-recent g c =
+    subst (λ v. DatagramRecent g.T.Taker.takes c.args.now c.args.octets.now (inside v) c.args.taker.now c.arrive.new.taker) c.self.view_is
+    (datagram-recent g.T.Taker.takes c.args.now c.args.octets.now (inside_of c.self.inside.layers) c.args.taker.now c.arrive.new.taker
+    c.arrive.ensures.does.taken)
 
 pub returns-clause-hears : goal.returns-clause-hears
-returns-clause-hears g c x y h k listens =
-    let a = subst (λ v. EndStands g.C.Channels.told v x) (sym c.self.view_is) h in
-    sym k.both.red ∙ ((c.arrive.ensures.does x a.both).stands.red ∙ did-red 0 c.args.now c.args.octets.now x listens)
+returns-clause-hears g c =
+    subst (λ v. HasHeard c.args.now c.args.octets.now (inside v) (inside_of c.arrive.new.self)) c.self.view_is
+    (has-heard c.args.now c.args.octets.now (inside_of c.self.inside.layers) (inside_of c.arrive.new.self) c.arrive.ensures.does.left)
 
 pub returns-clause-passes : goal.returns-clause-passes
-returns-clause-passes g c x h number upper listens passed y is =
-    let a = subst (λ v. EndStands g.C.Channels.told v x) (sym c.self.view_is) h in
-    took-part g.T.Taker.takes _ _ x 0 c.args.now c.args.octets.now listens number upper passed y is (c.arrive.ensures.does x a.both).took
+returns-clause-passes g c =
+    subst (λ v. TakesPart g.T.Taker.takes c.args.now c.args.octets.now (inside v) c.args.taker.now c.arrive.new.taker) c.self.view_is
+    (takes-part g.T.Taker.takes c.args.now c.args.octets.now (inside_of c.self.inside.layers) c.args.taker.now c.arrive.new.taker c.arrive.ensures.does.taken)
+
+pub returns-clause-any_channel : goal.returns-clause-any_channel
+returns-clause-any_channel g c other =
+    c.arrive.ensures.does.left ∙ ap (λ v. (turn (Deliver other c.args.octets.now c.args.now) (inside v)).left) c.self.view_is

@@ -1,27 +1,17 @@
 use Rattle.red_layer.specs.Redundancy.{Tick as RedTick}
-use Rattle.safe_machine.specs.Moves.Move.{Ticks}
-use Rattle.stack_end.specs.Ends.{EndState, goes_on, moved}
-use Rattle.stack_end.proofs.Receiving.{end-before, end-moved, open-then}
-use Rattle.stack_end.proofs.Uppers.{went-told}
-use Rattle.std.proofs.Common.{sym, ◌∙◌}
-use Rattle.std.proofs.lemmas.Bool.{true≢false}
-use Rattle.stack_end.proofs.Receiving.{alive}
+use Rattle.stack_end.specs.Fields.{inside_of}
+use Rattle.stack_end.specs.Turns.{above, followed, goes_on, ticks}
+use Rattle.stack_end.proofs.Going.{alone-told, went-alone, went-then}
+use Rattle.stack_end.proofs.Receiving.{above-went, open-went}
 use Rattle.stack_end.proofs.layers.Layers.tick.Goals as goal
 
 pub returns-in_default-clause-does : goal.returns-in_default-clause-does
-returns-in_default-clause-does g c x h =
-    let y : EndState = moved (Ticks c.args.now) x in
-    let z : EndState = goes_on c.args.now (RedTick c.args.now) y in
-    let a = c.tick.ensures.does x h.upper in
-    let told = went-told x y _ _ _ c.tell_change.ensures a.0 in
-    let b = c.wait.ensures.does y (end-moved x y _ _ _ h told) in
-    open-then g.T.Taker.takes x z _ _ _ _ _ c.state.result (c.state.ensures.state x.machine h.upper.machine) c.in_default.not-Closed
-    (end-before g.T.Taker.takes x y z _ _ _ _ _ _ told a.1 b)
-
-pub returns-in_default-clause-recent : goal.returns-in_default-clause-recent
-returns-in_default-clause-recent g c x h =
-    let y : EndState = moved (Ticks c.args.now) x in
-    let a = c.tick.ensures.does x h.upper in
-    let told = went-told x y _ _ _ c.tell_change.ensures a.0 in
-    let open_now = alive c.state.result x (c.state.ensures.state x.machine h.upper.machine) c.in_default.not-Closed in
-    (λ shut. absurd (true≢false (sym shut ∙ open_now)), λ _. c.wait.ensures.recent y (end-moved x y _ _ _ h told))
+returns-in_default-clause-does g c =
+    let takes = g.T.Taker.takes in
+    let now = c.args.now in
+    let i = RedTick c.args.now in
+    let v = inside_of c.args.self.now in
+    let t = above (ticks now) v in
+    let one = went-alone takes t _ _ _ _ (above-went (ticks now) v _ _ _ (alone-told (ticks now v.upper) _ _ _ _ c.tell_change.ensures c.tick.ensures.does)) in
+    open-went takes v (followed t (goes_on now i)) c.state.result _ _ _ _ _ c.state.ensures.state c.in_default.not-Closed
+    (went-then takes t (goes_on now i) _ _ _ _ _ _ _ _ one c.wait.ensures.does)

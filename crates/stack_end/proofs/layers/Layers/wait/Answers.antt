@@ -1,20 +1,19 @@
 use Rattle.red_layer.specs.Redundancy.{Tick as RedTick}
-use Rattle.stack_end.specs.Ends.{EndState, receives, sends}
-use Rattle.stack_end.proofs.Receiving.{end-then, goes-on}
-use Rattle.stack_end.proofs.Receiving.{alive}
-use Rattle.stack_end.proofs.Recents.{open-recent}
+use Rattle.stack_end.specs.Fields.{fields_of, inside_of}
+use Rattle.stack_end.specs.Turns.{above, followed, receives, sends}
+use Rattle.stack_end.proofs.Going.{went-alone, went-then}
+use Rattle.stack_end.proofs.Receiving.{above-went, open-went, receives-went}
 use Rattle.stack_end.proofs.layers.Layers.wait.Goals as goal
 
 pub returns-in_default-clause-does : goal.returns-in_default-clause-does
-returns-in_default-clause-does g c x h =
+returns-in_default-clause-does g c =
+    let takes = g.T.Taker.takes in
+    let now = c.args.now in
     let i = RedTick c.args.now in
-    let y : EndState = receives c.args.now i x in
-    let a = c.pass_time.ensures.does x h in
-    let b = c.send_waiting.ensures.does y a.stands.upper in
-    goes-on g.T.Taker.takes c.args.now i x _ _ _ _ _ c.state.result (c.state.ensures.state x.machine h.upper.machine) c.in_default.not-Closed
-    (end-then g.T.Taker.takes x y (sends c.args.now y) _ _ _ _ _ _ a b.0 b.1)
-
-pub returns-in_default-clause-recent : goal.returns-in_default-clause-recent
-returns-in_default-clause-recent g c x h =
-    open-recent g.T.Taker.takes c.args.now (RedTick c.args.now) x _ _
-    (alive c.state.result x (c.state.ensures.state x.machine h.upper.machine) c.in_default.not-Closed) (c.pass_time.ensures.recent x h)
+    let v = inside_of c.args.self.now in
+    let t = receives now i v in
+    let one = receives-went takes now i v _ _ _ _ _ _ c.pass_time.ensures.layer c.pass_time.ensures.does in
+    let two = went-alone takes _ _ _ _ _
+    (above-went (sends now) record { red = c.pass_time.new.red; upper = fields_of c.pass_time.new.self } _ _ _ c.send_waiting.ensures.does) in
+    open-went takes v (followed t (above (sends now))) c.state.result _ _ _ _ _ c.state.ensures.state c.in_default.not-Closed
+    (went-then takes t (above (sends now)) _ _ _ _ _ _ _ _ one two)

@@ -1,19 +1,14 @@
-use Rattle.std.proofs.Common.{◌∙◌, ◌++◌, ℕ, List, ap, length, append-nil}
-use Rattle.pdi_session.specs.SessionStep.{Event, Puts, SessionState, added_by, texts}
+use Rattle.std.proofs.Common.{refl, length}
+use Rattle.pdi_session.specs.SessionStep.{Puts}
 use Rattle.stack_end.specs.Dialogue.{meets}
-use Rattle.stack_end.specs.Ends.{EndState, sends, with_session}
-use Rattle.stack_end.proofs.Uppers.{went-then, went-talk}
+use Rattle.stack_end.specs.Fields.{fields_of}
+use Rattle.stack_end.specs.Turns.{dialogue_of, sends, session_turn}
+use Rattle.stack_end.proofs.Going.{alone-then, event-went}
 use Rattle.stack_end.proofs.upper.Upper.put.Goals as goal
 
 pub returns-in-Ok-clause-does : goal.returns-in-Ok-clause-does
-returns-in-Ok-clause-does g c x h =
-    let e : List (List ℕ) → Event = λ ws. Puts c.args.kind c.args.payload.now (length ws) in
-    let y : EndState = with_session (meets (e x.session.waiting) x.session) x in
-    let added = c.put.ensures.added in
-    let waits =
-    added
-    ∙ (ap (λ (ws : List (List ℕ)). ws ++ texts (added_by (e ws) c.args.self.now.session)) h.speaks.waits
-    ∙ ap (λ (s : SessionState). x.session.waiting ++ texts (added_by (e x.session.waiting) s)) h.speaks.state) in
-    let a = went-talk x y.session _ c.args.self.now.session c.put.new.waiting h record { state = h.speaks.state; waits = waits } in
-    let b = c.send_waiting.ensures.does y a.stands in
-    (went-then x y (sends c.args.now y) _ _ _ a b.0, b.1 ∙ append-nil x.session.history.taken)
+returns-in-Ok-clause-does g c =
+    let v = fields_of c.args.self.now in
+    let event = Puts c.args.kind c.args.payload.now (length v.waiting) in
+    alone-then (session_turn (meets event (dialogue_of v)) v) (sends c.args.now) _ _ _ _ _ (event-went event v _ _ _ refl c.put.ensures.added refl)
+    c.send_waiting.ensures.does

@@ -1,28 +1,20 @@
-use Rattle.std.proofs.Common.{◌≡◌, ◌+◌, ◌≤◌, false, length}
+use Rattle.std.proofs.Common.{◌≡◌, ◌+◌, ◌≤◌, length}
 use Rattle.std.specs.Prelude.{if◌then◌else◌}
 use Rattle.octets.specs.declared.limits.TheConstants.{UNIT_MESSAGES}
-use Rattle.pdi_session.specs.SessionStep.{FewWait}
-use Rattle.stack_end.specs.Ends.{EndState, sends}
-use Rattle.stack_end.specs.Fields.{Stands, Went, can_pack, fields_of}
-use Rattle.stack_end.specs.Outstanding.{GoesOut}
+use Rattle.stack_end.specs.Fields.{Keeps, fields_of}
+use Rattle.stack_end.specs.Turns.{Fields, Turn, WentAlone, followed, sends}
 use Rattle.stack_end.proofs.upper.Upper.send_waiting.Given as goal
 
 abbrev pub invariant-loop-packs : goal.invariant-loop-packs
 invariant-loop-packs g l =
-    let v = fields_of g.C.Channels.told l.initial.self in
-    let w = fields_of g.C.Channels.told l.self in
+    let v = fields_of l.initial.self in
     record {
       some : 1 ≤ l.self.max;
       most : l.self.max ≤ UNIT_MESSAGES;
-      same : l.self.max ≡ l.initial.self.max;
-      near : l.self.machine.expected ≡ l.initial.self.machine.expected;
-      few : FewWait l.initial.self.session l.initial.self.waiting → FewWait l.self.session l.self.waiting;
-      kept : GoesOut v l.initial.self.waiting w;
-      done : l.packs ≡ false → (x : EndState) → Stands w x → can_pack x ≡ false;
+      keeps : Keeps 0 l.initial.self l.self;
       along :
-          (x : EndState) → Stands v x →
-          (y : EndState) × (Went x y v w
-          × ((y.session.history.taken ≡ x.session.history.taken) × (sends l.now x ≡ (if l.packs then sends l.now y else y))));
+          (t : Turn Fields) × WentAlone t (g.C.Channels.told l.initial.self.channels) (fields_of l.self) (g.C.Channels.told l.self.channels)
+          × (sends l.now v ≡ (if l.packs then followed t (sends l.now) else t));
     }
 
 abbrev pub decreases-loop-packs : goal.decreases-loop-packs

@@ -1,27 +1,21 @@
 use Rattle.std.proofs.Common.{refl}
-use Rattle.safe_machine.specs.Moves.{OneMove}
-use Rattle.safe_machine.specs.Moves.Move.{Ticks}
-use Rattle.safe_machine.specs.Step.{tick}
-use Rattle.stack_end.specs.Ends.{EndState, settle, with_machine}
+use Rattle.safe_machine.specs.Turns.{ticks}
+use Rattle.stack_end.specs.Fields.{fields_of}
+use Rattle.stack_end.specs.Turns.{machine_turn, settles}
 use Rattle.octets.proofs.Steps.{FoldsTo-keeps}
-use Rattle.stack_end.proofs.Uppers.{sends-between, went-of, went-then}
+use Rattle.stack_end.proofs.Going.{alone-then, machine-went}
 use Rattle.stack_end.proofs.upper.Upper.tick.Goals as goal
 
 pub shape_of-self : goal.shape_of-self
-shape_of-self g c = let k = c.state-before.ensures.known in FoldsTo-keeps (λ s. s.numbers.ghost_name) _ (λ s x t h. h.1) _ _ _ (c.tick.ensures.made k.0 k.1)
+shape_of-self g c = FoldsTo-keeps (λ s. s.numbers.ghost_name) _ (λ s x t h. h.1) _ _ _ c.tick.ensures.made
 
 pub shape_of-self-2 : goal.shape_of-self-2
-shape_of-self-2 g c = let k = c.state-before.ensures.known in FoldsTo-keeps (λ s. s.channels.ghost_name) _ (λ s x t h. h.0) _ _ _ (c.tick.ensures.made k.0 k.1)
+shape_of-self-2 g c = FoldsTo-keeps (λ s. s.channels.ghost_name) _ (λ s x t h. h.0) _ _ _ c.tick.ensures.made
 
 pub returns-clause-does : goal.returns-clause-does
-returns-clause-does g c x h =
-    let s = x.machine in
-    let t = tick c.args.now s in
-    let y : EndState = with_machine t x in
-    let one : OneMove (Ticks c.args.now) s = c.unit_law.ensures.moves (Ticks c.args.now) s in
-    let sent =
-    sends-between (λ s. g.C.Channels.told s.channels.now) (λ s. s.numbers.now) (λ s. s.count) _ (λ s pdu t r. (r.2, r.3, r.4)) x.settings s.settings.rule s.made t.made one.more_made one.made _ _
-    (c.tick.ensures.made s h.machine) h.count h.numbers h.rule in
-    let went = went-of x y _ _ one.more_made h refl refl (c.unit_law.ensures.settings (Ticks c.args.now) s) one.made (c.tick.ensures.stands s h.machine) h.speaks h.request refl refl sent in
-    let e = c.settle.ensures.does y went.stands in
-    (went-then x y (settle y) _ _ _ went e.0, e.1)
+returns-clause-does g c =
+    let v = fields_of c.args.self.now in
+    let t = ticks c.args.now v.machine in
+    let one = machine-went (λ s. g.C.Channels.told s.channels.now) (λ s. s.numbers.now) (λ s. s.count) _ (λ s pdu t r. (r.2, r.3, r.4)) t v _ _ _
+    c.tick.ensures.left refl refl c.tick.ensures.made in
+    alone-then (machine_turn t v) settles _ _ _ _ _ one c.settle.ensures.does

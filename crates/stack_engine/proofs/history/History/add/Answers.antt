@@ -7,7 +7,7 @@ use Rattle.stack_engine.specs.declared.history.Entry.{Entry}
 use Rattle.stack_engine.specs.Events.{doing_of, event_of}
 use Rattle.stack_engine.specs.Histories.{Events}
 use Rattle.stack_engine.specs.HistoryPlaces.{events_in}
-use Rattle.stack_engine.proofs.Placing.{opening-added}
+use Rattle.stack_engine.proofs.code.Placing.{opening-added}
 use Rattle.stack_engine.proofs.history.History.add.Goals as goal
 
 pub returns-in-Open : goal.returns-in-Open

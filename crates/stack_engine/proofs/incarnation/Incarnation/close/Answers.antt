@@ -1,6 +1,6 @@
 use Rattle.std.proofs.Common.{refl, sym, append-nil}
 use Rattle.stack_end.specs.Ends.Call.{Close}
-use Rattle.stack_engine.proofs.Incarnating.{alone-stands}
+use Rattle.stack_engine.proofs.code.Incarnating.{alone-stands}
 use Rattle.stack_engine.proofs.incarnation.Incarnation.close.Goals as goal
 
 pub returns-clause-does : goal.returns-clause-does

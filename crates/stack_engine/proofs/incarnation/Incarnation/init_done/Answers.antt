@@ -1,6 +1,6 @@
 use Rattle.std.proofs.Common.{refl, sym, append-nil}
 use Rattle.stack_end.specs.Ends.Call.{InitDone}
-use Rattle.stack_engine.proofs.Incarnating.{alone-stands, same-stands}
+use Rattle.stack_engine.proofs.code.Incarnating.{alone-stands, same-stands}
 use Rattle.stack_engine.proofs.incarnation.Incarnation.init_done.Goals as goal
 
 pub returns-in-Ok-clause-does : goal.returns-in-Ok-clause-does

@@ -3,7 +3,7 @@ use Rattle.std.specs.Prelude.{if◌then◌else◌}
 use Rattle.pdi_session.specs.declared.PutFault.{PutFault}
 use Rattle.pdi_session.specs.SessionStep.{Item}
 use Rattle.stack_end.specs.Ends.Call.{Put}
-use Rattle.stack_engine.proofs.Incarnating.{alone-stands, same-stands}
+use Rattle.stack_engine.proofs.code.Incarnating.{alone-stands, same-stands}
 use Rattle.stack_engine.proofs.incarnation.Incarnation.put.Goals as goal
 
 pub returns-in-Ok-clause-does : goal.returns-in-Ok-clause-does

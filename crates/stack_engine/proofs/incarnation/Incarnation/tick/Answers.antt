@@ -1,6 +1,6 @@
 use Rattle.std.proofs.Common.{refl, sym, append-nil}
 use Rattle.stack_end.specs.Ends.Call.{Tick}
-use Rattle.stack_engine.proofs.Incarnating.{went-stands}
+use Rattle.stack_engine.proofs.code.Incarnating.{went-stands}
 use Rattle.stack_engine.proofs.incarnation.Incarnation.tick.Goals as goal
 
 pub returns-clause-does : goal.returns-clause-does

@@ -1,7 +1,7 @@
 use Rattle.std.proofs.Common.{List, ℕ, [], drop, sym, ◌∙◌, arith}
 use Rattle.std.specs.Str.{bytes_eq}
 use Rattle.octets.specs.declared.limits.TheConstants.{RED_HEADER}
-use Rattle.stack_engine.proofs.Searching.{none-later, found-here}
+use Rattle.stack_engine.proofs.code.Searching.{none-later, found-here}
 use Rattle.stack_engine.proofs.keeper.Keeper.has_part.Goals as goal
 
 pub returns-then-is_part : goal.returns-then-is_part

@@ -3,7 +3,7 @@ use Rattle.stack_engine.specs.Events.{event_of}
 use Rattle.stack_engine.specs.Pairs.{Event, start, run}
 use Rattle.stack_engine.specs.Premise.{AreTyped}
 use Rattle.stack_engine.specs.Sides.{SidesStand}
-use Rattle.stack_engine.proofs.Histories.{grown-stands, typed-push}
+use Rattle.stack_engine.proofs.code.Histories.{grown-stands, typed-push}
 use Rattle.stack_engine.proofs.pair.Pair.happen.Goals as goal
 
 pub invariant_of-self-in-Ok-step : goal.invariant_of-self-in-Ok-step

@@ -1,7 +1,7 @@
 use Rattle.std.proofs.Common.{sym, ◌∙◌, ◌∷◌, [], List, ap, length, length-append, arith}
 use Rattle.stack_engine.specs.Events.{event_of}
 use Rattle.stack_engine.specs.Pairs.{Event}
-use Rattle.stack_engine.proofs.Histories.{ran-accepted, ran-before, ran-refused}
+use Rattle.stack_engine.proofs.code.Histories.{ran-accepted, ran-before, ran-refused}
 use Rattle.stack_engine.proofs.pair.Pair.run.Goals as goal
 use Rattle.stack_engine.proofs.pair.Pair.run.Goals.{in-Ok, in-Err+else-is_memory}
 

@@ -1,7 +1,0 @@
-use Rattle.std.proofs.Common.{◌≡◌, drop}
-use Rattle.deferral.specs.FiniteMap.{least_of, entries_of}
-use Rattle.deferral.proofs.least_number.Given as goal
-use Rattle.deferral.proofs.FiniteMap.{smaller}
-
-abbrev pub invariant-loop-place : goal.invariant-loop-place
-invariant-loop-place g l = smaller l.least (least_of (entries_of (drop l.place-index l.places))) ≡ least_of (entries_of l.places)

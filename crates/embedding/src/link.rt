@@ -1,0 +1,246 @@
+//! The end that the application stands on: opened from a settings file, asked turn by turn, and opened anew where its
+//! connection is lost.
+
+ghost use Rattle.std.specs.Prelude.{◌≡◌, ◌≤◌, ◌^◌, IfOk, OnOk};
+
+use crate::switch::{Switch, turn};
+use channels::{UdpChannels, UdpFault, Watch, open_udp};
+use end_settings::Side;
+use safe_machine::ConnectionState;
+use settings_file::{Ends, Settings, SettingsFault, Word, settings};
+use stack_end::{End, OpenFault};
+use std::alloc::Global;
+use std::env::Env;
+use std::io::{Read, Write};
+use std::net::Net;
+use std::rt::Files;
+use std::time::{Clock, Duration, Instant};
+use std::{env, fs};
+use thiserror::Error;
+
+/// The greatest time that an end may be handed, in milliseconds.
+const TIME_MAX: u64 = 1 << 62;
+
+/// The longest time between two turns, in milliseconds, so that the application can change its mind.
+const REST_MAX: u64 = 100;
+
+/// How many turns there are at most, and how many connections.
+const MOST: u32 = u32::MAX;
+
+/// Why the application ends before its time.
+#[derive(Debug, Drop, Error)]
+pub enum Stop {
+    /// The words are not a file and a number of seconds.
+    #[error("usage: embedding SETTINGS SECONDS")]
+    Words,
+    /// The system gives no such file, or it is no text.
+    #[error("the file of settings cannot be read")]
+    File,
+    /// The text is no settings of an interlocking.
+    #[error("settings: {0}")]
+    Settings(SettingsFault),
+    /// The system gives no sockets at the addresses.
+    #[error("no sockets at the addresses of the settings")]
+    Sockets,
+    /// There was no memory.
+    #[error("no memory")]
+    Memory,
+    /// The system gives no time, or no octets that nobody foretells.
+    #[error("no clock or no random number from the system")]
+    System,
+    /// The output failed.
+    #[error("the output failed")]
+    Output,
+}
+
+impl From<UdpFault> for Stop {
+    fn from(fault: UdpFault) -> Stop {
+        match fault {
+            UdpFault::Memory => Stop::Memory,
+            _ => Stop::Sockets,
+        }
+    }
+}
+
+/// Switches for the seconds that its words ask for, over the channels of a settings file.
+///
+/// # Errors
+///
+/// Refused where its words, the file, the sockets or the system give no reason to go on. A lost connection is none.
+pub fn run<R: AllocGlobal + Env + Files + Net + Clock, O: Write>(
+    rt: &R,
+    out: &mut O,
+) -> Result<(), Stop> {
+    let (path, seconds) = words(rt)?;
+    let settings = read_settings(rt, path.as_str())?;
+    let Ok(began) = Instant::now(rt) else {
+        return Err(Stop::System);
+    };
+    let mut switch = Switch {
+        is_wanted: false,
+        is_put: false,
+        is_on: None,
+    };
+    let until = seconds * 1_000;
+    let mut now = 0;
+    for _ in 0..MOST {
+        if now >= until {
+            return Ok(());
+        }
+        now = connect(rt, &settings, began, now, until, &mut switch, out)?;
+    }
+    Ok(())
+}
+
+/// The file and the seconds.
+fn words<R: AllocGlobal + Env>(rt: &R) -> Result<(String, u64), Stop>
+    ensures { IfOk result (λ words. words.1 ≤ 2 ^ 32) }
+{
+    let Ok(mut words) = env::args(rt) else {
+        return Err(Stop::Words);
+    };
+    let _program = words.next();
+    let (Some(path), Some(seconds), None) = (words.next(), words.next(), words.next()) else {
+        return Err(Stop::Words);
+    };
+    match seconds.as_str().parse::<u32>() {
+        Ok(seconds) => Ok((path, u64::from(seconds))),
+        Err(_) => Err(Stop::Words),
+    }
+}
+
+fn read_settings<R: AllocGlobal + Files>(rt: &R, path: &str) -> Result<Settings, Stop> {
+    let Ok(text) = fs::read_to_string(rt, path) else {
+        return Err(Stop::File);
+    };
+    match settings(rt.alloc(), Word::Il, text.as_str()) {
+        Ok(Ends::Il(il)) => Ok(il),
+        Ok(_) => Err(Stop::File),
+        Err(fault) => Err(Stop::Settings(fault)),
+    }
+}
+
+/// One connection, until it is lost or the time is over; answers the time then.
+fn connect<R: AllocGlobal + Files + Net + Clock, O: Write>(
+    rt: &R,
+    settings: &Settings,
+    began: Instant,
+    from: u64,
+    until: u64,
+    switch: &mut Switch,
+    out: &mut O,
+) -> Result<u64, Stop>
+    requires { from ≤ 2 ^ 62 }
+    ensures { IfOk result (λ now. now ≤ 2 ^ 62) }
+{
+    let mut watch = Watch::open(rt.alloc(), rt)?;
+    let mut end = open(rt, settings, &watch, from)?;
+    switch.is_put = false;
+    let mut now = from;
+    for _ in 0..MOST {
+        now = read(rt, began, now)?;
+        switch.want(now);
+        let before = end.channels_seen().received();
+        let told = switch.is_on;
+        // A channel that fails is asked again in the next turn: the others go on.
+        let _ = turn(&mut end, now, switch);
+        tell(switch, told, out)?;
+        if now >= until {
+            end.close(now);
+            return Ok(now);
+        }
+        if end.state() == ConnectionState::Closed {
+            // The peer finds out too, before it is asked again.
+            watch.wait(Duration::from_millis(settings.config.t_max / 4));
+            return Ok(now);
+        }
+        if end.channels_seen().received() == before {
+            watch.wait(Duration::from_millis(rest(end.next_deadline(), now)));
+        }
+    }
+    Ok(now)
+}
+
+/// An end on its channels, which the wait watches.
+fn open<R: AllocGlobal + Files + Net>(
+    rt: &R,
+    settings: &Settings,
+    watch: &Watch,
+    now: u64,
+) -> Result<End<UdpChannels>, Stop>
+    requires { now ≤ 2 ^ 62 }
+    ensures { IfOk result (λ end. end.time ≤ now) }
+{
+    let (local, remote) = (settings.local.as_slice(), settings.remote.as_slice());
+    let mut channels = open_udp(rt.alloc(), rt, local, remote)?;
+    if watch.add(&mut channels).is_err() {
+        return Err(Stop::Sockets);
+    }
+    let first_sn = first_number(rt, settings.first_sn)?;
+    let config = settings.config;
+    match End::open(
+        rt.alloc(),
+        channels,
+        config,
+        Side::Interlocking,
+        first_sn,
+        now,
+    ) {
+        Ok(end) => Ok(end),
+        Err((OpenFault::Memory, _channels)) => Err(Stop::Memory),
+        Err((OpenFault::BadConfig, _channels)) => Err(Stop::Words),
+    }
+}
+
+/// The first sequence number that the settings state, or one that nobody foretells: two connections must not make the same octets.
+fn first_number<R: Files>(rt: &R, stated: Option<u32>) -> Result<u32, Stop> {
+    if let Some(number) = stated {
+        return Ok(number);
+    }
+    let mut octets = [0u8; 4];
+    let Ok(mut file) = fs::open(rt, "/dev/urandom") else {
+        return Err(Stop::System);
+    };
+    match file.read_exact(&mut octets) {
+        Ok(()) => Ok(u32::from_le_bytes(octets)),
+        Err(_) => Err(Stop::System),
+    }
+}
+
+/// Milliseconds since the beginning, which never fall: what an end asks of its caller.
+fn read<K: Clock>(system: &K, began: Instant, last: u64) -> Result<u64, Stop>
+    requires { last ≤ 2 ^ 62 }
+    ensures { IfOk result (λ now. (last ≤ now) × (now ≤ 2 ^ 62)) }
+{
+    let Ok(seen) = Instant::now(system) else {
+        return Err(Stop::System);
+    };
+    match u64::try_from(seen.duration_since(began).as_millis()) {
+        Ok(reading) if reading <= TIME_MAX => Ok(reading.max(last)),
+        _ => Err(Stop::System),
+    }
+}
+
+/// How long to rest, in milliseconds: until the end has something to do.
+fn rest(deadline: Option<u64>, now: u64) -> u64 {
+    match deadline {
+        Some(at) => at.saturating_sub(now).min(REST_MAX),
+        None => REST_MAX,
+    }
+}
+
+/// Prints how the output is, where a status has told otherwise than before.
+fn tell<O: Write>(switch: &Switch, before: Option<bool>, out: &mut O) -> Result<(), Stop> {
+    if switch.is_on == before {
+        return Ok(());
+    }
+    let word = if switch.is_on == Some(true) {
+        "on"
+    } else {
+        "off"
+    };
+    match writeln!(out, "the output is {word}") {
+        Ok(()) => Ok(()),
+        Err(_) => Err(Stop::Output),
+    }
+}

@@ -1,0 +1,11 @@
+use Rattle.std.proofs.Common.{refl, inl}
+use Rattle.rasta_net.proofs.turns.Actor.put_one.Goals as goal
+
+pub returns-in-Ok-clause-passed : goal.returns-in-Ok-clause-passed
+returns-in-Ok-clause-passed g c =
+    λ _. inl (
+      (λ x s. rw (← c.as_slice.ensures.value) (c.in-Ok.ensures.answer x s)),
+      rw (← c.as_slice.ensures.value) c.in-Ok.ensures.does,
+      refl,
+      refl,
+    )

@@ -1,0 +1,15 @@
+-- How ends are run that words ask for.
+use Rattle.rasta_net.specs.declared.net.Run.{Run}
+use Rattle.rasta_words.specs.declared.command_line.Running.{Running}
+
+-- each choice has its effect
+abbrev pub run_under : Running → Run
+run_under r =
+    record {
+      word = r.word;
+      length = r.length;
+      log = r.log;
+      expected = r.expected;
+      keep = r.keep;
+      counts = r.counts;
+    }

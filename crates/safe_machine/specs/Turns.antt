@@ -1,0 +1,271 @@
+-- What an end does by one call: what it keeps then, and the PDUs that it made, in order
+-- (safety and retransmission layer of DIN VDE V 0831-200:2015).
+use Rattle.std.specs.Prelude.{ℕ, ◌+◌, ◌%◌, ◌&&◌, nat_le, nat_lt, Bool, List, [], ◌∷◌, ◌++◌, length, if◌then◌else◌}
+use Rattle.std.specs.List.{FoldsTo}
+use Rattle.retrans.specs.Units.{above, octets_of, renumbered}
+use Rattle.safe_pdu.specs.declared.Kind.{Kind}
+use Rattle.safe_pdu.specs.declared.Kind.TheVariants.{ConnReq, ConnResp, RetrReq, RetrResp, DiscReq, Heartbeat, Data, RetrData}
+use Rattle.safe_pdu.specs.declared.CodeRule.{CodeRule}
+use Rattle.safe_pdu.specs.Pdu.{Pdu}
+use Rattle.safe_pdu.specs.Bodies.{window_of}
+use Rattle.safe_machine.specs.declared.ConnectionState.{ConnectionState}
+use Rattle.safe_machine.specs.declared.ConnectionState.TheVariants.{Closed, Down, Start, Up, RetrReq as Requesting, RetrRun}
+use Rattle.safe_machine.specs.declared.Reason.{Reason}
+use Rattle.safe_machine.specs.declared.Reason.TheVariants.{WrongVersion}
+use Rattle.safe_machine.specs.declared.Detail.{Detail}
+use Rattle.safe_machine.specs.declared.Detail.TheVariants.{Unspecified}
+use Rattle.safe_machine.specs.declared.arrival.Decision.{Decision}
+use Rattle.safe_machine.specs.declared.arrival.Decision.TheVariants.{Nothing, Drops, Shuts, Leaves, Rejects, Accepts, Connects, Takes, Asks, Resumes, AnswersNext, AnswersEarly}
+use Rattle.octets.specs.declared.limits.TheConstants.{WINDOW_MAX}
+use Rattle.safe_machine.specs.Connections.{in_turn, is_live}
+use Rattle.safe_machine.specs.Deadlines.{beat_due, by_guard}
+use Rattle.safe_machine.specs.Decision.{answer_of, cs_step, cts_step, decide, distance}
+use Rattle.safe_machine.specs.Made.{Made, carries, leaving_body, opening_body}
+use Rattle.safe_machine.specs.Numbers.{sn_of, wrap}
+use Rattle.safe_machine.specs.Settings.{Settings}
+use Rattle.safe_machine.specs.declared.Step.{Step as Outcome}
+use Rattle.safe_machine.specs.declared.Step.TheVariants.{Left}
+use Rattle.safe_machine.specs.View.{View, texts}
+
+pub record Turn : Type 0 where
+  pub left : View
+  pub made : List Made
+
+-- nothing is made
+abbrev pub still : View → Turn
+still v = record { left = v; made = [] }
+
+-- one turn, and then another
+abbrev pub goes_on : Turn → (View → Turn) → Turn
+goes_on t next = record { left = (next t.left).left; made = t.made ++ (next t.left).made }
+
+-- the PDU that is made next
+abbrev pub next_made : View → Kind → List ℕ → ℕ → Made
+next_made v kind body now =
+    record {
+      pdu =
+          record {
+            kind = kind;
+            receiver = v.settings.peer;
+            sender = v.settings.own;
+            sn = sn_of v.first v.made;
+            cs = v.last_sn;
+            ts = now % wrap;
+            cts = v.last_ts;
+            body = body;
+          };
+      time = now;
+      behind = v.expected;
+    }
+
+-- it is counted
+abbrev pub counted : ℕ → View → View
+counted now v = record v { made = v.made + 1; last_made = now; since = 0 }
+
+-- a PDU is made: a sending
+abbrev pub says : Kind → List ℕ → ℕ → View → Turn
+says kind body now v = record { left = counted now v; made = next_made v kind body now ∷ [] }
+
+-- the connection state changes behind what was made
+abbrev pub moved_to : ConnectionState → Turn → Turn
+moved_to connection t = record { left = record t.left { connection = connection }; made = t.made }
+
+-- a DiscReq where there is a connection to leave, and closed
+abbrev pub leaves : Reason → Detail → ℕ → View → Turn
+leaves reason detail now v =
+    moved_to Closed (if is_live v.connection then says DiscReq (leaving_body reason detail) now v else still v)
+
+-- a retransmission is asked for
+abbrev pub asks : ℕ → View → Turn
+asks now v = moved_to Requesting (says RetrReq [] now v)
+
+-- the PDU at distance d is behind this end now
+abbrev pub passed : Pdu → ℕ → View → View
+passed p d v = record v { expected = v.expected + d + 1; last_sn = p.sn; last_ts = p.ts }
+
+-- the peer's window is known
+abbrev pub windowed : ℕ → View → View
+windowed window v = record v { window = window }
+
+-- the confirmed number moves on, and the units up to it are let go
+abbrev pub units_confirmed : Pdu → View → View
+units_confirmed p v = record v { confirmed = v.confirmed + cs_step v p; ring = above (v.confirmed + cs_step v p) v.ring }
+
+-- both confirmations move on
+abbrev pub both_confirmed : Pdu → View → View
+both_confirmed p v =
+    record v {
+      confirmed = v.confirmed + cs_step v p;
+      ring = above (v.confirmed + cs_step v p) v.ring;
+      confirmed_at = v.confirmed_at + cts_step v p;
+    }
+
+-- all up to the PDU with this index is confirmed, which is the last one made: no unit awaits it
+abbrev pub confirmed_to : ℕ → ℕ → Turn → Turn
+confirmed_to index now t = record { left = record t.left { confirmed = index; confirmed_at = now; ring = [] }; made = t.made }
+
+-- a RetrReq at distance d was handled
+abbrev pub requested : ℕ → View → View
+requested d v = record v { answered = v.expected + d }
+
+-- a ConnReq is refused for its version
+abbrev pub rejects : Pdu → ℕ → View → Turn
+rejects p now v = moved_to Closed (says DiscReq (leaving_body WrongVersion Unspecified) now (passed p 0 v))
+
+-- a ConnReq is granted
+abbrev pub accepts : Pdu → ℕ → View → Turn
+accepts p now v =
+    moved_to Start (confirmed_to v.made now
+    (says ConnResp (opening_body v.settings.n_sendmax) now (windowed (window_of p.body) (passed p 0 v))))
+
+-- the ConnResp has come
+abbrev pub connects : Pdu → ℕ → View → Turn
+connects p now v = moved_to Up (says Heartbeat [] now (windowed (window_of p.body) (passed p 0 (both_confirmed p v))))
+
+-- a unit goes up, and a heartbeat is made where it is the mwa-th since the last sending
+abbrev pub takes_unit : Pdu → ℕ → View → Turn
+takes_unit p now v =
+    let u = record v { since = v.since + 1 } in
+    if carries p.kind then (if nat_le v.settings.mwa u.since then says Heartbeat [] now u else still u) else still v
+
+-- a PDU is taken, in that state
+abbrev pub takes_next : ConnectionState → Pdu → ℕ → View → Turn
+takes_next connection p now v = takes_unit p now (record (passed p 0 (both_confirmed p v)) { connection = connection })
+
+-- the answer to the own request has come
+abbrev pub resumes : Pdu → View → View
+resumes p v = record (passed p (distance v p) (both_confirmed p v)) { connection = RetrRun }
+
+-- units go out again, as RetrData
+abbrev pub resends : List (List ℕ) → ℕ → View → Turn
+resends [] now v = still v
+resends (unit ∷ units) now v = goes_on (says RetrData unit now v) (resends units now)
+
+-- the units that the ring holds have the numbers from this one on
+abbrev pub renumbers : ℕ → View → View
+renumbers first v = record v { ring = renumbered first (octets_of v.ring) }
+
+-- RetrResp, each unconfirmed unit as RetrData, HB
+abbrev pub replies : ℕ → View → Turn
+replies now v =
+    goes_on (says RetrResp [] now v)
+    (λ w. goes_on (resends (octets_of w.ring) now w) (λ u. says Heartbeat [] now (renumbers w.made u)))
+
+-- the answer to a RetrReq that is the next PDU
+abbrev pub answers_next : Pdu → ℕ → View → Turn
+answers_next p now v = replies now (passed p 0 (requested 0 (both_confirmed p v)))
+
+-- what is done first with a RetrReq that is not the next PDU
+abbrev pub answers_ahead : Pdu → ℕ → View → Turn
+answers_ahead p now v = replies now (requested (distance v p) (units_confirmed p v))
+
+-- and what is asked for besides, by an end that takes units in turn
+abbrev pub answers_early : Pdu → ℕ → View → Turn
+answers_early p now v =
+    if in_turn v.connection then goes_on (answers_ahead p now v) (asks now) else answers_ahead p now v
+
+-- what an end does by its decision
+abbrev pub carries_out : Pdu → ℕ → Decision → View → Turn
+carries_out p now Nothing v = still v
+carries_out p now (Drops cause) v = still v
+carries_out p now Shuts v = moved_to Closed (still v)
+carries_out p now (Leaves reason detail) v = leaves reason detail now v
+carries_out p now Rejects v = rejects p now v
+carries_out p now Accepts v = accepts p now v
+carries_out p now Connects v = connects p now v
+carries_out p now (Takes connection) v = takes_next connection p now v
+carries_out p now Asks v = asks now v
+carries_out p now Resumes v = still (resumes p v)
+carries_out p now AnswersNext v = answers_next p now v
+carries_out p now AnswersEarly v = answers_early p now v
+
+-- the deadline, then the limit
+abbrev pub guards : ℕ → View → Turn
+guards now v = by_guard now v (λ reason detail. leaves reason detail now v) (still v)
+
+-- an arrival behind the guard
+abbrev pub responds : Pdu → ℕ → View → Turn
+responds p now v = carries_out p now (decide v p now) v
+
+-- an arrival
+abbrev pub arrives : Pdu → ℕ → View → Turn
+arrives p now v = goes_on (guards now v) (responds p now)
+
+-- an answer, unless the guard leaves
+abbrev pub unless_guarded : ℕ → View → Outcome → Outcome
+unless_guarded now v answer = by_guard now v Left answer
+
+-- how an arrival is answered
+abbrev pub arrive_answer : Pdu → ℕ → View → Outcome
+arrive_answer p now v = unless_guarded now v (answer_of (decide v p now))
+
+-- a heartbeat where one is due by time
+abbrev pub beats : ℕ → View → Turn
+beats now v = if beat_due now v then says Heartbeat [] now v else still v
+
+-- time passes
+abbrev pub ticks : ℕ → View → Turn
+ticks now v = goes_on (guards now v) (beats now)
+
+-- units go out in turn while fewer await their confirmation than the peer's window has places
+abbrev pub is_open : ConnectionState → (awaiting window : ℕ) → Bool
+is_open connection awaiting window = in_turn connection && nat_lt awaiting window
+
+-- a unit may be sent
+abbrev pub has_room : View → Bool
+has_room v = is_open v.connection (length v.ring) v.window
+
+-- a unit goes out, and is kept under the number of its PDU
+abbrev pub sends_unit : List ℕ → ℕ → View → Turn
+sends_unit unit now v =
+    let t = says Data unit now v in
+    record { left = record t.left { ring = v.ring ++ record { number = v.made; octets = unit } ∷ [] }; made = t.made }
+
+-- where one may go out
+abbrev pub sends : List ℕ → ℕ → View → Turn
+sends unit now v = if has_room v then sends_unit unit now v else still v
+
+-- an end that has made nothing
+abbrev pub unsaid : Settings → ℕ → ℕ → ConnectionState → View
+unsaid settings first now connection =
+    record {
+      settings = settings;
+      first = first;
+      connection = connection;
+      made = 0;
+      last_made = 0;
+      since = 0;
+      expected = 0;
+      last_sn = 0;
+      last_ts = 0;
+      confirmed = 0;
+      confirmed_at = now;
+      answered = 0;
+      window = 0;
+      ring = [];
+      room = WINDOW_MAX;
+    }
+
+-- an opening: the client asks for the connection, the server waits
+abbrev pub opens : Settings → ℕ → ℕ → Turn
+opens settings first now =
+    if settings.client
+    then says ConnReq (opening_body settings.n_sendmax) now (unsaid settings first now Start)
+    else still (unsaid settings first now Down)
+
+-- the unit that a PDU carries
+abbrev pub carried : Pdu → List (List ℕ)
+carried p = if carries p.kind then p.body ∷ [] else []
+
+-- the units that a decision hands up
+abbrev pub handed_by : Decision → Pdu → List (List ℕ)
+handed_by (Takes connection) p = carried p
+handed_by _ p = []
+
+-- the units that an arrival hands up
+abbrev pub hands : Pdu → ℕ → View → List (List ℕ)
+hands p now v = by_guard now v (λ reason detail. []) (handed_by (decide v p now) p)
+
+-- what was made was handed out as texts, in order
+abbrev pub Out : {O : Type 0} → (O → List ℕ → O → Type 0) → CodeRule → O → Turn → O → Type 0
+Out makes rule before t after = FoldsTo makes before (texts rule t.made) after

@@ -1,0 +1,12 @@
+-- What is found, and what is left to be found, is all.
+use Rattle.std.proofs.Common.{◌≡◌, ◌++◌, map}
+use Rattle.std.specs.Prelude.{None}
+use Rattle.toml.specs.View.{members_view, table_view}
+use Rattle.settings_file.specs.Whole.{is_end}
+use Rattle.settings_file.specs.Findings.{finding_seen, unknown_in}
+use Rattle.settings_file.proofs.all_faults.find_strange.Given as goal
+
+abbrev pub invariant-loop-key : goal.invariant-loop-key
+invariant-loop-key l =
+    map finding_seen l.list.items ++ unknown_in is_end None (members_view l.key-iterator)
+    ≡ map finding_seen l.initial.list.items ++ unknown_in is_end None (table_view l.table)

@@ -1,0 +1,436 @@
+//! All that is wrong in a settings file, and not the first fault alone.
+
+ghost use Rattle.std.specs.Prelude.{◌≡◌, ◌+◌, ◌^◌, ◌<◌, ◌++◌, ◌∷◌, [], if◌then◌else◌, ℕ, Option, None, Some, codes, length, map, option_and_then, option_map, string_bytes, List, IfOk, OnOk};
+ghost use Rattle.toml.specs.Data.{get, table};
+ghost use Rattle.toml.specs.View.{items_view, table_view, view};
+ghost use Rattle.std.specs.Option.{option_map_or};
+ghost use Rattle.end_settings.specs.declared.Side.TheVariants as side_of;
+ghost use Rattle.settings_file.specs.declared.keys.Key.TheVariants as key_of;
+ghost use Rattle.settings_file.specs.Groups.{limit_at};
+ghost use Rattle.settings_file.specs.Whole.{is_end, is_known, no_table, unknown};
+ghost use Rattle.settings_file.specs.Findings.{address_faults, at_entry, at_its_key, end_findings, entry_faults, fault_at, faults_at, finding_seen, findings_of, heartbeat_fault, if_any, is_put, members_findings, named_findings, pair_findings, peer_fault, plain, put_faults, shown, table_findings, text_in, unknown_in};
+
+use crate::Word;
+use crate::groups::limit;
+use crate::keys::{Expected, Found, Key, KeyFault, ReadFault, SettingsFault, prefix};
+use crate::lists::{addresses, put, puts};
+use crate::readers::{
+    checksum, code, first_number, identifier, initial_value, name, octet, versions, wrong,
+};
+use crate::whole::{document, knows, names_end, unknown};
+use end_settings::Side;
+use std::alloc::{AllocError, Global};
+use std::fmt;
+use toml::{Table, Value};
+
+/// The longest text of a file that is told of it, in octets.
+pub const TEXT_MOST: usize = 80;
+
+/// The keys that are no lists, in the order in which they are read.
+const PLAIN_KEYS: [Key; 18] = [
+    Key::Id,
+    Key::PeerId,
+    Key::Name,
+    Key::PeerName,
+    Key::Protocol,
+    Key::Versions,
+    Key::Code,
+    Key::Checksum,
+    Key::InitialValue,
+    Key::FirstSn,
+    Key::NSendmax,
+    Key::NMaxpacket,
+    Key::Deferral,
+    Key::TMax,
+    Key::THeartbeat,
+    Key::TSeq,
+    Key::Mwa,
+    Key::PduLimit,
+];
+
+/// What is wrong where the lists of addresses are not of one length.
+const UNEQUAL: KeyFault = KeyFault {
+    key: Key::Remote,
+    expected: Expected::Addresses,
+    found: Found::Other,
+};
+
+/// Something that is wrong in a file.
+#[derive(Debug, Drop)]
+pub struct Finding {
+    /// What is wrong.
+    pub fault: SettingsFault,
+    /// Which entry of a list it is, from 1.
+    pub entry: Option<usize>,
+    /// The text that stands there, where one of at most 80 octets does.
+    pub text: Option<String>,
+}
+
+/// All that is wrong in the text of a settings file for the ends that a word runs, each fault by itself: a text that is no TOML alone; else
+/// keys that no end has, keys in the order in which they are read, and each entry of `puts` that is no telegram; of a file for both
+/// ends `il` before `fe`. A key whose range depends on another one is judged where that is right. Whether an address is one shows when
+/// channels are opened.
+///
+/// # Errors
+///
+/// Refused where memory is.
+pub fn findings(alloc: Global, word: Word, text: &str) -> Result<Vec<Finding>, AllocError>
+    // `findings` answers exactly the list of all that is wrong in a file's text for the word, in its order,
+    // each with its entry of `puts` and its short text.
+    ensures { IfOk result (λ all. map finding_seen all.items ≡ findings_of word text.now) }
+{
+    let mut list = Vec::new(alloc);
+    match document(alloc, text) {
+        Ok(table) => in_file(alloc, word, table, &mut list)?,
+        Err(SettingsFault::Memory(refused)) => return Err(refused),
+        Err(fault) => add(fault, &mut list)?,
+    }
+    Ok(list)
+}
+
+fn in_file(
+    alloc: Global,
+    word: Word,
+    table: Table,
+    list: &mut Vec<Finding>,
+) -> Result<(), AllocError>
+    ensures { OnOk result (map finding_seen list.new.items ≡ map finding_seen list.old.items ++ members_findings word (table_view table)) }
+{
+    match word {
+        Word::Il => in_end(alloc, Side::Interlocking, None, &Value::Table(table), list),
+        Word::Fe => in_end(alloc, Side::FieldElement, None, &Value::Table(table), list),
+        Word::Pair => in_pair(alloc, table, list),
+    }
+}
+
+fn in_pair(alloc: Global, table: Table, list: &mut Vec<Finding>) -> Result<(), AllocError>
+    ensures { OnOk result (map finding_seen list.new.items ≡ map finding_seen list.old.items ++ pair_findings (table_view table)) }
+{
+    find_strange(alloc, &table, list)?;
+    let value = Value::Table(table);
+    in_named(alloc, Side::Interlocking, &value, list)?;
+    in_named(alloc, Side::FieldElement, &value, list)
+}
+
+/// In the table of an end of a file for both, if it is there.
+fn in_named(
+    alloc: Global,
+    side: Side,
+    file: &Value,
+    list: &mut Vec<Finding>,
+) -> Result<(), AllocError>
+    ensures { OnOk result (map finding_seen list.new.items ≡ map finding_seen list.old.items ++ named_findings side (view file.now)) }
+{
+    let found = match side {
+        Side::Interlocking => file.get("il"),
+        Side::FieldElement => file.get("fe"),
+    };
+    match found {
+        Some(table) => in_end(alloc, side, Some(side), table, list),
+        None => add(SettingsFault::NoTable(side), list),
+    }
+}
+
+fn in_end(
+    alloc: Global,
+    side: Side,
+    named: Option<Side>,
+    value: &Value,
+    list: &mut Vec<Finding>,
+) -> Result<(), AllocError>
+    ensures { OnOk result (map finding_seen list.new.items ≡ map finding_seen list.old.items ++ end_findings side named (view value.now)) }
+{
+    let Some(table) = value.as_table() else {
+        return add(SettingsFault::NoTable(side), list);
+    };
+    find_unknown(alloc, named, table, list)?;
+    find_plain(alloc, side, named, value, &PLAIN_KEYS, list)?;
+    find_addresses(alloc, named, value, list)?;
+    find_puts(alloc, named, value, list)
+}
+
+/// A fault that is all there is to say.
+fn add(fault: SettingsFault, list: &mut Vec<Finding>) -> Result<(), AllocError>
+    ensures { OnOk result (list.new.items ≡ list.old.items ++ record { fault = fault; entry = None; text = None } ∷ []) }
+{
+    list.push(Finding {
+        fault,
+        entry: None,
+        text: None,
+    })?;
+    Ok(())
+}
+
+/// The keys that no end has.
+fn find_unknown(
+    alloc: Global,
+    named: Option<Side>,
+    table: &Table,
+    list: &mut Vec<Finding>,
+) -> Result<(), AllocError>
+    ensures { OnOk result (map finding_seen list.new.items ≡ map finding_seen list.old.items ++ unknown_in is_known named (table_view table.now)) }
+{
+    for (key, _value) in table {
+        if !knows(key.as_str()) {
+            add_unknown(alloc, named, key.as_str(), list)?;
+        }
+    }
+    Ok(())
+}
+
+/// The keys of a file for both ends that are no tables of ends.
+fn find_strange(alloc: Global, table: &Table, list: &mut Vec<Finding>) -> Result<(), AllocError>
+    ensures { OnOk result (map finding_seen list.new.items ≡ map finding_seen list.old.items ++ unknown_in is_end None (table_view table.now)) }
+{
+    for (key, _value) in table {
+        if !names_end(key.as_str()) {
+            add_unknown(alloc, None, key.as_str(), list)?;
+        }
+    }
+    Ok(())
+}
+
+fn add_unknown(
+    alloc: Global,
+    named: Option<Side>,
+    key: &str,
+    list: &mut Vec<Finding>,
+) -> Result<(), AllocError>
+    ensures { OnOk result (map finding_seen list.new.items ≡ map finding_seen list.old.items ++ plain (unknown named key.now) ∷ []) }
+{
+    match unknown(alloc, named, key) {
+        SettingsFault::Memory(refused) => Err(refused),
+        fault => add(fault, list),
+    }
+}
+
+/// The faults at keys that are no lists.
+fn find_plain(
+    alloc: Global,
+    side: Side,
+    named: Option<Side>,
+    table: &Value,
+    keys: &[Key],
+    list: &mut Vec<Finding>,
+) -> Result<(), AllocError>
+    ensures { OnOk result (map finding_seen list.new.items ≡ map finding_seen list.old.items ++ faults_at side named (view table.now) keys.now) }
+{
+    let [key, others @ ..] = keys else {
+        return Ok(());
+    };
+    find_at(alloc, side, named, table, *key, list)?;
+    find_plain(alloc, side, named, table, others, list)
+}
+
+/// The fault at one key.
+fn find_at(
+    alloc: Global,
+    side: Side,
+    named: Option<Side>,
+    table: &Value,
+    key: Key,
+    list: &mut Vec<Finding>,
+) -> Result<(), AllocError>
+    ensures { OnOk result (map finding_seen list.new.items
+        ≡ map finding_seen list.old.items ++ if_any (at_its_key named (view table.now)) (fault_at side (view table.now) key)) }
+{
+    match fault_of(side, table, key) {
+        Some(fault) => add_at(alloc, named, table, fault, list),
+        None => Ok(()),
+    }
+}
+
+/// What is wrong at a key, whatever stands at the others.
+fn fault_of(side: Side, table: &Value, key: Key) -> Option<KeyFault>
+    ensures { result ≡ fault_at side (view table.now) key }
+{
+    match key {
+        Key::Id => identifier(table, key).err(),
+        Key::PeerId => peer_fault(table),
+        Key::Name | Key::PeerName => name(table, key).err(),
+        Key::Protocol => octet(table, key, 1).err(),
+        Key::Versions => versions(side, table).err(),
+        Key::Code => code(table).err(),
+        Key::Checksum => checksum(table).err(),
+        Key::InitialValue => initial_value(table).err(),
+        Key::FirstSn => first_number(table).err(),
+        Key::THeartbeat => heartbeat_fault(table),
+        _ => limit(table, 0, key).err(),
+    }
+}
+
+fn peer_fault(table: &Value) -> Option<KeyFault>
+    ensures { result ≡ fault_at side_of.Interlocking (view table.now) key_of.PeerId }
+{
+    match (identifier(table, Key::Id), identifier(table, Key::PeerId)) {
+        (_, Err(fault)) => Some(fault),
+        (Ok(id), Ok(peer)) if peer == id => { Some(wrong(table, Key::PeerId, Expected::AnotherId)) }
+        _ => None,
+    }
+}
+
+fn heartbeat_fault(table: &Value) -> Option<KeyFault>
+    ensures { result ≡ heartbeat_fault (view table.now) (limit_at (view table.now) 0 key_of.TMax) }
+{
+    match limit(table, 0, Key::TMax) {
+        Ok(t_max) => limit(table, t_max, Key::THeartbeat).err(),
+        Err(_) => None,
+    }
+}
+
+/// A fault at a key, with the text that stands there.
+fn add_at(
+    alloc: Global,
+    named: Option<Side>,
+    table: &Value,
+    fault: KeyFault,
+    list: &mut Vec<Finding>,
+) -> Result<(), AllocError>
+    ensures { OnOk result (map finding_seen list.new.items ≡ map finding_seen list.old.items ++ at_its_key named (view table.now) fault ∷ []) }
+{
+    let text = match table.get(fault.key.text()) {
+        Some(value) => short_text(alloc, value)?,
+        None => None,
+    };
+    list.push(Finding {
+        fault: SettingsFault::Key(named, fault),
+        entry: None,
+        text,
+    })?;
+    Ok(())
+}
+
+/// A value that is a text, and not too long to be told.
+fn short_text(alloc: Global, value: &Value) -> Result<Option<String>, AllocError>
+    ensures { IfOk result (λ t. option_map string_bytes t ≡ text_in (view value.now)) }
+{
+    match value.as_str() {
+        Some(text) if text.len() <= TEXT_MOST => Ok(Some(String::from_str(alloc, text)?)),
+        _ => Ok(None),
+    }
+}
+
+/// The faults at the lists of addresses.
+fn find_addresses(
+    alloc: Global,
+    named: Option<Side>,
+    table: &Value,
+    list: &mut Vec<Finding>,
+) -> Result<(), AllocError>
+    ensures { OnOk result (map finding_seen list.new.items ≡ map finding_seen list.old.items ++ address_faults named (view table.now)) }
+{
+    let local = match addresses(alloc, table, Key::Local) {
+        Ok(local) => Some(local.len()),
+        Err(ReadFault::Memory(refused)) => return Err(refused),
+        Err(ReadFault::Key(fault)) => {
+            add_at(alloc, named, table, fault, list)?;
+            None
+        }
+    };
+    match addresses(alloc, table, Key::Remote) {
+        Ok(remote) if local.is_none() || local == Some(remote.len()) => Ok(()),
+        Ok(_) => add_at(alloc, named, table, UNEQUAL, list),
+        Err(ReadFault::Memory(refused)) => Err(refused),
+        Err(ReadFault::Key(fault)) => add_at(alloc, named, table, fault, list),
+    }
+}
+
+/// The faults at the telegrams to be put: each entry that is none.
+fn find_puts(
+    alloc: Global,
+    named: Option<Side>,
+    table: &Value,
+    list: &mut Vec<Finding>,
+) -> Result<(), AllocError>
+    ensures { OnOk result (map finding_seen list.new.items ≡ map finding_seen list.old.items ++ put_faults named (view table.now)) }
+{
+    let Some(value) = table.get(Key::Puts.text()) else {
+        return Ok(());
+    };
+    match value.as_array() {
+        Some(items) => find_entries(alloc, named, items.as_slice(), list),
+        None => add_at(
+            alloc,
+            named,
+            table,
+            wrong(table, Key::Puts, Expected::Puts),
+            list,
+        ),
+    }
+}
+
+/// The entries that are no telegrams, by a loop: there may be as many as a file has room for.
+fn find_entries(
+    alloc: Global,
+    named: Option<Side>,
+    items: &[Value],
+    list: &mut Vec<Finding>,
+) -> Result<(), AllocError>
+    ensures { OnOk result (map finding_seen list.new.items ≡ map finding_seen list.old.items ++ entry_faults named 1 (items_view items.now)) }
+{
+    let mut place = 1;
+    for item in items {
+        find_entry(alloc, named, place, item, list)?;
+        place += 1;
+    }
+    Ok(())
+}
+
+fn find_entry(
+    alloc: Global,
+    named: Option<Side>,
+    place: usize,
+    item: &Value,
+    list: &mut Vec<Finding>,
+) -> Result<(), AllocError>
+    ensures { OnOk result (map finding_seen list.new.items
+        ≡ map finding_seen list.old.items ++ (if is_put (view item.now) then [] else at_entry named place (view item.now) ∷ [])) }
+{
+    if is_telegram(alloc, item)? {
+        return Ok(());
+    }
+    let text = short_text(alloc, item)?;
+    list.push(Finding {
+        fault: SettingsFault::Key(named, NO_TELEGRAM),
+        entry: Some(place),
+        text,
+    })?;
+    Ok(())
+}
+
+/// What is wrong at such an entry.
+const NO_TELEGRAM: KeyFault = KeyFault {
+    key: Key::Puts,
+    expected: Expected::Put,
+    found: Found::Other,
+};
+
+fn is_telegram(alloc: Global, item: &Value) -> Result<bool, AllocError>
+    ensures { IfOk result (λ is. is ≡ is_put (view item.now)) }
+{
+    match item.as_str() {
+        Some(text) => Ok(put(alloc, text.as_bytes())?.is_some()),
+        None => Ok(false),
+    }
+}
+
+impl fmt::Display for Finding {
+    /// As the fault is told, with the entry, and with the text that stands there in place of "another value".
+    fn fmt<W: fmt::Write>(&self, f: &mut fmt::Formatter<W>) -> fmt::Result {
+        let SettingsFault::Key(named, fault) = &self.fault else {
+            return write!(f, "{}", self.fault);
+        };
+        if fault.expected == Expected::Absent {
+            return write!(f, "{}", self.fault);
+        }
+        write!(f, "{}{}: ", prefix(*named), fault.key.text())?;
+        if let Some(entry) = self.entry {
+            write!(f, "entry {entry}: ")?;
+        }
+        write!(f, "{} expected, ", fault.expected)?;
+        match &self.text {
+            Some(text) => write!(f, "\"{}\" found", text.as_str().escape_debug()),
+            None => write!(f, "{} found", fault.found),
+        }
+    }
+}

@@ -1,0 +1,6 @@
+-- The PDUs of one end as they are kept.
+use Rattle.sim.specs.Made.{MadePdu}
+use Rattle.sim.specs.declared.made.Pdu.{Pdu}
+
+abbrev pub pdu_seen : {A : Type 0} → Pdu A → MadePdu
+pdu_seen p = record { datagram = p.datagram.items; is_named = p.is_named }

@@ -1,0 +1,27 @@
+-- How a run of a script ends.
+use Rattle.std.specs.Prelude.{ℕ}
+use Rattle.sim.specs.declared.fault.LineFault.{LineFault}
+use Rattle.sim.specs.declared.fault.LineFault.TheVariants as line
+use Rattle.sim.specs.declared.fault.ScriptFault.{ScriptFault}
+use Rattle.sim.specs.declared.fault.ScriptFault.TheVariants as script
+use Rattle.sim.specs.declared.fault.SimStatus.{SimStatus}
+use Rattle.sim.specs.declared.fault.SimStatus.TheVariants.{Done, Refused, Failed}
+
+abbrev pub sim_code : SimStatus → ℕ
+sim_code Done = 0
+sim_code Refused = 1
+sim_code Failed = 3
+
+abbrev pub sim_status_of : ScriptFault → SimStatus
+sim_status_of (script.Unreadable n) = Refused
+sim_status_of (script.NoSuchLabel n) = Refused
+sim_status_of script.File = Refused
+sim_status_of script.Memory = Refused
+sim_status_of script.Output = Failed
+
+-- a fault of a line with the number of that line
+abbrev pub fault_at : LineFault → ℕ → ScriptFault
+fault_at line.Unreadable n = script.Unreadable n
+fault_at line.NoSuchLabel n = script.NoSuchLabel n
+fault_at line.Memory n = script.Memory
+fault_at line.Output n = script.Output

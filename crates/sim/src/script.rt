@@ -1,0 +1,388 @@
+//! Running a script, line by line.
+
+use crate::trace::{Happening, Trace};
+use crate::{
+    Command, Label, Labels, LineFault, ScriptFault, ScriptSettings, Sides, SimStatus, ZEROS_MAX,
+    other, read_line,
+};
+use end_settings::Side;
+use log_lines::Standing;
+use stack_engine::{ApplyFault, Call, Doing, Event, Pair};
+use std::alloc::Allocator;
+use std::io;
+use std::io::{ErrorKind, Read, Write};
+
+/// How many datagrams one `flow` delivers at most.
+const FLOW_MAX: usize = 1000;
+
+/// The latest time that a clock may show: 2^62 milliseconds.
+const CLOCK_MAX: u64 = 1 << 62;
+
+/// Runs the script that a reader holds, on two ends that were never opened. Its lines go to `out`, a fault to `err`.
+///
+/// What was printed before a fault stays printed; a report follows where the script ran to its end.
+pub fn run<R: Read + Drop, O: Write, E: Write, A: Allocator + Copy>(
+    alloc: A,
+    reader: R,
+    out: &mut O,
+    err: &mut E,
+) -> SimStatus {
+    match ran(alloc, reader, out) {
+        Ok(()) => SimStatus::Done,
+        Err(fault) => {
+            // Where this output fails too, the status alone tells.
+            let _ = writeln!(err, "{fault}");
+            fault.status()
+        }
+    }
+}
+
+/// Runs the script that a reader holds.
+fn ran<R: Read + Drop, O: Write, A: Allocator + Copy>(
+    alloc: A,
+    reader: R,
+    out: &mut O,
+) -> Result<(), ScriptFault> {
+    let text = read(alloc, reader)?;
+    let Some(settings) = ScriptSettings::new() else {
+        return Err(ScriptFault::Memory);
+    };
+    let Some(trace) = Trace::new(alloc, out) else {
+        return Err(ScriptFault::Memory);
+    };
+    let mut script = Script {
+        alloc,
+        pair: Pair::new(alloc),
+        settings,
+        clocks: Sides { il: 0, fe: 0 },
+        trace,
+    };
+    let ended = script.lines(text.as_str());
+    // What was due is written out before a fault is told.
+    match script.trace.flush() {
+        Ok(()) => ended,
+        Err(_) => Err(ScriptFault::Output),
+    }
+}
+
+/// The whole text of a script.
+fn read<R: Read + Drop, A: Allocator + Copy>(
+    alloc: A,
+    reader: R,
+) -> Result<String<A>, ScriptFault> {
+    io::read_to_string(alloc, reader).map_err(fault_of)
+}
+
+/// Why a text can't be read.
+fn fault_of(error: io::Error) -> ScriptFault {
+    match error.kind() {
+        ErrorKind::OutOfMemory => ScriptFault::Memory,
+        _ => ScriptFault::File,
+    }
+}
+
+/// A script that runs.
+#[derive(Drop)]
+struct Script<W: Write + Drop, A: Allocator + Copy> {
+    /// Where memory comes from.
+    alloc: A,
+    /// Both ends, and all that happened to them.
+    pair: Pair<A>,
+    /// What the next opening takes.
+    settings: ScriptSettings,
+    /// What each clock shows, in milliseconds.
+    clocks: Sides<u64>,
+    /// What is printed, and the PDUs under their labels.
+    trace: Trace<W, A>,
+}
+
+impl<W: Write + Drop, A: Allocator + Copy> Script<W, A> {
+    /// Runs the lines of a text, and prints the report.
+    fn lines(&mut self, text: &str) -> Result<(), ScriptFault> {
+        let mut number = 0u64;
+        for line in text.split('\n') {
+            number = number.saturating_add(1);
+            match self.line(line) {
+                Ok(()) => {}
+                Err(fault) => return Err(fault.at(number)),
+            }
+        }
+        match self.report() {
+            Ok(()) => Ok(()),
+            Err(fault) => Err(fault.at(number)),
+        }
+    }
+
+    fn report(&mut self) -> Result<(), LineFault> {
+        for side in [Side::Interlocking, Side::FieldElement] {
+            self.trace.report(side, standing(&self.pair, side))?;
+        }
+        Ok(())
+    }
+
+    fn line(&mut self, line: &str) -> Result<(), LineFault> {
+        match read_line(self.alloc, line)? {
+            Command::Nothing => Ok(()),
+            Command::Give(label, channel) => self.give(label, channel),
+            Command::Hit(label, channel, place, bits) => self.hit(label, channel, place, bits),
+            Command::Lose(label) => {
+                self.check_label(label)?;
+                self.trace.labels.name(label);
+                Ok(())
+            }
+            Command::Flow(channels) => self.flow(channels.as_slice()),
+            Command::Put(side, kind, payload) => self.put(side, kind, payload.as_slice()),
+            Command::PutZeros(side, kind, length) => self.put_zeros(side, kind, length),
+            Command::PutCounted(side, count, kind) => self.put_counted(side, count, kind),
+            Command::Clock(side, now) => self.set_clock(side, now),
+            Command::Tick(side) => self.call(side, Call::Tick),
+            Command::Open(side) => self.open(side),
+            Command::Close(side) => self.call(side, Call::Close),
+            Command::InitDone => self.call(Side::FieldElement, Call::InitDone),
+            Command::Establish => self.establish(),
+            Command::Set(setting) => {
+                self.settings.set(setting);
+                Ok(())
+            }
+            Command::Versions(versions) => {
+                self.settings.set_versions(versions);
+                Ok(())
+            }
+            Command::Trace(is_on) => {
+                self.trace.is_on = is_on;
+                Ok(())
+            }
+        }
+    }
+
+    fn call(&mut self, side: Side, call: Call<'_>) -> Result<(), LineFault> {
+        let now = *self.clocks.of(side);
+        let is_tick = matches!(call, Call::Tick);
+        let event = Event {
+            side,
+            time: now,
+            doing: Doing::Call(call),
+        };
+        self.happen(&event, is_tick)
+    }
+
+    /// Lets an event happen, but a delivery, and prints what it did or why it is refused.
+    fn happen(&mut self, event: &Event<'_>, is_tick: bool) -> Result<(), LineFault> {
+        match self.pair.apply(event) {
+            Ok(()) => self.tell(Happening {
+                side: event.side,
+                came: None,
+                is_tick,
+            }),
+            Err(fault) => self.trace.refuse(fault.name()),
+        }
+    }
+
+    /// Prints what the last event did.
+    fn tell(&mut self, happening: Happening) -> Result<(), LineFault> {
+        self.trace.begin();
+        if let Some(notes) = self.pair.notes() {
+            for place in 0..notes.len() {
+                if let Some(told) = notes.get(place) {
+                    self.trace.tell(happening, told)?;
+                }
+            }
+        }
+        self.trace.finish()
+    }
+
+    fn open(&mut self, side: Side) -> Result<(), LineFault> {
+        let event = Event {
+            side,
+            time: *self.clocks.of(side),
+            doing: Doing::Open {
+                config: self.settings.config(side),
+                first_sn: self.settings.first_sn(side),
+            },
+        };
+        match self.pair.apply(&event) {
+            Ok(()) => {
+                self.trace.forget_waiting(side);
+                self.tell(Happening {
+                    side,
+                    came: None,
+                    is_tick: false,
+                })
+            }
+            Err(fault) => self.trace.refuse(fault.name()),
+        }
+    }
+
+    fn put(&mut self, side: Side, kind: u16, payload: &[u8]) -> Result<(), LineFault> {
+        self.call(side, Call::Put { kind, payload })
+    }
+
+    fn put_zeros(&mut self, side: Side, kind: u16, length: usize) -> Result<(), LineFault> {
+        let zeros = [0; ZEROS_MAX];
+        match zeros.split_at_checked(length) {
+            Some((payload, _)) => self.put(side, kind, payload),
+            None => Err(LineFault::Unreadable),
+        }
+    }
+
+    fn put_counted(&mut self, side: Side, count: u64, kind: u16) -> Result<(), LineFault> {
+        for place in 0..count {
+            self.put(side, kind, &[(place & 0xff) as u8])?;
+        }
+        Ok(())
+    }
+
+    /// Opens both ends, and lets all that they make arrive until a session is set up.
+    fn establish(&mut self) -> Result<(), LineFault> {
+        self.open(Side::FieldElement)?;
+        self.open(Side::Interlocking)?;
+        self.flow(&[1])?;
+        self.call(Side::FieldElement, Call::InitDone)?;
+        self.flow(&[1])
+    }
+
+    fn set_clock(&mut self, side: Side, now: u64) -> Result<(), LineFault> {
+        let clock = self.clocks.of_mut(side);
+        if now < *clock || now > CLOCK_MAX {
+            return self.trace.refuse(ApplyFault::Clock.name());
+        }
+        *clock = now;
+        Ok(())
+    }
+
+    fn give(&mut self, label: Label, channel: u64) -> Result<(), LineFault> {
+        self.check_channel(channel)?;
+        self.check_label(label)?;
+        self.trace.labels.name(label);
+        self.deliver(label, channel)
+    }
+
+    fn hit(&mut self, label: Label, channel: u64, at: u64, bits: u8) -> Result<(), LineFault> {
+        self.check_channel(channel)?;
+        self.check_label(label)?;
+        let datagram = datagram(&self.trace.labels, label)?;
+        let mut damaged = Vec::from_slice(self.alloc, datagram)?;
+        match damaged.get_mut(at as usize) {
+            Some(octet) => *octet ^= bits,
+            None => return Err(LineFault::Unreadable),
+        }
+        self.trace.labels.name(label);
+        let side = other(label.side);
+        let now = *self.clocks.of(side);
+        let is_on = self.trace.is_on;
+        let arrival = arrive(
+            &mut self.pair,
+            side,
+            now,
+            channel,
+            damaged.as_slice(),
+            is_on,
+        );
+        self.arrived(label, arrival)
+    }
+
+    fn flow(&mut self, channels: &[u64]) -> Result<(), LineFault> {
+        for channel in channels {
+            self.check_channel(*channel)?;
+        }
+        for _ in 0..FLOW_MAX {
+            let Some(label) = self.trace.labels.first_unnamed() else {
+                break;
+            };
+            self.trace.labels.name(label);
+            for channel in channels {
+                self.deliver(label, *channel)?;
+            }
+        }
+        Ok(())
+    }
+
+    fn check_channel(&self, channel: u64) -> Result<(), LineFault> {
+        if channel < 1 || channel > self.settings.channels() {
+            return Err(LineFault::Unreadable);
+        }
+        Ok(())
+    }
+
+    /// The PDU of a label is made.
+    fn check_label(&self, label: Label) -> Result<(), LineFault> {
+        let _datagram = datagram(&self.trace.labels, label)?;
+        Ok(())
+    }
+
+    /// Delivers the datagram of a PDU to the end that did not make it.
+    fn deliver(&mut self, label: Label, channel: u64) -> Result<(), LineFault> {
+        let side = other(label.side);
+        let now = *self.clocks.of(side);
+        let is_on = self.trace.is_on;
+        let datagram = datagram(&self.trace.labels, label)?;
+        let arrival = arrive(&mut self.pair, side, now, channel, datagram, is_on);
+        self.arrived(label, arrival)
+    }
+
+    /// Prints what a delivery did.
+    fn arrived(&mut self, label: Label, arrival: Arrival) -> Result<(), LineFault> {
+        if arrival.is_dead {
+            self.trace.warn(label)?;
+        }
+        match arrival.answer {
+            Ok(()) => self.tell(Happening {
+                side: other(label.side),
+                came: Some(label),
+                is_tick: false,
+            }),
+            Err(refusal) => self.trace.refuse(refusal.name()),
+        }
+    }
+}
+
+/// The datagram of a PDU. Refused as `NoSuchLabel`, where it is not made yet.
+fn datagram<A: Allocator>(labels: &Labels<A>, label: Label) -> Result<&[u8], LineFault> {
+    labels.datagram(label).ok_or(LineFault::NoSuchLabel)
+}
+
+/// How a delivery went.
+#[derive(Clone, Copy, Debug)]
+struct Arrival {
+    /// It broke the premise that valid datagrams carry live PDUs.
+    is_dead: bool,
+    /// Whether the delivery was accepted.
+    answer: Result<(), ApplyFault>,
+}
+
+/// Lets octets arrive at an end.
+fn arrive<A: Allocator + Copy>(
+    pair: &mut Pair<A>,
+    side: Side,
+    now: u64,
+    channel: u64,
+    octets: &[u8],
+    is_traced: bool,
+) -> Arrival {
+    // The question is dear, and its answer is for traces alone.
+    let is_dead = is_traced && pair.breaks_premise(side, octets);
+    let channel = channel as usize;
+    let call = Call::Deliver { channel, octets };
+    let event = Event {
+        side,
+        time: now,
+        doing: Doing::Call(call),
+    };
+    Arrival {
+        is_dead,
+        answer: pair.apply(&event),
+    }
+}
+
+/// How an end stands; `None` where it was never opened.
+fn standing<A: Allocator + Copy>(pair: &Pair<A>, side: Side) -> Option<Standing> {
+    let end = pair.end_of(side)?;
+    let last = pair.incarnations(side).checked_sub(1)?;
+    let entry = pair.report(side, last)?;
+    Some(Standing {
+        state: end.state(),
+        phase: end.phase(),
+        put: entry.put.len() as u64,
+        taken: entry.taken.len() as u64,
+    })
+}

@@ -1,0 +1,348 @@
+//! What is printed of what the ends do.
+
+ghost use Rattle.std.specs.Prelude.{◌≡◌, MatchResult, IsOk, IsErr};
+
+use crate::{Label, Labels, LineFault, Sides, other};
+use arrayvec::ArrayVec;
+use channels::Note;
+use end_settings::Side;
+use log_lines::{
+    Standing, phase_name, red_cause, side_name, state_name, step_cause, write_refusal,
+    write_report, write_take,
+};
+use octets::limits::{Q_MAX, RED_HEADER, SAFE_HEADER};
+use octets::places::{u16_at, u32_at};
+use red_layer::RedEvent;
+use safe_machine::Step;
+use safe_pdu::Kind;
+use stack_engine::Told;
+use std::alloc::{Allocator, Global};
+use std::fmt::Display;
+use std::io;
+use std::io::{BufWriter, Write};
+
+/// The parts that wait in an end's redundancy layer: number, and place of the peer's PDU that came first under it.
+type Waits = ArrayVec<(u32, usize), Q_MAX>;
+
+/// The event whose doings are told.
+#[derive(Clone, Copy, Debug)]
+pub struct Happening {
+    /// The end that it happened to.
+    pub side: Side,
+    /// The PDU whose datagram came; none where none came.
+    pub came: Option<Label>,
+    /// Whether it is a tick.
+    pub is_tick: bool,
+}
+
+/// How far the doings of an event are printed.
+#[derive(Clone, Copy, Debug)]
+struct Progress {
+    /// The place of the first PDU made that is not printed yet.
+    unprinted: usize,
+    /// Whether what a machine step handed to the session may still follow.
+    in_step: bool,
+    /// Whether a machine step was told.
+    had_step: bool,
+}
+
+/// The printer, with the labels that it prints.
+#[derive(Drop)]
+pub struct Trace<W: Write + Drop, A: Allocator = Global> {
+    /// The PDUs made, under their labels.
+    pub labels: Labels<A>,
+    /// Whether what happens is printed.
+    pub is_on: bool,
+    /// Where it is printed.
+    out: BufWriter<W, A>,
+    /// Which parts wait at each end, by their numbers.
+    waits: Sides<Waits>,
+    /// How far the notes of the last event are printed.
+    progress: Progress,
+}
+
+impl<W: Write + Drop, A: Allocator + Copy> Trace<W, A> {
+    /// A printer that traces nothing yet; `None` where there is no memory for its buffer.
+    pub fn new(alloc: A, out: W) -> Option<Self> {
+        Some(Trace {
+            labels: Labels::new(alloc),
+            is_on: false,
+            out: BufWriter::new(alloc, out).ok()?,
+            waits: Sides {
+                il: ArrayVec::new(),
+                fe: ArrayVec::new(),
+            },
+            progress: Progress {
+                unprinted: 0,
+                in_step: false,
+                had_step: false,
+            },
+        })
+    }
+
+    /// Begins to tell of an event.
+    pub fn begin(&mut self) {
+        self.progress = Progress {
+            unprinted: self.labels.len(),
+            in_step: false,
+            had_step: false,
+        };
+    }
+
+    /// Tells the next thing that an event did.
+    ///
+    /// A PDU is printed behind what its machine step drops and hands up, so it is held back until the step is told.
+    pub fn tell(&mut self, event: Happening, told: Told<'_>) -> Result<(), LineFault> {
+        match told {
+            Told::Made(datagram) => {
+                if self.progress.in_step {
+                    self.catch_up()?;
+                }
+                self.labels.make(event.side, datagram)?;
+                Ok(())
+            }
+            Told::Note(Note::Step(number, step)) => self.step(event, number, step),
+            Told::Note(Note::Take(kind, payload)) => {
+                self.hand_up()?;
+                self.take(event.side, kind, payload)
+            }
+            Told::Note(Note::Phase(phase)) => {
+                self.hand_up()?;
+                let side = side_name(event.side);
+                let name = phase_name(phase);
+                self.traced(format_args!("{side} phase {name}"))
+            }
+            Told::Note(Note::State(state)) => {
+                self.catch_up()?;
+                let side = side_name(event.side);
+                let name = state_name(state);
+                self.traced(format_args!("{side} state {name}"))
+            }
+            Told::Note(Note::Redundancy(number, answer)) => self.redundancy(event, number, answer),
+        }
+    }
+
+    /// Ends to tell of an event.
+    pub fn finish(&mut self) -> Result<(), LineFault> {
+        self.catch_up()
+    }
+
+    /// An end was opened anew: nothing waits there.
+    pub fn forget_waiting(&mut self, side: Side) {
+        self.waits.of_mut(side).clear();
+    }
+
+    /// Prints that a delivery breaks the premise of the promises.
+    pub fn warn(&mut self, label: Label) -> Result<(), LineFault> {
+        self.traced(format_args!("note {label} not live"))
+    }
+
+    /// Prints a refusal.
+    pub fn refuse(&mut self, name: &str) -> Result<(), LineFault> {
+        told(write_refusal(&mut self.out, name))
+    }
+
+    /// Prints how an end stands at the end of a script.
+    pub fn report(&mut self, side: Side, standing: Option<Standing>) -> Result<(), LineFault> {
+        told(write_report(&mut self.out, side, standing))
+    }
+
+    /// Writes out all that was printed.
+    pub fn flush(&mut self) -> Result<(), LineFault> {
+        told(self.out.flush())
+    }
+
+    /// The machine step of a part: what it drops comes before all that it hands up and makes.
+    fn step(&mut self, event: Happening, number: u32, step: Step) -> Result<(), LineFault> {
+        if self.progress.in_step {
+            self.catch_up()?;
+        }
+        let part = self.part(event, number);
+        if event.is_tick && !self.progress.had_step {
+            self.own_heartbeat(part, step)?;
+        }
+        self.progress.in_step = true;
+        self.progress.had_step = true;
+        match (step_cause(step), part) {
+            (Some(cause), Some(label)) => self.dropped(event.side, label, cause),
+            _ => Ok(()),
+        }
+    }
+
+    /// The PDU of the part that goes up under a number: the one that waited under it, or the one that came.
+    fn part(&mut self, event: Happening, number: u32) -> Option<Label> {
+        let waits = self.waits.of_mut(event.side);
+        match waits.iter().position(|(waiting, _)| *waiting == number) {
+            Some(at) => {
+                let (_, place) = waits.remove(at);
+                Some(Label {
+                    side: other(event.side),
+                    place,
+                })
+            }
+            None => event.came,
+        }
+    }
+
+    /// Prints the heartbeat that a tick makes on its own, before the first step of a part that a deadline lets through.
+    ///
+    /// It confirms what was taken before that part; one that the step makes confirms the part.
+    fn own_heartbeat(&mut self, part: Option<Label>, step: Step) -> Result<(), LineFault> {
+        let first = self.progress.unprinted;
+        let (Some(label), Some(part)) = (self.labels.label(first), part) else {
+            return Ok(());
+        };
+        let Some(made) = self.header(label) else {
+            return Ok(());
+        };
+        let of_step = step == Step::Taken
+            && self.header(part).is_some_and(|came| came.sn == made.cs);
+        if made.kind != Kind::Heartbeat || of_step {
+            return Ok(());
+        }
+        self.progress.unprinted = first.saturating_add(1);
+        self.made(label)
+    }
+
+    /// What the redundancy layer did with the datagram that came.
+    fn redundancy(
+        &mut self,
+        event: Happening,
+        number: Option<u32>,
+        answer: RedEvent,
+    ) -> Result<(), LineFault> {
+        self.catch_up()?;
+        let Some(label) = event.came else {
+            return Ok(());
+        };
+        if let (RedEvent::Wait, Some(number)) = (answer, number) {
+            // No more wait than there is room for.
+            let _ = self
+                .waits
+                .of_mut(event.side)
+                .try_push((number, label.place));
+            return self.waiting(event.side, label);
+        }
+        match red_cause(answer) {
+            Some(cause) => self.dropped(event.side, label, cause),
+            None => Ok(()),
+        }
+    }
+
+    /// Something that a part's unit did in the session follows.
+    fn hand_up(&mut self) -> Result<(), LineFault> {
+        if self.progress.in_step {
+            return Ok(());
+        }
+        self.catch_up()
+    }
+
+    /// Prints the PDUs that were held back.
+    fn catch_up(&mut self) -> Result<(), LineFault> {
+        self.progress.in_step = false;
+        let first = self.progress.unprinted;
+        self.progress.unprinted = self.labels.len();
+        if !self.is_on {
+            return Ok(());
+        }
+        for place in first..self.labels.len() {
+            if let Some(label) = self.labels.label(place) {
+                self.made(label)?;
+            }
+        }
+        Ok(())
+    }
+
+    fn made(&mut self, label: Label) -> Result<(), LineFault> {
+        let Some(header) = self.header(label) else {
+            return Ok(());
+        };
+        let name = header.kind.name();
+        let sn = header.sn;
+        let cs = header.cs;
+        match header.leaving {
+            Some((detail, reason)) => self.traced(format_args!(
+                "{label} {name} {sn} {cs} reason {reason} detail {detail}"
+            )),
+            None => self.traced(format_args!("{label} {name} {sn} {cs}")),
+        }
+    }
+
+    fn take(&mut self, side: Side, kind: u16, payload: &[u8]) -> Result<(), LineFault> {
+        if self.is_on {
+            told(write_take(&mut self.out, side, kind, payload))
+        } else {
+            Ok(())
+        }
+    }
+
+    fn dropped(&mut self, side: Side, label: Label, cause: &str) -> Result<(), LineFault> {
+        let side = side_name(side);
+        self.traced(format_args!("{side} drop {label} {cause}"))
+    }
+
+    fn waiting(&mut self, side: Side, label: Label) -> Result<(), LineFault> {
+        let side = side_name(side);
+        self.traced(format_args!("{side} wait {label}"))
+    }
+
+    fn header(&self, label: Label) -> Option<Header> {
+        Header::of(self.labels.datagram(label)?)
+    }
+
+    /// Prints a line, where lines are traced.
+    fn traced(&mut self, line: impl Display + Drop) -> Result<(), LineFault> {
+        if self.is_on {
+            told(writeln!(self.out, "{line}"))
+        } else {
+            Ok(())
+        }
+    }
+}
+
+/// What an output answered: all that it can say is that it failed.
+fn told(answer: io::Result<()>) -> Result<(), LineFault>
+    ensures { MatchResult result (λ _. IsOk answer) (λ fault. (fault ≡ LineFault.Output) × IsErr answer) }
+{
+    match answer {
+        Ok(()) => Ok(()),
+        Err(_) => Err(LineFault::Output),
+    }
+}
+
+/// What a line tells of a PDU.
+#[derive(Clone, Copy, Debug)]
+struct Header {
+    /// The type.
+    kind: Kind,
+    /// The sequence number.
+    sn: u32,
+    /// The confirmed sequence number.
+    cs: u32,
+    /// Detail and reason, where the end leaves.
+    leaving: Option<(u16, u16)>,
+}
+
+impl Header {
+    /// That of a datagram, which an end made.
+    fn of(datagram: &[u8]) -> Option<Self> {
+        let (_, pdu) = datagram.split_at_checked(RED_HEADER)?;
+        let (header, body) = pdu.split_at_checked(SAFE_HEADER)?;
+        let kind = Kind::of(u16_at(header, 2))?;
+        Some(Header {
+            kind,
+            sn: u32_at(header, 12),
+            cs: u32_at(header, 16),
+            leaving: leaving(kind, body),
+        })
+    }
+}
+
+/// Detail and reason of a DiscReq; none of any other type.
+fn leaving(kind: Kind, body: &[u8]) -> Option<(u16, u16)> {
+    if kind != Kind::DiscReq {
+        return None;
+    }
+    let (front, _) = body.split_at_checked(4)?;
+    Some((u16_at(front, 0), u16_at(front, 2)))
+}

@@ -1,8 +1,0 @@
-use Rattle.std.proofs.Common.{◌≡◌, true, take}
-use Rattle.std.specs.List.{list_all}
-use Rattle.sim_labels.specs.Ledger.{named_by}
-use Rattle.sim_labels.proofs.labels.first_from.Given as goal
-
--- Each label before the place is named.
-abbrev pub invariant-loop-place : goal.invariant-loop-place
-invariant-loop-place g l = list_all (named_by l.il l.fe) (take l.place l.order) ≡ true

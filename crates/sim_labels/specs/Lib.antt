@@ -1,4 +1,0 @@
-pub mod Made
-pub mod MadeView
-pub mod Ledger
-pub mod LedgerView

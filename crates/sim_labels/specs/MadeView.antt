@@ -1,6 +1,0 @@
--- The PDUs of one end as they are kept.
-use Rattle.sim_labels.specs.Made.{MadePdu}
-use Rattle.sim_labels.specs.declared.made.Pdu.{Pdu}
-
-abbrev pub pdu_seen : {A : Type 0} → Pdu A → MadePdu
-pdu_seen p = record { datagram = p.datagram.items; is_named = p.is_named }

@@ -1,4 +1,0 @@
-pub mod Status
-pub mod Names
-pub mod Lines
-pub mod LabelText

@@ -1,0 +1,391 @@
+-- How few PDUs and telegrams one call of an end makes.
+use Rattle.std.proofs.Common.{◌≡◌, inl, inr, ℕ, zero, suc, ◌+◌, ◌*◌, ◌≤◌, List, [], ◌∷◌, ◌++◌, length, take, drop, Option, Some, None, Result, Ok, Err, Bool, true, false, cond, refl, sym, ap, subst, ◌∙◌, arith, length-append, append-nil}
+use Rattle.std.specs.Prelude.{nat_lt, nat_le, ◌==◌, ◌&&◌}
+use Rattle.std.specs.List.{AllByRecursion}
+use Rattle.std.proofs.lemmas.Bool.Decides.{nat_tests}
+use Rattle.std.proofs.lemmas.List.{length-drop}
+use Rattle.std.proofs.Math.Seq.{drop-append_seam}
+use Rattle.octets.proofs.Choices.{by_cond}
+use Rattle.octets.specs.declared.limits.TheConstants.{PAYLOAD_MAX, MESSAGE_MIN, MESSAGE_MAX, UNIT_MESSAGES}
+use Rattle.packing.specs.declared.PackFault.{PackFault}
+use Rattle.packing.specs.Places.{unit_seen, pieces_seen, is_piece, first_message, behind_first, after as after_read}
+use Rattle.packing.specs.UnitText.{unit_text}
+use Rattle.sci_telegram.specs.declared.TeleFault.{TeleFault}
+use Rattle.sci_telegram.specs.Tele.{Tele}
+use Rattle.sci_telegram.specs.Places.{tele_seen, read_named, name_seen, sender_field, receiver_field}
+use Rattle.red_layer.specs.Parts.{Part, is_nil}
+use Rattle.red_layer.specs.Redundancy.{Input, Datagram, Tick as RedTick, passed_by}
+use Rattle.safe_machine.specs.declared.Reason.{Reason}
+use Rattle.safe_machine.specs.declared.Reason.TheVariants.{ClosedByUser}
+use Rattle.safe_machine.specs.declared.Detail.{Detail}
+use Rattle.safe_machine.specs.declared.Detail.TheVariants.{Unspecified}
+use Rattle.safe_machine.specs.State.{State, leave, make, move_to, next_made, says_goodbye, unconfirmed}
+use Rattle.safe_machine.specs.Step.{guard, tick, may_send}
+use Rattle.safe_machine.specs.Moves.{Move, move, IsTakenBy, MovesLaw}
+use Rattle.safe_machine.specs.Moves.Move.{Guards, Ticks, Sends, Leaves, Hears}
+use Rattle.safe_machine.specs.Octets.{heard as heard_as, seen_by, arrive_octets}
+use Rattle.safe_machine.specs.Reached.{IsRead, FewMade, FewLaw}
+use Rattle.safe_machine.specs.World.{Side}
+use Rattle.safe_machine.specs.World.Side.{Il, Fe}
+use Rattle.pdi_session.specs.SessionStep.{Event, Up as GoesUp, Arrives, Puts, InitDone as Completes, Closes, Item, judged, taken_as, taken_by}
+use Rattle.pdi_session.specs.declared.Verdict.{Verdict}
+use Rattle.pdi_session.specs.declared.Verdict.TheVariants.{Takes, Goes, Answers, Ends}
+use Rattle.stack_end.specs.Dialogue.{Dialogue, Judged, Leaving, meets, unless_leaving, judge_read, judge_messages, judge_unpacked, judge_units}
+use Rattle.stack_end.specs.Ends.{EndState, new_end, is_shut, with_machine, with_session, settle, moved, handed_up, answered, rises, comes_up, leaves, heard, part, parts, with_input, receives, packed, packed_up_to, sends, goes_on, Call, did, call, time_of}
+use Rattle.stack_end.specs.Ends.Call.{Close, Put, InitDone, Tick, Deliver}
+use Rattle.safe_pdu.specs.declared.Kind.TheVariants.{DiscReq, Data}
+use Rattle.safe_machine.specs.declared.ConnectionState.TheVariants.{Closed}
+use Rattle.safe_machine.specs.Made.{leaving_body}
+use Rattle.red_layer.specs.Redundancy.{Receiver}
+use Rattle.end_settings.specs.EndSettings.{EndSettings, connection_of, are_fit}
+use Rattle.stack_engine.specs.Bounds.{IsSmallItem}
+use Rattle.octets.specs.Octets.{AreOctets}
+use Rattle.stack_engine.proofs.one.Keeping.{Keeps, IsTypedInput, IsTypedCall, keep-part, keep-settle, call-keeps}
+use Rattle.stack_engine.proofs.one.Spoken.{Below}
+use Rattle.stack_engine.proofs.one.Sending.{and-parts, legal-of, limits-of}
+use Rattle.stack_engine.proofs.one.Machined.{RedLaws, Whole, OctetsUp, OctetPart, whole-keeps, red-keeps, read-heard, legal-role}
+use Rattle.stack_engine.proofs.code.Passing.{passing}
+use Rattle.stack_engine.proofs.two.Mapping.{octets-call}
+use Rattle.stack_engine.proofs.two.Worlds.{new-whole}
+
+-- what a message says is small
+named-small : (m : List ℕ) (t : Tele) (a b : Option (List ℕ)) → length m ≤ MESSAGE_MAX → read_named a b m ≡ Ok t → length t.payload ≤ PAYLOAD_MAX
+named-small m t (Some a) (Some b) h e =
+    let same : drop MESSAGE_MIN m ≡ t.payload = cc in
+    omega (arith, ap (λ (o : List ℕ). length o) same, length-drop MESSAGE_MIN m)
+named-small m t (Some a) None h e = cc
+named-small m t None b h e = cc
+
+small-tele : (m : List ℕ) (t : Tele) → tele_seen m ≡ Ok t → length t.payload ≤ PAYLOAD_MAX
+unfolding tele_seen
+small-tele m t e =
+    let P : Result Tele TeleFault → Type 0 = λ r. r ≡ Ok t → length t.payload ≤ PAYLOAD_MAX in
+    by_cond P (nat_lt (length m) MESSAGE_MIN) _ _ (λ _ no. cc) (λ _.
+    by_cond P (nat_lt MESSAGE_MAX (length m)) _ _ (λ _ no. cc) (λ short.
+    let most : length m ≤ MESSAGE_MAX = grind (arith, nat_tests) in
+    named-small m t (name_seen (sender_field m)) (name_seen (receiver_field m)) most)) e
+
+-- Of telegrams taken: at most `n` more, each of them small.
+pub record Takes_ (n : ℕ) (d e : Dialogue) : Type 0 where
+  pub few : length e.history.taken ≤ length d.history.taken + n
+  pub small : AllByRecursion IsSmallItem d.history.taken → AllByRecursion IsSmallItem e.history.taken
+
+small-behind : (is js : List Item) → AllByRecursion IsSmallItem is → AllByRecursion IsSmallItem js → AllByRecursion IsSmallItem (is ++ js)
+small-behind [] js h k = k
+small-behind (i ∷ is) js h k = (h.0, small-behind is js h.1 k)
+
+takes-same : (d e : Dialogue) → e.history.taken ≡ d.history.taken → Takes_ 0 d e
+takes-same d e same =
+    record { few = omega (arith, ap (λ (is : List Item). length is) same); small = λ h. subst (AllByRecursion IsSmallItem) (sym same) h }
+
+takes-then : (m n : ℕ) (d e f : Dialogue) → Takes_ m d e → Takes_ n e f → Takes_ (m + n) d f
+takes-then m n d e f a b = record { few = omega (arith, a.few, b.few); small = λ h. b.small (a.small h) }
+
+takes-more : (m n : ℕ) (d e : Dialogue) → m ≤ n → Takes_ m d e → Takes_ n d e
+takes-more m n d e le a = record { few = omega (arith, a.few); small = a.small }
+
+-- a telegram that arrives is taken at most
+takes-as : (t : Tele) (d e : Dialogue) (v : Verdict) → length t.payload ≤ PAYLOAD_MAX → e.history.taken ≡ d.history.taken ++ taken_as t v → Takes_ 1 d e
+takes-as t d e Takes small same =
+    record {
+      few = omega (arith, ap (λ (is : List Item). length is) same, length-append d.history.taken ((t.kind, t.payload) ∷ []));
+      small = λ h. subst (AllByRecursion IsSmallItem) (sym same) (small-behind d.history.taken ((t.kind, t.payload) ∷ []) h (small, tt));
+    }
+takes-as t d e (Goes next) small same = takes-more 0 1 d e (omega arith) (takes-same d e (same ∙ append-nil d.history.taken))
+takes-as t d e (Answers next notice) small same = takes-more 0 1 d e (omega arith) (takes-same d e (same ∙ append-nil d.history.taken))
+takes-as t d e (Ends why) small same = takes-more 0 1 d e (omega arith) (takes-same d e (same ∙ append-nil d.history.taken))
+
+takes-read : (m : List ℕ) (d : Dialogue) (r : Result Tele TeleFault) → tele_seen m ≡ r → Takes_ 1 d (judge_read r d).left
+takes-read m d (Ok t) e = takes-as t d (meets (Arrives t) d) (judged d.history.state t) (small-tele m t e) refl
+takes-read m d (Err fault) e = takes-more 0 1 d d (omega arith) (takes-same d d refl)
+
+-- the others of a unit
+takes-unless : (n : ℕ) (d : Dialogue) (why : Option Leaving) (first rest : Judged) → Takes_ 1 d first.left → Takes_ n first.left rest.left → Takes_ (1 + n) d (unless_leaving why first rest).left
+takes-unless n d None first rest a b = takes-then 1 n d first.left rest.left a b
+takes-unless n d (Some why) first rest a b = takes-more 1 (1 + n) d first.left (omega arith) a
+
+takes-messages : (ms : List (List ℕ)) (d : Dialogue) → Takes_ (length ms) d (judge_messages ms d).left
+takes-messages [] d = takes-same d d refl
+takes-messages (m ∷ ms) d =
+    let first = judge_read (tele_seen m) d in
+    takes-more (1 + length ms) (length (m ∷ ms)) d (judge_messages (m ∷ ms) d).left (omega arith)
+    (takes-unless (length ms) d first.leaving first (judge_messages ms first.left) (takes-read m d (tele_seen m) refl) (takes-messages ms first.left))
+
+-- a unit has three messages at most
+after-few : (n : ℕ) (m : List ℕ) (r : Result (List (List ℕ)) PackFault) (ms : List (List ℕ)) → after_read (m ∷ []) r ≡ Ok ms
+    → ((ns : List (List ℕ)) → r ≡ Ok ns → length ns ≤ n) → length ms ≤ n + 1
+after-few n m (Ok ns) ms e h =
+    let same : m ∷ ns ≡ ms = cc in
+    omega (arith, ap (λ (xs : List (List ℕ)). length xs) same, h ns refl)
+after-few n m (Err fault) ms e h = cc
+
+pieces-few : (n : ℕ) (octets : List ℕ) (ms : List (List ℕ)) → pieces_seen n octets ≡ Ok ms → length ms ≤ n
+unfolding pieces_seen
+pieces-few zero octets ms e =
+    by_cond (λ (r : Result (List (List ℕ)) PackFault). r ≡ Ok ms → length ms ≤ 0) (length octets == 0) (Ok []) _
+    (λ _ same. let none : [] ≡ ms = cc in omega (arith, ap (λ (xs : List (List ℕ)). length xs) none)) (λ _ no. cc) e
+pieces-few (suc n) octets ms e =
+    let P : Result (List (List ℕ)) PackFault → Type 0 = λ r. r ≡ Ok ms → length ms ≤ suc n in
+    by_cond P (length octets == 0) (Ok []) _
+    (λ _ same. let none : [] ≡ ms = cc in omega (arith, ap (λ (xs : List (List ℕ)). length xs) none)) (λ _.
+    by_cond P (is_piece octets) (after_read (first_message octets ∷ []) (pieces_seen n (behind_first octets))) _
+    (λ _ same. omega (arith, after-few n (first_message octets) (pieces_seen n (behind_first octets)) ms same (λ ns. pieces-few n (behind_first octets) ns))) (λ _ no. cc)) e
+
+unit-few : (u : List ℕ) (ms : List (List ℕ)) → unit_seen u ≡ Ok ms → length ms ≤ 3
+unfolding unit_seen
+unit-few u ms e =
+    by_cond (λ (r : Result (List (List ℕ)) PackFault). r ≡ Ok ms → length ms ≤ 3) (length u == 0) _ (pieces_seen UNIT_MESSAGES u) (λ _ no. cc) (λ _. pieces-few UNIT_MESSAGES u ms) e
+
+takes-unpacked : (u : List ℕ) (d : Dialogue) (r : Result (List (List ℕ)) PackFault) → unit_seen u ≡ r → Takes_ 3 d (judge_unpacked r d).left
+takes-unpacked u d (Ok ms) e = takes-more (length ms) 3 d (judge_messages ms d).left (unit-few u ms e) (takes-messages ms d)
+takes-unpacked u d (Err fault) e = takes-more 0 3 d d (omega arith) (takes-same d d refl)
+
+-- the machine hands up one unit at most
+takes-units : (us : List (List ℕ)) (d : Dialogue) → length us ≤ 1 → Takes_ 3 d (judge_units us d).left
+takes-units [] d h = takes-more 0 3 d d (omega arith) (takes-same d d refl)
+takes-units (u ∷ []) d h =
+    let first = judge_unpacked (unit_seen u) d in
+    let rest = judge_units [] first.left in
+    takes-one first.leaving first rest (takes-unpacked u d (unit_seen u) refl) (takes-same first.left first.left refl)
+  where
+    takes-one : (why : Option Leaving) (first rest : Judged) → Takes_ 3 d first.left → Takes_ 0 first.left rest.left → Takes_ 3 d (unless_leaving why first rest).left
+    takes-one None first rest a b = takes-more (3 + 0) 3 d rest.left (omega arith) (takes-then 3 0 d first.left rest.left a b)
+    takes-one (Some why) first rest a b = a
+takes-units (u ∷ v ∷ us) d h = absurd (omega arith)
+
+-- one unit more at most
+handed-few : MovesLaw → (m : Move) (x : EndState) → length (handed_up x (move m x.machine)) ≤ 1
+handed-few moves m x =
+    let one = moves m x.machine in
+    let same : handed_up x (move m x.machine) ≡ one.more_taken = ap (drop (length x.machine.taken)) one.taken ∙ drop-append_seam x.machine.taken one.more_taken in
+    omega (arith, ap (λ (us : List (List ℕ)). length us) same, by-kind m one.more_taken one.one_taken)
+  where
+    by-kind : (m : Move) (more : List (List ℕ)) → IsTakenBy m more → length more ≤ 1
+    by-kind (Guards now) more h = omega (arith, ap (λ (us : List (List ℕ)). length us) h)
+    by-kind (Hears p now) more (inl h) = omega (arith, ap (λ (us : List (List ℕ)). length us) h)
+    by-kind (Hears p now) more (inr h) = omega (arith, ap (λ (us : List (List ℕ)). length us) h)
+    by-kind (Ticks now) more h = omega (arith, ap (λ (us : List (List ℕ)). length us) h)
+    by-kind (Sends unit now) more h = omega (arith, ap (λ (us : List (List ℕ)). length us) h)
+    by-kind (Leaves reason detail now) more h = omega (arith, ap (λ (us : List (List ℕ)). length us) h)
+
+takes-rises : (b : Bool) (d : Dialogue) → Takes_ 0 d (rises b d)
+takes-rises true d = takes-same d (meets GoesUp d) (append-nil d.history.taken)
+takes-rises false d = takes-same d d refl
+
+-- So many PDUs and telegrams more at most, from one state of an end to the next.
+pub record Grows (n k : ℕ) (x y : EndState) : Type 0 where
+  pub made : length y.machine.made ≤ length x.machine.made + n
+  pub takes : Takes_ k x.session y.session
+
+grows-then : (m n j k : ℕ) (x y z : EndState) → Grows m j x y → Grows n k y z → Grows (m + n) (j + k) x z
+grows-then m n j k x y z a b = record { made = omega (arith, a.made, b.made); takes = takes-then j k x.session y.session z.session a.takes b.takes }
+
+grows-more : (m n j k : ℕ) (x y : EndState) → m ≤ n → j ≤ k → Grows m j x y → Grows n k x y
+grows-more m n j k x y le less a = record { made = omega (arith, a.made); takes = takes-more j k x.session y.session less a.takes }
+
+grows-same : (x : EndState) → Grows 0 0 x x
+grows-same x = record { made = omega arith; takes = takes-same x.session x.session refl }
+
+grows-settle : (x : EndState) → Grows 0 0 x (settle x)
+grows-settle x =
+    by_cond (Grows 0 0 x) (is_shut x) (with_session (meets Closes x.session) x) x
+    (λ _. record { made = omega arith; takes = takes-same x.session (meets Closes x.session) (append-nil x.session.history.taken) }) (λ _. grows-same x)
+
+leave-few : (reason : Reason) (detail : Detail) (now : ℕ) (s : State) → length (leave reason detail now s).made ≤ length s.made + 1
+leave-few reason detail now s =
+    let m = make DiscReq (leaving_body reason detail) now s in
+    by_cond (λ (t : State). length (move_to Closed t).made ≤ length s.made + 1) (says_goodbye s.connection) m s
+    (λ _. omega (arith, length-append s.made (next_made s DiscReq (leaving_body reason detail) now ∷ []))) (λ _. omega arith)
+
+-- What holds of an end by itself, so that its next call makes little.
+pub record Sized (side : Side) (x : EndState) : Type 0 where
+  pub whole : Whole side x
+  pub q : x.red.q ≡ x.settings.q
+  pub few : length x.red.waiting ≤ x.red.q
+  pub small : AllByRecursion IsSmallItem x.session.history.taken
+
+-- the laws of the layers below that this rests on
+pub record Layers : Type 0 where
+  pub below : Below
+  pub redundancy : RedLaws
+  pub few : FewLaw
+
+-- a move in a state that is read
+few-made : FewLaw → (side : Side) (m : Move) (x : EndState) → IsRead m → Sized side x → FewMade m x.machine
+few-made law side m x read h =
+    let w = h.whole in
+    subst (FewMade m) (sym w.machined.machine)
+    (law (connection_of side x.settings) w.machined.first w.machined.began w.machined.moves m (legal-role side x.settings (legal-of side x.settings w.spoken.fit)) w.machined.read read)
+
+small-leaves : (now : ℕ) (why : Option Leaving) (y : EndState) → (leaves now why y).red ≡ y.red × ((leaves now why y).settings ≡ y.settings) × ((leaves now why y).session ≡ y.session)
+small-leaves now None y = (refl, refl, refl)
+small-leaves now (Some why) y = (refl, refl, refl)
+
+grows-leaves : (now : ℕ) (why : Option Leaving) (y : EndState) → Grows 1 0 y (leaves now why y)
+grows-leaves now None y = grows-more 0 1 0 0 y y (omega arith) (omega arith) (grows-same y)
+grows-leaves now (Some why) y = record { made = leave-few why.0 why.1 now y.machine; takes = takes-same y.session y.session refl }
+
+-- a part that goes up
+grows-heard : Layers → (side : Side) (now : ℕ) (octets : List ℕ) (x : EndState) → AreOctets octets → Sized side x → Grows 37 3 x (heard now octets x)
+grows-heard laws side now octets x octs h =
+    let s = arrive_octets octets now x.machine in
+    let m = heard_as (seen_by x.machine octets) now in
+    let few = few-made laws.few side m x (read-heard laws.below.heard now octets x.machine octs (seen_by x.machine octets) refl) h in
+    let up = takes-units (handed_up x s) x.session (handed-few laws.below.moves m x) in
+    let y = answered octets x s in
+    let d = (judge_units (handed_up x s) x.session).left in
+    let one : Grows 36 3 x y = record {
+      made = few.made;
+      takes = takes-more (3 + 0) 3 x.session y.session (omega arith) (takes-then 3 0 x.session d y.session up (takes-rises (comes_up x.machine.connection s.connection) d));
+    } in
+    grows-more (36 + 1) 37 (3 + 0) 3 x (heard now octets x) (omega arith) (omega arith)
+    (grows-then 36 1 3 0 x y (heard now octets x) one (grows-leaves now (judge_units (handed_up x s) x.session).leaving y))
+
+sized-keeps : Layers → (side : Side) (now : ℕ) → Keeps now OctetsUp (Sized side)
+sized-keeps laws side now =
+    let k : Keeps now OctetsUp (Whole side) = whole-keeps laws.below laws.redundancy side now in
+    record {
+      guards = λ x h. record { whole = k.guards x h.whole; q = h.q; few = h.few; small = h.small };
+      ticks = λ x h. record { whole = k.ticks x h.whole; q = h.q; few = h.few; small = h.small };
+      closes = λ x h. record { whole = k.closes x h.whole; q = h.q; few = h.few; small = h.small };
+      ends = λ x shut h. record { whole = k.ends x shut h.whole; q = h.q; few = h.few; small = subst (AllByRecursion IsSmallItem) (sym (append-nil x.session.history.taken)) h.small };
+      inputs = λ i x t h.
+          let p = passing i x.red in
+          record { whole = k.inputs i x t h.whole; q = p.q ∙ h.q; few = p.few h.few; small = h.small };
+      hears = λ octets x q h.
+          let s = arrive_octets octets now x.machine in
+          let same = small-leaves now (judge_units (handed_up x s) x.session).leaving (answered octets x s) in
+          record {
+            whole = k.hears octets x q h.whole;
+            q = ap (λ (r : Receiver). r.q) same.0 ∙ h.q ∙ ap (λ (c : EndSettings). c.q) (sym same.1);
+            few = subst (λ (r : Receiver). length r.waiting ≤ r.q) (sym same.0) h.few;
+            small = (grows-heard laws side now octets x q h).takes.small h.small;
+          };
+      sends = λ x may some h. record { whole = k.sends x may some h.whole; q = h.q; few = h.few; small = h.small };
+      puts = λ kind payload x fits h. record { whole = k.puts kind payload x fits h.whole; q = h.q; few = h.few; small = subst (AllByRecursion IsSmallItem) (sym (append-nil x.session.history.taken)) h.small };
+      dones = λ x h. record { whole = k.dones x h.whole; q = h.q; few = h.few; small = subst (AllByRecursion IsSmallItem) (sym (append-nil x.session.history.taken)) h.small };
+      times = λ x h. record { whole = k.times x h.whole; q = h.q; few = h.few; small = h.small };
+    }
+
+-- an end lets eight parts wait at most
+few-places : (side : Side) (s : EndSettings) → are_fit side s ≡ true → s.q ≤ 8
+few-places side s h =
+    let p = and-parts (nat_le 1 s.n_maxpacket && nat_le s.n_maxpacket UNIT_MESSAGES) _ (and-parts (nat_le 1 s.channels && nat_le s.channels 4) _ (limits-of side s h)).1 in
+    let q = and-parts (nat_le 1 s.q) (nat_le s.q 8) (and-parts (nat_le 1 s.q && nat_le s.q 8) _ p.1).0 in
+    let l = q.1 in grind (arith, nat_tests)
+
+-- the parts of one input
+module _ (laws : Layers) (side : Side) (now : ℕ) where
+  k : Keeps now OctetsUp (Sized side)
+  k = sized-keeps laws side now
+
+  grows-part : (octets : List ℕ) (x : EndState) → AreOctets octets → Sized side x → Grows 37 3 x (part now octets x)
+  grows-part octets x octs h =
+      grows-more (37 + 0) 37 (3 + 0) 3 x (part now octets x) (omega arith) (omega arith)
+      (grows-then 37 0 3 0 x (heard now octets x) (part now octets x) (grows-heard laws side now octets x octs h) (grows-settle (heard now octets x)))
+
+  grows-parts : (ps : List Part) (x : EndState) → AllByRecursion OctetPart ps → Sized side x
+      → Grows (37 * length ps) (3 * length ps) x (parts now ps x) × Sized side (parts now ps x)
+  grows-parts [] x octs h = (grows-same x, h)
+  grows-parts (p ∷ ps) x octs h =
+      let y = part now p.1 x in
+      let rest = grows-parts ps y octs.1 (keep-part now OctetsUp (Sized side) k p.1 x octs.0 h) in (
+        grows-more (37 + 37 * length ps) (37 * length (p ∷ ps)) (3 + 3 * length ps) (3 * length (p ∷ ps)) x (parts now ps y) (omega arith) (omega arith)
+            (grows-then 37 (37 * length ps) 3 (3 * length ps) x y (parts now ps y) (grows-part p.1 x octs.0 h) rest.0),
+        rest.1,
+      )
+
+  -- units go out while the window is open
+  packs-few : (n : ℕ) (x : EndState) → Sized side x
+      → (length (packed_up_to n now x).machine.made + length (unconfirmed x.machine) ≤ length x.machine.made + 32) × Takes_ 0 x.session (packed_up_to n now x).session
+  packs-few zero x h =
+      let few = few-made laws.few side (Guards now) x tt h in (omega (arith, few.few), takes-same x.session x.session refl)
+  packs-few (suc n) x h =
+      let few = few-made laws.few side (Guards now) x tt h in
+      let P : EndState → Type 0 = λ y. (length y.machine.made + length (unconfirmed x.machine) ≤ length x.machine.made + 32) × Takes_ 0 x.session y.session in
+      let same : P x = (omega (arith, few.few), takes-same x.session x.session refl) in
+      by_cond P (is_nil x.session.waiting) x (cond (may_send x.machine) (packed_up_to n now (packed now x)) x) (λ _. same) (λ some.
+      by_cond P (may_send x.machine) (packed_up_to n now (packed now x)) x (λ may.
+      let y = packed now x in
+      let unit = unit_text (take x.settings.n_maxpacket x.session.waiting) in
+      let rest = packs-few n y (k.sends x may some h) in
+      let one : length y.machine.made ≤ length x.machine.made + 1 =
+      by_cond (λ (t : State). length t.made ≤ length x.machine.made + 1) (may_send x.machine) (make Data unit now x.machine) x.machine
+      (λ _. omega (arith, length-append x.machine.made (next_made x.machine Data unit now ∷ []))) (λ _. omega arith) in
+      (omega (arith, rest.0, few.sending unit now may, one), record { few = rest.1.few; small = rest.1.small })) (λ _. same))
+
+  grows-sends : (x : EndState) → Sized side x → Grows 32 0 x (sends now x)
+  grows-sends x h =
+      let all = packs-few (length x.session.waiting) x h in
+      record { made = omega (arith, all.0); takes = all.1 }
+
+  grows-goes_on : (i : Input) (x : EndState) → IsTypedInput i → Sized side x → Grows 365 27 x (goes_on now i x)
+  grows-goes_on i x t h =
+      by_cond (Grows 365 27 x) (is_shut x) x (sends now (receives now i x)) (λ _. grows-more 0 365 0 27 x x (omega arith) (omega arith) (grows-same x)) (λ _.
+      let y = with_input i x in
+      let ps = passed_by i x.red in
+      let p = passing i x.red in
+      let q = few-places side x.settings h.whole.spoken.fit in
+      let nine : length ps ≤ 9 = omega (arith, p.count, h.few, h.q) in
+      let begun : Sized side y = k.inputs i x t h in
+      let through = grows-parts ps y (red-keeps laws.redundancy i x.red t h.whole.machined.waits).0 begun in
+      let z = receives now i x in
+      let zero : Grows 0 0 x y = record { made = omega arith; takes = takes-same x.session y.session refl } in
+      grows-more (0 + (37 * length ps + 32)) 365 (0 + (3 * length ps + 0)) 27 x (sends now z) (omega arith) (omega arith)
+      (grows-then 0 (37 * length ps + 32) 0 (3 * length ps + 0) x y (sends now z) zero
+      (grows-then (37 * length ps) 32 (3 * length ps) 0 y z (sends now z) through.0 (grows-sends z through.1))))
+
+  -- after one move of the machine that is no arrival
+  grows-moved : (m : Move) (x : EndState) → IsRead m → Sized side x → Grows 36 0 x (moved m x)
+  grows-moved m x read h =
+      let few = few-made laws.few side m x read h in
+      let y = with_machine (move m x.machine) x in
+      let one : Grows 36 0 x y = record { made = few.made; takes = takes-same x.session y.session refl } in
+      grows-more (36 + 0) 36 (0 + 0) 0 x (moved m x) (omega arith) (omega arith) (grows-then 36 0 0 0 x y (moved m x) one (grows-settle y))
+
+  grows-on : (m : Move) (i : Input) (x : EndState) → IsRead m → IsTypedInput i → Sized side x → Sized side (moved m x) → Grows 401 27 x (goes_on now i (moved m x))
+  grows-on m i x read t h after =
+      grows-more (36 + 365) 401 (0 + 27) 27 x (goes_on now i (moved m x)) (omega arith) (omega arith)
+      (grows-then 36 365 0 27 x (moved m x) (goes_on now i (moved m x)) (grows-moved m x read h) (grows-goes_on i (moved m x) t after))
+
+  -- an event of the session that is no arrival
+  grows-meets : (e : Event) (x : EndState) → taken_by e x.session.history.state ≡ [] → Sized side (with_session (meets e x.session) x) → Grows 401 27 x (sends now (with_session (meets e x.session) x))
+  grows-meets e x none after =
+      let y = with_session (meets e x.session) x in
+      let zero : Grows 0 0 x y = record {
+        made = omega arith;
+        takes = takes-same x.session y.session (ap (λ (is : List Item). x.session.history.taken ++ is) none ∙ append-nil x.session.history.taken);
+      } in
+      grows-more (0 + 32) 401 (0 + 0) 27 x (sends now y) (omega arith) (omega arith) (grows-then 0 32 0 0 x y (sends now y) zero (grows-sends y after))
+
+grows-time : (n j : ℕ) (now : ℕ) (x y : EndState) → Grows n j x y → Grows n j x (record y { time = now })
+grows-time n j now x y g = record { made = g.made; takes = g.takes }
+
+pub grows-call : Layers → (side : Side) (c : Call) (x : EndState) → IsTypedCall c → Sized side x → Grows 401 27 x (call c x)
+grows-call laws side (Close now) x t h =
+    grows-time 401 27 now x (moved (Leaves ClosedByUser Unspecified now) x)
+    (grows-more 36 401 0 27 x (moved (Leaves ClosedByUser Unspecified now) x) (omega arith) (omega arith) (grows-moved laws side now (Leaves ClosedByUser Unspecified now) x tt h))
+grows-call laws side (Put kind payload now) x t h =
+    grows-time 401 27 now x (did (Put kind payload now) x)
+    (grows-meets laws side now (Puts kind payload (length x.session.waiting)) x refl ((sized-keeps laws side now).puts kind payload x t h))
+grows-call laws side (InitDone now) x t h =
+    grows-time 401 27 now x (did (InitDone now) x)
+    (grows-meets laws side now (Completes (length x.session.waiting)) x refl ((sized-keeps laws side now).dones x h))
+grows-call laws side (Tick now) x t h =
+    let k = sized-keeps laws side now in
+    grows-time 401 27 now x (did (Tick now) x)
+    (by_cond (Grows 401 27 x) (is_shut x) x (goes_on now (RedTick now) (moved (Ticks now) x)) (λ _. grows-more 0 401 0 27 x x (omega arith) (omega arith) (grows-same x)) (λ _.
+    grows-on laws side now (Ticks now) (RedTick now) x tt tt h (keep-settle now OctetsUp (Sized side) k (with_machine (tick now x.machine) x) (k.ticks x h))))
+grows-call laws side (Deliver channel octets now) x t h =
+    let k = sized-keeps laws side now in
+    grows-time 401 27 now x (did (Deliver channel octets now) x)
+    (by_cond (Grows 401 27 x) (is_shut x) x (goes_on now (Datagram octets now) (moved (Guards now) x)) (λ _. grows-more 0 401 0 27 x x (omega arith) (omega arith) (grows-same x)) (λ _.
+    grows-on laws side now (Guards now) (Datagram octets now) x tt t h (keep-settle now OctetsUp (Sized side) k (with_machine (guard now x.machine) x) (k.guards x h))))
+
+pub sized-call : Layers → (side : Side) (c : Call) (x : EndState) → IsTypedCall c → Sized side x → Sized side (call c x)
+sized-call laws side c x t h =
+    call-keeps c OctetsUp (Sized side) x (sized-keeps laws side (time_of c)) t (octets-call laws.redundancy c x t h.whole.machined.waits) h
+
+pub sized-new : (side : Side) (s : EndSettings) (first now : ℕ) → are_fit side s ≡ true → Sized side (new_end side s first now)
+sized-new Il s first now fit = record { whole = new-whole Il s first now fit; q = refl; few = omega arith; small = tt }
+sized-new Fe s first now fit = record { whole = new-whole Fe s first now fit; q = refl; few = omega arith; small = tt }

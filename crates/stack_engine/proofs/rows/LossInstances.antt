@@ -1,0 +1,132 @@
+-- Each clause of "nothing lost" refuses a world that all other clauses admit.
+use Rattle.std.specs.Prelude.{ℕ, ◌≡◌, ◌≢◌, ◌<◌, ◌≤◌, List, [], ◌∷◌}
+use Rattle.std.proofs.Common.{arith, refl, inl, inr}
+use Rattle.safe_machine.specs.declared.ConnectionState.TheVariants.{Start, Up}
+use Rattle.safe_machine.specs.Made.{Made}
+use Rattle.sci_telegram.specs.Places.{tele_seen}
+use Rattle.pdi_session.specs.declared.Phase.TheVariants.{Initialising, Established}
+use Rattle.stack_end.specs.Ends.{EndState}
+use Rattle.stack_engine.specs.Faithful.{AllArrived, AllThere, Match, NothingLost}
+use Rattle.stack_engine.specs.Instances.{one}
+use Rattle.stack_engine.specs.LossInstances.{Course, LossInstances, both, early, fe_with, il_with, lost, plain, starting, waits}
+use Rattle.stack_engine.proofs.rows.Drops.{no-item}
+use Rattle.stack_engine.proofs.rows.Instances.{true-is-false}
+
+no-number : (k : ℕ) → k < 0 → ⊥
+no-number k below = omega arith
+
+-- nothing was made, so all has arrived
+all-arrived : (c d : Course) (x y : EndState) → AllArrived (il_with c x) (fe_with d y)
+all-arrived c d x y k below = absurd (no-number k below)
+
+none-missing : (c d : Course) (x y : EndState) → AllArrived (fe_with d y) (il_with c x)
+none-missing c d x y k below = absurd (no-number k below)
+
+there : (c d : Course) (x : EndState) → NothingLost (both (il_with c x) (fe_with d x)) → AllThere (il_with c x) (fe_with d x)
+there c d x h = h.all_there (λ up. all-arrived c d x x) (λ up. none-missing c d x x)
+
+not-full : 1 ≤ 0 → ⊥
+not-full h = omega arith
+
+not-up : Start ≡ Up → ⊥
+not-up e = cc
+
+not-initialising : Initialising ≡ Established → ⊥
+not-initialising e = cc
+
+no-message : {X : Type 0} (x : X) (xs : List X) → x ∷ xs ≢ []
+no-message x xs e = no-item x xs e
+
+pub match-plain : (c d : Course) (x : EndState) → Match (il_with c x) (fe_with d x)
+match-plain c d x = record { rule = refl; protocol = refl; version = refl; il_identifier = refl; fe_identifier = refl; il_name = refl; fe_name = refl }
+
+pub loss-instances : (x : EndState) (m : Made) → LossInstances x m
+unfolding tele_seen
+loss-instances x m =
+    record {
+      match = match-plain plain plain x;
+      holds =
+          record {
+            il_waits = λ up some. absurd (some refl);
+            fe_waits = λ up some. absurd (some refl);
+            commands = refl;
+            status = refl;
+            il_up = λ match. refl;
+            fe_up = λ match. refl;
+            in_step = λ match il fe. inr (refl, refl, refl);
+          };
+      il_asks = λ h. h.il_asks_nothing.0 refl;
+      fe_asks = λ h. h.fe_asks_nothing.0 refl;
+      il_waits = (
+        (λ h. not-full ((there waits plain x h).il_waits refl (no-message [] []))),
+        (λ up some. absurd (some refl)),
+        refl,
+        refl,
+        (λ match. refl),
+        (λ match. refl),
+        (λ match il fe. absurd (no-item [] [] il)),
+      );
+      fe_waits = (
+        (λ h. not-full ((there plain waits x h).fe_waits refl (no-message [] []))),
+        (λ up some. absurd (some refl)),
+        refl,
+        refl,
+        (λ match. refl),
+        (λ match. refl),
+        (λ match il fe. absurd (no-item [] [] fe)),
+      );
+      commands = (
+        (λ h. no-item one [] (there lost plain x h).commands),
+        (λ up some. absurd (some refl)),
+        (λ up some. absurd (some refl)),
+        refl,
+        (λ match. refl),
+        (λ match. refl),
+        (λ match il fe. inr (refl, refl, refl)),
+      );
+      status = (
+        (λ h. no-item one [] (there plain lost x h).status),
+        (λ up some. absurd (some refl)),
+        (λ up some. absurd (some refl)),
+        refl,
+        (λ match. refl),
+        (λ match. refl),
+        (λ match il fe. inr (refl, refl, refl)),
+      );
+      il_starts = (
+        (λ h. not-up ((there starting plain x h).il_up (match-plain starting plain x))),
+        (λ up some. absurd (some refl)),
+        (λ up some. absurd (some refl)),
+        refl,
+        refl,
+        (λ match. refl),
+        (λ match il fe. inr (refl, refl, refl)),
+      );
+      fe_starts = (
+        (λ h. not-up ((there plain starting x h).fe_up (match-plain plain starting x))),
+        (λ up some. absurd (some refl)),
+        (λ up some. absurd (some refl)),
+        refl,
+        refl,
+        (λ match. refl),
+        (λ match il fe. inr (refl, refl, refl)),
+      );
+      il_early = (
+        (λ h. elim ((there early plain x h).in_step (match-plain early plain x) refl refl) [ inl w ↦ true-is-false w.0 | inr w ↦ not-initialising w.1 ]),
+        (λ up some. absurd (some refl)),
+        (λ up some. absurd (some refl)),
+        refl,
+        refl,
+        (λ match. refl),
+        (λ match. refl),
+      );
+      fe_early = (
+        (λ h. elim ((there plain early x h).in_step (match-plain plain early x) refl refl) [ inl w ↦ true-is-false w.0 | inr w ↦ not-initialising w.2 ]),
+        (λ up some. absurd (some refl)),
+        (λ up some. absurd (some refl)),
+        refl,
+        refl,
+        (λ match. refl),
+        (λ match. refl),
+      );
+    }
