@@ -432,11 +432,11 @@ whole-first m now i v x may h =
     choose (λ q w. Turned q x w) (is_over v) (is_shut x) (still v) (followed t (goes_on now i)) x (end_goes_on now i y) (over-is v x h) (whole-still v x h)
     (whole-then t (goes_on now i) x y (end_goes_on now i y) one (whole-goes_on now i t.left y one.stands))
 
-pub turns_law_holds : (c : Call) (v : Inside) (x : EndState) → BothStand v x → Turned (turn c v) x (did c x)
-turns_law_holds (Close now) v x h = whole-above (closes now) v x (moved (Leaves ClosedByUser Unspecified now) x) h
+pub turns_did : (c : Call) (v : Inside) (x : EndState) → BothStand v x → Turned (turn c v) x (did c x)
+turns_did (Close now) v x h = whole-above (closes now) v x (moved (Leaves ClosedByUser Unspecified now) x) h
     (upper-moved (Leaves ClosedByUser Unspecified now) v.upper x tt h.upper)
-turns_law_holds (Put kind payload now) v x h =
+turns_did (Put kind payload now) v x h =
     whole-above (puts kind payload now) v x (did (Put kind payload now) x) h (upper-event (λ n. Puts kind payload n) now v.upper x h.upper)
-turns_law_holds (InitDone now) v x h = whole-above (completes now) v x (did (InitDone now) x) h (upper-event (λ n. Completes n) now v.upper x h.upper)
-turns_law_holds (Tick now) v x h = whole-first (Ticks now) now (RedTick now) v x tt h
-turns_law_holds (Deliver channel octets now) v x h = whole-first (Guards now) now (Datagram octets now) v x tt h
+turns_did (InitDone now) v x h = whole-above (completes now) v x (did (InitDone now) x) h (upper-event (λ n. Completes n) now v.upper x h.upper)
+turns_did (Tick now) v x h = whole-first (Ticks now) now (RedTick now) v x tt h
+turns_did (Deliver channel octets now) v x h = whole-first (Guards now) now (Datagram octets now) v x tt h

@@ -1,17 +1,14 @@
 -- What an end keeps, as its fields have it, what it stands for, and what a call of it does.
-use Rattle.std.specs.Prelude.{◌≡◌, ℕ, ◌+◌, ◌%◌, ◌^◌, ◌≤◌, option_map, List, ◌++◌, length}
-use Rattle.std.specs.List.{FoldsTo}
+use Rattle.std.specs.Prelude.{◌≡◌, ℕ, ◌+◌, ◌%◌, ◌^◌, ◌≤◌, option_map, length}
 use Rattle.pdi_session.specs.SessionStep.{FewWait, Item}
-use Rattle.safe_machine.specs.Made.{Made}
 use Rattle.safe_machine.specs.Turned.{HasMade}
 use Rattle.safe_machine.specs.View.{StandsFor as MachineStandsFor}
 use Rattle.end_settings.specs.EndSettings.{rule_of}
-use Rattle.channels.specs.Told.{Told, SendsOne}
+use Rattle.channels.specs.Told.{Told}
 use Rattle.stack_end.specs.Ends.{EndState}
 use Rattle.stack_end.specs.declared.upper.Upper.{Upper}
 use Rattle.stack_end.specs.declared.layers.Layers.{Layers}
-use Rattle.stack_end.specs.Datagrams.{sendings}
-use Rattle.stack_end.specs.Talk.{Speaks, Took}
+use Rattle.stack_end.specs.Talk.{Speaks}
 use Rattle.stack_end.specs.Turns.{Fields, Inside, Turn, Went, WentAlone}
 
 -- what is kept above the redundancy layer, and with it
@@ -65,9 +62,3 @@ pub record Stands (v : Fields) (x : EndState) : Type 0 where
 pub record BothStand (v : Inside) (x : EndState) : Type 0 where
   pub red : v.red ≡ x.red
   pub upper : Stands v.upper x
-
--- what an end made between two states was sent, in order
-pub record Sent (before : Told) (x y : EndState) (after : Told) : Type 0 where
-  pub more : List Made
-  pub grown : y.machine.made ≡ x.machine.made ++ more
-  pub sent : FoldsTo SendsOne before (sendings x.settings (length x.machine.made) more) after

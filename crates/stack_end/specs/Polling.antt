@@ -4,10 +4,10 @@ use Rattle.std.specs.List.{FoldsTo}
 use Rattle.pdi_session.specs.SessionStep.{Item}
 use Rattle.channels.specs.Told.{Told, after_receive}
 use Rattle.channels.specs.declared.ChannelFault.{ChannelFault}
-use Rattle.stack_end.specs.Ends.{EndState, Deliver, Tick, call}
 use Rattle.octets.specs.declared.limits.TheConstants.{RED_PDU_MAX}
 use Rattle.stack_end.specs.Recent.{DatagramRecent, TickRecent}
-use Rattle.stack_end.specs.EndValue.{EndValue, EndDoes, EndStands, channels_of, inside}
+use Rattle.stack_end.specs.EndValue.{EndTurns, EndValue, channels_of, inside}
+use Rattle.stack_end.specs.Turns.{arrives, passes}
 
 -- How many octets a datagram may have that a poll takes, and how many datagrams it hands in at most, so that it ends whatever comes.
 abbrev pub buffer_size : ℕ
@@ -21,7 +21,7 @@ pub record Asked {C A : Type 0} (told : C → Told) (result : Result (Option (�
   pub size : length buffer ≡ buffer_size
   pub longest : RED_PDU_MAX ≤ length buffer
   pub answer : told (channels_of w) ≡ after_receive result buffer (told (channels_of v))
-  pub stands : (x : EndState) → EndStands told v x → EndStands told w x
+  pub same : inside w ≡ inside v
   pub time : w.time ≡ v.time
 
 -- an end, and who takes
@@ -32,8 +32,8 @@ With C A T = EndValue C A × T
 abbrev pub Hears : {C A T : Type 0} → (C → Told) → (T → Item → T → Type 0) → ℕ → With C A T → ℕ × List ℕ → With C A T → Type 0
 Hears {C = C} {A = A} told takes now s d t =
     (size : ℕ) × (buffer : List ℕ) × (asked : EndValue C A)
-    × (take size buffer ≡ d.1) × Asked told (Ok (Some (d.0, size))) buffer s.0 asked × EndDoes told takes (call (Deliver d.0 d.1 now)) asked s.1 t.0 t.1
-    × DatagramRecent takes now d.1 (inside asked) s.1 t.1
+    × (take size buffer ≡ d.1) × Asked told (Ok (Some (d.0, size))) buffer s.0 asked × EndTurns told takes (arrives now d.1) asked s.1 t.0 t.1
+    × (t.0.time ≡ now) × DatagramRecent takes now d.1 (inside asked) s.1 t.1
 
 -- the channels were asked once more, and had this answer; who takes heard nothing of it
 abbrev pub AskedOnce : {C A T : Type 0} → (C → Told) → Result (Option (ℕ × ℕ)) ChannelFault → With C A T → With C A T → Type 0
@@ -59,5 +59,5 @@ HeardUntilFault {C = C} {A = A} {T = T} told takes most now s t =
 -- all were handed in, and then time passed
 abbrev pub Polled : {C A T : Type 0} → (C → Told) → (T → Item → T → Type 0) → (most now : ℕ) → With C A T → With C A T → Type 0
 Polled {C = C} {A = A} {T = T} told takes most now s t =
-    (left : With C A T) × HeardAll told takes most now s left × EndDoes told takes (call (Tick now)) left.0 left.1 t.0 t.1
-    × TickRecent takes now (inside left.0) left.1 t.1
+    (left : With C A T) × HeardAll told takes most now s left × EndTurns told takes (passes now) left.0 left.1 t.0 t.1
+    × (t.0.time ≡ now) × TickRecent takes now (inside left.0) left.1 t.1

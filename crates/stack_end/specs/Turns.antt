@@ -1,12 +1,12 @@
 -- What an end does by one call: what it keeps then, what it sends, and what its application takes, each in order.
-use Rattle.std.specs.Prelude.{◌≡◌, ℕ, zero, suc, ◌+◌, ◌%◌, ◌^◌, Bool, true, false, not, ◌&&◌, Option, Some, None, List, [], ◌∷◌, ◌++◌, take, drop, length}
+use Rattle.std.specs.Prelude.{◌≡◌, ℕ, zero, suc, ◌+◌, ◌%◌, ◌^◌, Bool, not, ◌&&◌, Option, Some, None, List, [], ◌∷◌, ◌++◌, take, drop, length}
 use Rattle.std.specs.Prelude.{if◌then◌else◌}
 use Rattle.std.specs.List.{FoldsTo}
 use Rattle.channels.specs.Told.{Sending, SendsOne, Told}
 use Rattle.packing.specs.UnitText.{unit_text}
-use Rattle.pdi_session.specs.Histories.{History}
+use Rattle.pdi_session.specs.declared.InitFault.{InitFault}
 use Rattle.pdi_session.specs.declared.PutFault.{PutFault}
-use Rattle.pdi_session.specs.SessionStep.{Closes, InitDone as Completes, Item, Puts, SessionState, put_refusal}
+use Rattle.pdi_session.specs.SessionStep.{Closes, InitDone as Completes, Item, Puts, SessionState, init_refusal, put_refusal}
 use Rattle.red_layer.specs.Parts.{Part, is_nil}
 use Rattle.red_layer.specs.Redundancy.{Datagram, Input, Receiver, Tick as RedTick, after, passed_by}
 use Rattle.red_pdu.specs.RedText.{red_text}
@@ -170,6 +170,10 @@ sends now v = packs_up_to (length v.waiting) now v
 abbrev pub put_answer : (kind : ℕ) → List ℕ → Fields → Option PutFault
 put_answer kind payload v = put_refusal v.session kind payload (length v.waiting)
 
+-- and the end of the initialisation
+abbrev pub init_answer : Fields → Option InitFault
+init_answer v = init_refusal v.session (length v.waiting)
+
 -- a command or status is put in, and the end of the initialisation; both are accepted ones
 abbrev pub puts : (kind : ℕ) → List ℕ → (now : ℕ) → Fields → Turn Fields
 puts kind payload now v = followed (session_turn (meets (Puts kind payload (length v.waiting)) (dialogue_of v)) v) (sends now)
@@ -189,6 +193,10 @@ receives now i v =
 
 abbrev pub is_over : Inside → Bool
 is_over v = is_closed v.upper.machine.connection
+
+-- all that was put in is done with: it is not closed, no message waits, and no unit is unconfirmed
+abbrev pub is_settled : Inside → Bool
+is_settled v = not (is_over v) && (is_nil v.upper.waiting && is_nil v.upper.machine.ring)
 
 -- what follows the guard or the machine's tick, where these have not left
 abbrev pub goes_on : ℕ → Input → Inside → Turn Inside

@@ -1,18 +1,16 @@
 //! One end of a connection, as an application opens it.
 
-ghost use Rattle.std.specs.Prelude.{◌≡◌, ◌≤◌, ◌^◌, ◌↔◌, ℕ, ◌∷◌, ◌++◌, [], List, true, false, length, Option, option_map, Some, None, Ok, Err, IfOk, IfSome};
+ghost use Rattle.std.specs.Prelude.{◌≡◌, ◌≤◌, ◌^◌, ◌↔◌, ℕ, true, false, length, Option, option_map, Some, None, Ok, Err, IfOk, IfSome};
 ghost use Rattle.std.specs.Prelude.{OnOk, OnErr, IfErr, IsErrAnd, MatchResult, if◌then◌else◌};
 ghost use Rattle.std.specs.List.{FoldsTo};
 ghost use Rattle.std.specs.Borrow.{sem};
 ghost use Rattle.channels.specs.Told.{SendsOne};
 ghost use Rattle.end_settings.specs.EndSettings.{are_fit};
 ghost use Rattle.end_settings.specs.Configured.{settings_of, side_of};
-ghost use Rattle.pdi_session.specs.SessionStep.{init_refusal, put_refusal};
-ghost use Rattle.stack_end.specs.Dialogue.{phase_in, session_in};
-ghost use Rattle.stack_end.specs.Ends.{Call, Close, Deliver, EndState, InitDone, Put, call, is_settled, is_shut, opened_end};
+ghost use Rattle.stack_end.specs.Ends.{Deliver, opened_end};
 ghost use Rattle.stack_end.specs.Datagrams.{sent_at_opening};
-ghost use Rattle.stack_end.specs.EndValue.{EndAsks, EndDoes, EndDoesAlone, EndStands, EndTurns, EndTurnsAlone, channels_of, inside};
-ghost use Rattle.stack_end.specs.Turns.{above, arrives, can_pack, closes, completes, passes, puts, turn};
+ghost use Rattle.stack_end.specs.EndValue.{EndStands, EndTurns, EndTurnsAlone, channels_of, inside};
+ghost use Rattle.stack_end.specs.Turns.{above, arrives, can_pack, closes, completes, init_answer, is_over, is_settled, passes, put_answer, puts, turn};
 ghost use Rattle.stack_end.specs.Outstanding.{PutOut};
 ghost use Rattle.stack_end.specs.Hearing.{HasHeard, TakesPart};
 ghost use Rattle.stack_end.specs.Recent.{DatagramRecent, TickRecent};
@@ -27,7 +25,7 @@ use crate::{OpenFault, POLL_BUFFER, POLL_DATAGRAMS, PollFault, opening};
 use channels::{ChannelFault, Channels};
 use end_settings::{EndConfig, Side};
 use pdi_session::{InitFault, Phase, PutFault, Taker};
-use safe_machine::{ConnectionState, unit_law};
+use safe_machine::ConnectionState;
 use std::alloc::{Allocator, Global};
 use std::cmp::min;
 use std::marker::Model;
@@ -102,12 +100,6 @@ impl<C: Channels, A: Allocator> End<C, A> {
         // An arrival is the turn `arrives`: it leaves what that leaves, sends what that sends, each datagram on
         // every channel in order, and the application takes what that takes.
         ensures turns { EndTurns C.told T.takes (arrives now octets.now) self.old taker.old self.new taker.new }
-        // From every state that an end stands for, a call leads to the state after its step (docs/END.md), on
-        // any octets and times (`EndWent`, `EndWentAlone` (stands)). Each PDU that a call makes is sent under
-        // its index on every channel in order, or the sending is counted as failed (`Sent`). What the
-        // application takes in an arrival or a tick is handed to the taker in order (`Took`).
-        ensures does { EndDoes C.told T.takes (call (Deliver channel octets.now now))
-            self.old taker.old self.new taker.new }
         // After an arrival, a tick, a poll that is not refused, an accepted put or end of the initialisation no
         // message waits, or the machine may not send.
         ensures packs { can_pack (inside self.new).upper ≡ false }
@@ -125,7 +117,8 @@ impl<C: Channels, A: Allocator> End<C, A> {
         // The time of an end is that of its last accepted call.
         ensures time { self.new.time ≡ now }
     {
-        self.take_datagram(channel, octets, now, taker);
+        self.layers.arrive(octets, now, taker);
+        self.time = now;
     }
 
     /// Time passes: the deadlines of the safety machine and of the redundancy layer.
@@ -135,11 +128,6 @@ impl<C: Channels, A: Allocator> End<C, A> {
         // A tick is the turn `passes`: it leaves what that leaves, sends what that sends, and the application
         // takes what that takes.
         ensures turns { EndTurns C.told T.takes (passes now) self.old taker.old self.new taker.new }
-        // From every state that an end stands for, a call leads to the state after its step (docs/END.md), on
-        // any octets and times (`EndWent`, `EndWentAlone` (stands)). Each PDU that a call makes is sent under
-        // its index on every channel in order, or the sending is counted as failed (`Sent`). What the
-        // application takes in an arrival or a tick is handed to the taker in order (`Took`).
-        ensures does { EndDoes C.told T.takes (call (Call.Tick now)) self.old taker.old self.new taker.new }
         // After an arrival, a tick, a poll that is not refused, an accepted put or end of the initialisation no
         // message waits, or the machine may not send.
         ensures packs { can_pack (inside self.new).upper ≡ false }
@@ -149,7 +137,8 @@ impl<C: Channels, A: Allocator> End<C, A> {
         // The time of an end is that of its last accepted call.
         ensures time { self.new.time ≡ now }
     {
-        self.let_time_pass(now, taker);
+        self.layers.tick(now, taker);
+        self.time = now;
     }
 
     /// Puts in a command or status of this kind and payload (0 to 357 octets), behind all that waits.
@@ -163,18 +152,9 @@ impl<C: Channels, A: Allocator> End<C, A> {
         // An accepted put is the turn `puts`: it leaves what that leaves and sends what that sends, and the
         // application takes nothing.
         ensures turns { OnOk result (EndTurnsAlone C.told (above (puts kind payload.now now)) self.old self.new) }
-        // From every state that an end stands for, a call leads to the state after its step (docs/END.md), on
-        // any octets and times (`EndWent`, `EndWentAlone` (stands)). Each PDU that a call makes is sent under
-        // its index on every channel in order, or the sending is counted as failed (`Sent`). In a put, an end
-        // of the initialisation and a closing the application takes nothing (`EndWentAlone` (took_none)).
-        ensures does { OnOk result (EndDoesAlone C.told (call (Put kind payload.now now)) self.old self.new) }
         // After an arrival, a tick, a poll that is not refused, an accepted put or end of the initialisation no
         // message waits, or the machine may not send.
         ensures packs { OnOk result (can_pack (inside self.new).upper ≡ false) }
-        // An accepted telegram stands last among what was put in.
-        ensures last { OnOk result ((x : EndState) → EndStands C.told self.old x
-            → (y : EndState) × EndStands C.told self.new y
-            × (y.session.history.put ≡ x.session.history.put ++ (kind, payload.now) ∷ [])) }
         // Behind an accepted put, what waited and then its telegram stand in units added to the unconfirmed
         // ones, or wait, in order.
         ensures kept { OnOk result (PutOut kind payload.now (inside self.old).upper (inside self.new).upper) }
@@ -183,12 +163,13 @@ impl<C: Channels, A: Allocator> End<C, A> {
         // A refused put or end of the initialisation changes nothing.
         ensures refused { OnErr result (self.new ≡ self.old) }
         // A put is accepted exactly where the session does not refuse it, and else its refusal is named.
-        ensures answer { (x : EndState) → EndStands C.told self.old x
-            → MatchResult result
-            (λ _. put_refusal (session_in x.session) kind payload.now (length x.session.waiting) ≡ None)
-            (λ fault. put_refusal (session_in x.session) kind payload.now (length x.session.waiting) ≡ Some fault) }
+        ensures answer { MatchResult result
+            (λ _. put_answer kind payload.now (inside self.old).upper ≡ None)
+            (λ fault. put_answer kind payload.now (inside self.old).upper ≡ Some fault) }
     {
-        self.put_behind(kind, payload, now)
+        self.layers.put(kind, payload, now)?;
+        self.time = now;
+        Ok(())
     }
 
     /// The application of a field element has put in its initial status: the end of the initialisation is sent behind it.
@@ -202,11 +183,6 @@ impl<C: Channels, A: Allocator> End<C, A> {
         // An accepted end of the initialisation is the turn `completes`: it leaves what that leaves and sends
         // what that sends, and the application takes nothing.
         ensures turns { OnOk result (EndTurnsAlone C.told (above (completes now)) self.old self.new) }
-        // From every state that an end stands for, a call leads to the state after its step (docs/END.md), on
-        // any octets and times (`EndWent`, `EndWentAlone` (stands)). Each PDU that a call makes is sent under
-        // its index on every channel in order, or the sending is counted as failed (`Sent`). In a put, an end
-        // of the initialisation and a closing the application takes nothing (`EndWentAlone` (took_none)).
-        ensures does { OnOk result (EndDoesAlone C.told (call (InitDone now)) self.old self.new) }
         // After an arrival, a tick, a poll that is not refused, an accepted put or end of the initialisation no
         // message waits, or the machine may not send.
         ensures packs { OnOk result (can_pack (inside self.new).upper ≡ false) }
@@ -216,9 +192,9 @@ impl<C: Channels, A: Allocator> End<C, A> {
         ensures refused { OnErr result (self.new ≡ self.old) }
         // An end of the initialisation is accepted exactly where the session does not refuse it, and else its
         // refusal is named.
-        ensures answer { (x : EndState) → EndStands C.told self.old x
-            → MatchResult result (λ _. init_refusal (session_in x.session) (length x.session.waiting) ≡ None)
-            (λ fault. init_refusal (session_in x.session) (length x.session.waiting) ≡ Some fault) }
+        ensures answer { MatchResult result
+            (λ _. init_answer (inside self.old).upper ≡ None)
+            (λ fault. init_answer (inside self.old).upper ≡ Some fault) }
     {
         self.layers.init_done(now)?;
         self.time = now;
@@ -232,11 +208,6 @@ impl<C: Channels, A: Allocator> End<C, A> {
         // A closing is the turn `closes`: it leaves what that leaves and sends what that sends, and the
         // application takes nothing.
         ensures turns { EndTurnsAlone C.told (above (closes now)) self.old self.new }
-        // From every state that an end stands for, a call leads to the state after its step (docs/END.md), on
-        // any octets and times (`EndWent`, `EndWentAlone` (stands)). Each PDU that a call makes is sent under
-        // its index on every channel in order, or the sending is counted as failed (`Sent`). In a put, an end
-        // of the initialisation and a closing the application takes nothing (`EndWentAlone` (took_none)).
-        ensures does { EndDoesAlone C.told (call (Close now)) self.old self.new }
         // The time of an end is that of its last accepted call.
         ensures time { self.new.time ≡ now }
     {
@@ -274,7 +245,7 @@ impl<C: Channels, A: Allocator> End<C, A> {
         let mut buffer = [0; POLL_BUFFER];
         match self.hear_all(&mut buffer, now, taker) {
             Ok(()) => {
-                self.let_time_pass(now, taker);
+                self.tick(now, taker);
                 Ok(())
             }
             Err(_) => Err(PollFault::Channel),
@@ -324,7 +295,7 @@ impl<C: Channels, A: Allocator> End<C, A> {
     {
         match self.ask(buffer) {
             Ok(Some((channel, size))) => {
-                self.take_datagram(channel, &buffer[..size], now, taker);
+                self.arrive(channel, &buffer[..size], now, taker);
                 Ok(true)
             }
             Ok(None) => Ok(false),
@@ -346,22 +317,20 @@ impl<C: Channels, A: Allocator> End<C, A> {
     pub fn next_deadline(&self) -> Option<u64>
         // Before `next_deadline` a tick leaves machine and redundancy layer of an end that is not closed as
         // they are, and nothing goes up.
-        ensures before { (x : EndState) → EndStands C.told self.now x → is_shut x ≡ false → (now : ℕ)
-            → IsBefore now result → IsQuiet now x }
+        ensures before { is_over (inside self.now) ≡ false → (now : ℕ) → IsBefore now result
+            → IsQuiet now (inside self.now) }
         // From `next_deadline` on, up to 2^62 ms, a tick changes the machine, or the deferral deadline has
         // fallen.
-        ensures after { (x : EndState) → EndStands C.told self.now x → (now : ℕ) → now ≤ 2 ^ 62 → IsReachedAt now result
-            → HasFallen now x }
+        ensures after { (now : ℕ) → now ≤ 2 ^ 62 → IsReachedAt now result → HasFallen now (inside self.now) }
         // A closed end has no deadline.
-        ensures closed { (x : EndState) → EndStands C.told self.now x → is_shut x ≡ true → result ≡ None }
+        ensures closed { is_over (inside self.now) ≡ true → result ≡ None }
+        // At most q parts are deferred.
+        ensures deferred { length (inside self.now).red.waiting ≤ (inside self.now).red.q }
     {
-        unit_law();
-        match self.layers.upper.machine.state() {
+        let deferral = self.layers.red.deadline();
+        match self.state() {
             ConnectionState::Closed => None,
-            _ => earliest(
-                self.layers.upper.machine.deadline(),
-                self.layers.red.deadline(),
-            ),
+            _ => earliest(self.layers.upper.machine.deadline(), deferral),
         }
     }
 
@@ -389,21 +358,15 @@ impl<C: Channels, A: Allocator> End<C, A> {
     /// The state of the connection.
     pub fn state(&self) -> ConnectionState
         // `state` answers the state of the connection.
-        ensures state { EndAsks C.told (λ x. x.machine.connection) self.now result }
-        // At most 64 messages wait, no more units are unconfirmed than the peer's window has, nor than 32, and
-        // at most q parts are deferred.
-        ensures bounded { (x : EndState) → EndStands C.told self.now x → IsBounded x }
+        ensures { result ≡ (inside self.now).upper.machine.connection }
     {
-        unit_law();
-        let _confirmed = self.layers.upper.machine.unconfirmed();
-        let _wait = self.layers.red.deadline();
         self.layers.upper.machine.state()
     }
 
     /// The phase of the session.
     pub fn phase(&self) -> Phase
         // `phase` answers the phase of the session.
-        ensures { EndAsks C.told (λ x. phase_in x.session) self.now result }
+        ensures { result ≡ (inside self.now).upper.session.phase }
     {
         self.layers.upper.session.phase()
     }
@@ -411,18 +374,20 @@ impl<C: Channels, A: Allocator> End<C, A> {
     /// Whether all that was put in is done with: the end is not closed, no message waits, and no unit is unconfirmed.
     pub fn settled(&self) -> bool
         // `settled` tells exactly whether the end is not closed, no message waits and no unit is unconfirmed.
-        ensures { EndAsks C.told is_settled self.now result }
+        ensures settled { result ≡ is_settled (inside self.now) }
+        // At most 64 messages wait, and no more units are unconfirmed than the peer's window has, nor than 32.
+        ensures bounded { IsBounded (inside self.now) }
     {
-        unit_law();
-        self.layers.upper.machine.state() != ConnectionState::Closed
+        let unconfirmed = self.layers.upper.machine.unconfirmed();
+        self.state() != ConnectionState::Closed
             && self.layers.upper.waiting.len() == 0
-            && self.layers.upper.machine.unconfirmed() == 0
+            && unconfirmed == 0
     }
 
     /// The octets of the ConnReq that a field element took, with which it joined a connection.
     pub fn request(&self) -> Option<&[u8]>
         // `request` answers the octets of the ConnReq that the end took, where it took one.
-        ensures { (x : EndState) → EndStands C.told self.now x → option_map (λ octets. octets.now) result ≡ x.request }
+        ensures { option_map (λ octets. octets.now) result ≡ (inside self.now).upper.request }
     {
         match &self.layers.upper.request {
             Some(octets) => Some(octets.as_slice()),

@@ -3,9 +3,9 @@
 //! RaSTA after DIN VDE V 0831-200:2015 with an SCI session above it, in this project's profile.
 #![tactic(auto)]
 
-mod calls;
 mod end;
 mod judging;
+mod law;
 mod layers;
 mod opening;
 mod sending;
@@ -13,6 +13,7 @@ mod telling;
 mod upper;
 
 pub use end::End;
+pub use law::end_law;
 
 /// How many octets a datagram may have that a poll takes; a longer one is cut.
 pub const POLL_BUFFER: usize = 2_048;

@@ -5,5 +5,7 @@ pub returns-in-Ok-Some-clause-heard : goal.returns-in-Ok-Some-clause-heard
 returns-in-Ok-Some-clause-heard g c =
     let size = c.in-Ok-Some.size in
     let buffer = c.ask.new.buffer in
-    let asked = rw c.in-Ok-Some.field-0-is at c.in-Ok-Some.ensures.asked in
-    ((c.in-Ok-Some.channel, take size buffer), (size, buffer, c.ask.new.self, refl, asked, c.take_datagram.ensures.does, c.take_datagram.ensures.recent))
+    let asked = rw c.in-Ok-Some.field-0-is at c.in-Ok-Some.ensures.asked in (
+      (c.in-Ok-Some.channel, take size buffer),
+      (size, buffer, c.ask.new.self, refl, asked, c.arrive.ensures.turns, c.arrive.ensures.time, c.arrive.ensures.recent),
+    )

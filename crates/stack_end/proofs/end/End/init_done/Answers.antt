@@ -1,13 +1,8 @@
 use Rattle.std.proofs.Common.{◌≡◌, false, subst, sym}
-use Rattle.stack_end.specs.Ends.{InitDone}
 use Rattle.stack_end.specs.Fields.{fields_of}
 use Rattle.stack_end.specs.Turns.{Inside, can_pack}
-use Rattle.stack_end.proofs.Ending.{layers-do_alone}
 use Rattle.stack_end.proofs.Packing.{completes-empties}
 use Rattle.stack_end.proofs.end.End.init_done.Goals as goal
-
-pub returns-clause-does : goal.returns-clause-does
-returns-clause-does g c = layers-do_alone g.C.Channels.told (InitDone c.args.now) _ _ _ _ c.self.view_is c.in_ok-init_done.ensures.does
 
 pub returns-clause-packs : goal.returns-clause-packs
 returns-clause-packs g c =

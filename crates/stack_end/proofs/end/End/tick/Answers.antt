@@ -1,20 +1,16 @@
 use Rattle.std.proofs.Common.{◌≡◌, false, sym, subst}
-use Rattle.stack_end.specs.Ends.{Tick}
 use Rattle.stack_end.specs.EndValue.{inside}
 use Rattle.stack_end.specs.Fields.{inside_of}
 use Rattle.stack_end.specs.Recent.{TickRecent}
 use Rattle.stack_end.specs.Turns.{Inside, can_pack, passes}
-use Rattle.stack_end.proofs.Ending.{layers-do, layers-turn}
+use Rattle.stack_end.proofs.Ending.{layers-turn}
 use Rattle.stack_end.proofs.Taking.{passes-empties, tick-recent}
-use Rattle.stack_end.proofs.end.End.let_time_pass.Goals as goal
+use Rattle.stack_end.proofs.end.End.tick.Goals as goal
 
 pub returns-clause-turns : goal.returns-clause-turns
 returns-clause-turns g c =
     layers-turn g.C.Channels.told g.T.Taker.takes (passes c.args.now) c.self.inside.layers c.tick.new.self c.self.inside.time c.args.now c.args.self.now
     c.args.taker.now c.tick.new.taker c.self.view_is c.tick.ensures.does
-
-pub returns-clause-does : goal.returns-clause-does
-returns-clause-does g c = layers-do g.C.Channels.told g.T.Taker.takes (Tick c.args.now) _ _ _ _ _ _ c.self.view_is c.tick.ensures.does
 
 pub returns-clause-packs : goal.returns-clause-packs
 returns-clause-packs g c =

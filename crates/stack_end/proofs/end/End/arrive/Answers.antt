@@ -5,18 +5,14 @@ use Rattle.stack_end.specs.Fields.{inside_of}
 use Rattle.stack_end.specs.Hearing.{HasHeard, TakesPart}
 use Rattle.stack_end.specs.Recent.{DatagramRecent}
 use Rattle.stack_end.specs.Turns.{Inside, arrives, can_pack, turn}
-use Rattle.stack_end.proofs.Ending.{layers-do, layers-turn}
+use Rattle.stack_end.proofs.Ending.{layers-turn}
 use Rattle.stack_end.proofs.Taking.{arrives-empties, datagram-recent, has-heard, takes-part}
-use Rattle.stack_end.proofs.end.End.take_datagram.Goals as goal
+use Rattle.stack_end.proofs.end.End.arrive.Goals as goal
 
 pub returns-clause-turns : goal.returns-clause-turns
 returns-clause-turns g c =
-    layers-turn g.C.Channels.told g.T.Taker.takes (arrives c.args.now c.args.octets.now) c.self.inside.layers c.arrive.new.self c.self.inside.time c.args.now c.args.self.now
-    c.args.taker.now c.arrive.new.taker c.self.view_is c.arrive.ensures.does
-
-pub returns-clause-does : goal.returns-clause-does
-returns-clause-does g c =
-    layers-do g.C.Channels.told g.T.Taker.takes (Deliver c.args.channel c.args.octets.now c.args.now) _ _ _ _ _ _ c.self.view_is c.arrive.ensures.does
+    layers-turn g.C.Channels.told g.T.Taker.takes (arrives c.args.now c.args.octets.now) c.self.inside.layers c.arrive.new.self c.self.inside.time c.args.now
+    c.args.self.now c.args.taker.now c.arrive.new.taker c.self.view_is c.arrive.ensures.does
 
 pub returns-clause-packs : goal.returns-clause-packs
 returns-clause-packs g c =
