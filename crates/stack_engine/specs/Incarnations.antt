@@ -1,5 +1,6 @@
 -- One incarnation of an end, with all that it made, and all that was put in and taken.
-use Rattle.std.specs.Prelude.{◌≡◌, ℕ, ◌+◌, ◌≤◌, ◌/◌, min, List, [], ◌∷◌, ◌++◌, length}
+use Rattle.std.specs.Prelude.{◌≡◌, ℕ, ◌+◌, ◌≤◌, ◌/◌, min, Option, None, List, [], ◌∷◌, ◌++◌, length}
+use Rattle.std.specs.Option.{option_map}
 use Rattle.octets.specs.declared.limits.TheConstants.{PAYLOAD_MAX}
 use Rattle.red_pdu.specs.RedText.{red_text}
 use Rattle.safe_machine.specs.Made.{Made}
@@ -7,13 +8,16 @@ use Rattle.pdi_session.specs.SessionStep.{Item}
 use Rattle.end_settings.specs.EndSettings.{EndSettings, rule_of}
 use Rattle.end_settings.specs.Configured.{settings_of}
 use Rattle.stack_end.specs.Datagrams.{upper_of}
-use Rattle.stack_end.specs.Ends.{EndState, Call, call}
-use Rattle.stack_end.specs.EndValue.{EndStands, channels_of}
+use Rattle.stack_end.specs.Ends.{EndState, Call, call, time_of}
+use Rattle.stack_end.specs.Ends.Call.{InitDone, Put}
+use Rattle.stack_end.specs.EndValue.{EndStands, EndTurns, channels_of, inside}
+use Rattle.stack_end.specs.Turns.{init_answer, put_answer, turn}
 use Rattle.stack_engine.specs.declared.incarnation.Incarnation.{Incarnation}
 use Rattle.stack_engine.specs.Bounds.{FewMore, most_pdus, most_taken}
 use Rattle.stack_engine.specs.Keeping.{told_of, sure_room}
 use Rattle.stack_engine.specs.Texts.{Shelf}
 use Rattle.stack_engine.specs.Events.{put_size}
+use Rattle.stack_engine.specs.Pairs.{InitRefused, PutRefused, Refusal}
 use Rattle.stack_engine.specs.declared.event.Call.{Call as CodeCall}
 
 -- the datagrams of PDUs, the first of which has this index
@@ -44,6 +48,31 @@ HasRoom i = (most_pdus ≤ sure_room (channels_of i.end)) × (most_taken ≤ sur
 -- and for the telegram that it puts in
 abbrev pub HasRoomFor : {A : Type 0} → CodeCall → Incarnation A → Type 0
 HasRoomFor c i = HasRoom i × (1 ≤ i.put.places) × (put_size c ≤ i.put.octets)
+
+-- what an accepted call puts in
+abbrev pub puts_in : Call → List Item
+puts_in (Put kind payload now) = (kind, payload) ∷ []
+puts_in _ = []
+
+-- why the session refuses a call
+abbrev pub inc_refusal : {A : Type 0} → Call → Incarnation A → Option Refusal
+inc_refusal (Put kind payload now) i = option_map PutRefused (put_answer kind payload (inside i.end).upper)
+inc_refusal (InitDone now) i = option_map InitRefused (init_answer (inside i.end).upper)
+inc_refusal _ i = None
+
+-- its end took the turn of the call; what it handed out is kept, and so is what was put in
+pub record IncTurns {A : Type 0} (c : Call) (i j : Incarnation A) : Type 0 where
+  pub end : EndTurns told_of TakesItem (turn c) i.end i.taken j.end j.taken
+  pub time : j.end.time ≡ time_of c
+  pub put : j.put.texts ≡ i.put.texts ++ puts_in c
+  pub config : j.config ≡ i.config
+
+-- a refused call leaves all that it stands by
+pub record IncSame {A : Type 0} (i j : Incarnation A) : Type 0 where
+  pub end : j.end ≡ i.end
+  pub put : j.put ≡ i.put
+  pub taken : j.taken ≡ i.taken
+  pub config : j.config ≡ i.config
 
 -- for each state that it stood for it now stands for the state after the call
 abbrev pub IncDoes : {A : Type 0} → Call → Incarnation A → Incarnation A → Type 0

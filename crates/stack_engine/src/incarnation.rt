@@ -3,8 +3,6 @@
 ghost use Rattle.std.specs.Prelude.{◌≡◌, ◌≤◌, ◌^◌, ◌↔◌, ℕ, true, false, length, None, Some, MatchResult, OnOk, OnErr, IfOk, IsErrAnd, drop, not, ◌&&◌, option_map};
 ghost use Rattle.end_settings.specs.EndSettings.{are_fit};
 ghost use Rattle.end_settings.specs.Configured.{settings_of, side_of};
-ghost use Rattle.pdi_session.specs.SessionStep.{init_refusal, put_refusal};
-ghost use Rattle.stack_end.specs.Dialogue.{session_in};
 ghost use Rattle.stack_end.specs.Ends.{EndState, opened_end};
 ghost use Rattle.stack_end.specs.Ends.Call.{Close, Deliver, InitDone, Put, Tick};
 ghost use Rattle.stack_end.specs.declared.OpenFault.TheVariants.{BadConfig};
@@ -13,6 +11,8 @@ ghost use Rattle.end_settings.specs.EndSettings.{rule_of};
 ghost use Rattle.stack_end.specs.Ends.{is_shut};
 ghost use Rattle.safe_pdu.specs.SafeText.{code_octets};
 ghost use Rattle.stack_engine.specs.Events.{call_of};
+ghost use Rattle.stack_end.specs.EndValue.{inside};
+ghost use Rattle.stack_end.specs.Turns.{init_answer, put_answer};
 ghost use Rattle.stack_engine.specs.Pairs.{has_made, session_refusal};
 ghost use Rattle.stack_engine.specs.Premise.{is_asked_of};
 
@@ -26,7 +26,7 @@ use end_settings::{EndConfig, Side};
 use pdi_session::{InitFault, PutFault};
 use safe_machine::ConnectionState;
 use safe_pdu::CodeRule;
-use stack_end::{End, OpenFault};
+use stack_end::{End, OpenFault, end_law};
 use std::alloc::{AllocError, Allocator, Global};
 
 /// How many PDUs one event makes at most: 36 by guard or tick, 37 by each of nine parts, 32 units.
@@ -37,7 +37,7 @@ const EVENT_TAKEN: usize = 27;
 
 /// An end with each PDU that it made, and all telegrams that were put in and taken.
 #[derive(Drop)]
-pub struct Incarnation<A: Allocator = Global> {
+pub(crate) struct Incarnation<A: Allocator = Global> {
     /// The end, over channels that keep what it sends.
     pub(crate) end: End<Keeper<A>, A>,
     /// What was put in, in order.
@@ -56,12 +56,12 @@ pub struct Incarnation<A: Allocator = Global> {
 }
 
 impl<A: Allocator + Copy> Incarnation<A> {
-    ghost use Rattle.stack_engine.specs.Incarnations.{HasRoom, HasRoomFor, IncDoes, IncStands};
+    ghost use Rattle.stack_engine.specs.Incarnations.{HasRoom, HasRoomFor, IncDoes, IncSame, IncStands, IncTurns, inc_refusal};
     ghost use Rattle.stack_engine.specs.Openings.{NamesRefusal};
     ghost use Rattle.stack_engine.specs.Reports.{place_of};
 
     /// The end is opened. The settings are tested before memory is taken.
-    pub fn open(
+    pub(crate) fn open(
         alloc: A,
         config: EndConfig,
         side: Side,
@@ -118,7 +118,7 @@ impl<A: Allocator + Copy> Incarnation<A> {
     /// # Errors
     ///
     /// The error is that memory was refused.
-    pub fn reserve_for(&mut self, call: &Call<'_>) -> Result<(), AllocError>
+    pub(crate) fn reserve_for(&mut self, call: &Call<'_>) -> Result<(), AllocError>
         ensures room { OnOk result (HasRoomFor call.now self.new) }
         ensures stands { (x : EndState) → IncStands self.old x → IncStands self.new x }
         ensures time { self.new.time ≡ self.old.time }
@@ -133,7 +133,7 @@ impl<A: Allocator + Copy> Incarnation<A> {
     /// # Errors
     ///
     /// Refused as the end refuses it, and then nothing changes: `Put` and `Init`, each with its fault.
-    pub fn call(&mut self, call: &Call<'_>, now: u64) -> Result<(), ApplyFault>
+    pub(crate) fn call(&mut self, call: &Call<'_>, now: u64) -> Result<(), ApplyFault>
         requires now { now ≤ 2 ^ 62 }
         requires later { self.old.time ≤ now }
         requires room { HasRoomFor call.now self.old }
@@ -144,6 +144,7 @@ impl<A: Allocator + Copy> Incarnation<A> {
             → MatchResult result (λ _. session_refusal (call_of call.now now) x ≡ None)
             (λ fault. NamesRefusal fault (session_refusal (call_of call.now now) x)) }
     {
+        end_law();
         let told = self.end.channels_seen().remarks();
         self.step(call, now)?;
         self.told = told;
@@ -155,12 +156,11 @@ impl<A: Allocator + Copy> Incarnation<A> {
         requires now { now ≤ 2 ^ 62 }
         requires later { self.old.time ≤ now }
         requires room { HasRoomFor call.now self.old }
-        ensures does { OnOk result (IncDoes (call_of call.now now) self.old self.new) }
-        ensures refused { OnErr result ((x : EndState) → IncStands self.old x → IncStands self.new x) }
+        ensures turns { OnOk result (IncTurns (call_of call.now now) self.old self.new) }
+        ensures refused { OnErr result (IncSame self.old self.new) }
         ensures joined { self.new.joined ≡ self.old.joined }
-        ensures refusal { (x : EndState) → IncStands self.old x
-            → MatchResult result (λ _. session_refusal (call_of call.now now) x ≡ None)
-            (λ fault. NamesRefusal fault (session_refusal (call_of call.now now) x)) }
+        ensures refusal { MatchResult result (λ _. inc_refusal (call_of call.now now) self.old ≡ None)
+            (λ fault. NamesRefusal fault (inc_refusal (call_of call.now now) self.old)) }
     {
         match *call {
             Call::Close => self.close(now),
@@ -179,7 +179,7 @@ impl<A: Allocator + Copy> Incarnation<A> {
         requires now { now ≤ 2 ^ 62 }
         requires later { self.old.time ≤ now }
         requires room { HasRoom self.old }
-        ensures does { IncDoes (Deliver channel octets.now now) self.old self.new }
+        ensures turns { IncTurns (Deliver channel octets.now now) self.old self.new }
         ensures joined { self.new.joined ≡ self.old.joined }
     {
         self.end.arrive(channel, octets, now, &mut self.taken);
@@ -191,7 +191,7 @@ impl<A: Allocator + Copy> Incarnation<A> {
         requires now { now ≤ 2 ^ 62 }
         requires later { self.old.time ≤ now }
         requires room { HasRoom self.old }
-        ensures does { IncDoes (Tick now) self.old self.new }
+        ensures turns { IncTurns (Tick now) self.old self.new }
         ensures joined { self.new.joined ≡ self.old.joined }
     {
         self.end.tick(now, &mut self.taken);
@@ -207,13 +207,12 @@ impl<A: Allocator + Copy> Incarnation<A> {
         requires room { HasRoom self.old }
         requires place { 1 ≤ self.old.put.places }
         requires octets { length payload.now ≤ self.old.put.octets }
-        ensures does { OnOk result (IncDoes (Put kind payload.now now) self.old self.new) }
+        ensures turns { OnOk result (IncTurns (Put kind payload.now now) self.old self.new) }
         ensures joined { self.new.joined ≡ self.old.joined }
-        ensures refused { OnErr result ((x : EndState) → IncStands self.old x → IncStands self.new x) }
-        ensures answer { (x : EndState) → IncStands self.old x
-            → MatchResult result
-            (λ _. put_refusal (session_in x.session) kind payload.now (length x.session.waiting) ≡ None)
-            (λ fault. put_refusal (session_in x.session) kind payload.now (length x.session.waiting) ≡ Some fault) }
+        ensures refused { OnErr result (IncSame self.old self.new) }
+        ensures answer { MatchResult result
+            (λ _. put_answer kind payload.now (inside self.old.end).upper ≡ None)
+            (λ fault. put_answer kind payload.now (inside self.old.end).upper ≡ Some fault) }
     {
         match self.end.put(kind, payload, now) {
             Ok(()) => {
@@ -232,12 +231,11 @@ impl<A: Allocator + Copy> Incarnation<A> {
         requires now { now ≤ 2 ^ 62 }
         requires later { self.old.time ≤ now }
         requires room { HasRoom self.old }
-        ensures does { OnOk result (IncDoes (InitDone now) self.old self.new) }
+        ensures turns { OnOk result (IncTurns (InitDone now) self.old self.new) }
         ensures joined { self.new.joined ≡ self.old.joined }
-        ensures refused { OnErr result ((x : EndState) → IncStands self.old x → IncStands self.new x) }
-        ensures answer { (x : EndState) → IncStands self.old x
-            → MatchResult result (λ _. init_refusal (session_in x.session) (length x.session.waiting) ≡ None)
-            (λ fault. init_refusal (session_in x.session) (length x.session.waiting) ≡ Some fault) }
+        ensures refused { OnErr result (IncSame self.old self.new) }
+        ensures answer { MatchResult result (λ _. init_answer (inside self.old.end).upper ≡ None)
+            (λ fault. init_answer (inside self.old.end).upper ≡ Some fault) }
     {
         match self.end.init_done(now) {
             Ok(()) => {
@@ -253,7 +251,7 @@ impl<A: Allocator + Copy> Incarnation<A> {
         requires now { now ≤ 2 ^ 62 }
         requires later { self.old.time ≤ now }
         requires room { HasRoom self.old }
-        ensures does { IncDoes (Close now) self.old self.new }
+        ensures turns { IncTurns (Close now) self.old self.new }
         ensures joined { self.new.joined ≡ self.old.joined }
     {
         self.end.close(now);
@@ -261,7 +259,7 @@ impl<A: Allocator + Copy> Incarnation<A> {
     }
 
     /// The place, from 0, of the interlocking's incarnation that it is joined to.
-    pub fn joined_place(&self) -> Option<usize>
+    pub(crate) fn joined_place(&self) -> Option<usize>
         ensures { result ≡ place_of self.now.joined }
     {
         match self.joined {
@@ -271,26 +269,26 @@ impl<A: Allocator + Copy> Incarnation<A> {
     }
 
     /// What the last accepted event did.
-    pub fn notes(&self) -> Notes<'_, A> {
+    pub(crate) fn notes(&self) -> Notes<'_, A> {
         self.end.channels_seen().notes(self.told, &self.taken)
     }
 
     /// The octets of the ConnReq that it took.
-    pub fn request(&self) -> Option<&[u8]>
+    pub(crate) fn request(&self) -> Option<&[u8]>
         ensures { (x : EndState) → IncStands self.now x → option_map (λ octets. octets.now) result ≡ x.request }
     {
         self.end.request()
     }
 
     /// How many PDUs it made.
-    pub fn made(&self) -> usize
+    pub(crate) fn made(&self) -> usize
         ensures { (x : EndState) → IncStands self.now x → result ≡ length x.machine.made }
     {
         self.end.channels_seen().len()
     }
 
     /// Whether it made a PDU of these octets, but for its first `dead` ones.
-    pub fn has_made(&self, dead: usize, part: &[u8]) -> bool
+    pub(crate) fn has_made(&self, dead: usize, part: &[u8]) -> bool
         ensures { (x : EndState) → IncStands self.now x
             → result ≡ has_made (rule_of x.settings) part.now (drop dead x.machine.made) }
     {
@@ -298,7 +296,7 @@ impl<A: Allocator + Copy> Incarnation<A> {
     }
 
     /// Whether it is open, and asked about this part.
-    pub fn is_asked(&self, part: &[u8]) -> bool
+    pub(crate) fn is_asked(&self, part: &[u8]) -> bool
         ensures { (x : EndState) → IncStands self.now x → result ≡ not (is_shut x) && is_asked_of x part.now }
     {
         let rule = CodeRule {
@@ -310,7 +308,7 @@ impl<A: Allocator + Copy> Incarnation<A> {
     }
 
     /// The octets of its safety code.
-    pub fn code_octets(&self) -> usize
+    pub(crate) fn code_octets(&self) -> usize
         ensures { (x : EndState) → IncStands self.now x → result ≡ code_octets (rule_of x.settings).length }
     {
         self.config.code_length().octets()

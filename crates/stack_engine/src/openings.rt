@@ -26,7 +26,7 @@ const TIME_MAX: u64 = 1 << 62;
 
 /// The incarnations of one end: the present one, and those before it in the order of their opening.
 #[derive(Drop)]
-pub struct Openings<A: Allocator = Global> {
+pub(crate) struct Openings<A: Allocator = Global> {
     /// The incarnation that is open, if the end was ever opened.
     pub(crate) present: Option<Incarnation<A>>,
     /// Those before it, the first one first.
@@ -37,7 +37,7 @@ impl<A: Allocator + Copy> Openings<A> {
     ghost use Rattle.stack_engine.specs.Openings.{IsOpenAt, NamesRefusal, SideDoes, SideStands, IsEnd, breaks_with, live_in};
 
     /// The end was never opened.
-    pub fn new(alloc: A) -> Self
+    pub(crate) fn new(alloc: A) -> Self
         ensures stands { SideStands result [] }
         ensures joins { joins_of result ≡ [] }
     {
@@ -52,7 +52,7 @@ impl<A: Allocator + Copy> Openings<A> {
     /// # Errors
     ///
     /// Refused, and the first that holds is named: `EndNotOpen`, `Clock`.
-    pub fn admits_call(&self, now: u64) -> Result<(), ApplyFault>
+    pub(crate) fn admits_call(&self, now: u64) -> Result<(), ApplyFault>
         ensures refusal { (xs : List EndState) (c : Call) → SideStands self.now xs → time_of c ≡ now
             → MatchResult result (λ _. IsOfSession (call_refusal c (latest xs)))
             (λ fault. NamesRefusal fault (call_refusal c (latest xs))) }
@@ -71,7 +71,7 @@ impl<A: Allocator + Copy> Openings<A> {
     /// # Errors
     ///
     /// Refused, and the first that holds is named: `EndNotOpen`, `Clock`, `Memory`, `Put` and `Init` with their faults.
-    pub fn call(&mut self, call: &event::Call<'_>, now: u64) -> Result<(), ApplyFault>
+    pub(crate) fn call(&mut self, call: &event::Call<'_>, now: u64) -> Result<(), ApplyFault>
         ensures does { OnOk result (SideDoes (call_of call.now now) self.old self.new) }
         ensures unchanged { OnErr result ((xs : List EndState) → SideStands self.old xs → SideStands self.new xs) }
         ensures joins { joins_of self.new ≡ joins_of self.old }
@@ -94,7 +94,12 @@ impl<A: Allocator + Copy> Openings<A> {
     /// # Errors
     ///
     /// Refused, and the first that holds is named: `BadConfig`, `Clock`.
-    pub fn admits_opening(&self, side: Side, config: &EndConfig, now: u64) -> Result<(), ApplyFault>
+    pub(crate) fn admits_opening(
+        &self,
+        side: Side,
+        config: &EndConfig,
+        now: u64,
+    ) -> Result<(), ApplyFault>
         ensures refusal { (xs : List EndState) → SideStands self.now xs
             → MatchResult result (λ _. open_refusal (side_of side) (settings_of config.now) now (latest xs) ≡ None)
             (λ fault. NamesRefusal fault (open_refusal (side_of side) (settings_of config.now) now (latest xs))) }
@@ -120,7 +125,7 @@ impl<A: Allocator + Copy> Openings<A> {
     /// # Errors
     ///
     /// Refused, and the first that holds is named: `BadConfig`, `Clock`, `Memory`.
-    pub fn open(
+    pub(crate) fn open(
         &mut self,
         alloc: A,
         side: Side,
@@ -154,7 +159,7 @@ impl<A: Allocator + Copy> Openings<A> {
     }
 
     /// The octets of the ConnReq that the present incarnation took.
-    pub fn request(&self) -> Option<&[u8]>
+    pub(crate) fn request(&self) -> Option<&[u8]>
         ensures { (xs : List EndState) → SideStands self.now xs
             → option_map (λ octets. octets.now) result ≡ request_in (latest xs) }
     {
@@ -165,7 +170,7 @@ impl<A: Allocator + Copy> Openings<A> {
     }
 
     /// Joins the present incarnation to that of the peer with this number.
-    pub fn join(&mut self, number: Option<usize>)
+    pub(crate) fn join(&mut self, number: Option<usize>)
         ensures stands { (xs : List EndState) → SideStands self.old xs → SideStands self.new xs }
         ensures joins { joins_of self.new ≡ rejoined number (joins_of self.old) }
     {
@@ -175,7 +180,7 @@ impl<A: Allocator + Copy> Openings<A> {
     }
 
     /// The number, from 1, of the latest incarnation that made a PDU of these octets.
-    pub fn latest_maker(&self, octets: &[u8]) -> Option<usize>
+    pub(crate) fn latest_maker(&self, octets: &[u8]) -> Option<usize>
         ensures { (xs : List EndState) → SideStands self.now xs → result ≡ latest_maker octets.now xs }
     {
         match &self.present {
@@ -186,7 +191,7 @@ impl<A: Allocator + Copy> Openings<A> {
     }
 
     /// The report on the incarnation at a place, from 0, which is joined to none.
-    pub fn entry(&self, place: usize) -> Option<Entry<'_, A>>
+    pub(crate) fn entry(&self, place: usize) -> Option<Entry<'_, A>>
         ensures { option_map seen_entry result
             ≡ option_map (entry_of None) (slice_get (incarnations_of self.now) place) }
     {
@@ -197,7 +202,7 @@ impl<A: Allocator + Copy> Openings<A> {
     }
 
     /// The report on the incarnation at a place, from 0, and to which one of its peer it is joined.
-    pub fn joined_entry(&self, place: usize) -> Option<Entry<'_, A>>
+    pub(crate) fn joined_entry(&self, place: usize) -> Option<Entry<'_, A>>
         ensures { option_map seen_entry result ≡ option_map joined_entry (slice_get (incarnations_of self.now) place) }
     {
         match self.incarnation(place) {
@@ -227,7 +232,7 @@ impl<A: Allocator + Copy> Openings<A> {
     }
 
     /// How many incarnations there are.
-    pub fn len(&self) -> usize
+    pub(crate) fn len(&self) -> usize
         ensures { result ≡ length (incarnations_of self.now) }
     {
         match &self.present {
@@ -237,7 +242,7 @@ impl<A: Allocator + Copy> Openings<A> {
     }
 
     /// What the last accepted event of the present incarnation did.
-    pub fn notes(&self) -> Option<Notes<'_, A>> {
+    pub(crate) fn notes(&self) -> Option<Notes<'_, A>> {
         match &self.present {
             Some(present) => Some(present.notes()),
             None => None,
@@ -245,7 +250,7 @@ impl<A: Allocator + Copy> Openings<A> {
     }
 
     /// How many PDUs the present incarnation made.
-    pub fn made(&self) -> usize
+    pub(crate) fn made(&self) -> usize
         ensures { (xs : List EndState) → SideStands self.now xs → result ≡ length (made_of (latest xs)) }
     {
         match &self.present {
@@ -278,7 +283,7 @@ impl<A: Allocator + Copy> Openings<A> {
     }
 
     /// Whether the delivery of a datagram would break the premise at once. The peer's first `dead` PDUs are dead.
-    pub fn breaks(&self, peer: &Openings<A>, dead: usize, datagram: &[u8]) -> bool
+    pub(crate) fn breaks(&self, peer: &Openings<A>, dead: usize, datagram: &[u8]) -> bool
         ensures { (xs ys : List EndState) → SideStands self.now xs → SideStands peer.now ys
             → result ≡ breaks_at (latest xs) (latest ys) dead datagram.now }
     {
@@ -289,7 +294,7 @@ impl<A: Allocator + Copy> Openings<A> {
     }
 
     /// The end of the present incarnation, where there is one.
-    pub fn end(&self) -> Option<&End<Keeper<A>, A>>
+    pub(crate) fn end(&self) -> Option<&End<Keeper<A>, A>>
         ensures { (xs : List EndState) → SideStands self.now xs → IsEnd result (latest xs) }
     {
         match &self.present {

@@ -9,7 +9,7 @@ use safe_pdu::CodeRule;
 
 /// Whether an end with these identifiers and this rule of the code is asked about a part: it is long enough, bears both
 /// identifiers at their places, and ends in a valid code.
-pub fn is_asked_about(rule: &CodeRule, own: u32, peer: u32, part: &[u8]) -> bool
+pub(crate) fn is_asked_about(rule: &CodeRule, own: u32, peer: u32, part: &[u8]) -> bool
     ensures { result ≡ is_asked rule.now own peer part.now }
 {
     let code_size = rule.length.octets();

@@ -19,7 +19,7 @@ pub struct Entry<'a, A: Allocator = Global> {
 }
 
 /// The entry of an incarnation that is joined to the one at this place.
-pub fn report_on<A: Allocator + Copy>(
+pub(crate) fn report_on<A: Allocator + Copy>(
     incarnation: &Incarnation<A>,
     joined: Option<usize>,
 ) -> Entry<'_, A>

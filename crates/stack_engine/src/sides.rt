@@ -24,7 +24,7 @@ use std::alloc::{Allocator, Global};
 
 /// Both ends, and how many of the PDUs of either one's present incarnation are dead: made before the later opening.
 #[derive(Drop)]
-pub struct Sides<A: Allocator = Global> {
+pub(crate) struct Sides<A: Allocator = Global> {
     /// The incarnations of the interlocking.
     pub(crate) il: Openings<A>,
     /// The incarnations of the field element.
@@ -40,7 +40,7 @@ impl<A: Allocator + Copy> Sides<A> {
     ghost use Rattle.stack_engine.specs.Sides.{SidesDo, SidesStand, ends_at};
 
     /// Neither end was opened.
-    pub fn new(alloc: A) -> Self
+    pub(crate) fn new(alloc: A) -> Self
         ensures { SidesStand result start }
     {
         Sides {
@@ -56,7 +56,7 @@ impl<A: Allocator + Copy> Sides<A> {
     /// # Errors
     ///
     /// Refused, and the first that holds is named: `EndNotOpen`, `BadConfig`, `Clock`.
-    pub fn admits(&self, event: &Event<'_>) -> Result<(), ApplyFault>
+    pub(crate) fn admits(&self, event: &Event<'_>) -> Result<(), ApplyFault>
         ensures refusal { (w : World) → SidesStand self.now w
             → MatchResult result (λ _. IsOfSession (refusal (event_of event.now) w))
             (λ fault. NamesRefusal fault (refusal (event_of event.now) w)) }
@@ -84,7 +84,7 @@ impl<A: Allocator + Copy> Sides<A> {
     /// # Errors
     ///
     /// Refused, and the first that holds is named; then all stays as it was.
-    pub fn step(&mut self, alloc: A, event: &Event<'_>) -> Result<(), ApplyFault>
+    pub(crate) fn step(&mut self, alloc: A, event: &Event<'_>) -> Result<(), ApplyFault>
         requires first { FewFirstLaw }
         ensures does { OnOk result (SidesDo (event_of event.now) self.old self.new) }
         ensures unchanged { OnErr result ((w : World) → SidesStand self.old w → SidesStand self.new w) }
@@ -168,7 +168,7 @@ impl<A: Allocator + Copy> Sides<A> {
     }
 
     /// Whether the delivery of a datagram to an end would break the premise at once.
-    pub fn breaks_premise(&self, side: Side, datagram: &[u8]) -> bool
+    pub(crate) fn breaks_premise(&self, side: Side, datagram: &[u8]) -> bool
         ensures { (w : World) → SidesStand self.now w → result ≡ breaks_premise (side_of side) datagram.now w }
     {
         match side {
@@ -178,7 +178,7 @@ impl<A: Allocator + Copy> Sides<A> {
     }
 
     /// The end of the present incarnation, where there is one.
-    pub fn end_of(&self, side: Side) -> Option<&End<Keeper<A>, A>>
+    pub(crate) fn end_of(&self, side: Side) -> Option<&End<Keeper<A>, A>>
         ensures { (w : World) → SidesStand self.now w → IsEnd result (present (side_of side) w) }
     {
         match side {
@@ -188,7 +188,7 @@ impl<A: Allocator + Copy> Sides<A> {
     }
 
     /// How many incarnations an end has.
-    pub fn incarnations(&self, side: Side) -> usize
+    pub(crate) fn incarnations(&self, side: Side) -> usize
         ensures { (w : World) → SidesStand self.now w → result ≡ length (report_of (side_of side) w) }
     {
         match side {
@@ -198,7 +198,7 @@ impl<A: Allocator + Copy> Sides<A> {
     }
 
     /// The incarnation of an end at a place, from 0, in the report.
-    pub fn entry(&self, side: Side, place: usize) -> Option<Entry<'_, A>>
+    pub(crate) fn entry(&self, side: Side, place: usize) -> Option<Entry<'_, A>>
         ensures { (w : World) → SidesStand self.now w
             → option_map seen_entry result ≡ slice_get (report_of (side_of side) w) place }
     {
@@ -209,7 +209,7 @@ impl<A: Allocator + Copy> Sides<A> {
     }
 
     /// What the last accepted event of an end's present incarnation did.
-    pub fn notes(&self, side: Side) -> Option<Notes<'_, A>> {
+    pub(crate) fn notes(&self, side: Side) -> Option<Notes<'_, A>> {
         match side {
             Side::Interlocking => self.il.notes(),
             Side::FieldElement => self.fe.notes(),

@@ -29,7 +29,7 @@ impl<A: Allocator + Copy> Taker for Texts<u16, A> {
 /// # Errors
 ///
 /// The error is that memory was refused.
-pub fn reserve_telegrams<A: Allocator + Copy>(
+pub(crate) fn reserve_telegrams<A: Allocator + Copy>(
     telegrams: &mut Telegrams<A>,
     count: usize,
 ) -> Result<(), AllocError>

@@ -1,21 +1,29 @@
 -- An incarnation stands for its state after a call, where it had room.
-use Rattle.std.proofs.Common.{◌≡◌, ℕ, ◌≤◌, List, [], ◌∷◌, ◌++◌, length, sym, ap, subst, ◌∙◌, arith, length-append, zero-add}
+use Rattle.std.proofs.Common.{◌≡◌, ℕ, ◌≤◌, Option, None, Some, is_none, List, [], ◌∷◌, ◌++◌, length, refl, sym, ap, subst, ◌∙◌, arith, length-append, zero-add}
+use Rattle.std.specs.Prelude.{if◌then◌else◌}
+use Rattle.std.specs.Option.{option_map}
 use Rattle.std.specs.List.{AllByRecursion, FoldsTo}
 use Rattle.safe_machine.specs.Made.{Made}
-use Rattle.pdi_session.specs.SessionStep.{Item}
+use Rattle.pdi_session.specs.declared.PutFault.{PutFault}
+use Rattle.pdi_session.specs.SessionStep.{Item, SessionState, init_refusal, put_refusal}
 use Rattle.end_settings.specs.EndSettings.{EndSettings}
 use Rattle.end_settings.specs.Configured.{settings_of}
+use Rattle.stack_end.specs.Dialogue.{session_in}
 use Rattle.stack_end.specs.Ends.{EndState, Call, call, new_end}
+use Rattle.stack_end.specs.Ends.Call.{Close, Deliver, InitDone, Put, Tick}
 use Rattle.stack_end.specs.Datagrams.{sent_at_opening}
 use Rattle.safe_machine.specs.World.{Side}
 use Rattle.channels.specs.Told.{SendsOne}
-use Rattle.stack_end.specs.EndValue.{EndValue, EndStands, EndWent, EndWentAlone, channels_of}
-use Rattle.stack_end.specs.Fields.{Sent}
+use Rattle.stack_end.specs.EndValue.{EndStands, EndTurns, EndTurnsAlone, EndValue, channels_of, inside}
+use Rattle.stack_end.specs.Fields.{BothStand}
+use Rattle.stack_end.specs.Turned.{Grew, Turned}
+use Rattle.stack_end.specs.Turns.{Inside, Turn, turn}
 use Rattle.stack_engine.specs.declared.incarnation.Incarnation.{Incarnation}
 use Rattle.stack_engine.specs.Bounds.{FewMore, FewFirst, IsSmallPdu, IsSmallItem, most_pdus, most_taken}
 use Rattle.stack_engine.specs.Texts.{Shelf}
 use Rattle.stack_engine.specs.Keeping.{Keeping, told_of, sure_room}
-use Rattle.stack_engine.specs.Incarnations.{IncStands, HasRoom, TakesItem, datagrams_of}
+use Rattle.stack_engine.specs.Incarnations.{IncSame, IncStands, IncTurns, HasRoom, TakesItem, datagrams_of, inc_refusal, puts_in}
+use Rattle.stack_engine.specs.Pairs.{InitRefused, PutRefused, session_refusal}
 use Rattle.stack_engine.proofs.code.Gaining.{keeps-all, takes-all, datagrams-append}
 use Rattle.stack_engine.proofs.one.Putting.{put_in_by, call-put}
 
@@ -24,46 +32,74 @@ all-behind P [] ys h = h
 all-behind P (x ∷ xs) ys h = all-behind P xs ys h.1
 
 -- the PDUs of a call were kept
-kept-more : {A : Type 0} (i j : Incarnation A) (x y : EndState) → most_pdus ≤ sure_room (channels_of i.end) → IncStands i x → FewMore x y → y.settings ≡ x.settings
-    → Sent (told_of (channels_of i.end)) x y (told_of (channels_of j.end)) → (channels_of j.end).datagrams ≡ datagrams_of y.settings 0 y.machine.made
-kept-more i j x y room h few same sent =
+kept-more : {A : Type 0} (i j : Incarnation A) (x y : EndState) (t : Turn Inside) → most_pdus ≤ sure_room (channels_of i.end) → IncStands i x → FewMore x y
+    → Grew t x y → FoldsTo SendsOne (told_of (channels_of i.end)) t.sent (told_of (channels_of j.end))
+    → (channels_of j.end).datagrams ≡ datagrams_of y.settings 0 y.machine.made
+kept-more i j x y t room h few grew sent =
     let s = x.settings in
-    let more = sent.more in
-    let texts : AllByRecursion (IsSmallPdu s) y.machine.made = subst (λ (t : EndSettings). AllByRecursion (IsSmallPdu t) y.machine.made) same few.small_pdus in
-    let small : AllByRecursion (IsSmallPdu s) more = all-behind (IsSmallPdu s) x.machine.made more (subst (AllByRecursion (IsSmallPdu s)) sent.grown texts) in
-    let count : length more ≤ most_pdus = omega (arith, few.pdus, ap (λ (ms : List Made). length ms) sent.grown, length-append x.machine.made more) in
-    let gained = keeps-all s (length x.machine.made) more (channels_of i.end) (channels_of j.end) sent.sent few.channels small (omega (arith, count, room)) in
-    gained ∙ (ap (λ (ds : List (List ℕ)). ds ++ datagrams_of s (length x.machine.made) more) h.kept
-    ∙ (ap (λ (n : ℕ). datagrams_of s 0 x.machine.made ++ datagrams_of s n more) (sym (zero-add (length x.machine.made)))
+    let more = grew.more in
+    let start = length x.machine.made in
+    let texts : AllByRecursion (IsSmallPdu s) y.machine.made = subst (λ (q : EndSettings). AllByRecursion (IsSmallPdu q) y.machine.made) grew.settings few.small_pdus in
+    let small : AllByRecursion (IsSmallPdu s) more = all-behind (IsSmallPdu s) x.machine.made more (subst (AllByRecursion (IsSmallPdu s)) grew.made texts) in
+    let count : length more ≤ most_pdus = omega (arith, few.pdus, ap (λ (ms : List Made). length ms) grew.made, length-append x.machine.made more) in
+    let out = subst (λ xs. FoldsTo SendsOne (told_of (channels_of i.end)) xs (told_of (channels_of j.end))) grew.sent sent in
+    let gained = keeps-all s start more (channels_of i.end) (channels_of j.end) out few.channels small (omega (arith, count, room)) in
+    gained ∙ (ap (λ (ds : List (List ℕ)). ds ++ datagrams_of s start more) h.kept
+    ∙ (ap (λ (n : ℕ). datagrams_of s 0 x.machine.made ++ datagrams_of s n more) (sym (zero-add start))
     ∙ (sym (datagrams-append s 0 x.machine.made more)
-    ∙ (ap (datagrams_of s 0) (sym sent.grown) ∙ ap (λ (t : EndSettings). datagrams_of t 0 y.machine.made) (sym same)))))
+    ∙ (ap (datagrams_of s 0) (sym grew.made) ∙ ap (λ (q : EndSettings). datagrams_of q 0 y.machine.made) (sym grew.settings)))))
 
-pub went-stands : {A : Type 0} (c : Call) (i j : Incarnation A) (x : EndState) → HasRoom i → IncStands i x → FewMore x (call c x)
-    → EndWent told_of TakesItem x (call c x) i.end i.taken j.end j.taken → j.put.texts ≡ i.put.texts ++ put_in_by c x → j.config ≡ i.config → IncStands j (call c x)
-went-stands c i j x room h few went put config =
-    let y = call c x in
-    let more = went.took.more in
-    let small : AllByRecursion IsSmallItem more = all-behind IsSmallItem x.session.history.taken more (subst (AllByRecursion IsSmallItem) went.took.grown few.small_items) in
-    let count : length more ≤ most_taken = omega (arith, few.takes, ap (λ (is : List Item). length is) went.took.grown, length-append x.session.history.taken more) in
-    record {
-      end = went.stands;
-      config = ap settings_of config ∙ (h.config ∙ sym went.settings);
-      kept = kept-more i j x y room.0 h few went.settings went.sent;
-      put = put ∙ (ap (λ (is : List Item). is ++ put_in_by c x) h.put ∙ sym (call-put c x));
-      taken = takes-all more i.taken j.taken went.took.handed small (omega (arith, count, room.1)) ∙ (ap (λ (is : List Item). is ++ more) h.taken ∙ sym went.took.grown);
-    }
+-- a call in which nothing is handed out
+pub alone-turns : {A : Type 0} (c : Call) (v w : EndValue Keeping A) (taken : Shelf ℕ) → EndTurnsAlone told_of (turn c) v w
+    → EndTurns told_of TakesItem (turn c) v taken w taken
+alone-turns c v w taken h =
+    record { left = h.left; sent = h.sent; taken = subst (λ (is : List Item). FoldsTo TakesItem taken is taken) (sym h.none) refl }
 
--- a call in which nothing is taken
-pub alone-stands : {A : Type 0} (c : Call) (i j : Incarnation A) (x : EndState) → HasRoom i → IncStands i x → FewMore x (call c x)
-    → EndWentAlone told_of x (call c x) i.end j.end → j.taken ≡ i.taken → j.put.texts ≡ i.put.texts ++ put_in_by c x → j.config ≡ i.config → IncStands j (call c x)
-alone-stands c i j x room h few went same put config =
+-- the end refuses what its state does
+pub refusal-is : {A : Type 0} (c : Call) (i : Incarnation A) (x : EndState) → IncStands i x → inc_refusal c i ≡ session_refusal c x
+refusal-is (Close now) i x h = refl
+refusal-is (Put kind payload now) i x h =
+    let s = h.end.both.upper.speaks in
+    ap (λ (q : SessionState). option_map PutRefused (put_refusal q kind payload (length (inside i.end).upper.waiting))) s.state
+    ∙ ap (λ (ws : List (List ℕ)). option_map PutRefused (put_refusal (session_in x.session) kind payload (length ws))) s.waits
+refusal-is (InitDone now) i x h =
+    let s = h.end.both.upper.speaks in
+    ap (λ (q : SessionState). option_map InitRefused (init_refusal q (length (inside i.end).upper.waiting))) s.state
+    ∙ ap (λ (ws : List (List ℕ)). option_map InitRefused (init_refusal (session_in x.session) (length ws))) s.waits
+refusal-is (Tick now) i x h = refl
+refusal-is (Deliver channel octets now) i x h = refl
+
+map-none : {X Y : Type 0} (f : X → Y) (o : Option X) → option_map f o ≡ None → o ≡ None
+map-none f None e = refl
+map-none f (Some x) e = cc
+
+-- what an accepted call puts in
+put-in : (c : Call) (x : EndState) → session_refusal c x ≡ None → puts_in c ≡ put_in_by c x
+put-in (Close now) x e = refl
+put-in (Put kind payload now) x e =
+    let item : Item = (kind, payload) in
+    ap (λ (r : Option PutFault). if is_none r then item ∷ [] else []) (sym (map-none PutRefused _ e))
+put-in (InitDone now) x e = refl
+put-in (Tick now) x e = refl
+put-in (Deliver channel octets now) x e = refl
+
+pub turned-stands : {A : Type 0} (c : Call) (i j : Incarnation A) (x : EndState) → HasRoom i → IncTurns c i j → inc_refusal c i ≡ None
+    → Turned (turn c (inside i.end)) x (call c x) → IncStands i x → FewMore x (call c x) → IncStands j (call c x)
+turned-stands c i j x room t accepted turned h few =
     let y = call c x in
+    let grew = turned.grew in
+    let more = (turn c (inside i.end)).taken in
+    let small : AllByRecursion IsSmallItem more = all-behind IsSmallItem x.session.history.taken more (subst (AllByRecursion IsSmallItem) grew.taken few.small_items) in
+    let count : length more ≤ most_taken = omega (arith, few.takes, ap (λ (is : List Item). length is) grew.taken, length-append x.session.history.taken more) in
     record {
-      end = went.stands;
-      config = ap settings_of config ∙ (h.config ∙ sym went.settings);
-      kept = kept-more i j x y room.0 h few went.settings went.sent;
-      put = put ∙ (ap (λ (is : List Item). is ++ put_in_by c x) h.put ∙ sym (call-put c x));
-      taken = ap (λ (s : Shelf ℕ). s.texts) same ∙ (h.taken ∙ sym went.took_none);
+      end = record { both = subst (λ (v : Inside). BothStand v y) (sym t.end.left) turned.stands; time = t.time };
+      config = ap settings_of t.config ∙ (h.config ∙ sym grew.settings);
+      kept = kept-more i j x y (turn c (inside i.end)) room.0 h few grew t.end.sent;
+      put =
+          t.put
+          ∙ (ap (λ (is : List Item). is ++ puts_in c) h.put
+          ∙ (ap (λ (is : List Item). x.session.history.put ++ is) (put-in c x (sym (refusal-is c i x h) ∙ accepted)) ∙ sym (call-put c x)));
+      taken = takes-all more i.taken j.taken t.end.taken small (omega (arith, count, room.1)) ∙ (ap (λ (is : List Item). is ++ more) h.taken ∙ sym grew.taken);
     }
 
 -- when it is opened
@@ -83,12 +119,12 @@ opened-stands side s first now k i none room few stands sent put taken config =
     }
 
 -- an end left as it was
-pub same-stands : {A : Type 0} (i j : Incarnation A) (x : EndState) → j.end ≡ i.end → j.put ≡ i.put → j.taken ≡ i.taken → j.config ≡ i.config → IncStands i x → IncStands j x
-same-stands {A} i j x same put taken config h =
+pub same-stands : {A : Type 0} (i j : Incarnation A) (x : EndState) → IncSame i j → IncStands i x → IncStands j x
+same-stands {A} i j x same h =
     record {
-      end = subst (λ v. EndStands told_of v x) (sym same) h.end;
-      config = ap settings_of config ∙ h.config;
-      kept = ap (λ (v : EndValue Keeping A). (channels_of v).datagrams) same ∙ h.kept;
-      put = ap (λ (s : Shelf ℕ). s.texts) put ∙ h.put;
-      taken = ap (λ (s : Shelf ℕ). s.texts) taken ∙ h.taken;
+      end = subst (λ v. EndStands told_of v x) (sym same.end) h.end;
+      config = ap settings_of same.config ∙ h.config;
+      kept = ap (λ (v : EndValue Keeping A). (channels_of v).datagrams) same.end ∙ h.kept;
+      put = ap (λ (s : Shelf ℕ). s.texts) same.put ∙ h.put;
+      taken = ap (λ (s : Shelf ℕ). s.texts) same.taken ∙ h.taken;
     }
