@@ -8,9 +8,9 @@ use Rattle.channels.specs.Told.{Sending, Sends, SendsOne, Told}
 use Rattle.end_for_callers.specs.Boxes.{Came, Incoming, Outgoing, Posted, takes_of, told_of}
 use Rattle.end_for_callers.specs.Queues.{fits, with_piece}
 use Rattle.end_for_callers.specs.Calls.{Does, StationValue, outbox_of}
-use Rattle.stack_end.specs.Datagrams.{sendings}
-use Rattle.stack_end.specs.Ends.{EndState}
-use Rattle.stack_end.specs.EndValue.{EndDoes, EndDoesAlone}
+use Rattle.stack_end.specs.Ends.{Call, time_of}
+use Rattle.stack_end.specs.EndValue.{EndTurns, EndTurnsAlone, inside}
+use Rattle.stack_end.specs.Turns.{turn}
 
 -- Sendings of which so many failed: the count has moved by so many, and where none failed all are told.
 record Counted (a : Told) (xs : List Sending) (b : Told) : Type 0 where
@@ -105,30 +105,20 @@ pub came-none : (n : Incoming) → Came n [] n
 came-none n = came n [] n refl
 
 -- a call by its end
-pub does-all : (step : EndState → EndState) (s t : StationValue) → EndDoes told_of takes_of step s.end s.inbox t.end t.inbox → Does step s t
-does-all step s t h x stands =
-    let w = h x stands in
+pub does-all : (c : Call) (s t : StationValue) → EndTurns told_of takes_of (turn c) s.end s.inbox t.end t.inbox → t.end.time ≡ time_of c → Does c s t
+does-all c s t h time =
     record {
-      stands = w.stands;
-      settings = w.settings;
-      made = w.sent.more;
-      makes = w.sent.grown;
-      datagrams = posted (outbox_of s) (sendings x.settings (length x.machine.made) w.sent.more) (outbox_of t) w.sent.sent;
-      taken = w.took.more;
-      takes = w.took.grown;
-      telegrams = came s.inbox w.took.more t.inbox w.took.handed;
+      left = h.left;
+      time = time;
+      datagrams = posted (outbox_of s) (turn c (inside s.end)).sent (outbox_of t) h.sent;
+      telegrams = came s.inbox (turn c (inside s.end)).taken t.inbox h.taken;
     }
 
-pub does-alone : (step : EndState → EndState) (s t : StationValue) → EndDoesAlone told_of step s.end t.end → t.inbox ≡ s.inbox → Does step s t
-does-alone step s t h same x stands =
-    let w = h x stands in
+pub does-alone : (c : Call) (s t : StationValue) → EndTurnsAlone told_of (turn c) s.end t.end → t.end.time ≡ time_of c → t.inbox ≡ s.inbox → Does c s t
+does-alone c s t h time same =
     record {
-      stands = w.stands;
-      settings = w.settings;
-      made = w.sent.more;
-      makes = w.sent.grown;
-      datagrams = posted (outbox_of s) (sendings x.settings (length x.machine.made) w.sent.more) (outbox_of t) w.sent.sent;
-      taken = [];
-      takes = w.took_none ∙ sym (append-nil x.session.history.taken);
-      telegrams = subst (λ i. Came s.inbox [] i) (sym same) (came-none s.inbox);
+      left = h.left;
+      time = time;
+      datagrams = posted (outbox_of s) (turn c (inside s.end)).sent (outbox_of t) h.sent;
+      telegrams = subst (λ items. Came s.inbox items t.inbox) (sym h.none) (subst (λ i. Came s.inbox [] i) (sym same) (came-none s.inbox));
     }

@@ -1,12 +1,9 @@
 -- What a call of an end for callers is refused for, and what it does to the end and to what its caller takes.
-use Rattle.std.specs.Prelude.{◌≡◌, ◌==◌, ℕ, ◌+◌, ◌*◌, ◌^◌, Bool, not, ◌&&◌, nat_le, Option, Some, None, option_map, List, ◌++◌, length, if◌then◌else◌}
+use Rattle.std.specs.Prelude.{◌≡◌, ◌==◌, ℕ, ◌+◌, ◌*◌, ◌^◌, Bool, not, ◌&&◌, nat_le, Option, Some, None, option_map, List, if◌then◌else◌}
 use Rattle.octets.specs.declared.limits.TheConstants.{PAYLOAD_MAX, RED_PDU_MAX}
-use Rattle.pdi_session.specs.SessionStep.{Item, init_refusal, put_refusal}
-use Rattle.safe_machine.specs.Made.{Made}
-use Rattle.stack_end.specs.Datagrams.{sendings}
-use Rattle.stack_end.specs.Dialogue.{session_in}
-use Rattle.stack_end.specs.Ends.{EndState}
-use Rattle.stack_end.specs.EndValue.{EndStands, EndValue, channels_of}
+use Rattle.stack_end.specs.Ends.{Call, time_of}
+use Rattle.stack_end.specs.EndValue.{EndValue, channels_of, inside}
+use Rattle.stack_end.specs.Turns.{init_answer, put_answer, turn}
 use Rattle.std.specs.Global.{Global}
 use Rattle.end_for_callers.specs.declared.CallFault.{CallFault}
 use Rattle.end_for_callers.specs.declared.CallFault.TheVariants as fault
@@ -19,7 +16,7 @@ use Rattle.end_for_callers.specs.declared.TheConstants.{CALL_TELEGRAMS, PART_PDU
 use Rattle.end_settings.specs.EndSettings.{EndSettings, are_fit}
 use Rattle.end_settings.specs.Configured.{side_of}
 use Rattle.end_settings.specs.declared.Side.{Side}
-use Rattle.end_for_callers.specs.Boxes.{Came, Incoming, Outgoing, Posted, told_of}
+use Rattle.end_for_callers.specs.Boxes.{Came, Incoming, Outgoing, Posted}
 use Rattle.end_for_callers.specs.Queues.{Queued}
 
 pub record StationValue : Type 0 where
@@ -72,28 +69,18 @@ abbrev pub or_else : {X : Type 0} → Option X → Option X → Option X
 or_else (Some x) y = Some x
 or_else None y = y
 
-abbrev pub refusal_to_put : (now kind : ℕ) → List ℕ → StationValue → EndState → Option CallFault
-refusal_to_put now kind payload s x =
-    or_else (refusal_to_send now s) (option_map fault.Put (put_refusal (session_in x.session) kind payload (length x.session.waiting)))
+abbrev pub refusal_to_put : (now kind : ℕ) → List ℕ → StationValue → Option CallFault
+refusal_to_put now kind payload s = or_else (refusal_to_send now s) (option_map fault.Put (put_answer kind payload (inside s.end).upper))
 
-abbrev pub refusal_to_init : ℕ → StationValue → EndState → Option CallFault
-refusal_to_init now s x =
-    or_else (refusal_to_send now s) (option_map fault.Init (init_refusal (session_in x.session) (length x.session.waiting)))
+abbrev pub refusal_to_init : ℕ → StationValue → Option CallFault
+refusal_to_init now s = or_else (refusal_to_send now s) (option_map fault.Init (init_answer (inside s.end).upper))
 
--- From one state of the end to another: what it made was sent, what its application takes came, and these are told of the two boxes.
-pub record Went (x y : EndState) (s t : StationValue) : Type 0 where
-  pub stands : EndStands told_of t.end y
-  pub settings : y.settings ≡ x.settings
-  pub made : List Made
-  pub makes : y.machine.made ≡ x.machine.made ++ made
-  pub datagrams : Posted (outbox_of s) (sendings x.settings (length x.machine.made) made) (outbox_of t)
-  pub taken : List Item
-  pub takes : y.session.history.taken ≡ x.session.history.taken ++ taken
-  pub telegrams : Came s.inbox taken t.inbox
-
--- for each state that its end stood for it now stands for the step of it
-abbrev pub Does : (EndState → EndState) → StationValue → StationValue → Type 0
-Does step s t = (x : EndState) → EndStands told_of s.end x → Went x (step x) s t
+-- The end takes the turn of a call: it keeps what that leaves, and what that sends and hands out came into the two boxes.
+pub record Does (c : Call) (s t : StationValue) : Type 0 where
+  pub left : inside t.end ≡ (turn c (inside s.end)).left
+  pub time : t.end.time ≡ time_of c
+  pub datagrams : Posted (outbox_of s) (turn c (inside s.end)).sent (outbox_of t)
+  pub telegrams : Came s.inbox (turn c (inside s.end)).taken t.inbox
 
 -- nothing was lost, or what was is told
 abbrev pub outcome_of : StationValue → StationValue → Outcome
@@ -102,9 +89,10 @@ outcome_of s t =
     else if (outbox_of t).unsent == (outbox_of s).unsent then outcome.Whole
     else outcome.Unsent
 
--- the caller takes a datagram: the end stands for what it stood for, and all else is as it was
+-- the caller takes a datagram: the end keeps what it kept, and all else is as it was
 pub record SameButDatagrams (s t : StationValue) : Type 0 where
-  pub stands : (x : EndState) → EndStands told_of s.end x → EndStands told_of t.end x
+  pub kept : inside t.end ≡ inside s.end
+  pub called : t.end.time ≡ s.end.time
   pub unsent : (outbox_of t).unsent ≡ (outbox_of s).unsent
   pub inbox : t.inbox ≡ s.inbox
   pub time : t.time ≡ s.time

@@ -1,5 +1,5 @@
 -- The limits of a call, as numbers.
-use Rattle.std.specs.Prelude.{◌≡◌, ℕ}
+use Rattle.std.specs.Prelude.{◌≡◌}
 use Rattle.end_for_callers.specs.declared.TheConstants.{CALL_TELEGRAMS, PART_PDUS}
 use Rattle.end_for_callers.specs.declared.plain.TheConstants.{PLAIN_SETTINGS_SIZE}
 

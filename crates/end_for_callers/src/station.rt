@@ -5,7 +5,7 @@ ghost use Rattle.std.specs.List.{FoldsTo};
 ghost use Rattle.end_settings.specs.EndSettings.{are_fit};
 ghost use Rattle.end_settings.specs.Configured.{settings_of, side_of};
 ghost use Rattle.stack_end.specs.Datagrams.{sent_at_opening};
-ghost use Rattle.stack_end.specs.Ends.{Call, Close, Deliver, EndState, InitDone, Put, call, opened_end};
+ghost use Rattle.stack_end.specs.Ends.{Call, Close, Deliver, InitDone, Put, opened_end};
 ghost use Rattle.stack_end.specs.EndValue.{EndStands};
 ghost use Rattle.end_for_callers.specs.Boxes.{Posted, told_of};
 ghost use Rattle.octets.specs.declared.limits.TheConstants.{PAYLOAD_MAX, RED_PDU_MAX};
@@ -129,12 +129,12 @@ impl Station {
     ///
     /// Refused, and the first that holds is named: `Time`, `Lost`, `TakeFirst`, `SendFirst`.
     pub fn arrive(&mut self, channel: usize, octets: &[u8], now: u64) -> Result<Outcome, CallFault>
-        // An accepted call leads the end to the state after its step, as that of `stack_end` (`Went` (stands)).
+        // An accepted call leaves the end what the turn of the call leaves (`Does` (left)).
         // What the end sent in it waits behind what waited, each in order or counted, and all of it where the
         // count stands (of fewer than 2^64) (`Posted`).
         // A beginning of what the application takes in it waits behind what waited, and all of it where no
         // telegram was lost (`Came`).
-        ensures does { OnOk result (Does (call (Deliver channel octets.now now)) self.old self.new) }
+        ensures does { OnOk result (Does (Deliver channel octets.now now) self.old self.new) }
         // An accepted call tells whether all waits, a datagram found no room, or a telegram did.
         // A call is refused, by the first name that holds, for its time, a telegram lost before, or where there
         // is less room than it is to have, and nothing changes then.
@@ -156,12 +156,12 @@ impl Station {
     ///
     /// Refused, and the first that holds is named: `Time`, `Lost`, `TakeFirst`, `SendFirst`.
     pub fn tick(&mut self, now: u64) -> Result<Outcome, CallFault>
-        // An accepted call leads the end to the state after its step, as that of `stack_end` (`Went` (stands)).
+        // An accepted call leaves the end what the turn of the call leaves (`Does` (left)).
         // What the end sent in it waits behind what waited, each in order or counted, and all of it where the
         // count stands (of fewer than 2^64) (`Posted`).
         // A beginning of what the application takes in it waits behind what waited, and all of it where no
         // telegram was lost (`Came`).
-        ensures does { OnOk result (Does (call (Call.Tick now)) self.old self.new) }
+        ensures does { OnOk result (Does (Call.Tick now) self.old self.new) }
         // An accepted call tells whether all waits, a datagram found no room, or a telegram did.
         // A call is refused, by the first name that holds, for its time, a telegram lost before, or where there
         // is less room than it is to have, and nothing changes then.
@@ -183,20 +183,19 @@ impl Station {
     ///
     /// Refused, and the first that holds is named: `Time`, `Lost`, `SendFirst`, and what `End::put` refuses.
     pub fn put(&mut self, kind: u16, payload: &[u8], now: u64) -> Result<Outcome, CallFault>
-        // An accepted call leads the end to the state after its step, as that of `stack_end` (`Went` (stands)).
+        // An accepted call leaves the end what the turn of the call leaves (`Does` (left)).
         // What the end sent in it waits behind what waited, each in order or counted, and all of it where the
         // count stands (of fewer than 2^64) (`Posted`).
         // A beginning of what the application takes in it waits behind what waited, and all of it where no
         // telegram was lost (`Came`).
-        ensures does { OnOk result (Does (call (Put kind payload.now now)) self.old self.new) }
+        ensures does { OnOk result (Does (Put kind payload.now now) self.old self.new) }
         // An accepted call tells whether all waits, a datagram found no room, or a telegram did.
         ensures outcome { IfOk result (λ o. o ≡ outcome_of self.old self.new) }
         // An accepted call tells whether all waits, a datagram found no room, or a telegram did.
         // A call is refused, by the first name that holds, for its time, a telegram lost before, or where there
         // is less room than it is to have, and nothing changes then.
-        ensures answer { (x : EndState) → EndStands told_of self.old.end x
-            → MatchResult result (λ _. refusal_to_put now kind payload.now self.old x ≡ None)
-            (λ f. refusal_to_put now kind payload.now self.old x ≡ Some f) }
+        ensures answer { MatchResult result (λ _. refusal_to_put now kind payload.now self.old ≡ None)
+            (λ f. refusal_to_put now kind payload.now self.old ≡ Some f) }
         // A call is refused, by the first name that holds, for its time, a telegram lost before, or where there
         // is less room than it is to have, and nothing changes then.
         ensures refused { OnErr result (self.new ≡ self.old) }
@@ -220,20 +219,19 @@ impl Station {
     ///
     /// Refused, and the first that holds is named: `Time`, `Lost`, `SendFirst`, and what `End::init_done` refuses.
     pub fn init_done(&mut self, now: u64) -> Result<Outcome, CallFault>
-        // An accepted call leads the end to the state after its step, as that of `stack_end` (`Went` (stands)).
+        // An accepted call leaves the end what the turn of the call leaves (`Does` (left)).
         // What the end sent in it waits behind what waited, each in order or counted, and all of it where the
         // count stands (of fewer than 2^64) (`Posted`).
         // A beginning of what the application takes in it waits behind what waited, and all of it where no
         // telegram was lost (`Came`).
-        ensures does { OnOk result (Does (call (InitDone now)) self.old self.new) }
+        ensures does { OnOk result (Does (InitDone now) self.old self.new) }
         // An accepted call tells whether all waits, a datagram found no room, or a telegram did.
         ensures outcome { IfOk result (λ o. o ≡ outcome_of self.old self.new) }
         // An accepted call tells whether all waits, a datagram found no room, or a telegram did.
         // A call is refused, by the first name that holds, for its time, a telegram lost before, or where there
         // is less room than it is to have, and nothing changes then.
-        ensures answer { (x : EndState) → EndStands told_of self.old.end x
-            → MatchResult result (λ _. refusal_to_init now self.old x ≡ None)
-            (λ f. refusal_to_init now self.old x ≡ Some f) }
+        ensures answer { MatchResult result (λ _. refusal_to_init now self.old ≡ None)
+            (λ f. refusal_to_init now self.old ≡ Some f) }
         // A call is refused, by the first name that holds, for its time, a telegram lost before, or where there
         // is less room than it is to have, and nothing changes then.
         ensures refused { OnErr result (self.new ≡ self.old) }
@@ -257,12 +255,12 @@ impl Station {
     ///
     /// Refused as `Time`.
     pub fn close(&mut self, now: u64) -> Result<Outcome, CallFault>
-        // An accepted call leads the end to the state after its step, as that of `stack_end` (`Went` (stands)).
+        // An accepted call leaves the end what the turn of the call leaves (`Does` (left)).
         // What the end sent in it waits behind what waited, each in order or counted, and all of it where the
         // count stands (of fewer than 2^64) (`Posted`).
         // A beginning of what the application takes in it waits behind what waited, and all of it where no
         // telegram was lost (`Came`).
-        ensures does { OnOk result (Does (call (Close now)) self.old self.new) }
+        ensures does { OnOk result (Does (Close now) self.old self.new) }
         // An accepted call tells whether all waits, a datagram found no room, or a telegram did.
         // A call is refused, by the first name that holds, for its time, a telegram lost before, or where there
         // is less room than it is to have, and nothing changes then.
@@ -313,22 +311,19 @@ impl Station {
     ghost use Rattle.std.specs.Prelude.{Option};
     ghost use Rattle.pdi_session.specs.declared.Phase.{Phase};
     ghost use Rattle.safe_machine.specs.Deadlines.{IsBefore, IsReachedAt};
-    ghost use Rattle.stack_end.specs.Bounds.{IsBounded};
     ghost use Rattle.stack_end.specs.Deadlines.{HasFallen, IsQuiet};
-    ghost use Rattle.stack_end.specs.Dialogue.{phase_in};
-    ghost use Rattle.stack_end.specs.Ends.{is_settled, is_shut};
-    ghost use Rattle.stack_end.specs.EndValue.{EndAsks};
+    ghost use Rattle.stack_end.specs.EndValue.{inside};
+    ghost use Rattle.stack_end.specs.Turns.{is_over, is_settled};
 
     /// The earliest time at which `tick` does something, if nothing arrives and nothing is put in, as `End::next_deadline` tells it.
     pub fn next_deadline(&self) -> Option<u64>
         // Before the deadline a tick does nothing, where the end is not closed.
-        ensures before { (x : EndState) → EndStands told_of self.now.end x → is_shut x ≡ false → (now : ℕ)
-            → IsBefore now result → IsQuiet now x }
+        ensures before { is_over (inside self.now.end) ≡ false → (now : ℕ) → IsBefore now result
+            → IsQuiet now (inside self.now.end) }
         // From the deadline on, up to 2^62 ms, a tick does something.
-        ensures after { (x : EndState) → EndStands told_of self.now.end x → (now : ℕ) → now ≤ 2 ^ 62 → IsReachedAt now result
-            → HasFallen now x }
+        ensures after { (now : ℕ) → now ≤ 2 ^ 62 → IsReachedAt now result → HasFallen now (inside self.now.end) }
         // A closed end has no deadline.
-        ensures closed { (x : EndState) → EndStands told_of self.now.end x → is_shut x ≡ true → result ≡ None }
+        ensures closed { is_over (inside self.now.end) ≡ true → result ≡ None }
     {
         self.end.next_deadline()
     }
@@ -336,7 +331,7 @@ impl Station {
     /// The state of the connection.
     pub fn state(&self) -> ConnectionState
         // The state of the connection is that of the end.
-        ensures { EndAsks told_of (λ x. x.machine.connection) self.now.end result }
+        ensures { result ≡ (inside self.now.end).upper.machine.connection }
     {
         self.end.state()
     }
@@ -344,7 +339,7 @@ impl Station {
     /// The phase of the session.
     pub fn phase(&self) -> Phase
         // The phase of the session is that of the end.
-        ensures { EndAsks told_of (λ x. phase_in x.session) self.now.end result }
+        ensures { result ≡ (inside self.now.end).upper.session.phase }
     {
         self.end.phase()
     }
@@ -352,7 +347,7 @@ impl Station {
     /// Whether all that was put in is done with: the end is not closed, no message waits, and no unit is unconfirmed.
     pub fn settled(&self) -> bool
         // All is settled exactly where it is at the end.
-        ensures { EndAsks told_of is_settled self.now.end result }
+        ensures { result ≡ is_settled (inside self.now.end) }
     {
         self.end.settled()
     }
