@@ -2,16 +2,16 @@
 use Rattle.bekwidas.specs.declared.codes.TheConstants.{LOST, NOT_OPEN}
 use Rattle.std.specs.Prelude.{◌≡◌, ◌≢◌, ◌<ℤ◌, ℤ, pos, ℕ, ◌<◌, false, List, []}
 use Rattle.stack_end.specs.Deadlines.{IsQuiet}
-use Rattle.stack_end.specs.Ends.{EndState, is_shut}
-use Rattle.stack_end.specs.EndValue.{EndStands}
-use Rattle.end_for_callers.specs.Boxes.{told_of}
+use Rattle.stack_end.specs.Ends.{Call}
+use Rattle.stack_end.specs.EndValue.{inside}
+use Rattle.stack_end.specs.Turns.{Inside, is_over}
 use Rattle.end_for_callers.specs.Calls.{Does, SameButDatagrams, SameButTelegrams, StationValue, outbox_of, outcome_of}
 use Rattle.end_for_callers.specs.Queues.{IsTooLong, TookOldest}
 use Rattle.end_for_callers.specs.declared.Outcome.TheVariants.{Whole}
 
 -- the call was done, and all that the end sent and took waits for the caller
-abbrev pub DoesWhole : (EndState → EndState) → StationValue → StationValue → Type 0
-DoesWhole step s t = Does step s t × (outcome_of s t ≡ Whole)
+abbrev pub DoesWhole : Call → StationValue → StationValue → Type 0
+DoesWhole c s t = Does c s t × (outcome_of s t ≡ Whole)
 
 abbrev pub Same : StationValue → StationValue → Type 0
 Same s t = t ≡ s
@@ -28,9 +28,9 @@ abbrev pub TookDatagram : (channel size : ℕ) (buffer after : List ℕ) → Sta
 TookDatagram channel size buffer after s t =
     TookOldest channel size (outbox_of s).queue buffer (outbox_of t).queue after × SameButDatagrams s t
 
--- its answer is what the state says, and nothing has changed
-abbrev pub Tells : {R : Type 0} → (EndState → R) → R → StationValue → StationValue → Type 0
-Tells answer result s t = (t ≡ s) × ((x : EndState) → EndStands told_of s.end x → result ≡ answer x)
+-- its answer is what the end keeps, and nothing has changed
+abbrev pub Tells : {R : Type 0} → (Inside → R) → R → StationValue → StationValue → Type 0
+Tells answer result s t = (t ≡ s) × (result ≡ answer (inside s.end))
 
 -- the oldest is longer than the buffer: it stays, and its length is told
 abbrev pub StaysTelegram : (needed : ℕ) (buffer after : List ℕ) → StationValue → StationValue → Type 0
@@ -50,5 +50,4 @@ NoDatagram s t = ((outbox_of s).queue.waiting ≡ []) × ((outbox_of t).queue �
 
 -- a tick before the deadline does nothing to an end that is not closed, and nothing has changed
 abbrev pub QuietBefore : ℕ → StationValue → StationValue → Type 0
-QuietBefore deadline s t =
-    (t ≡ s) × ((x : EndState) → EndStands told_of s.end x → is_shut x ≡ false → (now : ℕ) → now < deadline → IsQuiet now x)
+QuietBefore deadline s t = (t ≡ s) × (is_over (inside s.end) ≡ false → (now : ℕ) → now < deadline → IsQuiet now (inside s.end))

@@ -2,8 +2,8 @@
 
 ghost use Rattle.std.specs.Prelude.{◌≡◌, ◌≢◌, ◌⊎◌, IfErr, IfOk, MatchResult, Some, drop, if◌then◌else◌, length, pos};
 ghost use Rattle.pdi_session.specs.declared.Phase.{Phase};
-ghost use Rattle.stack_end.specs.Dialogue.{phase_in};
-ghost use Rattle.stack_end.specs.Ends.{Call, Close, Deliver, InitDone, Put, call, is_settled};
+ghost use Rattle.stack_end.specs.Ends.{Call, Close, Deliver, InitDone, Put};
+ghost use Rattle.stack_end.specs.Turns.{is_settled};
 ghost use Rattle.end_for_callers.specs.Calls.{Does, outbox_of};
 ghost use Rattle.bekwidas.specs.Codes.{code_of_phase, code_of_state, code_to_open};
 ghost use Rattle.bekwidas.specs.Held.{Became, IsOpened};
@@ -123,11 +123,11 @@ pub extern "C" fn bekr_arrive(
     now: u64,
 ) -> i32
     // Where a call answers OK the station made its step, and all that the end sent and took waits.
-    ensures does { result ≡ OK → Became (DoesWhole (call (Deliver channel octets.now now))) slot.old.handle.held slot.new.handle.held }
+    ensures does { result ≡ OK → Became (DoesWhole (Deliver channel octets.now now)) slot.old.handle.held slot.new.handle.held }
     // Where it is refused, for another reason than a telegram lost, nothing of the station has changed.
     ensures refused { IsRefusal result → Became Same slot.old.handle.held slot.new.handle.held }
     // Where it answers that a datagram found no room, the station made its step.
-    ensures unsent { result ≡ UNSENT → Became (Does (call (Deliver channel octets.now now))) slot.old.handle.held slot.new.handle.held }
+    ensures unsent { result ≡ UNSENT → Became (Does (Deliver channel octets.now now)) slot.old.handle.held slot.new.handle.held }
 {
     let Some(mut station) = slot.take(alloc) else {
         return NOT_OPEN;
@@ -141,11 +141,11 @@ pub extern "C" fn bekr_arrive(
 #[unsafe(no_mangle)]
 pub extern "C" fn bekr_tick(alloc: Global, slot: &mut Slot, now: u64) -> i32
     // Where a call answers OK the station made its step, and all that the end sent and took waits.
-    ensures does { result ≡ OK → Became (DoesWhole (call (Call.Tick now))) slot.old.handle.held slot.new.handle.held }
+    ensures does { result ≡ OK → Became (DoesWhole (Call.Tick now)) slot.old.handle.held slot.new.handle.held }
     // Where it is refused, for another reason than a telegram lost, nothing of the station has changed.
     ensures refused { IsRefusal result → Became Same slot.old.handle.held slot.new.handle.held }
     // Where it answers that a datagram found no room, the station made its step.
-    ensures unsent { result ≡ UNSENT → Became (Does (call (Call.Tick now))) slot.old.handle.held slot.new.handle.held }
+    ensures unsent { result ≡ UNSENT → Became (Does (Call.Tick now)) slot.old.handle.held slot.new.handle.held }
 {
     let Some(mut station) = slot.take(alloc) else {
         return NOT_OPEN;
@@ -165,11 +165,11 @@ pub extern "C" fn bekr_put(
     now: u64,
 ) -> i32
     // Where a call answers OK the station made its step, and all that the end sent and took waits.
-    ensures does { result ≡ OK → Became (DoesWhole (call (Put kind payload.now now))) slot.old.handle.held slot.new.handle.held }
+    ensures does { result ≡ OK → Became (DoesWhole (Put kind payload.now now)) slot.old.handle.held slot.new.handle.held }
     // Where it is refused, for another reason than a telegram lost, nothing of the station has changed.
     ensures refused { IsRefusal result → Became Same slot.old.handle.held slot.new.handle.held }
     // Where it answers that a datagram found no room, the station made its step.
-    ensures unsent { result ≡ UNSENT → Became (Does (call (Put kind payload.now now))) slot.old.handle.held slot.new.handle.held }
+    ensures unsent { result ≡ UNSENT → Became (Does (Put kind payload.now now)) slot.old.handle.held slot.new.handle.held }
 {
     let Some(mut station) = slot.take(alloc) else {
         return NOT_OPEN;
@@ -183,11 +183,11 @@ pub extern "C" fn bekr_put(
 #[unsafe(no_mangle)]
 pub extern "C" fn bekr_init_done(alloc: Global, slot: &mut Slot, now: u64) -> i32
     // Where a call answers OK the station made its step, and all that the end sent and took waits.
-    ensures does { result ≡ OK → Became (DoesWhole (call (InitDone now))) slot.old.handle.held slot.new.handle.held }
+    ensures does { result ≡ OK → Became (DoesWhole (InitDone now)) slot.old.handle.held slot.new.handle.held }
     // Where it is refused, for another reason than a telegram lost, nothing of the station has changed.
     ensures refused { IsRefusal result → Became Same slot.old.handle.held slot.new.handle.held }
     // Where it answers that a datagram found no room, the station made its step.
-    ensures unsent { result ≡ UNSENT → Became (Does (call (InitDone now))) slot.old.handle.held slot.new.handle.held }
+    ensures unsent { result ≡ UNSENT → Became (Does (InitDone now)) slot.old.handle.held slot.new.handle.held }
 {
     let Some(mut station) = slot.take(alloc) else {
         return NOT_OPEN;
@@ -201,11 +201,11 @@ pub extern "C" fn bekr_init_done(alloc: Global, slot: &mut Slot, now: u64) -> i3
 #[unsafe(no_mangle)]
 pub extern "C" fn bekr_close(alloc: Global, slot: &mut Slot, now: u64) -> i32
     // Where a call answers OK the station made its step, and all that the end sent and took waits.
-    ensures does { result ≡ OK → Became (DoesWhole (call (Close now))) slot.old.handle.held slot.new.handle.held }
+    ensures does { result ≡ OK → Became (DoesWhole (Close now)) slot.old.handle.held slot.new.handle.held }
     // Where it is refused, for another reason than a telegram lost, nothing of the station has changed.
     ensures refused { IsRefusal result → Became Same slot.old.handle.held slot.new.handle.held }
     // Where it answers that a datagram found no room, the station made its step.
-    ensures unsent { result ≡ UNSENT → Became (Does (call (Close now))) slot.old.handle.held slot.new.handle.held }
+    ensures unsent { result ≡ UNSENT → Became (Does (Close now)) slot.old.handle.held slot.new.handle.held }
 {
     let Some(mut station) = slot.take(alloc) else {
         return NOT_OPEN;
@@ -314,7 +314,7 @@ pub extern "C" fn bekr_next_deadline(alloc: Global, slot: &mut Slot, deadline: &
 #[unsafe(no_mangle)]
 pub extern "C" fn bekr_state(alloc: Global, slot: &mut Slot) -> i32
     // State, phase and whether all is settled are what the end's state says, and nothing changes.
-    ensures tells { (result ≡ NOT_OPEN) ⊎ Became (Tells (λ x. code_of_state x.machine.connection) result) slot.old.handle.held slot.new.handle.held }
+    ensures tells { (result ≡ NOT_OPEN) ⊎ Became (Tells (λ v. code_of_state v.upper.machine.connection) result) slot.old.handle.held slot.new.handle.held }
 {
     let Some(station) = slot.take(alloc) else {
         return NOT_OPEN;
@@ -328,7 +328,7 @@ pub extern "C" fn bekr_state(alloc: Global, slot: &mut Slot) -> i32
 #[unsafe(no_mangle)]
 pub extern "C" fn bekr_phase(alloc: Global, slot: &mut Slot) -> i32
     // State, phase and whether all is settled are what the end's state says, and nothing changes.
-    ensures tells { (result ≡ NOT_OPEN) ⊎ Became (Tells (λ x. code_of_phase (phase_in x.session)) result) slot.old.handle.held slot.new.handle.held }
+    ensures tells { (result ≡ NOT_OPEN) ⊎ Became (Tells (λ v. code_of_phase v.upper.session.phase) result) slot.old.handle.held slot.new.handle.held }
 {
     let Some(station) = slot.take(alloc) else {
         return NOT_OPEN;
@@ -342,7 +342,7 @@ pub extern "C" fn bekr_phase(alloc: Global, slot: &mut Slot) -> i32
 #[unsafe(no_mangle)]
 pub extern "C" fn bekr_settled(alloc: Global, slot: &mut Slot) -> i32
     // State, phase and whether all is settled are what the end's state says, and nothing changes.
-    ensures tells { (result ≡ NOT_OPEN) ⊎ Became (Tells (λ x. if is_settled x then pos 1 else pos 0) result) slot.old.handle.held slot.new.handle.held }
+    ensures tells { (result ≡ NOT_OPEN) ⊎ Became (Tells (λ v. if is_settled v then pos 1 else pos 0) result) slot.old.handle.held slot.new.handle.held }
 {
     let Some(station) = slot.take(alloc) else {
         return NOT_OPEN;
