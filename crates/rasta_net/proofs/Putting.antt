@@ -26,11 +26,11 @@ one-more R before left rest x s t u n h split step = (
 -- the end is full for the next one, and nothing has changed
 pub stops : {C A : Type 0} (told : C → Told) (now : ℕ) (before left after rest : List Telegram) (p : Telegram) (s : Putting C A)
     (v w : EndValue C A) (n m : ℕ) (x y : Option (List ℕ)) (done : List Telegram)
-    → before ≡ done ++ left → FoldsTo (Passes told now) s done (v, n, x) → left ≡ p ∷ rest → Answers told v p (Some Full)
+    → before ≡ done ++ left → FoldsTo (Passes told now) s done (v, n, x) → left ≡ p ∷ rest → Answers v p (Some Full)
     → after ≡ left → w ≡ v → m ≡ n → y ≡ x → PutsBeginning told now before s after (w, m, y)
 stops told now before left after rest p s v w n m x y done e along split full same-left same-end same-count same-text =
     let base : PutsBeginning told now before s left (v, n, x) =
-    (done, e, along, subst (λ l. IsFullFor told v l) (sym split) full) in
+    (done, e, along, subst (λ l. IsFullFor v l) (sym split) full) in
     subst (λ l. PutsBeginning told now before s l (w, m, y)) (sym same-left)
     (subst (λ z. PutsBeginning told now before s left (z, m, y)) (sym same-end)
     (subst (λ z. PutsBeginning told now before s left (v, z, y)) (sym same-count)

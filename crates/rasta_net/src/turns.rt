@@ -280,7 +280,7 @@ impl<'a, C: Channels, A: Allocator + Copy> Actor<'a, C, A> {
         // Of one telegram: it is put in and counted, or refused and printed and nothing else changes, or the
         // end is full for it and nothing changes.
         ensures full { IfOk result (λ done. done ≡ false
-            → Answers (λ o. C.told o.inner) self.old.end put.now (Some Full)) }
+            → Answers self.old.end put.now (Some Full)) }
         // Of one telegram: it is put in and counted, or refused and printed and nothing else changes, or the
         // end is full for it and nothing changes.
         ensures kept { IfOk result (λ done. done ≡ false → (self.new.end ≡ self.old.end) × (self.new.put ≡ self.old.put)

@@ -6,7 +6,7 @@ pub returns-then-not-branch-clause-puts : goal.returns-then-not-branch-clause-pu
 returns-then-not-branch-clause-puts g c =
     let along = c.puts.invariant.along in
     let kept = c.in_ok-put_one.ensures.kept (c.if-not-branch.true) in
-    stops _ _ _ _ _ _ _ _ _ _ _ _ _ _ along.0 along.2 along.3 c.in-Some.ensures.cases.0 (c.in_ok-put_one.ensures.full (c.if-not-branch.true))
+    stops (λ o. g.C.Channels.told o.inner) _ _ _ _ _ _ _ _ _ _ _ _ _ along.0 along.2 along.3 c.in-Some.ensures.cases.0 (c.in_ok-put_one.ensures.full (c.if-not-branch.true))
     (ap (λ r. r.now) c.in_ok-put_one.ensures.left) kept.0 kept.1 kept.2
 
 pub puts-preserved : goal.puts-preserved

@@ -4,8 +4,9 @@ use Rattle.rasta_net.proofs.turns.Actor.put_one.Goals as goal
 pub returns-in-Ok-clause-passed : goal.returns-in-Ok-clause-passed
 returns-in-Ok-clause-passed g c =
     λ _. inl (
-      (λ x s. rw (← c.as_slice.ensures.value) (c.in-Ok.ensures.answer x s)),
-      rw (← c.as_slice.ensures.value) c.in-Ok.ensures.does,
+      rw (← c.as_slice.ensures.value) c.in-Ok.ensures.answer,
+      rw (← c.as_slice.ensures.value) c.in-Ok.ensures.turns,
+      c.in-Ok.ensures.time,
       refl,
       refl,
     )
