@@ -1,22 +1,9 @@
 -- How little one event makes, over every list of events.
-use Rattle.std.proofs.Common.{true, ◌≡◌, ◌≤◌, ℕ, List, [], ◌∷◌, length, Option, Some, None, refl, subst, arith}
-use Rattle.std.specs.Prelude.{nat_le, ◌&&◌}
-use Rattle.std.specs.List.{AllByRecursion}
-use Rattle.std.proofs.lemmas.Bool.Decides.{nat_tests}
-use Rattle.safe_pdu.specs.declared.CodeRule.{CodeRule}
-use Rattle.safe_pdu.specs.declared.CodeLength.{CodeLength}
-use Rattle.safe_pdu.specs.declared.CodeLength.TheVariants.{Zero, Eight, Sixteen}
-use Rattle.safe_pdu.specs.SafeText.{code_octets}
-use Rattle.safe_machine.specs.Made.{Made}
-use Rattle.safe_machine.specs.Moves.{HaveTexts, TextsLaw}
-use Rattle.safe_machine.specs.World.{Side}
-use Rattle.safe_machine.specs.World.Side.{Il, Fe}
-use Rattle.end_settings.specs.EndSettings.{EndSettings, are_fit, rule_of}
-use Rattle.stack_end.specs.Ends.{EndState, new_end, Call, call}
-use Rattle.stack_engine.specs.Bounds.{IsSmallPdu, FewMore, FewMoreLaw, FewFirstLaw, QueueLaw, most_pdus}
-use Rattle.stack_engine.specs.Pairs.{World, JoinedEnd, Event, start, ends_of, latest, present, refusal, changed, happens, run, call_il, call_fe}
-use Rattle.stack_engine.specs.Pairs.Event.{Open, Calls}
-use Rattle.stack_engine.specs.Premise.{AtOpened, AreTyped, IsTyped}
+use Rattle.stack_engine.proofs.Words.{true, ◌≡◌, ◌≤◌, ℕ, List, [], ◌∷◌, length, Option, Some, None, refl, subst, arith, nat_le, ◌&&◌, AllByRecursion, nat_tests}
+use Rattle.stack_engine.proofs.Words.{CodeRule, CodeLength, Zero, Eight, Sixteen, code_octets, Made, HaveTexts, TextsLaw, Side, Il, Fe, EndSettings, are_fit}
+use Rattle.stack_engine.proofs.Words.{rule_of, EndState, new_end, Call, call, IsSmallPdu, FewMore, FewMoreLaw, FewFirstLaw, QueueLaw, most_pdus, World}
+use Rattle.stack_engine.proofs.Words.{JoinedEnd, Event, start, ends_of, latest, present, refusal, changed, happens, run, call_il, call_fe, Open, Calls}
+use Rattle.stack_engine.proofs.Words.{AtOpened, AreTyped, IsTyped}
 use Rattle.stack_engine.proofs.one.Machined.{machined-texts}
 use Rattle.stack_engine.proofs.two.Worlds.{opens, typed-call, unless}
 use Rattle.stack_engine.proofs.one.Sending.{and-parts, limits-of}
@@ -25,7 +12,8 @@ use Rattle.stack_engine.proofs.code.Few.{Layers, Sized, grows-call, sized-call, 
 -- an end has a channel
 some-channels : (side : Side) (s : EndSettings) → are_fit side s ≡ true → 1 ≤ s.channels
 some-channels side s h =
-    let p = (and-parts (nat_le 1 s.channels) (nat_le s.channels 4) (and-parts (nat_le 1 s.channels && nat_le s.channels 4) _ (limits-of side s h)).0).0 in grind (arith, nat_tests)
+    let p = (and-parts (nat_le 1 s.channels) (nat_le s.channels 4) (and-parts (nat_le 1 s.channels && nat_le s.channels 4) _ (limits-of side s h)).0).0 in grind
+    (arith, nat_tests)
 
 -- each end that was opened
 abbrev pub AllSized : World → Type 0
@@ -36,7 +24,8 @@ module _ (laws : Layers) where
   sized-il c [] t h = tt
   sized-il c (x ∷ before) t h = sized-call laws Il c x (typed-call Il c t) h
 
-  sized-fe : (c : Call) (ils : List EndState) (fes : List JoinedEnd) → IsTyped (Calls Fe c) → AtOpened (Sized Fe) (latest (ends_of fes)) → AtOpened (Sized Fe) (latest (ends_of (call_fe c ils fes)))
+  sized-fe : (c : Call) (ils : List EndState) (fes : List JoinedEnd) → IsTyped (Calls Fe c) → AtOpened (Sized Fe) (latest (ends_of fes))
+      → AtOpened (Sized Fe) (latest (ends_of (call_fe c ils fes)))
   sized-fe c ils [] t h = tt
   sized-fe c ils (f ∷ before) t h = sized-call laws Fe c f.end (typed-call Fe c t) h
 
@@ -74,7 +63,8 @@ module _ (laws : Layers) where
         small_items = after.small;
       }
 
-  few-opened : TextsLaw → (side : Side) (c : Call) (x : Option EndState) → IsTyped (Calls side c) → AtOpened (Sized side) x → AtOpened (λ y. FewMore y (call c y)) x
+  few-opened : TextsLaw → (side : Side) (c : Call) (x : Option EndState) → IsTyped (Calls side c) → AtOpened (Sized side) x
+      → AtOpened (λ y. FewMore y (call c y)) x
   few-opened texts side c None t h = tt
   few-opened texts side c (Some x) t h = few-more texts side c x t h
 

@@ -1,15 +1,8 @@
 -- What `breaks_premise` tells.
-use Rattle.std.proofs.Common.{◌≡◌, ◌↔◌, ◌&&◌, ℕ, List, Option, Some, None, Result, Ok, Err, Bool, true, false, not, refl}
-use Rattle.std.specs.List.{AllByRecursion}
-use Rattle.red_pdu.specs.declared.RedFault.{RedFault}
-use Rattle.red_layer.specs.Parts.{Part}
-use Rattle.red_layer.specs.Redundancy.{decoded}
-use Rattle.red_layer.specs.Service.{accepted}
-use Rattle.safe_machine.specs.World.Side.{Il, Fe}
-use Rattle.stack_end.specs.Ends.{EndState, is_shut}
-use Rattle.stack_end.specs.Ends.Call.{Deliver}
-use Rattle.stack_engine.specs.Pairs.{present}
-use Rattle.stack_engine.specs.Premise.{is_asked_of, is_live, IsGenuine, AtArrivals, AtOpened, breaks_by, breaks_at, BreaksLaw}
+use Rattle.stack_engine.proofs.Words.{◌≡◌, ◌↔◌, ℕ, List, Option, Some, None, Result, Ok, Err, Bool, true, false, refl, AllByRecursion, RedFault, Part, decoded}
+use Rattle.stack_engine.proofs.Words.{accepted, Il, Fe, EndState, is_shut, Deliver, present, is_asked_of, is_live, IsGenuine, AtArrivals, AtOpened, breaks_by}
+use Rattle.stack_engine.proofs.Words.{breaks_at, BreaksLaw}
+use Rattle.std.proofs.Common.{◌&&◌, not}
 
 tests : (a b c : Bool) → ((not a && (b && not c)) ≡ false) ↔ (a ≡ false → b ≡ true → c ≡ true)
 tests true b c = (λ _ no _. cc, λ _. refl)
@@ -17,7 +10,8 @@ tests false true true = (λ _ _ _. refl, λ _. refl)
 tests false true false = (λ no _ _. cc, λ h. let no = h refl refl in cc)
 tests false false c = (λ _ _ no. cc, λ _. refl)
 
-by-seen : (x : EndState) (peer : Option EndState) (dead : ℕ) (r : Result Part RedFault) → ((not (is_shut x) && breaks_by x peer dead r) ≡ false) ↔ AllByRecursion (λ (p : Part). IsGenuine peer dead x p.1) (accepted r)
+by-seen : (x : EndState) (peer : Option EndState) (dead : ℕ) (r : Result Part RedFault) → ((not (is_shut x) && breaks_by x peer dead r) ≡ false)
+    ↔ AllByRecursion (λ (p : Part). IsGenuine peer dead x p.1) (accepted r)
 by-seen x peer dead (Ok p) =
     let t = tests (is_shut x) (is_asked_of x p.1) (is_live x peer dead p.1) in
     (λ h. (t.0 h, tt), λ h. t.1 h.0)
@@ -27,7 +21,8 @@ by-seen x peer dead (Err fault) = (λ _. tt, λ _. nothing (is_shut x))
     nothing true = refl
     nothing false = refl
 
-at : (x peer : Option EndState) (dead channel : ℕ) (octets : List ℕ) (now : ℕ) → (breaks_at x peer dead octets ≡ false) ↔ AtOpened (AtArrivals (IsGenuine peer dead) (Deliver channel octets now)) x
+at : (x peer : Option EndState) (dead channel : ℕ) (octets : List ℕ) (now : ℕ) → (breaks_at x peer dead octets ≡ false)
+    ↔ AtOpened (AtArrivals (IsGenuine peer dead) (Deliver channel octets now)) x
 at None peer dead channel octets now = (λ _. tt, λ _. refl)
 at (Some x) peer dead channel octets now = by-seen x peer dead (decoded octets)
 

@@ -1,45 +1,21 @@
 -- How few PDUs and telegrams one call of an end makes.
-use Rattle.std.proofs.Common.{◌≡◌, inl, inr, ℕ, zero, suc, ◌+◌, ◌*◌, ◌≤◌, List, [], ◌∷◌, ◌++◌, length, take, drop, Option, Some, None, Result, Ok, Err, Bool, true, false, cond, refl, sym, ap, subst, ◌∙◌, arith, length-append, append-nil}
-use Rattle.std.specs.Prelude.{nat_lt, nat_le, ◌==◌, ◌&&◌}
-use Rattle.std.specs.List.{AllByRecursion}
-use Rattle.std.proofs.lemmas.Bool.Decides.{nat_tests}
-use Rattle.std.proofs.lemmas.List.{length-drop}
-use Rattle.std.proofs.Math.Seq.{drop-append_seam}
-use Rattle.octets.proofs.Choices.{by_cond}
-use Rattle.octets.specs.declared.limits.TheConstants.{PAYLOAD_MAX, MESSAGE_MIN, MESSAGE_MAX, UNIT_MESSAGES}
-use Rattle.packing.specs.declared.PackFault.{PackFault}
-use Rattle.packing.specs.Places.{unit_seen, pieces_seen, is_piece, first_message, behind_first, after as after_read}
-use Rattle.packing.specs.UnitText.{unit_text}
-use Rattle.sci_telegram.specs.declared.TeleFault.{TeleFault}
-use Rattle.sci_telegram.specs.Tele.{Tele}
-use Rattle.sci_telegram.specs.Places.{tele_seen, read_named, name_seen, sender_field, receiver_field}
-use Rattle.red_layer.specs.Parts.{Part, is_nil}
-use Rattle.red_layer.specs.Redundancy.{Input, Datagram, Tick as RedTick, passed_by}
-use Rattle.safe_machine.specs.declared.Reason.{Reason}
-use Rattle.safe_machine.specs.declared.Reason.TheVariants.{ClosedByUser}
-use Rattle.safe_machine.specs.declared.Detail.{Detail}
-use Rattle.safe_machine.specs.declared.Detail.TheVariants.{Unspecified}
-use Rattle.safe_machine.specs.State.{State, leave, make, move_to, next_made, says_goodbye, unconfirmed}
-use Rattle.safe_machine.specs.Step.{guard, tick, may_send}
-use Rattle.safe_machine.specs.Moves.{Move, move, IsTakenBy, MovesLaw}
-use Rattle.safe_machine.specs.Moves.Move.{Guards, Ticks, Sends, Leaves, Hears}
-use Rattle.safe_machine.specs.Octets.{heard as heard_as, seen_by, arrive_octets}
-use Rattle.safe_machine.specs.Reached.{IsRead, FewMade, FewLaw}
-use Rattle.safe_machine.specs.World.{Side}
-use Rattle.safe_machine.specs.World.Side.{Il, Fe}
-use Rattle.pdi_session.specs.SessionStep.{Event, Up as GoesUp, Arrives, Puts, InitDone as Completes, Closes, Item, judged, taken_as, taken_by}
-use Rattle.pdi_session.specs.declared.Verdict.{Verdict}
-use Rattle.pdi_session.specs.declared.Verdict.TheVariants.{Takes, Goes, Answers, Ends}
-use Rattle.stack_end.specs.Dialogue.{Dialogue, Judged, Leaving, meets, unless_leaving, judge_read, judge_messages, judge_unpacked, judge_units}
-use Rattle.stack_end.specs.Ends.{EndState, new_end, is_shut, with_machine, with_session, settle, moved, handed_up, answered, rises, comes_up, leaves, heard, part, parts, with_input, receives, packed, packed_up_to, sends, goes_on, Call, did, call, time_of}
-use Rattle.stack_end.specs.Ends.Call.{Close, Put, InitDone, Tick, Deliver}
-use Rattle.safe_pdu.specs.declared.Kind.TheVariants.{DiscReq, Data}
-use Rattle.safe_machine.specs.declared.ConnectionState.TheVariants.{Closed}
-use Rattle.safe_machine.specs.Made.{leaving_body}
-use Rattle.red_layer.specs.Redundancy.{Receiver}
-use Rattle.end_settings.specs.EndSettings.{EndSettings, connection_of, are_fit}
-use Rattle.stack_engine.specs.Bounds.{IsSmallItem}
-use Rattle.octets.specs.Octets.{AreOctets}
+use Rattle.stack_engine.proofs.Words.{◌≡◌, inl, inr, ℕ, zero, suc, ◌+◌, ◌*◌, ◌≤◌, List, [], ◌∷◌, ◌++◌, length, take, drop, Option, Some, None, Result, Ok, Err}
+use Rattle.stack_engine.proofs.Words.{Bool, true, false, cond, refl, sym, ap, subst, ◌∙◌, arith, append-nil, nat_lt, nat_le, ◌&&◌, AllByRecursion, nat_tests}
+use Rattle.stack_engine.proofs.Words.{length-drop, drop-append_seam, by_cond, PAYLOAD_MAX, MESSAGE_MIN, MESSAGE_MAX, UNIT_MESSAGES, PackFault, is_piece}
+use Rattle.stack_engine.proofs.Words.{first_message, behind_first, after_read, unit_text, TeleFault, Tele, read_named, name_seen, sender_field, receiver_field}
+use Rattle.stack_engine.proofs.Words.{Part, is_nil, Input, Datagram, RedTick, passed_by, Reason, ClosedByUser, Detail, Unspecified, State, leave, make, move_to}
+use Rattle.stack_engine.proofs.Words.{next_made, says_goodbye, unconfirmed, guard, tick, may_send, Move, move, IsTakenBy, MovesLaw, Guards, Ticks, Sends}
+use Rattle.stack_engine.proofs.Words.{Leaves, Hears, heard_as, seen_by, arrive_octets, IsRead, FewMade, FewLaw, Side, Il, Fe, GoesUp, Arrives, Puts, Completes}
+use Rattle.stack_engine.proofs.Words.{Closes, Item, judged, taken_as, taken_by, Verdict, Takes, Goes, Answers, Ends, Dialogue, Judged, Leaving, meets}
+use Rattle.stack_engine.proofs.Words.{unless_leaving, judge_read, judge_messages, judge_unpacked, judge_units, EndState, new_end, is_shut, with_machine}
+use Rattle.stack_engine.proofs.Words.{with_session, settle, moved, handed_up, answered, rises, comes_up, leaves, heard, part, parts, with_input, receives}
+use Rattle.stack_engine.proofs.Words.{packed, packed_up_to, sends, goes_on, Call, did, call, time_of, Close, Put, InitDone, Tick, Deliver, DiscReq, Data}
+use Rattle.stack_engine.proofs.Words.{Closed, leaving_body, Receiver, EndSettings, connection_of, are_fit, IsSmallItem, AreOctets}
+use Rattle.std.proofs.Common.{length-append}
+use Rattle.std.specs.Prelude.{◌==◌}
+use Rattle.packing.specs.Places.{unit_seen, pieces_seen}
+use Rattle.sci_telegram.specs.Places.{tele_seen}
+use Rattle.pdi_session.specs.SessionStep.{Event}
 use Rattle.stack_engine.proofs.one.Keeping.{Keeps, IsTypedInput, IsTypedCall, keep-part, keep-settle, call-keeps}
 use Rattle.stack_engine.proofs.one.Spoken.{Below}
 use Rattle.stack_engine.proofs.one.Sending.{and-parts, legal-of, limits-of}
@@ -100,7 +76,8 @@ takes-read m d (Ok t) e = takes-as t d (meets (Arrives t) d) (judged d.history.s
 takes-read m d (Err fault) e = takes-more 0 1 d d (omega arith) (takes-same d d refl)
 
 -- the others of a unit
-takes-unless : (n : ℕ) (d : Dialogue) (why : Option Leaving) (first rest : Judged) → Takes_ 1 d first.left → Takes_ n first.left rest.left → Takes_ (1 + n) d (unless_leaving why first rest).left
+takes-unless : (n : ℕ) (d : Dialogue) (why : Option Leaving) (first rest : Judged) → Takes_ 1 d first.left → Takes_ n first.left rest.left
+    → Takes_ (1 + n) d (unless_leaving why first rest).left
 takes-unless n d None first rest a b = takes-then 1 n d first.left rest.left a b
 takes-unless n d (Some why) first rest a b = takes-more 1 (1 + n) d first.left (omega arith) a
 
@@ -129,12 +106,14 @@ pieces-few (suc n) octets ms e =
     by_cond P (length octets == 0) (Ok []) _
     (λ _ same. let none : [] ≡ ms = cc in omega (arith, ap (λ (xs : List (List ℕ)). length xs) none)) (λ _.
     by_cond P (is_piece octets) (after_read (first_message octets ∷ []) (pieces_seen n (behind_first octets))) _
-    (λ _ same. omega (arith, after-few n (first_message octets) (pieces_seen n (behind_first octets)) ms same (λ ns. pieces-few n (behind_first octets) ns))) (λ _ no. cc)) e
+    (λ _ same. omega (arith, after-few n (first_message octets) (pieces_seen n (behind_first octets)) ms same (λ ns. pieces-few n (behind_first octets) ns)))
+    (λ _ no. cc)) e
 
 unit-few : (u : List ℕ) (ms : List (List ℕ)) → unit_seen u ≡ Ok ms → length ms ≤ 3
 unfolding unit_seen
 unit-few u ms e =
-    by_cond (λ (r : Result (List (List ℕ)) PackFault). r ≡ Ok ms → length ms ≤ 3) (length u == 0) _ (pieces_seen UNIT_MESSAGES u) (λ _ no. cc) (λ _. pieces-few UNIT_MESSAGES u ms) e
+    by_cond (λ (r : Result (List (List ℕ)) PackFault). r ≡ Ok ms → length ms ≤ 3) (length u == 0) _ (pieces_seen UNIT_MESSAGES u) (λ _ no. cc)
+    (λ _. pieces-few UNIT_MESSAGES u ms) e
 
 takes-unpacked : (u : List ℕ) (d : Dialogue) (r : Result (List (List ℕ)) PackFault) → unit_seen u ≡ r → Takes_ 3 d (judge_unpacked r d).left
 takes-unpacked u d (Ok ms) e = takes-more (length ms) 3 d (judge_messages ms d).left (unit-few u ms e) (takes-messages ms d)
@@ -148,7 +127,8 @@ takes-units (u ∷ []) d h =
     let rest = judge_units [] first.left in
     takes-one first.leaving first rest (takes-unpacked u d (unit_seen u) refl) (takes-same first.left first.left refl)
   where
-    takes-one : (why : Option Leaving) (first rest : Judged) → Takes_ 3 d first.left → Takes_ 0 first.left rest.left → Takes_ 3 d (unless_leaving why first rest).left
+    takes-one : (why : Option Leaving) (first rest : Judged) → Takes_ 3 d first.left → Takes_ 0 first.left rest.left
+        → Takes_ 3 d (unless_leaving why first rest).left
     takes-one None first rest a b = takes-more (3 + 0) 3 d rest.left (omega arith) (takes-then 3 0 d first.left rest.left a b)
     takes-one (Some why) first rest a b = a
 takes-units (u ∷ v ∷ us) d h = absurd (omega arith)
@@ -157,7 +137,8 @@ takes-units (u ∷ v ∷ us) d h = absurd (omega arith)
 handed-few : MovesLaw → (m : Move) (x : EndState) → length (handed_up x (move m x.machine)) ≤ 1
 handed-few moves m x =
     let one = moves m x.machine in
-    let same : handed_up x (move m x.machine) ≡ one.more_taken = ap (drop (length x.machine.taken)) one.taken ∙ drop-append_seam x.machine.taken one.more_taken in
+    let same : handed_up x (move m x.machine) ≡ one.more_taken = ap (drop (length x.machine.taken)) one.taken ∙ drop-append_seam x.machine.taken one.more_taken
+    in
     omega (arith, ap (λ (us : List (List ℕ)). length us) same, by-kind m one.more_taken one.one_taken)
   where
     by-kind : (m : Move) (more : List (List ℕ)) → IsTakenBy m more → length more ≤ 1
@@ -215,9 +196,11 @@ few-made : FewLaw → (side : Side) (m : Move) (x : EndState) → IsRead m → S
 few-made law side m x read h =
     let w = h.whole in
     subst (FewMade m) (sym w.machined.machine)
-    (law (connection_of side x.settings) w.machined.first w.machined.began w.machined.moves m (legal-role side x.settings (legal-of side x.settings w.spoken.fit)) w.machined.read read)
+    (law (connection_of side x.settings) w.machined.first w.machined.began w.machined.moves m
+    (legal-role side x.settings (legal-of side x.settings w.spoken.fit)) w.machined.read read)
 
-small-leaves : (now : ℕ) (why : Option Leaving) (y : EndState) → (leaves now why y).red ≡ y.red × ((leaves now why y).settings ≡ y.settings) × ((leaves now why y).session ≡ y.session)
+small-leaves : (now : ℕ) (why : Option Leaving) (y : EndState) → (leaves now why y).red ≡ y.red × ((leaves now why y).settings ≡ y.settings)
+    × ((leaves now why y).session ≡ y.session)
 small-leaves now None y = (refl, refl, refl)
 small-leaves now (Some why) y = (refl, refl, refl)
 
@@ -236,7 +219,8 @@ grows-heard laws side now octets x octs h =
     let d = (judge_units (handed_up x s) x.session).left in
     let one : Grows 36 3 x y = record {
       made = few.made;
-      takes = takes-more (3 + 0) 3 x.session y.session (omega arith) (takes-then 3 0 x.session d y.session up (takes-rises (comes_up x.machine.connection s.connection) d));
+      takes = takes-more (3 + 0) 3 x.session y.session (omega arith)
+          (takes-then 3 0 x.session d y.session up (takes-rises (comes_up x.machine.connection s.connection) d));
     } in
     grows-more (36 + 1) 37 (3 + 0) 3 x (heard now octets x) (omega arith) (omega arith)
     (grows-then 36 1 3 0 x y (heard now octets x) one (grows-leaves now (judge_units (handed_up x s) x.session).leaving y))
@@ -248,7 +232,13 @@ sized-keeps laws side now =
       guards = λ x h. record { whole = k.guards x h.whole; q = h.q; few = h.few; small = h.small };
       ticks = λ x h. record { whole = k.ticks x h.whole; q = h.q; few = h.few; small = h.small };
       closes = λ x h. record { whole = k.closes x h.whole; q = h.q; few = h.few; small = h.small };
-      ends = λ x shut h. record { whole = k.ends x shut h.whole; q = h.q; few = h.few; small = subst (AllByRecursion IsSmallItem) (sym (append-nil x.session.history.taken)) h.small };
+      ends = λ x shut h. record {
+        whole = k.ends x shut h.whole;
+        q = h.q;
+        few = h.few;
+        small = subst (AllByRecursion IsSmallItem)
+            (sym (append-nil x.session.history.taken)) h.small;
+      };
       inputs = λ i x t h.
           let p = passing i x.red in
           record { whole = k.inputs i x t h.whole; q = p.q ∙ h.q; few = p.few h.few; small = h.small };
@@ -262,15 +252,29 @@ sized-keeps laws side now =
             small = (grows-heard laws side now octets x q h).takes.small h.small;
           };
       sends = λ x may some h. record { whole = k.sends x may some h.whole; q = h.q; few = h.few; small = h.small };
-      puts = λ kind payload x fits h. record { whole = k.puts kind payload x fits h.whole; q = h.q; few = h.few; small = subst (AllByRecursion IsSmallItem) (sym (append-nil x.session.history.taken)) h.small };
-      dones = λ x h. record { whole = k.dones x h.whole; q = h.q; few = h.few; small = subst (AllByRecursion IsSmallItem) (sym (append-nil x.session.history.taken)) h.small };
+      puts = λ kind payload x fits h.
+          record {
+            whole = k.puts kind payload x fits h.whole;
+            q = h.q;
+            few = h.few;
+            small = subst (AllByRecursion IsSmallItem)
+                (sym (append-nil x.session.history.taken)) h.small;
+          };
+      dones = λ x h. record {
+        whole = k.dones x h.whole;
+        q = h.q;
+        few = h.few;
+        small = subst (AllByRecursion IsSmallItem)
+            (sym (append-nil x.session.history.taken)) h.small;
+      };
       times = λ x h. record { whole = k.times x h.whole; q = h.q; few = h.few; small = h.small };
     }
 
 -- an end lets eight parts wait at most
 few-places : (side : Side) (s : EndSettings) → are_fit side s ≡ true → s.q ≤ 8
 few-places side s h =
-    let p = and-parts (nat_le 1 s.n_maxpacket && nat_le s.n_maxpacket UNIT_MESSAGES) _ (and-parts (nat_le 1 s.channels && nat_le s.channels 4) _ (limits-of side s h)).1 in
+    let p = and-parts (nat_le 1 s.n_maxpacket && nat_le s.n_maxpacket UNIT_MESSAGES) _
+    (and-parts (nat_le 1 s.channels && nat_le s.channels 4) _ (limits-of side s h)).1 in
     let q = and-parts (nat_le 1 s.q) (nat_le s.q 8) (and-parts (nat_le 1 s.q && nat_le s.q 8) _ p.1).0 in
     let l = q.1 in grind (arith, nat_tests)
 
@@ -297,7 +301,8 @@ module _ (laws : Layers) (side : Side) (now : ℕ) where
 
   -- units go out while the window is open
   packs-few : (n : ℕ) (x : EndState) → Sized side x
-      → (length (packed_up_to n now x).machine.made + length (unconfirmed x.machine) ≤ length x.machine.made + 32) × Takes_ 0 x.session (packed_up_to n now x).session
+      → (length (packed_up_to n now x).machine.made + length (unconfirmed x.machine) ≤ length x.machine.made + 32) × Takes_ 0 x.session
+      (packed_up_to n now x).session
   packs-few zero x h =
       let few = few-made laws.few side (Guards now) x tt h in (omega (arith, few.few), takes-same x.session x.session refl)
   packs-few (suc n) x h =
@@ -343,13 +348,15 @@ module _ (laws : Layers) (side : Side) (now : ℕ) where
       let one : Grows 36 0 x y = record { made = few.made; takes = takes-same x.session y.session refl } in
       grows-more (36 + 0) 36 (0 + 0) 0 x (moved m x) (omega arith) (omega arith) (grows-then 36 0 0 0 x y (moved m x) one (grows-settle y))
 
-  grows-on : (m : Move) (i : Input) (x : EndState) → IsRead m → IsTypedInput i → Sized side x → Sized side (moved m x) → Grows 401 27 x (goes_on now i (moved m x))
+  grows-on : (m : Move) (i : Input) (x : EndState) → IsRead m → IsTypedInput i → Sized side x → Sized side (moved m x)
+      → Grows 401 27 x (goes_on now i (moved m x))
   grows-on m i x read t h after =
       grows-more (36 + 365) 401 (0 + 27) 27 x (goes_on now i (moved m x)) (omega arith) (omega arith)
       (grows-then 36 365 0 27 x (moved m x) (goes_on now i (moved m x)) (grows-moved m x read h) (grows-goes_on i (moved m x) t after))
 
   -- an event of the session that is no arrival
-  grows-meets : (e : Event) (x : EndState) → taken_by e x.session.history.state ≡ [] → Sized side (with_session (meets e x.session) x) → Grows 401 27 x (sends now (with_session (meets e x.session) x))
+  grows-meets : (e : Event) (x : EndState) → taken_by e x.session.history.state ≡ [] → Sized side (with_session (meets e x.session) x)
+      → Grows 401 27 x (sends now (with_session (meets e x.session) x))
   grows-meets e x none after =
       let y = with_session (meets e x.session) x in
       let zero : Grows 0 0 x y = record {
@@ -364,7 +371,8 @@ grows-time n j now x y g = record { made = g.made; takes = g.takes }
 pub grows-call : Layers → (side : Side) (c : Call) (x : EndState) → IsTypedCall c → Sized side x → Grows 401 27 x (call c x)
 grows-call laws side (Close now) x t h =
     grows-time 401 27 now x (moved (Leaves ClosedByUser Unspecified now) x)
-    (grows-more 36 401 0 27 x (moved (Leaves ClosedByUser Unspecified now) x) (omega arith) (omega arith) (grows-moved laws side now (Leaves ClosedByUser Unspecified now) x tt h))
+    (grows-more 36 401 0 27 x (moved (Leaves ClosedByUser Unspecified now) x) (omega arith) (omega arith)
+    (grows-moved laws side now (Leaves ClosedByUser Unspecified now) x tt h))
 grows-call laws side (Put kind payload now) x t h =
     grows-time 401 27 now x (did (Put kind payload now) x)
     (grows-meets laws side now (Puts kind payload (length x.session.waiting)) x refl ((sized-keeps laws side now).puts kind payload x t h))
@@ -374,13 +382,16 @@ grows-call laws side (InitDone now) x t h =
 grows-call laws side (Tick now) x t h =
     let k = sized-keeps laws side now in
     grows-time 401 27 now x (did (Tick now) x)
-    (by_cond (Grows 401 27 x) (is_shut x) x (goes_on now (RedTick now) (moved (Ticks now) x)) (λ _. grows-more 0 401 0 27 x x (omega arith) (omega arith) (grows-same x)) (λ _.
+    (by_cond (Grows 401 27 x) (is_shut x) x (goes_on now (RedTick now) (moved (Ticks now) x))
+    (λ _. grows-more 0 401 0 27 x x (omega arith) (omega arith) (grows-same x)) (λ _.
     grows-on laws side now (Ticks now) (RedTick now) x tt tt h (keep-settle now OctetsUp (Sized side) k (with_machine (tick now x.machine) x) (k.ticks x h))))
 grows-call laws side (Deliver channel octets now) x t h =
     let k = sized-keeps laws side now in
     grows-time 401 27 now x (did (Deliver channel octets now) x)
-    (by_cond (Grows 401 27 x) (is_shut x) x (goes_on now (Datagram octets now) (moved (Guards now) x)) (λ _. grows-more 0 401 0 27 x x (omega arith) (omega arith) (grows-same x)) (λ _.
-    grows-on laws side now (Guards now) (Datagram octets now) x tt t h (keep-settle now OctetsUp (Sized side) k (with_machine (guard now x.machine) x) (k.guards x h))))
+    (by_cond (Grows 401 27 x) (is_shut x) x (goes_on now (Datagram octets now) (moved (Guards now) x))
+    (λ _. grows-more 0 401 0 27 x x (omega arith) (omega arith) (grows-same x)) (λ _.
+    grows-on laws side now (Guards now) (Datagram octets now) x tt t h
+    (keep-settle now OctetsUp (Sized side) k (with_machine (guard now x.machine) x) (k.guards x h))))
 
 pub sized-call : Layers → (side : Side) (c : Call) (x : EndState) → IsTypedCall c → Sized side x → Sized side (call c x)
 sized-call laws side c x t h =

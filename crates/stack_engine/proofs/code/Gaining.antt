@@ -1,24 +1,12 @@
 -- What a keeper of channel 1 gains by sendings, and a list of telegrams by takings, where there is room.
-use Rattle.std.proofs.Common.{◌≡◌, ℕ, zero, suc, ◌+◌, ◌≤◌, List, [], ◌∷◌, ◌++◌, length, drop, Some, Bool, true, false, refl, sym, ap, subst, ◌∙◌, arith, append_assoc, append-nil}
-use Rattle.std.specs.Prelude.{◌||◌, map, option_map, ◌==◌, if◌then◌else◌}
-use Rattle.std.specs.List.{AllByRecursion, FoldsTo}
-use Rattle.std.proofs.lemmas.Bool.{false≢true}
-use Rattle.std.proofs.lemmas.List.{map-append}
-use Rattle.std.proofs.lemmas.Bool.Decides.{nat_tests}
-use Rattle.octets.specs.declared.limits.TheConstants.{RED_PDU_MAX}
-use Rattle.red_pdu.specs.RedText.{red_text}
-use Rattle.safe_machine.specs.Made.{Made}
-use Rattle.pdi_session.specs.SessionStep.{Item}
-use Rattle.channels.specs.Told.{Told, Sending, Sends, SendsOne}
-use Rattle.end_settings.specs.EndSettings.{EndSettings, rule_of}
-use Rattle.stack_end.specs.Datagrams.{on_channels, sendings, upper_of}
-use Rattle.std.specs.Str.{bytes_eq}
-use Rattle.stack_engine.specs.Pairs.{has_made}
-use Rattle.stack_engine.specs.Texts.{Shelf}
-use Rattle.stack_engine.specs.Bounds.{IsSmallItem, IsSmallPdu}
-use Rattle.stack_engine.specs.Keeping.{Keeping, has_part, on_first, told_of, sure_room}
+use Rattle.stack_engine.proofs.Words.{◌≡◌, ℕ, zero, suc, ◌+◌, ◌≤◌, List, [], ◌∷◌, ◌++◌, length, drop, Some, Bool, true, false, refl, sym, ap, subst, ◌∙◌, arith}
+use Rattle.stack_engine.proofs.Words.{append_assoc, append-nil, ◌||◌, map, option_map, if◌then◌else◌, AllByRecursion, FoldsTo, false≢true, map-append}
+use Rattle.stack_engine.proofs.Words.{nat_tests, RED_PDU_MAX, red_text, Made, Item, Told, Sending, SendsOne, EndSettings, rule_of, on_channels, sendings}
+use Rattle.stack_engine.proofs.Words.{upper_of, bytes_eq, has_made, Shelf, IsSmallItem, IsSmallPdu, Keeping, has_part, on_first, told_of, sure_room}
+use Rattle.stack_engine.proofs.Words.{datagrams_of, sure_items, TakesItem}
+use Rattle.std.specs.Prelude.{◌==◌}
+use Rattle.channels.specs.Told.{Sends}
 use Rattle.stack_engine.proofs.one.Talking.{all-append}
-use Rattle.stack_engine.specs.Incarnations.{datagrams_of, sure_items, TakesItem}
 
 -- all small telegrams for which there is room are kept
 pub takes-all : (is : List Item) (s t : Shelf ℕ) → FoldsTo TakesItem s is t → AllByRecursion IsSmallItem is → length is ≤ sure_items s → t.texts ≡ s.texts ++ is
@@ -96,7 +84,8 @@ firsts-append : (xs ys : List Sending) → firsts (xs ++ ys) ≡ firsts xs ++ fi
 firsts-append [] ys = refl
 firsts-append (x ∷ xs) ys = go (x.0 == 1) (firsts-append xs ys)
   where
-    go : (c : Bool) → firsts (xs ++ ys) ≡ firsts xs ++ firsts ys → (if c then x ∷ firsts (xs ++ ys) else firsts (xs ++ ys)) ≡ (if c then x ∷ firsts xs else firsts xs) ++ firsts ys
+    go : (c : Bool) → firsts (xs ++ ys) ≡ firsts xs ++ firsts ys → (if c then x ∷ firsts (xs ++ ys) else firsts (xs ++ ys))
+        ≡ (if c then x ∷ firsts xs else firsts xs) ++ firsts ys
     go true h = ap (λ zs. x ∷ zs) h
     go false h = h
 
@@ -155,19 +144,23 @@ keeps-all s index ms k l h channels small room =
       datagrams-length s index ms,
     ) in
     let e : map on_first l.datagrams ≡ map on_first k.datagrams ++ firsts (sendings s index ms) =
-    gains (sendings s index ms) (told_of k) (told_of l) (map on_first k.datagrams) (map on_first l.datagrams) h refl refl (firsts-only l.datagrams) (short-sendings s index ms small) few in
+    gains (sendings s index ms) (told_of k) (told_of l) (map on_first k.datagrams) (map on_first l.datagrams) h refl refl (firsts-only l.datagrams)
+    (short-sendings s index ms small) few in
     let f : map on_first l.datagrams ≡ map on_first (k.datagrams ++ datagrams_of s index ms) =
     e ∙ ap (λ zs. map on_first k.datagrams ++ zs) (firsts-sendings s index ms channels) ∙ sym (map-append on_first k.datagrams (datagrams_of s index ms)) in
     sym (octets-of l.datagrams) ∙ ap (map (λ (x : Sending). x.1)) f ∙ octets-of (k.datagrams ++ datagrams_of s index ms)
 
-pub datagrams-append : (s : EndSettings) (index : ℕ) (ms ns : List Made) → datagrams_of s index (ms ++ ns) ≡ datagrams_of s index ms ++ datagrams_of s (index + length ms) ns
+pub datagrams-append : (s : EndSettings) (index : ℕ) (ms ns : List Made) → datagrams_of s index (ms ++ ns) ≡ datagrams_of s index ms ++ datagrams_of s
+    (index + length ms) ns
 datagrams-append s index [] ns = let e : index ≡ index + 0 = omega arith in ap (λ (i : ℕ). datagrams_of s i ns) e
 datagrams-append s index (m ∷ ms) ns =
     let e : index + 1 + length ms ≡ index + length (m ∷ ms) = omega arith in
-    ap (λ (ds : List (List ℕ)). red_text index (upper_of (rule_of s) m) ∷ ds) (datagrams-append s (index + 1) ms ns ∙ ap (λ (i : ℕ). datagrams_of s (index + 1) ms ++ datagrams_of s i ns) e)
+    ap (λ (ds : List (List ℕ)). red_text index (upper_of (rule_of s) m) ∷ ds)
+    (datagrams-append s (index + 1) ms ns ∙ ap (λ (i : ℕ). datagrams_of s (index + 1) ms ++ datagrams_of s i ns) e)
 
 -- a datagram has these octets behind its header where its PDU has them
-pub has-part-made : (s : EndSettings) (index : ℕ) (octets : List ℕ) (dead : ℕ) (ms : List Made) → has_part octets (drop dead (datagrams_of s index ms)) ≡ has_made (rule_of s) octets (drop dead ms)
+pub has-part-made : (s : EndSettings) (index : ℕ) (octets : List ℕ) (dead : ℕ) (ms : List Made) → has_part octets (drop dead (datagrams_of s index ms))
+    ≡ has_made (rule_of s) octets (drop dead ms)
 has-part-made s index octets zero [] = refl
 has-part-made s index octets zero (m ∷ ms) = go (bytes_eq octets (upper_of (rule_of s) m)) (has-part-made s (index + 1) octets zero ms)
   where

@@ -1,20 +1,12 @@
 -- The history of a pair, one event longer.
-use Rattle.std.proofs.Common.{◌≡◌, ℕ, zero, suc, ◌+◌, ◌<◌, Bool, true, false, is_none, take, Some, append_assoc, append-nil, add-one, List, [], ◌∷◌, ◌++◌, length, get_or, Option, None, refl, sym, ap, subst, ◌∙◌, arith}
-use Rattle.std.specs.Prelude.{if◌then◌else◌}
-use Rattle.std.specs.List.{AllByRecursion}
-use Rattle.stack_engine.specs.declared.event.Event.{Event as CodeEvent}
-use Rattle.stack_engine.specs.declared.sides.Sides.{Sides}
-use Rattle.stack_engine.specs.Bounds.{FewMoreLaw}
-use Rattle.stack_engine.specs.Events.{event_of}
-use Rattle.stack_engine.specs.PairValue.{events_of, Ran, RanBefore}
-use Rattle.stack_engine.specs.declared.ApplyFault.{ApplyFault}
-use Rattle.stack_engine.specs.declared.ApplyFault.TheVariants as code
-use Rattle.stack_engine.specs.Openings.{IsOfSession, NamesRefusal, is_memory}
-use Rattle.stack_engine.specs.Pairs.{World, Event, Refusal, start, run, accepted, refusal, happens, changed, unless_refused}
-use Rattle.stack_engine.specs.Pairs.Event.{Open, Calls}
-use Rattle.stack_engine.specs.Premise.{AreTyped, IsTyped}
-use Rattle.stack_engine.specs.Sides.{SidesStand, SidesDo, FewAt}
+use Rattle.stack_engine.proofs.Words.{◌≡◌, ℕ, zero, suc, ◌+◌, ◌<◌, Bool, true, false, take, Some, append_assoc, append-nil, add-one, List, [], ◌∷◌, ◌++◌}
+use Rattle.stack_engine.proofs.Words.{length, get_or, Option, None, refl, sym, ap, subst, ◌∙◌, arith, if◌then◌else◌, AllByRecursion, CodeEvent, Sides}
+use Rattle.stack_engine.proofs.Words.{FewMoreLaw, event_of, events_of, Ran, RanBefore, ApplyFault, IsOfSession, NamesRefusal, is_memory, World, Event, Refusal}
+use Rattle.stack_engine.proofs.Words.{start, run, refusal, happens, changed, unless_refused, Open, Calls, AreTyped, IsTyped, SidesStand, SidesDo, FewAt}
+use Rattle.std.proofs.Common.{is_none}
+use Rattle.stack_engine.specs.Pairs.{accepted}
 use Rattle.stack_engine.proofs.one.Talking.{all-append}
+use Rattle.stack_engine.specs.declared.ApplyFault.TheVariants as code
 
 pub run-push : (es : List Event) (e : Event) (w : World) → run (es ++ e ∷ []) w ≡ happens (run es w) e
 run-push [] e w = refl
@@ -24,12 +16,8 @@ few-at : FewMoreLaw → (es : List Event) → AreTyped es → (e : Event) → Is
 few-at law es typed (Open side s first now) t = tt
 few-at law es typed (Calls side c) t = law es typed side c t
 
--- numbers of eight bits
-pub octets-typed : (xs : List ℕ) → ((i : ℕ) → i < length xs → get_or xs i 0 < 256) → AllByRecursion (λ o. o < 256) xs
-octets-typed [] h = tt
-octets-typed (x ∷ xs) h = (h 0 (omega arith), octets-typed xs (λ i lt. h (suc i) (omega arith)))
-
-pub grown-stands : {A : Type 0} (s t : Sides A) (es : List Event) (e : Event) → FewMoreLaw → AreTyped es → IsTyped e → refusal e (run es start) ≡ None → SidesDo e s t
+pub grown-stands : {A : Type 0} (s t : Sides A) (es : List Event) (e : Event) → FewMoreLaw → AreTyped es → IsTyped e → refusal e (run es start) ≡ None
+    → SidesDo e s t
     → SidesStand s (run es start) → SidesStand t (run (es ++ e ∷ []) start)
 grown-stands s t es e few typed is none does h =
     let w : World = run es start in
@@ -71,7 +59,8 @@ ran-world old es mid h =
     ap (λ (ds : List Event). run ds start) h ∙ (run-append old (accepted es (run old start)) start ∙ run-accepted es (run old start))
 
 -- one event more
-ran-more : (old es mid : List Event) (e : Event) → Ran old es mid → (b : Bool) → is_none (refusal e (run mid start)) ≡ b → Ran old (es ++ e ∷ []) (mid ++ (if b then e ∷ [] else []))
+ran-more : (old es mid : List Event) (e : Event) → Ran old es mid → (b : Bool) → is_none (refusal e (run mid start)) ≡ b
+    → Ran old (es ++ e ∷ []) (mid ++ (if b then e ∷ [] else []))
 ran-more old es mid e h b is =
     let w : World = run old start in
     let at : is_none (refusal e (run es w)) ≡ b = ap (λ (v : World). is_none (refusal e v)) (sym (ran-world old es mid h)) ∙ is in
@@ -81,22 +70,26 @@ ran-more old es mid e h b is =
     ∙ (ap (λ (ds : List Event). old ++ (accepted es w ++ ds)) (sym last) ∙ ap (λ (ds : List Event). old ++ ds) (sym (accepted-append es (e ∷ []) w))))
 
 -- the events up to a place, and the one there
-events-more : (items : List CodeEvent) (i : ℕ) (x : CodeEvent) → i < length items → x ≡ get_or items i x → take (suc i) (events_of items) ≡ take i (events_of items) ++ event_of x ∷ []
+events-more : (items : List CodeEvent) (i : ℕ) (x : CodeEvent) → i < length items → x ≡ get_or items i x → take (suc i) (events_of items)
+    ≡ take i (events_of items) ++ event_of x ∷ []
 events-more [] i x lt is = absurd (omega arith)
 events-more (y ∷ items) zero x lt is = ap (λ z. event_of z ∷ []) (sym is)
 events-more (y ∷ items) (suc i) x lt is = ap (λ (es : List Event). event_of y ∷ es) (events-more items i x (omega arith) is)
 
-pub ran-accepted : (old mid new : List Event) (items : List CodeEvent) (i : ℕ) (x : CodeEvent) → i < length items → x ≡ get_or items i x → Ran old (take i (events_of items)) mid
+pub ran-accepted : (old mid new : List Event) (items : List CodeEvent) (i : ℕ) (x : CodeEvent) → i < length items → x ≡ get_or items i x
+    → Ran old (take i (events_of items)) mid
     → refusal (event_of x) (run mid start) ≡ None → new ≡ mid ++ event_of x ∷ [] → Ran old (take (i + 1) (events_of items)) new
 ran-accepted old mid new items i x lt is h none e =
     rw (add-one, events-more items i x lt is)
     (e ∙ ran-more old (take i (events_of items)) mid (event_of x) h true (ap (λ (r : Option Refusal). is_none r) none))
 
-pub ran-refused : (old mid new : List Event) (items : List CodeEvent) (i : ℕ) (x : CodeEvent) (fault : ApplyFault) → i < length items → x ≡ get_or items i x → Ran old (take i (events_of items)) mid
+pub ran-refused : (old mid new : List Event) (items : List CodeEvent) (i : ℕ) (x : CodeEvent) (fault : ApplyFault) → i < length items → x ≡ get_or items i x
+    → Ran old (take i (events_of items)) mid
     → is_memory fault ≡ false → NamesRefusal fault (refusal (event_of x) (run mid start)) → new ≡ mid → Ran old (take (i + 1) (events_of items)) new
 ran-refused old mid new items i x fault lt is h other why e =
     rw (add-one, events-more items i x lt is)
-    (e ∙ (sym (append-nil mid) ∙ ran-more old (take i (events_of items)) mid (event_of x) h false (named fault (refusal (event_of x) (run mid start)) other why)))
+    (e ∙ (sym (append-nil mid) ∙ ran-more old (take i (events_of items)) mid (event_of x) h false
+    (named fault (refusal (event_of x) (run mid start)) other why)))
   where
     named : (fault : ApplyFault) (r : Option Refusal) → is_memory fault ≡ false → NamesRefusal fault r → is_none r ≡ false
     named code.Memory r other why = cc
@@ -115,7 +108,8 @@ events-split (y ∷ items) (suc i) x lt is =
     let more = events-split items i x (omega arith) is in
     (more.0, ap (λ (es : List Event). event_of y ∷ es) more.1)
 
-pub ran-before : (old mid new : List Event) (items : List CodeEvent) (i : ℕ) (x : CodeEvent) (fault : ApplyFault) → i < length items → x ≡ get_or items i x → Ran old (take i (events_of items)) mid
+pub ran-before : (old mid new : List Event) (items : List CodeEvent) (i : ℕ) (x : CodeEvent) (fault : ApplyFault) → i < length items → x ≡ get_or items i x
+    → Ran old (take i (events_of items)) mid
     → is_memory fault ≡ true → NamesRefusal fault (refusal (event_of x) (run mid start)) → new ≡ mid → RanBefore old (events_of items) new
 ran-before old mid new items i x fault lt is h memory why e =
     let split = events-split items i x lt is in (

@@ -1,29 +1,13 @@
 -- An incarnation stands for its state after a call, where it had room.
-use Rattle.std.proofs.Common.{◌≡◌, ℕ, ◌≤◌, Option, None, Some, is_none, List, [], ◌∷◌, ◌++◌, length, refl, sym, ap, subst, ◌∙◌, arith, length-append, zero-add}
-use Rattle.std.specs.Prelude.{if◌then◌else◌}
+use Rattle.stack_engine.proofs.Words.{◌≡◌, ℕ, ◌≤◌, Option, None, Some, List, [], ◌∷◌, ◌++◌, length, refl, sym, ap, subst, ◌∙◌, arith, zero-add, if◌then◌else◌}
+use Rattle.stack_engine.proofs.Words.{AllByRecursion, FoldsTo, Made, PutFault, Item, SessionState, init_refusal, put_refusal, EndSettings, settings_of}
+use Rattle.stack_engine.proofs.Words.{session_in, EndState, Call, call, new_end, Close, Deliver, InitDone, Put, Tick, sent_at_opening, Side, SendsOne}
+use Rattle.stack_engine.proofs.Words.{EndStands, EndTurns, EndTurnsAlone, EndValue, channels_of, inside, BothStand, Grew, Turned, Inside, Turn, turn}
+use Rattle.stack_engine.proofs.Words.{Incarnation, FewMore, FewFirst, IsSmallPdu, IsSmallItem, most_pdus, most_taken, Shelf, Keeping, told_of, sure_room}
+use Rattle.stack_engine.proofs.Words.{IncSame, IncStands, IncTurns, HasRoom, TakesItem, datagrams_of, inc_refusal, puts_in, InitRefused, PutRefused}
+use Rattle.stack_engine.proofs.Words.{session_refusal}
+use Rattle.std.proofs.Common.{is_none, length-append}
 use Rattle.std.specs.Option.{option_map}
-use Rattle.std.specs.List.{AllByRecursion, FoldsTo}
-use Rattle.safe_machine.specs.Made.{Made}
-use Rattle.pdi_session.specs.declared.PutFault.{PutFault}
-use Rattle.pdi_session.specs.SessionStep.{Item, SessionState, init_refusal, put_refusal}
-use Rattle.end_settings.specs.EndSettings.{EndSettings}
-use Rattle.end_settings.specs.Configured.{settings_of}
-use Rattle.stack_end.specs.Dialogue.{session_in}
-use Rattle.stack_end.specs.Ends.{EndState, Call, call, new_end}
-use Rattle.stack_end.specs.Ends.Call.{Close, Deliver, InitDone, Put, Tick}
-use Rattle.stack_end.specs.Datagrams.{sent_at_opening}
-use Rattle.safe_machine.specs.World.{Side}
-use Rattle.channels.specs.Told.{SendsOne}
-use Rattle.stack_end.specs.EndValue.{EndStands, EndTurns, EndTurnsAlone, EndValue, channels_of, inside}
-use Rattle.stack_end.specs.Fields.{BothStand}
-use Rattle.stack_end.specs.Turned.{Grew, Turned}
-use Rattle.stack_end.specs.Turns.{Inside, Turn, turn}
-use Rattle.stack_engine.specs.declared.incarnation.Incarnation.{Incarnation}
-use Rattle.stack_engine.specs.Bounds.{FewMore, FewFirst, IsSmallPdu, IsSmallItem, most_pdus, most_taken}
-use Rattle.stack_engine.specs.Texts.{Shelf}
-use Rattle.stack_engine.specs.Keeping.{Keeping, told_of, sure_room}
-use Rattle.stack_engine.specs.Incarnations.{IncSame, IncStands, IncTurns, HasRoom, TakesItem, datagrams_of, inc_refusal, puts_in}
-use Rattle.stack_engine.specs.Pairs.{InitRefused, PutRefused, session_refusal}
 use Rattle.stack_engine.proofs.code.Gaining.{keeps-all, takes-all, datagrams-append}
 use Rattle.stack_engine.proofs.one.Putting.{put_in_by, call-put}
 
@@ -39,7 +23,8 @@ kept-more i j x y t room h few grew sent =
     let s = x.settings in
     let more = grew.more in
     let start = length x.machine.made in
-    let texts : AllByRecursion (IsSmallPdu s) y.machine.made = subst (λ (q : EndSettings). AllByRecursion (IsSmallPdu q) y.machine.made) grew.settings few.small_pdus in
+    let texts : AllByRecursion (IsSmallPdu s) y.machine.made = subst (λ (q : EndSettings). AllByRecursion (IsSmallPdu q) y.machine.made) grew.settings
+    few.small_pdus in
     let small : AllByRecursion (IsSmallPdu s) more = all-behind (IsSmallPdu s) x.machine.made more (subst (AllByRecursion (IsSmallPdu s)) grew.made texts) in
     let count : length more ≤ most_pdus = omega (arith, few.pdus, ap (λ (ms : List Made). length ms) grew.made, length-append x.machine.made more) in
     let out = subst (λ xs. FoldsTo SendsOne (told_of (channels_of i.end)) xs (told_of (channels_of j.end))) grew.sent sent in
@@ -89,8 +74,10 @@ turned-stands c i j x room t accepted turned h few =
     let y = call c x in
     let grew = turned.grew in
     let more = (turn c (inside i.end)).taken in
-    let small : AllByRecursion IsSmallItem more = all-behind IsSmallItem x.session.history.taken more (subst (AllByRecursion IsSmallItem) grew.taken few.small_items) in
-    let count : length more ≤ most_taken = omega (arith, few.takes, ap (λ (is : List Item). length is) grew.taken, length-append x.session.history.taken more) in
+    let small : AllByRecursion IsSmallItem more = all-behind IsSmallItem x.session.history.taken more
+    (subst (AllByRecursion IsSmallItem) grew.taken few.small_items) in
+    let count : length more ≤ most_taken = omega (arith, few.takes, ap (λ (is : List Item). length is) grew.taken, length-append x.session.history.taken more)
+    in
     record {
       end = record { both = subst (λ (v : Inside). BothStand v y) (sym t.end.left) turned.stands; time = t.time };
       config = ap settings_of t.config ∙ (h.config ∙ sym grew.settings);
@@ -103,8 +90,10 @@ turned-stands c i j x room t accepted turned h few =
     }
 
 -- when it is opened
-pub opened-stands : {A : Type 0} (side : Side) (s : EndSettings) (first now : ℕ) (k : Keeping) (i : Incarnation A) → k.datagrams ≡ [] → most_pdus ≤ sure_room k → FewFirst (new_end side s first now)
-    → EndStands told_of i.end (new_end side s first now) → FoldsTo SendsOne (told_of k) (sent_at_opening (new_end side s first now)) (told_of (channels_of i.end))
+pub opened-stands : {A : Type 0} (side : Side) (s : EndSettings) (first now : ℕ) (k : Keeping) (i : Incarnation A) → k.datagrams ≡ [] → most_pdus ≤ sure_room k
+    → FewFirst (new_end side s first now)
+    → EndStands told_of i.end (new_end side s first now) → FoldsTo SendsOne (told_of k) (sent_at_opening (new_end side s first now))
+    (told_of (channels_of i.end))
     → i.put.texts ≡ [] → i.taken.texts ≡ [] → settings_of i.config ≡ s → IncStands i (new_end side s first now)
 opened-stands side s first now k i none room few stands sent put taken config =
     let x = new_end side s first now in
@@ -116,15 +105,4 @@ opened-stands side s first now k i none room few stands sent put taken config =
           ∙ ap (λ (ds : List (List ℕ)). ds ++ datagrams_of s 0 x.machine.made) none;
       put = put;
       taken = taken ∙ sym few.takes;
-    }
-
--- an end left as it was
-pub same-stands : {A : Type 0} (i j : Incarnation A) (x : EndState) → IncSame i j → IncStands i x → IncStands j x
-same-stands {A} i j x same h =
-    record {
-      end = subst (λ v. EndStands told_of v x) (sym same.end) h.end;
-      config = ap settings_of same.config ∙ h.config;
-      kept = ap (λ (v : EndValue Keeping A). (channels_of v).datagrams) same.end ∙ h.kept;
-      put = ap (λ (s : Shelf ℕ). s.texts) same.put ∙ h.put;
-      taken = ap (λ (s : Shelf ℕ). s.texts) same.taken ∙ h.taken;
     }

@@ -1,14 +1,12 @@
 -- How many parts go up at an input of the redundancy layer.
-use Rattle.std.proofs.Common.{◌≡◌, ℕ, ◌+◌, ◌*◌, ◌≤◌, List, [], ◌∷◌, length, Result, Ok, Err, Bool, true, false, cond, refl, ◌∙◌, arith, length-append}
-use Rattle.std.specs.Prelude.{◌==◌, nat_le, nat_lt}
-use Rattle.std.proofs.lemmas.Bool.Decides.{nat_tests}
-use Rattle.octets.proofs.Choices.{by_cond}
-use Rattle.octets.specs.declared.limits.TheConstants.{REACH}
-use Rattle.red_layer.specs.FiniteMap.{put_in, has_number}
-use Rattle.red_pdu.specs.declared.RedFault.{RedFault}
-use Rattle.red_layer.specs.declared.RedEvent.TheVariants.{Passed, Wait, Old, Far, Full, Again}
-use Rattle.red_layer.specs.Parts.{Part, is_nil}
-use Rattle.red_layer.specs.Redundancy.{Receiver, Stepped, Input, Datagram, Tick, run_from, after_run, follow, least_waiting, is_due, released, after_release, deferred, arrival, decoded, heard, judged, passed_by, after}
+use Rattle.stack_engine.proofs.Words.{◌≡◌, ℕ, ◌+◌, ◌*◌, ◌≤◌, List, [], ◌∷◌, length, Result, Ok, Err, Bool, true, false, cond, refl, ◌∙◌, arith, nat_le, nat_lt}
+use Rattle.stack_engine.proofs.Words.{nat_tests, by_cond, REACH, put_in, has_number, RedFault, Passed, Old, Far, Full, Again, Part, is_nil, Receiver, Stepped}
+use Rattle.stack_engine.proofs.Words.{Input, Datagram, run_from, after_run, follow, least_waiting, is_due, released, after_release, deferred, arrival, decoded}
+use Rattle.stack_engine.proofs.Words.{passed_by, after}
+use Rattle.std.proofs.Common.{length-append}
+use Rattle.std.specs.Prelude.{◌==◌}
+use Rattle.red_layer.specs.declared.RedEvent.TheVariants.{Wait}
+use Rattle.red_layer.specs.Redundancy.{Tick, heard, judged}
 
 -- a list's run and the rest of it
 run-and-rest : (n : ℕ) (es : List Part) → length (run_from n es) + length (after_run n es) ≡ length es
@@ -52,7 +50,11 @@ passing-deferred : (now : ℕ) (p : Part) (r : Receiver) → Counts r (deferred 
 passing-deferred now p r =
     let again : Stepped = record { event = Again; passed = []; left = r } in
     let full : Stepped = record { event = Full; passed = []; left = r } in
-    let waits : Stepped = record { event = Wait; passed = []; left = record r { waiting = put_in p.0 p.1 r.waiting; since = cond (is_nil r.waiting) now r.since } } in
+    let waits : Stepped = record {
+      event = Wait;
+      passed = [];
+      left = record r { waiting = put_in p.0 p.1 r.waiting; since = cond (is_nil r.waiting) now r.since };
+    } in
     by_cond (Counts r) (has_number p.0 r.waiting) again (cond (length r.waiting == r.q) full waits) (λ _. passing-none r) (λ _.
     by_cond (Counts r) (length r.waiting == r.q) full waits (λ _. passing-none r) (λ room.
     let one = put_in-length p.0 p.1 r.waiting in
@@ -64,7 +66,8 @@ passing-arrival now p r =
     let passed : Stepped = record { event = Passed; passed = p ∷ run_from (p.0 + 1) r.waiting; left = follow now (p.0 + 1) r } in
     let far : Stepped = record { event = Far; passed = []; left = r } in
     let split = run-and-rest (p.0 + 1) r.waiting in
-    by_cond (Counts r) (nat_lt p.0 r.expected) old (cond (p.0 == r.expected) passed (cond (nat_lt (r.expected + REACH * r.q) p.0) far (deferred now p r))) (λ _. passing-none r) (λ _.
+    by_cond (Counts r) (nat_lt p.0 r.expected) old (cond (p.0 == r.expected) passed (cond (nat_lt (r.expected + REACH * r.q) p.0) far (deferred now p r)))
+    (λ _. passing-none r) (λ _.
     by_cond (Counts r) (p.0 == r.expected) passed (cond (nat_lt (r.expected + REACH * r.q) p.0) far (deferred now p r))
     (λ _. record { q = refl; count = omega arith; few = λ h. omega arith }) (λ _.
     by_cond (Counts r) (nat_lt (r.expected + REACH * r.q) p.0) far (deferred now p r) (λ _. passing-none r) (λ _. passing-deferred now p r)))

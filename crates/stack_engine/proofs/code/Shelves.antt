@@ -1,10 +1,7 @@
 -- Adding a text to a shelf.
-use Rattle.std.proofs.Common.{◌≡◌, ℕ, ◌-◌, ◌≤◌, List, [], ◌∷◌, ◌++◌, length, take, drop, refl, ap, ◌∙◌, arith}
-use Rattle.std.specs.List.{slice_range}
-use Rattle.std.proofs.lemmas.List.{length-append, length-drop, take-append-le, drop-append-le, map-append}
-use Rattle.std.proofs.Math.Seq.{drop-append_seam, take-length}
-use Rattle.stack_engine.specs.declared.texts.Kept.{Kept}
-use Rattle.stack_engine.specs.TextPlaces.{text_in, texts_in, AreWithin}
+use Rattle.stack_engine.proofs.Words.{◌≡◌, ℕ, ◌-◌, ◌≤◌, List, [], ◌∷◌, ◌++◌, length, take, drop, refl, ap, ◌∙◌, arith, slice_range, length-append, length-drop}
+use Rattle.stack_engine.proofs.Words.{take-append-le, drop-append-le, map-append, drop-append_seam, take-length, Kept, text_in, texts_in}
+use Rattle.stack_engine.specs.TextPlaces.{AreWithin}
 
 range-more : (o more : List ℕ) (from to : ℕ) → from ≤ to → to ≤ length o → slice_range (o ++ more) from to ≡ slice_range o from to
 range-more o more from to up within =
@@ -23,8 +20,10 @@ range-seam o more =
     ap (λ t. take (length (o ++ more) - length o) t) (drop-append_seam o more) ∙ (ap (λ n. take n more) n ∙ take-length more)
 
 -- a text put behind the others, in the octets behind theirs
-pub texts-add : {T : Type 0} (o more : List ℕ) (ks : List (Kept T)) (k : Kept T) → AreWithin o ks → k.from ≡ length o → k.to ≡ length (o ++ more) → texts_in (o ++ more) (ks ++ k ∷ []) ≡ texts_in o ks ++ (k.head, more) ∷ []
+pub texts-add : {T : Type 0} (o more : List ℕ) (ks : List (Kept T)) (k : Kept T) → AreWithin o ks → k.from ≡ length o → k.to ≡ length (o ++ more)
+    → texts_in (o ++ more) (ks ++ k ∷ []) ≡ texts_in o ks ++ (k.head, more) ∷ []
 texts-add o more ks k h from to =
     map-append (text_in (o ++ more)) ks (k ∷ [])
     ∙ (ap (λ ts. ts ++ text_in (o ++ more) k ∷ []) (texts-more o more ks h)
-    ∙ ap (λ t. texts_in o ks ++ (k.head, t) ∷ []) (ap (λ n. slice_range (o ++ more) n k.to) from ∙ (ap (λ n. slice_range (o ++ more) (length o) n) to ∙ range-seam o more)))
+    ∙ ap (λ t. texts_in o ks ++ (k.head, t) ∷ [])
+    (ap (λ n. slice_range (o ++ more) n k.to) from ∙ (ap (λ n. slice_range (o ++ more) (length o) n) to ∙ range-seam o more)))

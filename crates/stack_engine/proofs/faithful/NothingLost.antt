@@ -1,35 +1,13 @@
 -- Nothing is lost over faithful lists of ends whose identifiers are crossed.
-use Rattle.std.proofs.Common.{◌≡◌, ◌≢◌, ◌⊎◌, inl, inr, ⊎_elim, ◌==◌, ◌+◌, ◌≤◌, ℕ, zero, suc, List, [], ◌∷◌, ◌++◌, length, Option, Some, None, true, false, cond, refl, sym, ap, subst, ◌∙◌, arith, append-nil}
-use Rattle.std.specs.Prelude.{MatchOption, ◌&&◌, nat_lt}
-use Rattle.std.proofs.lemmas.Bool.{false≢true, ltb-false}
-use Rattle.octets.specs.Lists.{IsBeginning}
-use Rattle.octets.proofs.Choices.{by_test}
-use Rattle.safe_machine.specs.declared.ConnectionState.{ConnectionState}
-use Rattle.safe_machine.specs.declared.ConnectionState.TheVariants.{Closed, Down, Start, Up as IsUp, RetrReq, RetrRun}
-use Rattle.safe_machine.specs.Made.{units}
-use Rattle.safe_machine.specs.State.{State, unconfirmed}
-use Rattle.safe_machine.specs.Decision.{is_closed, in_turn}
-use Rattle.safe_machine.specs.Step.{may_send, is_connected}
-use Rattle.safe_machine.specs.World.{Side}
-use Rattle.safe_machine.specs.World.Side.{Il, Fe}
-use Rattle.safe_machine.specs.World as M
-use Rattle.safe_machine.specs.Law as L
-use Rattle.safe_machine.specs.InOrder.{StaysLaw, StaysOpen, client_state, server_state}
-use Rattle.pdi_session.specs.declared.Phase.{Phase}
-use Rattle.pdi_session.specs.declared.Phase.TheVariants.{Idle}
-use Rattle.pdi_session.specs.Settings.{first_version}
-use Rattle.pdi_session.specs.Histories.{History}
-use Rattle.pdi_session.specs.Tables.{is_early}
-use Rattle.pdi_session.specs.Laws.{OwnEarlyLaw, items_of}
-use Rattle.pdi_session.specs.JoinedSessions.{AreInStep, Fits, InStepLaw, IsRunning, Joined, MatchingLaw, PhaseLaw, TakesFrontLaw}
-use Rattle.end_settings.specs.EndSettings.{EndSettings, session_of}
-use Rattle.stack_end.specs.Ends.{EndState, new_end, is_shut, Call, time_of, call}
-use Rattle.stack_engine.specs.Headline.{put_at, taken_at, incarnation}
-use Rattle.stack_engine.specs.Settled.{messages_in, telegrams_in, items_waiting}
-use Rattle.stack_engine.specs.Pairs.{World, JoinedEnd, Event, start, run, latest, ends_of, refusal, call_il, call_fe, changed, happens}
-use Rattle.stack_engine.specs.Pairs.Event.{Open, Calls}
-use Rattle.stack_engine.specs.Premise.{AtOpened, IsGenuine, GenuineCall, GenuineEvent, Genuine, IsTyped, AreTyped}
-use Rattle.stack_engine.specs.Faithful.{FaithfulEvent, AllFaithful, Match, OfBoth, WaitsForWindow, IfAllArrived, UnitsThere, NothingLostCrossedLaw}
+use Rattle.stack_engine.proofs.Words.{◌≡◌, ◌≢◌, ◌⊎◌, inl, inr, ⊎_elim, ◌==◌, ◌+◌, ◌≤◌, ℕ, zero, suc, List, [], ◌∷◌, ◌++◌, length, Option, Some, None, true}
+use Rattle.stack_engine.proofs.Words.{false, cond, refl, sym, ap, subst, ◌∙◌, arith, append-nil, MatchOption, ◌&&◌, nat_lt, false≢true, ltb-false, IsBeginning}
+use Rattle.stack_engine.proofs.Words.{by_test, ConnectionState, Closed, Down, Start, IsUp, RetrReq, RetrRun, units, State, unconfirmed, is_closed, in_turn}
+use Rattle.stack_engine.proofs.Words.{may_send, is_connected, Side, Il, Fe, StaysLaw, StaysOpen, client_state, server_state, Phase, Idle, first_version}
+use Rattle.stack_engine.proofs.Words.{History, is_early, OwnEarlyLaw, items_of, AreInStep, Fits, InStepLaw, IsRunning, Joined, MatchingLaw, PhaseLaw}
+use Rattle.stack_engine.proofs.Words.{TakesFrontLaw, EndSettings, session_of, EndState, new_end, is_shut, Call, time_of, call, put_at, taken_at, incarnation}
+use Rattle.stack_engine.proofs.Words.{messages_in, telegrams_in, items_waiting, World, JoinedEnd, Event, start, run, latest, ends_of, refusal, call_il, call_fe}
+use Rattle.stack_engine.proofs.Words.{changed, happens, Open, Calls, AtOpened, IsGenuine, GenuineCall, GenuineEvent, Genuine, IsTyped, AreTyped, FaithfulEvent}
+use Rattle.stack_engine.proofs.Words.{AllFaithful, Match, OfBoth, WaitsForWindow, IfAllArrived, UnitsThere, NothingLostCrossedLaw}
 use Rattle.stack_engine.proofs.one.Keeping.{IsTypedCall, call-keeps}
 use Rattle.stack_engine.proofs.one.Spoken.{Spoken, nil-front}
 use Rattle.stack_engine.proofs.one.Packs.{Packs}
@@ -43,6 +21,8 @@ use Rattle.stack_engine.proofs.two.Worlds.{states, served, unserved, Mapped, Map
 use Rattle.stack_engine.proofs.two.Confirmed.{checksum-short, early-by, good-sent, not-closed}
 use Rattle.stack_engine.proofs.faithful.Faithfuls.{OrderLaws, passed_count, OrdWorld, OrdAt, AheadOf, ord-run, ord-start, not-empty}
 use Rattle.stack_engine.proofs.faithful.Orderly.{PacksWorld, keeps, there, il-quiet, fe-quiet, packs-run, waits-by}
+use Rattle.safe_machine.specs.World as M
+use Rattle.safe_machine.specs.Law as L
 
 -- the laws that are used here
 pub record LostLaws : Type 0 where
@@ -67,20 +47,24 @@ new-begins : (side : Side) (s : EndSettings) (first now : ℕ) → Begins (new_e
 new-begins Il s first now = record { early = λ _. (refl, refl); begun = λ on. absurd (false≢true on); ended = λ e. none-ended e }
 new-begins Fe s first now = record { early = λ _. (refl, refl); begun = λ on. absurd (false≢true on); ended = λ e. none-ended e }
 
-begins-call : (p : LostLaws) (peer : Option EndState) (dead : ℕ) (c : Call) (x : EndState) → IsTypedCall c → GenuineCall peer dead c x → Begins x → Begins (call c x)
+begins-call : (p : LostLaws) (peer : Option EndState) (dead : ℕ) (c : Call) (x : EndState) → IsTypedCall c → GenuineCall peer dead c x → Begins x
+    → Begins (call c x)
 begins-call p peer dead c x t g h =
     call-keeps c (IsGenuine peer dead) Begins x (begins-keeps p.begin (λ m s. (p.order.laws.below.moves m s).closed) (time_of c) (IsGenuine peer dead)) t g.1 h
 
-begins-il : (p : LostLaws) (c : Call) (ils : List EndState) (peer : Option EndState) (dead : ℕ) → IsTypedCall c → AtOpened (GenuineCall peer dead c) (latest ils) → AtOpened Begins (latest ils) → AtOpened Begins (latest (call_il c ils))
+begins-il : (p : LostLaws) (c : Call) (ils : List EndState) (peer : Option EndState) (dead : ℕ) → IsTypedCall c
+    → AtOpened (GenuineCall peer dead c) (latest ils) → AtOpened Begins (latest ils) → AtOpened Begins (latest (call_il c ils))
 begins-il p c [] peer dead t g h = tt
 begins-il p c (x ∷ before) peer dead t g h = begins-call p peer dead c x t g h
 
-begins-fe : (p : LostLaws) (c : Call) (ils : List EndState) (fes : List JoinedEnd) (peer : Option EndState) (dead : ℕ) → IsTypedCall c → AtOpened (GenuineCall peer dead c) (latest (ends_of fes)) → AtOpened Begins (latest (ends_of fes))
+begins-fe : (p : LostLaws) (c : Call) (ils : List EndState) (fes : List JoinedEnd) (peer : Option EndState) (dead : ℕ) → IsTypedCall c
+    → AtOpened (GenuineCall peer dead c) (latest (ends_of fes)) → AtOpened Begins (latest (ends_of fes))
     → AtOpened Begins (latest (ends_of (call_fe c ils fes)))
 begins-fe p c ils [] peer dead t g h = tt
 begins-fe p c ils (f ∷ fs) peer dead t g h = begins-call p peer dead c f.end t g h
 
-begins-changed : (p : LostLaws) (e : Event) (w : World) → IsTyped e → GenuineEvent e w → BeginsWorld w.ils w.fes → BeginsWorld (changed e w).ils (changed e w).fes
+begins-changed : (p : LostLaws) (e : Event) (w : World) → IsTyped e → GenuineEvent e w → BeginsWorld w.ils w.fes
+    → BeginsWorld (changed e w).ils (changed e w).fes
 begins-changed p (Open Il s first now) w t g h = (new-begins Il s first now, h.1)
 begins-changed p (Open Fe s first now) w t g h = (h.0, new-begins Fe s first now)
 begins-changed p (Calls Il c) w t g h = (begins-il p c w.ils (latest (ends_of w.fes)) w.dead_fe (typed-call Il c t) g h.0, h.1)
@@ -127,7 +111,8 @@ nobody number x f free (inl none) = none
 nobody number x f free (inr (inl is)) = let no_number : None ≡ Some number = sym free ∙ is in cc
 nobody number x f free (inr (inr k)) = absurd k
 
-together : (p : LostLaws) (x : EndState) (f : JoinedEnd) (di df : ℕ) → Mapped (x ∷ []) (f ∷ []) di df → Paired (x ∷ []) (f ∷ []) → (o : Option ℕ) → f.joined ≡ o → Together x f.end
+together : (p : LostLaws) (x : EndState) (f : JoinedEnd) (di df : ℕ) → Mapped (x ∷ []) (f ∷ []) di df → Paired (x ∷ []) (f ∷ []) → (o : Option ℕ) → f.joined ≡ o
+    → Together x f.end
 together p x f di df h q None free =
     let law = law-now p.order.pair (x ∷ []) (f ∷ []) di df h in
     let fe-none : f.end.machine.taken ≡ [] = subst (λ o. L.TakesBeginnings (states (x ∷ [])) f.end.machine o) free law.beginnings.0 in
@@ -142,8 +127,15 @@ together p x f di df h q (Some number) is =
     let pair : MatchOption (incarnation (x ∷ []) number) ⊥ (λ g. JointEnds f.end.settings g f.end) = q.pairs.0 number is in
     let takes = subst (λ o. L.TakesBeginnings (states (x ∷ [])) f.end.machine o) is law.beginnings.0 in
     by_test (λ b. MatchOption (cond b (Some x) None) ⊥ (λ g. JointEnds f.end.settings g f.end)
-    → MatchOption (cond b (Some x.machine) None) ⊥ (λ (il : State). IsBeginning f.end.machine.taken (units il.made) × IsBeginning il.taken (units f.end.machine.made)) → Together x f.end) (number == 0 + 1)
-    (λ _ j t. record { joint = j; il_good = good-begins Fe x.machine.taken f.end h.fe_whole.0.spoken t.1; fe_good = good-begins Il f.end.machine.taken x h.il_whole.0.spoken t.0 })
+    → MatchOption (cond b (Some x.machine) None) ⊥
+    (λ (il : State). IsBeginning f.end.machine.taken (units il.made) × IsBeginning il.taken (units f.end.machine.made)) → Together x f.end)
+    (number == 0 + 1)
+    (λ _ j t. record {
+      joint = j;
+      il_good = good-begins Fe x.machine.taken f.end h.fe_whole.0.spoken t.1;
+      fe_good = good-begins Il f.end.machine.taken x
+          h.il_whole.0.spoken t.0;
+    })
     (λ _ j t. absurd j) pair takes
 
 -- where nothing was put in, nothing was taken, and nothing waits
@@ -157,16 +149,19 @@ nil-both (x ∷ a) b e = cc
 nothing-waits : (p : LostLaws) (side : Side) (x : EndState) → Spoken side x → put_at x ≡ [] → items_waiting x ≡ []
 nothing-waits p side x sp none =
     nil-both (items_of (telegrams_in (messages_in (units x.machine.made)))) (items_waiting x)
-    (sym (items-append (telegrams_in (messages_in (units x.machine.made))) (telegrams_in x.session.waiting)) ∙ ap items_of (sym (queue-is side x sp)) ∙ queue-put p.items side x sp ∙ none)
+    (sym (items-append (telegrams_in (messages_in (units x.machine.made))) (telegrams_in x.session.waiting)) ∙ ap items_of (sym (queue-is side x sp))
+    ∙ queue-put p.items side x sp ∙ none)
 
 record Empty (x y : EndState) : Type 0 where
   il : put_at x ≡ []
   fe : put_at y ≡ []
 
 -- where a telegram ended one of them, nothing was put in at either
-own-put : (p : LostLaws) (side : Side) (x : EndState) → Spoken side x → (phase : Phase) → x.session.history.ended_in ≡ Some phase → is_early phase ≡ true → put_at x ≡ []
+own-put : (p : LostLaws) (side : Side) (x : EndState) → Spoken side x → (phase : Phase) → x.session.history.ended_in ≡ Some phase → is_early phase ≡ true
+    → put_at x ≡ []
 own-put p side x sp phase =
-    subst (λ (h : History). h.ended_in ≡ Some phase → is_early phase ≡ true → h.put ≡ []) (sym sp.talk.history) (p.own_early x.settings.addressing (session_of side x.settings) sp.talk.events phase)
+    subst (λ (h : History). h.ended_in ≡ Some phase → is_early phase ≡ true → h.put ≡ []) (sym sp.talk.history)
+    (p.own_early x.settings.addressing (session_of side x.settings) sp.talk.events phase)
 
 some-of : (o : Option Phase) → o ≢ None → (phase : Phase) × (o ≡ Some phase)
 some-of None h = absurd (h refl)
@@ -188,7 +183,8 @@ fits-by x y m = record { protocol = m.protocol; own = m.il_name; peer = sym m.fe
 
 match-stays : (p : LostLaws) (x y : EndState) → Spoken Fe y → Together x y → Begins y → Match x y → Fails x ⊎ Fails y → ⊥
 match-stays p x y sy t b m fails =
-    let law = p.matching x.settings.addressing y.settings.addressing (first_version x.settings.versions) y.settings.versions y.settings.checksum (checksum-short Fe y.settings sy.fit) (fits-by x y m) t.joint.events t.joint.in_turn in
+    let law = p.matching x.settings.addressing y.settings.addressing (first_version x.settings.versions) y.settings.versions y.settings.checksum
+    (checksum-short Fe y.settings sy.fit) (fits-by x y m) t.joint.events t.joint.in_turn in
     let both : (x.session.history.ended_in ≡ None) × ((phase : Phase) → y.session.history.ended_in ≡ Some phase → phase ≡ Idle) =
     subst (λ (h : Joined). (h.il.ended_in ≡ None) × ((phase : Phase) → h.fe.ended_in ≡ Some phase → phase ≡ Idle)) t.joint.leads law
     in
@@ -200,7 +196,8 @@ up-waits : (x : EndState) → x.machine.connection ≡ IsUp → Packs x → Wait
 up-waits x up packs =
     waits-by x packs
     (λ full.
-    let turn : may_send x.machine ≡ nat_lt (length (unconfirmed x.machine)) x.machine.window = ap (λ c. in_turn c && nat_lt (length (unconfirmed x.machine)) x.machine.window) up in
+    let turn : may_send x.machine ≡ nat_lt (length (unconfirmed x.machine)) x.machine.window =
+    ap (λ c. in_turn c && nat_lt (length (unconfirmed x.machine)) x.machine.window) up in
     ltb-false (length (unconfirmed x.machine)) x.machine.window (sym turn ∙ full))
 
 early-waits : (x : EndState) → IsEarly x.machine.connection → Begins x → WaitsForWindow x
@@ -227,13 +224,16 @@ is-open c on = by_test (λ b. is_closed c ≡ b → b ≡ false) (is_closed c) (
     closed-of RetrRun e = cc
 
 -- all of the other's queue was judged
-judged-all : (side : Side) (x y : EndState) → Spoken side y → x.session.history.judged ≡ telegrams_in (messages_in x.machine.taken) → x.machine.taken ≡ units y.machine.made → y.session.waiting ≡ []
+judged-all : (side : Side) (x y : EndState) → Spoken side y → x.session.history.judged ≡ telegrams_in (messages_in x.machine.taken)
+    → x.machine.taken ≡ units y.machine.made → y.session.waiting ≡ []
     → x.session.history.judged ≡ y.session.history.queue
 judged-all side x y sy whole took none =
     whole ∙ ap (λ us. telegrams_in (messages_in us)) took
-    ∙ sym (queue-is side y sy ∙ ap (λ ms. telegrams_in (messages_in (units y.machine.made)) ++ telegrams_in ms) none ∙ append-nil (telegrams_in (messages_in (units y.machine.made))))
+    ∙ sym (queue-is side y sy ∙ ap (λ ms. telegrams_in (messages_in (units y.machine.made)) ++ telegrams_in ms) none
+    ∙ append-nil (telegrams_in (messages_in (units y.machine.made))))
 
-all-there : (p : LostLaws) (ils : List EndState) (fes : List JoinedEnd) (di df : ℕ) → Once ils fes → OrdWorld ils fes di df → AheadOf ils fes → Mapped ils fes di df → Paired ils fes → PacksWorld ils fes → BeginsWorld ils fes
+all-there : (p : LostLaws) (ils : List EndState) (fes : List JoinedEnd) (di df : ℕ) → Once ils fes → OrdWorld ils fes di df → AheadOf ils fes
+    → Mapped ils fes di df → Paired ils fes → PacksWorld ils fes → BeginsWorld ils fes
     → OfBoth IfAllArrived (latest ils) (latest (ends_of fes))
 all-there p [] fes di df n o a h q k b = tt
 all-there p (x ∷ before) [] di df n o a h q k b = tt
@@ -249,7 +249,8 @@ all-there p (x ∷ []) (f ∷ []) di df n o a h q k b = λ from-fe from-il.
     let s = subst StaysOpen o.ordered.leads (p.stays o.ordered.events o.ordered.genuine o.ordered.timely o.ordered.in_order (o.ordered.closes ∙ none)) in
     (is-open x.machine.connection (s.il (not-empty (states []) M.unopened)), is-open y.machine.connection (s.fe (not-empty (served []) unserved)))
     in
-    let units-there : o.closed ≡ false → UnitsThere x y = λ none. there p.order p.items (x ∷ []) (f ∷ []) di df o a h q k (from-fe (stays none).0) (from-il (stays none).1) (stays none).0 (stays none).1 in
+    let units-there : o.closed ≡ false → UnitsThere x y = λ none. there p.order p.items (x ∷ []) (f ∷ []) di df o a h q k (from-fe (stays none).0)
+    (from-il (stays none).1) (stays none).0 (stays none).1 in
     let kept : Match x y → o.closed ≡ false = λ m.
     by_test (λ c. o.closed ≡ c → c ≡ false) o.closed (λ _ is. absurd (match-stays p x y sy t b.1 m (o.fails is))) (λ _ _. refl) refl
     in
@@ -276,8 +277,10 @@ all-there p (x ∷ []) (f ∷ []) di df n o a h q k b = λ from-fe from-il.
           let is = kept m in
           let u = units-there is in
           let on = stays is in
-          let step = p.in_step x.settings.addressing y.settings.addressing (first_version x.settings.versions) y.settings.versions y.settings.checksum (checksum-short Fe y.settings sy.fit) t.joint.events t.joint.in_turn in
-          (subst (λ (h : Joined). IsRunning h.il → IsRunning h.fe → h.il.judged ≡ h.fe.queue → h.fe.judged ≡ h.il.queue → AreInStep h.il h.fe) t.joint.leads step)
+          let step = p.in_step x.settings.addressing y.settings.addressing (first_version x.settings.versions) y.settings.versions y.settings.checksum
+          (checksum-short Fe y.settings sy.fit) t.joint.events t.joint.in_turn in
+          (subst (λ (h : Joined). IsRunning h.il → IsRunning h.fe → h.il.judged ≡ h.fe.queue → h.fe.judged ≡ h.il.queue → AreInStep h.il h.fe) t.joint.leads
+          step)
           (record { begun = b.0.begun (ap is_connected u.il_up); unended = q.il_heeds.0.on on.0 })
           (record { begun = b.1.begun (ap is_connected u.fe_up); unended = q.fe_heeds.0.on on.1 })
           (judged-all Fe x y sy (sx.whole on.0) u.il_taken fe-none)
@@ -287,7 +290,8 @@ all-there p (x ∷ []) (f ∷ []) di df n o a h q k b = λ from-fe from-il.
     fronts : (x y : EndState) → Spoken Fe y → Together x y → IsBeginning (taken_at x) (put_at y) × IsBeginning (taken_at y) (put_at x)
     fronts x y sy t =
         subst (λ (h : Joined). IsBeginning h.il.taken h.fe.put × IsBeginning h.fe.taken h.il.put) t.joint.leads
-        (p.fronts x.settings.addressing y.settings.addressing (first_version x.settings.versions) y.settings.versions y.settings.checksum (checksum-short Fe y.settings sy.fit) t.joint.events t.joint.in_turn)
+        (p.fronts x.settings.addressing y.settings.addressing (first_version x.settings.versions) y.settings.versions y.settings.checksum
+        (checksum-short Fe y.settings sy.fit) t.joint.events t.joint.in_turn)
 
 pub nothing-lost-crossed : LostLaws → NothingLostCrossedLaw
 nothing-lost-crossed p es typed f crossed =

@@ -1,42 +1,24 @@
 -- A call of one end over a faithful list, in the world of machines in order.
-use Rattle.std.proofs.Common.{◌≡◌, ◌==◌, ◌&&◌, ◌+◌, ◌≤◌, ◌<◌, ◌^◌, ℕ, zero, suc, List, [], ◌∷◌, ◌++◌, take, length, drop, Option, Some, None, Ok, Bool, true, false, cond, ◌⊎◌, inl, inr, ⊎_elim, append-nil, refl, sym, ap, subst, ◌∙◌, arith}
-use Rattle.std.specs.List.{AllByRecursion}
-use Rattle.std.proofs.lemmas.List.{length-append}
-use Rattle.octets.proofs.Choices.{by_cond, by_test}
-use Rattle.packing.specs.UnitText.{unit_text}
-use Rattle.red_layer.specs.Parts.{Part, is_nil}
-use Rattle.red_layer.specs.Redundancy.{Input, Datagram, Tick as RedTick, passed_by, after, opened as red_opened}
-use Rattle.red_layer.specs.Service.{arrivals, passed_along, after_along}
-use Rattle.red_layer.specs.Laws.{OneMoreLaw}
-use Rattle.safe_pdu.specs.declared.CodeRule.{CodeRule}
-use Rattle.safe_pdu.specs.Places.{safe_seen}
-use Rattle.safe_machine.specs.Settings.{Settings}
-use Rattle.safe_machine.specs.Made.{Made}
-use Rattle.safe_machine.specs.State.{State}
-use Rattle.safe_machine.specs.Step.{guard, tick, may_send}
-use Rattle.safe_machine.specs.Decision.{is_stranger}
-use Rattle.safe_machine.specs.Moves.{Move, move}
-use Rattle.safe_machine.specs.Moves.Move.{Guards, Hears, Ticks, Sends, Leaves}
-use Rattle.safe_machine.specs.Octets.{heard as heard_as, seen_by, arrive_octets}
-use Rattle.safe_machine.specs.World.{Side}
-use Rattle.safe_machine.specs.World as M
-use Rattle.safe_machine.specs.InOrder.{GuardHolds}
-use Rattle.pdi_session.specs.SessionStep.{Puts, InitDone as Completes, Closes}
-use Rattle.end_settings.specs.EndSettings.{EndSettings, connection_of, rule_of}
-use Rattle.stack_end.specs.Dialogue.{Leaving, meets, judge_units}
-use Rattle.stack_end.specs.Ends.{EndState, is_shut, with_machine, with_session, settle, handed_up, answered, leaves, heard, moved as end_moved, part, parts, with_input, receives, packed, packed_up_to, sends, goes_on, Call, did, call, time_of}
-use Rattle.stack_end.specs.Ends.Call.{Put, InitDone, Tick, Deliver}
-use Rattle.stack_engine.specs.Pairs.{made_of}
-use Rattle.stack_engine.specs.Premise.{AtParts, AtInput, AtCall}
+use Rattle.stack_engine.proofs.Words.{◌≡◌, ◌==◌, ◌+◌, ◌≤◌, ◌<◌, ◌^◌, ℕ, zero, suc, List, [], ◌∷◌, ◌++◌, take, length, drop, Option, Some, None, Ok, Bool, true}
+use Rattle.stack_engine.proofs.Words.{false, cond, ◌⊎◌, inl, inr, ⊎_elim, append-nil, refl, sym, ap, subst, ◌∙◌, arith, AllByRecursion, length-append, by_cond}
+use Rattle.stack_engine.proofs.Words.{by_test, unit_text, Part, is_nil, Input, Datagram, RedTick, passed_by, after, red_opened, arrivals, passed_along}
+use Rattle.stack_engine.proofs.Words.{after_along, OneMoreLaw, CodeRule, safe_seen, Settings, Made, State, guard, tick, may_send, is_stranger, Move, move}
+use Rattle.stack_engine.proofs.Words.{Guards, Hears, Ticks, Sends, Leaves, heard_as, seen_by, arrive_octets, Side, GuardHolds, Puts, Completes, Closes}
+use Rattle.stack_engine.proofs.Words.{EndSettings, connection_of, rule_of, Leaving, meets, judge_units, EndState, is_shut, with_machine, with_session, settle}
+use Rattle.stack_engine.proofs.Words.{handed_up, answered, leaves, heard, end_moved, part, parts, with_input, receives, packed, packed_up_to, sends, goes_on}
+use Rattle.stack_engine.proofs.Words.{Call, did, call, time_of, Put, InitDone, Tick, Deliver, made_of, AtParts, AtInput, AtCall}
+use Rattle.std.proofs.Common.{◌&&◌}
 use Rattle.stack_engine.proofs.one.Keeping.{Keeps, IsTypedInput}
 use Rattle.stack_engine.proofs.two.Reached.{GenuineMove, move_time}
 use Rattle.stack_engine.proofs.two.Hearing.{TextsOf, genuine-heard, rule-same, own-same, peer-same}
 use Rattle.stack_engine.proofs.one.Machined.{Whole, OctetsUp, whole-keeps}
 use Rattle.stack_engine.proofs.two.Mapping.{Laws, Comes}
 use Rattle.stack_engine.proofs.two.Pairing.{eqb-same}
-use Rattle.stack_engine.proofs.faithful.Ordering.{IsNth, Carry, Numbered, OrderedBy, OrderedMove, WasOpened, at_side, peer_made, peer_dead, next_joined, heard_more, closed_more, side-moves}
+use Rattle.stack_engine.proofs.faithful.Ordering.{IsNth, Carry, Numbered, OrderedBy, OrderedMove, WasOpened, at_side, peer_made, peer_dead, next_joined}
+use Rattle.stack_engine.proofs.faithful.Ordering.{heard_more, closed_more, side-moves}
 use Rattle.stack_engine.proofs.one.Heeding.{Heeds, HeedsKept}
 use Rattle.stack_engine.proofs.one.Failing.{Fails, fails-more, fails-move, fates}
+use Rattle.safe_machine.specs.World as M
 
 -- the peer's PDU with this index, as the end reads it
 pub record Next (side : Side) (m : M.World) (s : EndSettings) (n : ℕ) (octets : List ℕ) : Type 0 where
@@ -69,7 +51,8 @@ Faithfully peer dead now y octets = GuardHolds y.machine now × Comes peer dead 
 at-now : (n : ℕ) → n ≤ n
 at-now n = omega arith
 
-module _ (laws : Laws) (more : OneMoreLaw) (side : Side) (m : M.World) (k : ℕ) (s : EndSettings) (now : ℕ) (peer : Option EndState) (dead : ℕ) (F : Type 0) (hk : HeedsKept side now) (texts : TextsOf peer)
+module _ (laws : Laws) (more : OneMoreLaw) (side : Side) (m : M.World) (k : ℕ) (s : EndSettings) (now : ℕ) (peer : Option EndState) (dead : ℕ) (F : Type 0)
+    (hk : HeedsKept side now) (texts : TextsOf peer)
     (live : drop dead (made_of peer) ≡ drop (peer_dead side m) (peer_made side m))
     (r : CodeRule) (ms : List Made) (next : (n : ℕ) (octets : List ℕ) → IsNth r ms n octets → Next side m s n octets) where
   abbrev pub P : List Input → ℕ → EndState → Type 0
@@ -79,8 +62,10 @@ module _ (laws : Laws) (more : OneMoreLaw) (side : Side) (m : M.World) (k : ℕ)
   kw = whole-keeps laws.below laws.redundancy side now
 
   -- the machine alone
-  p-move : (ins : List Input) (n : ℕ) (mv : Move) (x y : EndState) → move_time mv ≡ now → heard_more mv n ≡ n → ((c : Bool) → closed_more mv c ≡ c) → GenuineMove x.machine (drop (peer_dead side m) (peer_made side m)) mv → OrderedMove side m n x.machine mv
-      → Whole side y → Heeds y → y.machine ≡ move mv x.machine → y.session.history.ended_in ≡ x.session.history.ended_in → y.settings ≡ x.settings → y.inputs ≡ x.inputs → y.red ≡ x.red → P ins n x → P ins n y
+  p-move : (ins : List Input) (n : ℕ) (mv : Move) (x y : EndState) → move_time mv ≡ now → heard_more mv n ≡ n → ((c : Bool) → closed_more mv c ≡ c)
+      → GenuineMove x.machine (drop (peer_dead side m) (peer_made side m)) mv → OrderedMove side m n x.machine mv
+      → Whole side y → Heeds y → y.machine ≡ move mv x.machine → y.session.history.ended_in ≡ x.session.history.ended_in → y.settings ≡ x.settings
+      → y.inputs ≡ x.inputs → y.red ≡ x.red → P ins n x → P ins n y
   p-move ins n mv x y t same closed-same g o whole heeds e ended set ins-same red h =
       let j = next_joined side x.machine (move mv x.machine) h.joined m in
       let there : OrderedBy side h.closed n k (at_side side (move mv x.machine) j now m) =
@@ -103,13 +88,15 @@ module _ (laws : Laws) (more : OneMoreLaw) (side : Side) (m : M.World) (k : ℕ)
         red = red ∙ h.red;
       }
 
-  p-same : (ins : List Input) (n : ℕ) (x y : EndState) → Whole side y → Heeds y → y.machine ≡ x.machine → y.session.history.ended_in ≡ x.session.history.ended_in → y.settings ≡ x.settings → y.inputs ≡ x.inputs → y.red ≡ x.red → P ins n x → P ins n y
+  p-same : (ins : List Input) (n : ℕ) (x y : EndState) → Whole side y → Heeds y → y.machine ≡ x.machine
+      → y.session.history.ended_in ≡ x.session.history.ended_in → y.settings ≡ x.settings → y.inputs ≡ x.inputs → y.red ≡ x.red → P ins n x → P ins n y
   p-same ins n x y whole heeds e ended set ins-same red h =
       record {
         whole = whole;
         heeds = heeds;
         closed = h.closed;
-        fails = λ is. ⊎_elim (λ f. inl (fails-more x y [] (ap (λ (t : State). t.taken) e ∙ sym (append-nil x.machine.taken)) ended f)) (λ f. inr f) (h.fails is);
+        fails = λ is. ⊎_elim (λ f. inl (fails-more x y [] (ap (λ (t : State). t.taken) e ∙ sym (append-nil x.machine.taken)) ended f)) (λ f. inr f)
+            (h.fails is);
         joined = h.joined;
         clock = h.clock;
         within = h.within;
@@ -125,9 +112,23 @@ module _ (laws : Laws) (more : OneMoreLaw) (side : Side) (m : M.World) (k : ℕ)
       (λ shut. p-same ins n y (with_session (meets Closes y.session) y) (kw.ends y shut h.whole) (hk.ends y shut h.heeds) refl refl refl refl refl h) (λ _. h)
 
   -- the end may leave once it has heard
-  p-left : (ins : List Input) (n : ℕ) (why : Option Leaving) (y : EndState) (c : Bool) (j : Option ℕ) → (c ≡ true → Fails y ⊎ F) → ((w : Leaving) → why ≡ Some w → Fails y) → OrderedBy side c n k (at_side side y.machine j now m) → y.settings ≡ s → y.inputs ≡ ins
+  p-left : (ins : List Input) (n : ℕ) (why : Option Leaving) (y : EndState) (c : Bool) (j : Option ℕ) → (c ≡ true → Fails y ⊎ F)
+      → ((w : Leaving) → why ≡ Some w → Fails y) → OrderedBy side c n k (at_side side y.machine j now m) → y.settings ≡ s → y.inputs ≡ ins
       → y.red ≡ after_along ins (red_opened s.q s.t_seq) → Whole side (leaves now why y) → Heeds (leaves now why y) → P ins n (leaves now why y)
-  p-left ins n None y c j fails bad o set came red whole heeds = record { whole = whole; heeds = heeds; closed = c; fails = fails; joined = j; clock = now; within = at-now now; ordered = o; set = set; came = came; red = red }
+  p-left ins n None y c j fails bad o set came red whole heeds =
+      record {
+        whole = whole;
+        heeds = heeds;
+        closed = c;
+        fails = fails;
+        joined = j;
+        clock = now;
+        within = at-now now;
+        ordered = o;
+        set = set;
+        came = came;
+        red = red;
+      }
   p-left ins n (Some why) y c j fails bad o set came red whole heeds =
       let mv = Leaves why.0 why.1 now in
       record {
@@ -157,7 +158,8 @@ module _ (laws : Laws) (more : OneMoreLaw) (side : Side) (m : M.World) (k : ℕ)
       let own : a.made.pdu.receiver ≡ x.machine.settings.own = a.receiver ∙ sym (ap (λ (c : Settings). c.own) same ∙ own-same side s) in
       let its : a.made.pdu.sender ≡ x.machine.settings.peer = a.sender ∙ sym (ap (λ (c : Settings). c.peer) same ∙ peer-same side s) in
       let ours : is_stranger x.machine a.made.pdu ≡ false =
-      ap (λ b. cond (b && (a.made.pdu.sender == x.machine.settings.peer)) false true) (ap (λ i. i == x.machine.settings.own) own ∙ eqb-same x.machine.settings.own)
+      ap (λ b. cond (b && (a.made.pdu.sender == x.machine.settings.peer)) false true)
+      (ap (λ i. i == x.machine.settings.own) own ∙ eqb-same x.machine.settings.own)
       ∙ ap (λ b. cond b false true) (ap (λ i. i == x.machine.settings.peer) its ∙ eqb-same x.machine.settings.peer)
       in
       let g : GenuineMove x.machine (drop (peer_dead side m) (peer_made side m)) (Hears a.made.pdu now) =
@@ -167,16 +169,21 @@ module _ (laws : Laws) (more : OneMoreLaw) (side : Side) (m : M.World) (k : ℕ)
       let mv = Hears a.made.pdu now in
       let j = next_joined side x.machine (move mv x.machine) h.joined m in
       let there : OrderedBy side h.closed (n + 1) k (at_side side (move mv x.machine) j now m) =
-      side-moves laws.below.events side m x.machine h.joined h.closed h.clock n k mv h.within g (a.opened, record { made = a.made; later = a.later; at = a.there; is = refl; ours = ours; holds = q.0 }) h.ordered
+      side-moves laws.below.events side m x.machine h.joined h.closed h.clock n k mv h.within g
+      (a.opened, record { made = a.made; later = a.later; at = a.there; is = refl; ours = ours; holds = q.0 }) h.ordered
       in
       let fate = fates laws.below now octets x h.heeds in
-      p-left ins (n + 1) (judge_units (handed_up x s1) x.session).leaving y h.closed j (λ is. ⊎_elim (λ f. inl (fate.still f)) (λ f. inr f) (h.fails is)) fate.leaves
+      p-left ins (n + 1) (judge_units (handed_up x s1) x.session).leaving y h.closed j (λ is. ⊎_elim (λ f. inl (fate.still f)) (λ f. inr f) (h.fails is))
+      fate.leaves
       (subst (λ d. OrderedBy side h.closed (n + 1) k (at_side side (move (heard_as d now) x.machine) j now m)) (sym seen) there) h.set h.came h.red whole heeds
 
-  p-part : (ins : List Input) (n : ℕ) (octets : List ℕ) (x : EndState) → Faithfully peer dead now x octets → IsNth r ms n octets → P ins n x → P ins (n + 1) (part now octets x)
-  p-part ins n octets x q nth h = p-settle ins (n + 1) (heard now octets x) (p-answered ins n octets x q nth h (kw.hears octets x q.1.0 h.whole) (hk.hears octets x h.whole.spoken h.heeds))
+  p-part : (ins : List Input) (n : ℕ) (octets : List ℕ) (x : EndState) → Faithfully peer dead now x octets → IsNth r ms n octets → P ins n x
+      → P ins (n + 1) (part now octets x)
+  p-part ins n octets x q nth h = p-settle ins (n + 1) (heard now octets x)
+      (p-answered ins n octets x q nth h (kw.hears octets x q.1.0 h.whole) (hk.hears octets x h.whole.spoken h.heeds))
 
-  p-parts : (ins : List Input) (n : ℕ) (ps : List Part) (x : EndState) → AtParts (Faithfully peer dead now) now ps x → Numbered r ms n ps → P ins n x → P ins (n + length ps) (parts now ps x)
+  p-parts : (ins : List Input) (n : ℕ) (ps : List Part) (x : EndState) → AtParts (Faithfully peer dead now) now ps x → Numbered r ms n ps → P ins n x
+      → P ins (n + length ps) (parts now ps x)
   p-parts ins n [] x q num h = subst (λ i. P ins i x) (omega arith) h
   p-parts ins n (p ∷ ps) x q num h =
       subst (λ i. P ins i (parts now ps (part now p.1 x))) (omega arith)
@@ -188,7 +195,8 @@ module _ (laws : Laws) (more : OneMoreLaw) (side : Side) (m : M.World) (k : ℕ)
       by_cond (P ins n) (is_nil x.session.waiting) x (cond (may_send x.machine) (packed_up_to fuel now (packed now x)) x) (λ _. h) (λ some.
       by_cond (P ins n) (may_send x.machine) (packed_up_to fuel now (packed now x)) x
       (λ may. p-packed ins n fuel (packed now x)
-      (p-move ins n (Sends (unit_text (take x.settings.n_maxpacket x.session.waiting)) now) x (packed now x) refl refl (λ c. refl) tt tt (kw.sends x may some h.whole) (hk.sends x h.heeds) refl refl refl refl refl h))
+      (p-move ins n (Sends (unit_text (take x.settings.n_maxpacket x.session.waiting)) now) x (packed now x) refl refl (λ c. refl) tt tt
+      (kw.sends x may some h.whole) (hk.sends x h.heeds) refl refl refl refl refl h))
       (λ _. h))
 
   -- one input more
@@ -222,7 +230,8 @@ module _ (laws : Laws) (more : OneMoreLaw) (side : Side) (m : M.World) (k : ℕ)
   Numbers ins i = Numbered r ms (passed ins) (passed_by i (after_along ins (red_opened s.q s.t_seq))) × AllByRecursion (Carry r ms) (arrivals (ins ++ i ∷ []))
 
   passed-push : (ins : List Input) (i : Input) → passed ins + length (passed_by i (after_along ins (red_opened s.q s.t_seq))) ≡ passed (ins ++ i ∷ [])
-  passed-push ins i = sym (ap length (more ins i (red_opened s.q s.t_seq)).1 ∙ length-append (passed_along ins (red_opened s.q s.t_seq)) (passed_by i (after_along ins (red_opened s.q s.t_seq))))
+  passed-push ins i = sym (ap length (more ins i (red_opened s.q s.t_seq)).1 ∙ length-append (passed_along ins (red_opened s.q s.t_seq))
+      (passed_by i (after_along ins (red_opened s.q s.t_seq))))
 
   p-goes_on : (ins : List Input) (i : Input) (x : EndState) → IsTypedInput i → AtInput (Faithfully peer dead now) now i x
       → (is_shut x ≡ false → Numbers ins i) → AllByRecursion (Carry r ms) (arrivals ins) → P ins (passed ins) x → Left (goes_on now i x)
@@ -234,7 +243,8 @@ module _ (laws : Laws) (more : OneMoreLaw) (side : Side) (m : M.World) (k : ℕ)
       let ps = passed_by i x.red in
       let same : ps ≡ passed_by i (after_along ins (red_opened s.q s.t_seq)) = ap (passed_by i) h.red in
       let heard-all : P (ins ++ i ∷ []) (passed ins + length ps) y =
-      p-parts (ins ++ i ∷ []) (passed ins) ps (with_input i x) (q on) (subst (λ l. Numbered r ms (passed ins) l) (sym same) (num on).0) (p-input ins (passed ins) i x t h)
+      p-parts (ins ++ i ∷ []) (passed ins) ps (with_input i x) (q on) (subst (λ l. Numbered r ms (passed ins) l) (sym same) (num on).0)
+      (p-input ins (passed ins) i x t h)
       in
       record {
         ins = ins ++ i ∷ [];
@@ -246,10 +256,30 @@ module _ (laws : Laws) (more : OneMoreLaw) (side : Side) (m : M.World) (k : ℕ)
       refl
 
   p-timed : (x : EndState) (c : Call) → Left x → Left (record x { time = time_of c })
-  p-timed x c h = record { ins = h.ins; carry = h.carry; there = p-same h.ins (passed h.ins) x (record x { time = time_of c }) (kw-time x (time_of c) h.there.whole) (record { on = h.there.heeds.on; judged = h.there.heeds.judged; taken = h.there.heeds.taken }) refl refl refl refl refl h.there }
+  p-timed x c h = record {
+    ins = h.ins;
+    carry = h.carry;
+    there = p-same h.ins (passed h.ins) x (record x { time = time_of c })
+        (kw-time x (time_of c) h.there.whole) (record { on = h.there.heeds.on; judged = h.there.heeds.judged; taken = h.there.heeds.taken }) refl refl refl refl
+        refl h.there;
+  }
     where
       kw-time : (x : EndState) (t : ℕ) → Whole side x → Whole side (record x { time = t })
-      kw-time x t w = record { spoken = record { fit = w.spoken.fit; talk = w.spoken.talk; unpack = w.spoken.unpack; begins = w.spoken.begins; whole = w.spoken.whole }; machined = record { same = w.machined.same; first = w.machined.first; began = w.machined.began; moves = w.machined.moves; read = w.machined.read; machine = w.machined.machine; waits = w.machined.waits } }
+      kw-time x t w = record {
+        spoken =
+            record { fit = w.spoken.fit; talk = w.spoken.talk; unpack = w.spoken.unpack; begins = w.spoken.begins; whole = w.spoken.whole };
+        machined =
+            record {
+              same = w.machined.same;
+              first = w.machined.first;
+              began = w.machined.began;
+              moves = w.machined.moves;
+              read = w.machined.read;
+              machine =
+                  w.machined.machine;
+              waits = w.machined.waits;
+            };
+      }
 
   -- what a call asks of the numbers of its parts
   abbrev pub Counts : List Input → Call → EndState → Type 0
@@ -258,19 +288,31 @@ module _ (laws : Laws) (more : OneMoreLaw) (side : Side) (m : M.World) (k : ℕ)
       is_shut x ≡ false → is_shut (end_moved (Guards t) x) ≡ false → Numbers ins (Datagram octets t)
   Counts ins c x = Unit {0}
 
-  pub ord-put : (kind : ℕ) (payload : List ℕ) (ins : List Input) (x : EndState) → kind < 256 ^ 2 → AllByRecursion (Carry r ms) (arrivals ins) → P ins (passed ins) x → Left (call (Put kind payload now) x)
+  pub ord-put : (kind : ℕ) (payload : List ℕ) (ins : List Input) (x : EndState) → kind < 256 ^ 2 → AllByRecursion (Carry r ms) (arrivals ins)
+      → P ins (passed ins) x → Left (call (Put kind payload now) x)
   ord-put kind payload ins x fits carry h =
       let y : EndState = with_session (meets (Puts kind payload (length x.session.waiting)) x.session) x in
       p-timed (sends now y) (Put kind payload now)
-      (record { ins = ins; carry = carry; there = p-packed ins (passed ins) (length y.session.waiting) y (p-same ins (passed ins) x y (kw.puts kind payload x fits h.whole) (hk.puts kind payload x h.heeds) refl refl refl refl refl h) })
+      (record {
+        ins = ins;
+        carry = carry;
+        there = p-packed ins (passed ins) (length y.session.waiting) y
+            (p-same ins (passed ins) x y (kw.puts kind payload x fits h.whole) (hk.puts kind payload x h.heeds) refl refl refl refl refl h);
+      })
 
   pub ord-done : (ins : List Input) (x : EndState) → AllByRecursion (Carry r ms) (arrivals ins) → P ins (passed ins) x → Left (call (InitDone now) x)
   ord-done ins x carry h =
       let y : EndState = with_session (meets (Completes (length x.session.waiting)) x.session) x in
       p-timed (sends now y) (InitDone now)
-      (record { ins = ins; carry = carry; there = p-packed ins (passed ins) (length y.session.waiting) y (p-same ins (passed ins) x y (kw.dones x h.whole) (hk.dones x h.heeds) refl refl refl refl refl h) })
+      (record {
+        ins = ins;
+        carry = carry;
+        there = p-packed ins (passed ins) (length y.session.waiting) y
+            (p-same ins (passed ins) x y (kw.dones x h.whole) (hk.dones x h.heeds) refl refl refl refl refl h);
+      })
 
-  pub ord-tick : (ins : List Input) (x : EndState) → GuardHolds x.machine now → AtCall (Faithfully peer dead now) (Tick now) x → Counts ins (Tick now) x → AllByRecursion (Carry r ms) (arrivals ins) → P ins (passed ins) x → Left (call (Tick now) x)
+  pub ord-tick : (ins : List Input) (x : EndState) → GuardHolds x.machine now → AtCall (Faithfully peer dead now) (Tick now) x → Counts ins (Tick now) x
+      → AllByRecursion (Carry r ms) (arrivals ins) → P ins (passed ins) x → Left (call (Tick now) x)
   ord-tick ins x g q num carry h =
       p-timed (did (Tick now) x) (Tick now)
       (by_test (λ b. is_shut x ≡ b → Left (cond b x (goes_on now (RedTick now) (end_moved (Ticks now) x)))) (is_shut x)
@@ -278,11 +320,14 @@ module _ (laws : Laws) (more : OneMoreLaw) (side : Side) (m : M.World) (k : ℕ)
       (λ on _.
       p-goes_on ins (RedTick now) (end_moved (Ticks now) x) tt (q on) (num on) carry
       (p-settle ins (passed ins) (with_machine (tick now x.machine) x)
-      (p-move ins (passed ins) (Ticks now) x (with_machine (tick now x.machine) x) refl refl (λ c. refl) tt g (kw.ticks x h.whole) (hk.ticks x h.heeds) refl refl refl refl refl h)))
+      (p-move ins (passed ins) (Ticks now) x (with_machine (tick now x.machine) x) refl refl (λ c. refl) tt g (kw.ticks x h.whole) (hk.ticks x h.heeds) refl
+      refl refl refl refl h)))
       refl)
 
-  pub ord-deliver : (channel : ℕ) (octets : List ℕ) (ins : List Input) (x : EndState) → IsTypedInput (Datagram octets now) → GuardHolds x.machine now → AtCall (Faithfully peer dead now) (Deliver channel octets now) x
-      → Counts ins (Deliver channel octets now) x → AllByRecursion (Carry r ms) (arrivals ins) → P ins (passed ins) x → Left (call (Deliver channel octets now) x)
+  pub ord-deliver : (channel : ℕ) (octets : List ℕ) (ins : List Input) (x : EndState) → IsTypedInput (Datagram octets now) → GuardHolds x.machine now
+      → AtCall (Faithfully peer dead now) (Deliver channel octets now) x
+      → Counts ins (Deliver channel octets now) x → AllByRecursion (Carry r ms) (arrivals ins) → P ins (passed ins) x
+      → Left (call (Deliver channel octets now) x)
   ord-deliver channel octets ins x typed g q num carry h =
       p-timed (did (Deliver channel octets now) x) (Deliver channel octets now)
       (by_test (λ b. is_shut x ≡ b → Left (cond b x (goes_on now (Datagram octets now) (end_moved (Guards now) x)))) (is_shut x)
@@ -290,5 +335,6 @@ module _ (laws : Laws) (more : OneMoreLaw) (side : Side) (m : M.World) (k : ℕ)
       (λ on _.
       p-goes_on ins (Datagram octets now) (end_moved (Guards now) x) typed (q on) (num on) carry
       (p-settle ins (passed ins) (with_machine (guard now x.machine) x)
-      (p-move ins (passed ins) (Guards now) x (with_machine (guard now x.machine) x) refl refl (λ c. refl) tt g (kw.guards x h.whole) (hk.guards x h.heeds) refl refl refl refl refl h)))
+      (p-move ins (passed ins) (Guards now) x (with_machine (guard now x.machine) x) refl refl (λ c. refl) tt g (kw.guards x h.whole) (hk.guards x h.heeds) refl
+      refl refl refl refl h)))
       refl)

@@ -1,28 +1,15 @@
 -- Over faithful lists every part that goes up is the peer's next PDU: machines hear one another in order.
-use Rattle.std.proofs.Common.{◌≡◌, ◌≢◌, ◌==◌, ◌||◌, ◌+◌, ◌≤◌, ◌<◌, ℕ, zero, suc, List, [], ◌∷◌, ◌++◌, length, drop, Option, Some, unwrap_or, Bool, true, false, cond, refl, sym, ap, subst, ◌∙◌, append_assoc, append-nil, arith}
-use Rattle.std.specs.List.{AllByRecursion}
-use Rattle.std.proofs.lemmas.Bool.{eqb-true}
-use Rattle.std.proofs.lemmas.List.{length-append}
-use Rattle.octets.proofs.Choices.{by_test}
-use Rattle.red_layer.specs.FiniteMap.{has_number, part_under}
-use Rattle.red_layer.specs.Parts.{Part}
-use Rattle.red_layer.specs.Redundancy.{Input, passed_by, opened as red_opened}
-use Rattle.red_layer.specs.Service.{arrivals, arrivals_of, passed_along, after_along}
-use Rattle.red_layer.specs.Masking.{first_missing, first_parts, QNear, NoDeadlineFalls, no_wait, wait_after, Wait}
-use Rattle.red_layer.specs.Laws.{Masking, FirstMissingLaw, OneMoreLaw}
-use Rattle.safe_pdu.specs.declared.CodeRule.{CodeRule}
-use Rattle.safe_machine.specs.Settings.{Settings}
-use Rattle.safe_machine.specs.Made.{Made}
-use Rattle.safe_machine.specs.State.{State}
-use Rattle.safe_machine.specs.Moves.{Move, move, AreFrom}
-use Rattle.safe_machine.specs.Moves.Move.{Guards, Hears, Ticks, Sends, Leaves}
-use Rattle.safe_machine.specs.World.{Side}
-use Rattle.safe_machine.specs.World.Side.{Il, Fe}
-use Rattle.safe_machine.specs.World as M
-use Rattle.safe_machine.specs.World.Event.{Open, Send, Close, Guard, Tick, Arrive}
-use Rattle.safe_machine.specs.InOrder.{GuardHolds, NextArrival, InOrder, InOrderEvent, heard_by_il, heard_by_fe, all_heard_by_il, all_heard_by_fe, is_close, has_close, OneMoreLaw as EventsLaw}
-use Rattle.stack_end.specs.Datagrams.{upper_of}
+use Rattle.stack_engine.proofs.Words.{◌≡◌, ◌≢◌, ◌==◌, ◌+◌, ◌≤◌, ◌<◌, ℕ, zero, suc, List, [], ◌∷◌, ◌++◌, length, drop, Option, Some, unwrap_or, Bool, true}
+use Rattle.stack_engine.proofs.Words.{false, cond, refl, sym, ap, subst, ◌∙◌, append_assoc, append-nil, arith, AllByRecursion, eqb-true, length-append, by_test}
+use Rattle.stack_engine.proofs.Words.{has_number, part_under, Part, Input, passed_by, red_opened, arrivals, arrivals_of, passed_along, after_along}
+use Rattle.stack_engine.proofs.Words.{first_missing, first_parts, QNear, NoDeadlineFalls, no_wait, wait_after, Wait, Masking, FirstMissingLaw, OneMoreLaw}
+use Rattle.stack_engine.proofs.Words.{CodeRule, Settings, Made, State, Move, move, AreFrom, Guards, Hears, Ticks, Sends, Leaves, Side, Il, Fe, Send, Guard}
+use Rattle.stack_engine.proofs.Words.{Arrive, GuardHolds, NextArrival, InOrder, InOrderEvent, heard_by_il, heard_by_fe, all_heard_by_il, all_heard_by_fe}
+use Rattle.stack_engine.proofs.Words.{is_close, has_close, EventsLaw, upper_of}
+use Rattle.std.proofs.Common.{◌||◌}
+use Rattle.safe_machine.specs.World.Event.{Open, Close, Tick}
 use Rattle.stack_engine.proofs.two.Reached.{il_at, fe_at, GenuineMove, move_time, joined_after}
+use Rattle.safe_machine.specs.World as M
 
 -- the PDU with this index has these octets
 abbrev pub IsNth : CodeRule → List Made → ℕ → List ℕ → Type 0
@@ -32,7 +19,8 @@ abbrev pub Numbered : CodeRule → List Made → ℕ → List Part → Type 0
 Numbered rule ms n [] = Unit {0}
 Numbered rule ms n (p ∷ ps) = IsNth rule ms n p.1 × Numbered rule ms (suc n) ps
 
-numbered-append : (r : CodeRule) (ms : List Made) (n : ℕ) (ps qs : List Part) → Numbered r ms n ps → Numbered r ms (n + length ps) qs → Numbered r ms n (ps ++ qs)
+numbered-append : (r : CodeRule) (ms : List Made) (n : ℕ) (ps qs : List Part) → Numbered r ms n ps → Numbered r ms (n + length ps) qs
+    → Numbered r ms n (ps ++ qs)
 numbered-append r ms n [] qs h k = subst (λ i. Numbered r ms i qs) (omega arith) k
 numbered-append r ms n (p ∷ ps) qs h k = (h.0, numbered-append r ms (suc n) ps qs h.1 (subst (λ i. Numbered r ms i qs) (omega arith) k))
 
@@ -44,7 +32,8 @@ numbered-behind r ms n (p ∷ ps) qs h = subst (λ i. Numbered r ms i qs) (omega
 abbrev pub Carry : CodeRule → List Made → Part → Type 0
 Carry r ms p = IsNth r ms p.0 p.1
 
-pub found : (r : CodeRule) (ms : List Made) (k : ℕ) (arrived : List Part) → has_number k arrived ≡ true → AllByRecursion (Carry r ms) arrived → IsNth r ms k (unwrap_or (part_under k arrived) [])
+pub found : (r : CodeRule) (ms : List Made) (k : ℕ) (arrived : List Part) → has_number k arrived ≡ true → AllByRecursion (Carry r ms) arrived
+    → IsNth r ms k (unwrap_or (part_under k arrived) [])
 found r ms k [] has h = cc
 found r ms k (p ∷ ps) has h =
     by_test (λ b. (p.0 == k) ≡ b → (b || has_number k ps) ≡ true → IsNth r ms k (unwrap_or (cond b (Some p.1) (part_under k ps)) [])) (p.0 == k)
@@ -52,26 +41,35 @@ found r ms k (p ∷ ps) has h =
 
 pub length-first : (m : ℕ) (arrived : List Part) → length (first_parts m arrived) ≡ m
 length-first zero arrived = refl
-length-first (suc m) arrived = let e = length-first m arrived in length-append (first_parts m arrived) ((m, unwrap_or (part_under m arrived) []) ∷ []) ∙ omega (arith, e)
+length-first (suc m) arrived = let e = length-first m arrived in length-append (first_parts m arrived) ((m, unwrap_or (part_under m arrived) []) ∷ [])
+    ∙ omega (arith, e)
 
-first-numbered : (r : CodeRule) (ms : List Made) (m : ℕ) (arrived : List Part) → ((k : ℕ) → k < m → has_number k arrived ≡ true) → AllByRecursion (Carry r ms) arrived → Numbered r ms 0 (first_parts m arrived)
+first-numbered : (r : CodeRule) (ms : List Made) (m : ℕ) (arrived : List Part) → ((k : ℕ) → k < m → has_number k arrived ≡ true)
+    → AllByRecursion (Carry r ms) arrived → Numbered r ms 0 (first_parts m arrived)
 first-numbered r ms zero arrived has h = tt
 first-numbered r ms (suc m) arrived has h =
-    numbered-append r ms 0 (first_parts m arrived) ((m, unwrap_or (part_under m arrived) []) ∷ []) (first-numbered r ms m arrived (λ k lt. has k (omega (arith, lt))) h)
-    (subst (λ i. IsNth r ms i (unwrap_or (part_under m arrived) [])) (let e = length-first m arrived in omega (arith, e)) (found r ms m arrived (has m (omega arith)) h), tt)
+    numbered-append r ms 0 (first_parts m arrived) ((m, unwrap_or (part_under m arrived) []) ∷ [])
+    (first-numbered r ms m arrived (λ k lt. has k (omega (arith, lt))) h) (
+      subst (λ i. IsNth r ms i (unwrap_or (part_under m arrived) [])) (let e = length-first m arrived in omega (arith, e))
+          (found r ms m arrived (has m (omega arith)) h),
+      tt,
+    )
 
 pub arrivals-push : (is : List Input) (i : Input) → arrivals (is ++ i ∷ []) ≡ arrivals is ++ arrivals_of i
 arrivals-push [] i = append-nil (arrivals_of i)
 arrivals-push (j ∷ is) i = ap (λ ps. arrivals_of j ++ ps) (arrivals-push is i) ∙ sym (append_assoc (arrivals_of j) (arrivals is) (arrivals_of i))
 
 -- The parts that go up at one input more are numbered on.
-pub red-numbered : Masking → FirstMissingLaw → OneMoreLaw → (r : CodeRule) (ms : List Made) (q t_seq : ℕ) (is : List Input) (i : Input) → QNear q [] (is ++ i ∷ []) → NoDeadlineFalls t_seq no_wait (is ++ i ∷ [])
-    → AllByRecursion (Carry r ms) (arrivals (is ++ i ∷ [])) → Numbered r ms (length (passed_along is (red_opened q t_seq))) (passed_by i (after_along is (red_opened q t_seq)))
+pub red-numbered : Masking → FirstMissingLaw → OneMoreLaw → (r : CodeRule) (ms : List Made) (q t_seq : ℕ) (is : List Input) (i : Input)
+    → QNear q [] (is ++ i ∷ []) → NoDeadlineFalls t_seq no_wait (is ++ i ∷ [])
+    → AllByRecursion (Carry r ms) (arrivals (is ++ i ∷ [])) → Numbered r ms (length (passed_along is (red_opened q t_seq)))
+    (passed_by i (after_along is (red_opened q t_seq)))
 red-numbered masking missing more r ms q t_seq is i near timely carry =
     let r0 = red_opened q t_seq in
     let all = arrivals (is ++ i ∷ []) in
     let whole : Numbered r ms 0 (passed_along (is ++ i ∷ []) r0) =
-    subst (λ ps. Numbered r ms 0 ps) (sym (masking q t_seq (is ++ i ∷ []) near timely)) (first-numbered r ms (first_missing all) all (missing all).0.all_below carry)
+    subst (λ ps. Numbered r ms 0 ps) (sym (masking q t_seq (is ++ i ∷ []) near timely))
+    (first-numbered r ms (first_missing all) all (missing all).0.all_below carry)
     in
     subst (λ n. Numbered r ms n (passed_by i (after_along is r0))) (omega arith)
     (numbered-behind r ms 0 (passed_along is r0) (passed_by i (after_along is r0)) (subst (λ ps. Numbered r ms 0 ps) (more is i r0).1 whole))
@@ -86,7 +84,8 @@ timely-front t_seq w [] js h = tt
 timely-front t_seq w (i ∷ is) js h = (h.0, timely-front t_seq (wait_after i w) is js h.1)
 
 -- a PDU made bears the end's identifiers
-pub bear-nth : (s : Settings) (ms : List Made) (n : ℕ) (m : Made) (later : List Made) → AreFrom s ms → drop n ms ≡ m ∷ later → (m.pdu.receiver ≡ s.peer) × (m.pdu.sender ≡ s.own)
+pub bear-nth : (s : Settings) (ms : List Made) (n : ℕ) (m : Made) (later : List Made) → AreFrom s ms → drop n ms ≡ m ∷ later
+    → (m.pdu.receiver ≡ s.peer) × (m.pdu.sender ≡ s.own)
 bear-nth s [] zero m later h e = cc
 bear-nth s [] (suc n) m later h e = cc
 bear-nth s (x ∷ ms) zero m later h e = let is : x ≡ m = cc in subst (λ (y : Made). (y.pdu.receiver ≡ s.peer) × (y.pdu.sender ≡ s.own)) is h.0
@@ -122,7 +121,8 @@ closed-more (Tick side now) false = refl
 closed-more (Arrive side p now) true = refl
 closed-more (Arrive side p now) false = refl
 
-pub ordered : EventsLaw → (c : Bool) (il fe : ℕ) (m : M.World) (e : M.Event) → M.GenuineEvent m e → M.TimelyEvent m e → InOrderEvent il fe m e → Ordered c il fe m → Ordered (closed_by e c) (heard_by_il e il) (heard_by_fe e fe) (M.happens m e)
+pub ordered : EventsLaw → (c : Bool) (il fe : ℕ) (m : M.World) (e : M.Event) → M.GenuineEvent m e → M.TimelyEvent m e → InOrderEvent il fe m e
+    → Ordered c il fe m → Ordered (closed_by e c) (heard_by_il e il) (heard_by_fe e fe) (M.happens m e)
 ordered law c il fe m e g t o h =
     let one = law h.events e in
     record {
@@ -180,8 +180,10 @@ abbrev pub next_joined : Side → State → State → Option ℕ → M.World →
 next_joined Il s t q m = q
 next_joined Fe s t q m = joined_after s t q m
 
-pub side-moves : EventsLaw → (side : Side) (m : M.World) (s : State) (q : Option ℕ) (c : Bool) (clock n k : ℕ) (mv : Move) → clock ≤ move_time mv → GenuineMove s (drop (peer_dead side m) (peer_made side m)) mv → OrderedMove side m n s mv
-    → OrderedBy side c n k (at_side side s q clock m) → OrderedBy side (closed_more mv c) (heard_more mv n) k (at_side side (move mv s) (next_joined side s (move mv s) q m) (move_time mv) m)
+pub side-moves : EventsLaw → (side : Side) (m : M.World) (s : State) (q : Option ℕ) (c : Bool) (clock n k : ℕ) (mv : Move) → clock ≤ move_time mv
+    → GenuineMove s (drop (peer_dead side m) (peer_made side m)) mv → OrderedMove side m n s mv
+    → OrderedBy side c n k (at_side side s q clock m) → OrderedBy side (closed_more mv c) (heard_more mv n) k
+    (at_side side (move mv s) (next_joined side s (move mv s) q m) (move_time mv) m)
 side-moves law Il m s q c clock n k (Guards now) t g o h = ordered law c n k (il_at s clock m) (Guard Il now) tt t o h
 side-moves law Il m s q c clock n k (Hears p now) t g o h = ordered law c n k (il_at s clock m) (Arrive Il p now) g t o h
 side-moves law Il m s q c clock n k (Ticks now) t g o h = ordered law c n k (il_at s clock m) (Tick Il now) tt t o h

@@ -1,25 +1,11 @@
 -- Nothing is asked for again over faithful lists, and with all arrived all units were taken.
-use Rattle.std.proofs.Common.{◌≡◌, inl, inr, ◌≤◌, ◌<◌, ℕ, zero, suc, List, [], ◌∷◌, ◌++◌, length, Option, Some, None, true, false, refl, sym, ap, subst, ◌∙◌, arith}
-use Rattle.std.proofs.lemmas.Bool.{false≢true}
-use Rattle.red_layer.specs.Service.{arrivals}
-use Rattle.red_layer.specs.Masking.{first_missing}
-use Rattle.safe_pdu.specs.declared.CodeRule.{CodeRule}
-use Rattle.safe_machine.specs.Made.{Made, units}
-use Rattle.safe_machine.specs.World.{Side}
-use Rattle.safe_machine.specs.World.Side.{Il, Fe}
-use Rattle.safe_machine.specs.InOrder.{KeepsOrder, AsksNothing, all_heard_by_il, all_heard_by_fe}
-use Rattle.safe_machine.specs.Step.{may_send}
-use Rattle.safe_machine.specs.State.{unconfirmed}
-use Rattle.pdi_session.specs.Histories.{History, is_ended}
-use Rattle.pdi_session.specs.Laws.{items_of}
-use Rattle.end_settings.specs.EndSettings.{EndSettings, are_fit, rule_of, session_of}
-use Rattle.stack_end.specs.Ends.{EndState, new_end, is_shut, Call}
-use Rattle.stack_engine.specs.Headline.{put_at, taken_at}
-use Rattle.stack_engine.specs.Settled.{messages_in, telegrams_in, items_waiting}
-use Rattle.stack_engine.specs.Pairs.{World, JoinedEnd, Event, start, run, latest, ends_of, refusal, call_il, call_fe, changed, happens}
-use Rattle.stack_engine.specs.Pairs.Event.{Open, Calls}
-use Rattle.stack_engine.specs.Premise.{AtOpened, IsGenuine, GenuineCall, GenuineEvent, Genuine, IsTyped, AreTyped}
-use Rattle.stack_engine.specs.Faithful.{IsNear, OfBoth, AllArrived, WaitsForWindow, IfOpen, OrderlyLaw}
+use Rattle.stack_engine.proofs.Words.{◌≡◌, inl, inr, ◌≤◌, ◌<◌, ℕ, zero, suc, List, [], ◌∷◌, ◌++◌, length, Option, Some, None, true, false, refl, sym, ap, subst}
+use Rattle.stack_engine.proofs.Words.{◌∙◌, arith, false≢true, arrivals, first_missing, CodeRule, Made, units, Side, Il, Fe, KeepsOrder, AsksNothing}
+use Rattle.stack_engine.proofs.Words.{all_heard_by_il, all_heard_by_fe, may_send, unconfirmed, History, is_ended, items_of, EndSettings, are_fit, rule_of}
+use Rattle.stack_engine.proofs.Words.{session_of, EndState, new_end, is_shut, Call, put_at, taken_at, messages_in, telegrams_in, items_waiting, World}
+use Rattle.stack_engine.proofs.Words.{JoinedEnd, Event, start, run, latest, ends_of, refusal, call_il, call_fe, changed, happens, Open, Calls, AtOpened}
+use Rattle.stack_engine.proofs.Words.{IsGenuine, GenuineCall, GenuineEvent, Genuine, IsTyped, AreTyped, IsNear, OfBoth, AllArrived, WaitsForWindow, IfOpen}
+use Rattle.stack_engine.proofs.Words.{OrderlyLaw}
 use Rattle.stack_engine.proofs.one.Keeping.{IsTypedCall}
 use Rattle.stack_engine.proofs.one.Spoken.{Spoken}
 use Rattle.stack_engine.proofs.one.Sending.{packs-some}
@@ -63,11 +49,13 @@ keeps p ils fes di df o =
     (subst (λ n. KeepsOrder (all_heard_by_il es 0) n (machines ils fes o.joined di df o.clock_il o.clock_fe)) o.ordered.heard_fe
     (subst (KeepsOrder (all_heard_by_il es 0) (all_heard_by_fe es 0)) o.ordered.leads (p.in_order es o.ordered.genuine o.ordered.timely o.ordered.in_order)))
 
-pub il-quiet : (p : OrderLaws) (ils : List EndState) (fes : List JoinedEnd) (di df : ℕ) → OrdWorld ils fes di df → AtOpened (λ x. AsksNothing x.machine.made) (latest ils)
+pub il-quiet : (p : OrderLaws) (ils : List EndState) (fes : List JoinedEnd) (di df : ℕ) → OrdWorld ils fes di df
+    → AtOpened (λ x. AsksNothing x.machine.made) (latest ils)
 il-quiet p [] fes di df o = tt
 il-quiet p (x ∷ before) fes di df o = (keeps p (x ∷ before) fes di df o).il_asks_nothing
 
-pub fe-quiet : (p : OrderLaws) (ils : List EndState) (fes : List JoinedEnd) (di df : ℕ) → OrdWorld ils fes di df → AtOpened (λ x. AsksNothing x.machine.made) (latest (ends_of fes))
+pub fe-quiet : (p : OrderLaws) (ils : List EndState) (fes : List JoinedEnd) (di df : ℕ) → OrdWorld ils fes di df
+    → AtOpened (λ x. AsksNothing x.machine.made) (latest (ends_of fes))
 fe-quiet p ils [] di df o = tt
 fe-quiet p ils (f ∷ fs) di df o = (keeps p ils (f ∷ fs) di df o).fe_asks_nothing
 
@@ -78,16 +66,19 @@ PacksWorld ils fes = AtOpened PacksAt (latest ils) × AtOpened PacksAt (latest (
 new-packs : (side : Side) (s : EndSettings) (first now : ℕ) → are_fit side s ≡ true → PacksAt (new_end side s first now)
 new-packs side s first now fit = ((packs-some side s fit).0, inl refl)
 
-packs-il : (p : OrderLaws) (c : Call) (ils : List EndState) (peer : Option EndState) (df : ℕ) → IsTypedCall c → AtOpened (GenuineCall peer df c) (latest ils) → AtOpened PacksAt (latest ils) → AtOpened PacksAt (latest (call_il c ils))
+packs-il : (p : OrderLaws) (c : Call) (ils : List EndState) (peer : Option EndState) (df : ℕ) → IsTypedCall c → AtOpened (GenuineCall peer df c) (latest ils)
+    → AtOpened PacksAt (latest ils) → AtOpened PacksAt (latest (call_il c ils))
 packs-il p c [] peer df t g h = tt
 packs-il p c (x ∷ before) peer df t g h = call-packs-at c x (grown-call p.laws.below.moves (IsGenuine peer df) c x t g.1).set h
 
-packs-fe : (p : OrderLaws) (c : Call) (ils : List EndState) (fes : List JoinedEnd) (peer : Option EndState) (di : ℕ) → IsTypedCall c → AtOpened (GenuineCall peer di c) (latest (ends_of fes)) → AtOpened PacksAt (latest (ends_of fes))
+packs-fe : (p : OrderLaws) (c : Call) (ils : List EndState) (fes : List JoinedEnd) (peer : Option EndState) (di : ℕ) → IsTypedCall c
+    → AtOpened (GenuineCall peer di c) (latest (ends_of fes)) → AtOpened PacksAt (latest (ends_of fes))
     → AtOpened PacksAt (latest (ends_of (call_fe c ils fes)))
 packs-fe p c ils [] peer di t g h = tt
 packs-fe p c ils (f ∷ fs) peer di t g h = call-packs-at c f.end (grown-call p.laws.below.moves (IsGenuine peer di) c f.end t g.1).set h
 
-packs-changed : (p : OrderLaws) (e : Event) (w : World) → IsTyped e → refusal e w ≡ None → GenuineEvent e w → PacksWorld w.ils w.fes → PacksWorld (changed e w).ils (changed e w).fes
+packs-changed : (p : OrderLaws) (e : Event) (w : World) → IsTyped e → refusal e w ≡ None → GenuineEvent e w → PacksWorld w.ils w.fes
+    → PacksWorld (changed e w).ils (changed e w).fes
 packs-changed p (Open Il s first now) w t ok g h = (new-packs Il s first now (opens Il s now (latest w.ils) ok).fit, h.1)
 packs-changed p (Open Fe s first now) w t ok g h = (h.0, new-packs Fe s first now (opens Fe s now (latest (ends_of w.fes)) ok).fit)
 packs-changed p (Calls Il c) w t ok g h = (packs-il p c w.ils (latest (ends_of w.fes)) w.dead_fe (typed-call Il c t) g h.0, h.1)
@@ -103,16 +94,21 @@ waits-by x (inl nil) full = λ some. absurd (some (nil-is x.session.waiting nil)
 waits-by x (inr not) full = λ some. full not
 
 -- with all units taken, all that was put in is taken but what waits
-all-taken : ItemLaws → (a b : Side) (x y : EndState) → Spoken a x → Spoken b y → Heeds y → is_shut y ≡ false → y.machine.taken ≡ units x.machine.made → put_at x ≡ taken_at y ++ items_waiting x
+all-taken : ItemLaws → (a b : Side) (x y : EndState) → Spoken a x → Spoken b y → Heeds y → is_shut y ≡ false → y.machine.taken ≡ units x.machine.made
+    → put_at x ≡ taken_at y ++ items_waiting x
 all-taken laws a b x y sx sy he on units-are =
-    let judged : y.session.history.judged ≡ telegrams_in (messages_in (units x.machine.made)) = sy.whole on ∙ ap (λ us. telegrams_in (messages_in us)) units-are in
-    let took : taken_at y ≡ items_of y.session.history.judged =
-    subst (λ (h : History). is_ended h.state.phase ≡ false → h.taken ≡ items_of h.judged) (sym sy.talk.history) (laws.taken y.settings.addressing (session_of b y.settings) sy.talk.events).1 (he.on on)
+    let judged : y.session.history.judged ≡ telegrams_in (messages_in (units x.machine.made)) = sy.whole on ∙ ap (λ us. telegrams_in (messages_in us)) units-are
     in
-    sym (queue-put laws a x sx) ∙ ap items_of (queue-is a x sx) ∙ items-append (telegrams_in (messages_in (units x.machine.made))) (telegrams_in x.session.waiting)
+    let took : taken_at y ≡ items_of y.session.history.judged =
+    subst (λ (h : History). is_ended h.state.phase ≡ false → h.taken ≡ items_of h.judged) (sym sy.talk.history)
+    (laws.taken y.settings.addressing (session_of b y.settings) sy.talk.events).1 (he.on on)
+    in
+    sym (queue-put laws a x sx) ∙ ap items_of (queue-is a x sx) ∙ items-append (telegrams_in (messages_in (units x.machine.made)))
+    (telegrams_in x.session.waiting)
     ∙ ap (λ is. is ++ items_waiting x) (sym (took ∙ ap items_of judged))
 
-pub there : (p : OrderLaws) (items : ItemLaws) (ils : List EndState) (fes : List JoinedEnd) (di df : ℕ) → OrdWorld ils fes di df → AheadOf ils fes → Mapped ils fes di df → Paired ils fes → PacksWorld ils fes
+pub there : (p : OrderLaws) (items : ItemLaws) (ils : List EndState) (fes : List JoinedEnd) (di df : ℕ) → OrdWorld ils fes di df → AheadOf ils fes
+    → Mapped ils fes di df → Paired ils fes → PacksWorld ils fes
     → OfBoth IfOpen (latest ils) (latest (ends_of fes))
 there p items [] fes di df o a h q k = tt
 there p items (x ∷ before) [] di df o a h q k = tt

@@ -1,30 +1,11 @@
 -- While a connection is not up its session is idle and nothing waits; once it is up the session has begun.
-use Rattle.std.proofs.Common.{◌≡◌, ◌≢◌, ◌⊎◌, inl, inr, ⊎_elim, ℕ, List, [], ◌∷◌, ◌++◌, length, drop, Option, Some, None, Result, Ok, Err, Bool, true, false, cond, refl, sym, ap, subst, ◌∙◌, append-nil}
-use Rattle.std.specs.Prelude.{is_none}
-use Rattle.std.proofs.lemmas.Bool.{false≢true}
-use Rattle.octets.proofs.Choices.{by_cond, by_test}
-use Rattle.packing.specs.declared.PackFault.{PackFault}
-use Rattle.packing.specs.Places.{unit_seen}
-use Rattle.red_layer.specs.Parts.{is_nil}
-use Rattle.sci_telegram.specs.declared.TeleFault.{TeleFault}
-use Rattle.sci_telegram.specs.Tele.{Tele}
-use Rattle.sci_telegram.specs.Places.{tele_seen}
-use Rattle.safe_machine.specs.declared.ConnectionState.{ConnectionState}
-use Rattle.safe_machine.specs.declared.ConnectionState.TheVariants.{Closed, Down, Start, Up as IsUp, RetrReq, RetrRun}
-use Rattle.safe_machine.specs.State.{State}
-use Rattle.safe_machine.specs.Step.{is_connected}
-use Rattle.safe_machine.specs.Moves.{Move, move, WaitsLaw, ConnectionsLaw, GoesOn}
-use Rattle.safe_machine.specs.Moves.Move.{Guards, Ticks, Sends}
-use Rattle.safe_machine.specs.Octets.{heard as heard_as, seen_by, arrive_octets}
-use Rattle.pdi_session.specs.declared.Phase.{Phase}
-use Rattle.pdi_session.specs.declared.Phase.TheVariants.{Idle, Established}
-use Rattle.pdi_session.specs.Settings.{Role, Interlocking, Field}
-use Rattle.pdi_session.specs.Tables.{may_put, is_initialising}
-use Rattle.pdi_session.specs.SessionStep.{Arrives, Puts, InitDone as Completes, Closes, added_by, init_refusal, phase_after, texts}
-use Rattle.pdi_session.specs.Histories.{ends_by}
-use Rattle.pdi_session.specs.Laws.{BegunLaw}
-use Rattle.stack_end.specs.Dialogue.{Dialogue, session_in, phase_in, meets, Leaving, Judged, judge_read, unless_leaving, judge_messages, judge_unpacked, judge_units}
-use Rattle.stack_end.specs.Ends.{EndState, handed_up, comes_up, rises, answered, leaves, packed}
+use Rattle.stack_engine.proofs.Words.{◌≡◌, ◌≢◌, ◌⊎◌, inl, inr, ⊎_elim, ℕ, List, [], ◌∷◌, ◌++◌, length, drop, Option, Some, None, Result, Ok, Err, Bool, true}
+use Rattle.stack_engine.proofs.Words.{false, cond, refl, sym, ap, subst, ◌∙◌, append-nil, is_none, false≢true, by_cond, by_test, PackFault, unit_seen, is_nil}
+use Rattle.stack_engine.proofs.Words.{TeleFault, Tele, tele_seen, ConnectionState, Closed, Down, Start, IsUp, RetrReq, RetrRun, State, is_connected, Move, move}
+use Rattle.stack_engine.proofs.Words.{WaitsLaw, ConnectionsLaw, GoesOn, Guards, Ticks, Sends, heard_as, seen_by, arrive_octets, Phase, Idle, Established, Role}
+use Rattle.stack_engine.proofs.Words.{Interlocking, Field, may_put, is_initialising, Arrives, Puts, Completes, Closes, added_by, init_refusal, phase_after}
+use Rattle.stack_engine.proofs.Words.{texts, ends_by, BegunLaw, Dialogue, session_in, phase_in, meets, Leaving, Judged, judge_read, unless_leaving}
+use Rattle.stack_engine.proofs.Words.{judge_messages, judge_unpacked, judge_units, EndState, handed_up, comes_up, rises, answered, leaves, packed}
 use Rattle.stack_engine.proofs.one.Keeping.{Keeps}
 use Rattle.stack_engine.proofs.one.Spoken.{closed-is, drop-front}
 
@@ -108,7 +89,8 @@ early-stays c (inl e) = ap (λ b. comes_up b b) e
 early-stays c (inr e) = ap (λ b. comes_up b b) e
 
 -- an end that judged these units while its machine went on
-begins-goes : BegunLaw → (c e : ConnectionState) (us : List (List ℕ)) (d : Dialogue) → GoesOn c e → (IsEarly c → us ≡ []) → (c ≡ Closed → us ≡ []) → BeginsAs c d → BeginsAs e (rises (comes_up c e) (judge_units us d).left)
+begins-goes : BegunLaw → (c e : ConnectionState) (us : List (List ℕ)) (d : Dialogue) → GoesOn c e → (IsEarly c → us ≡ []) → (c ≡ Closed → us ≡ [])
+    → BeginsAs c d → BeginsAs e (rises (comes_up c e) (judge_units us d).left)
 begins-goes law c e us d (inl same) quiet shut h =
     by_test (λ b. is_connected c ≡ b → BeginsAs e (rises (comes_up c e) (judge_units us d).left)) (is_connected c)
     (λ on _.
@@ -141,7 +123,8 @@ begins-goes law c e us d (inr (inl closed)) quiet shut h =
     begins-closed e (rises (comes_up c e) (judge_units us d).left) closed
     (rises-ended (comes_up c e) (judge_units us d).left (ended-any law us c d quiet shut h))
   where
-    ended-any : BegunLaw → (us : List (List ℕ)) (c : ConnectionState) (d : Dialogue) → (IsEarly c → us ≡ []) → (c ≡ Closed → us ≡ []) → BeginsAs c d → (judge_units us d).left.history.ended_in ≢ Some Idle
+    ended-any : BegunLaw → (us : List (List ℕ)) (c : ConnectionState) (d : Dialogue) → (IsEarly c → us ≡ []) → (c ≡ Closed → us ≡ []) → BeginsAs c d
+        → (judge_units us d).left.history.ended_in ≢ Some Idle
     ended-any law us Closed d quiet shut h = subst (λ vs. (judge_units vs d).left.history.ended_in ≢ Some Idle) (sym (shut refl)) h.ended
     ended-any law us Down d quiet shut h = subst (λ vs. (judge_units vs d).left.history.ended_in ≢ Some Idle) (sym (quiet (inl refl))) h.ended
     ended-any law us Start d quiet shut h = subst (λ vs. (judge_units vs d).left.history.ended_in ≢ Some Idle) (sym (quiet (inr refl))) h.ended
@@ -224,7 +207,8 @@ begins-keeps p closed now Q =
           let m = heard_as (seen_by x.machine octets) now in
           let s = arrive_octets octets now x.machine in
           let us = handed_up x s in
-          let none : s.taken ≡ x.machine.taken → us ≡ [] = λ same. ap (λ ts. drop (length x.machine.taken) ts) (same ∙ sym (append-nil x.machine.taken)) ∙ drop-front x.machine.taken [] in
+          let none : s.taken ≡ x.machine.taken → us ≡ [] = λ same. ap (λ ts. drop (length x.machine.taken) ts) (same ∙ sym (append-nil x.machine.taken))
+          ∙ drop-front x.machine.taken [] in
           begins-leaves now (judge_units us x.session).leaving (answered octets x s)
           (begins-goes p.begun x.machine.connection s.connection us x.session (p.connections.0 m x.machine) (λ was. none (p.waits m x.machine was))
           (λ shut. none (ap (λ (t : State). t.taken) (closed m x.machine shut))) h);

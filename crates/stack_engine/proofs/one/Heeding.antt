@@ -1,32 +1,14 @@
 -- A session that no telegram ended has judged and taken all that came, where all that came is well formed.
-use Rattle.std.proofs.Common.{◌≡◌, ℕ, List, [], ◌∷◌, ◌++◌, length, drop, Option, Some, None, Result, Ok, Err, Bool, true, false, not, ◌&&◌, cond, refl, sym, ap, subst, ◌∙◌, append-nil}
-use Rattle.std.specs.Prelude.{is_none}
-use Rattle.std.specs.List.{AllByRecursion}
-use Rattle.std.proofs.lemmas.Bool.{false≢true}
-use Rattle.octets.proofs.Choices.{by_test}
-use Rattle.packing.specs.declared.PackFault.{PackFault}
-use Rattle.packing.specs.Places.{unit_seen}
-use Rattle.sci_telegram.specs.declared.TeleFault.{TeleFault}
-use Rattle.sci_telegram.specs.Tele.{Tele}
-use Rattle.sci_telegram.specs.Places.{tele_seen}
-use Rattle.pdi_session.specs.declared.Detail.{Detail as SessionDetail}
-use Rattle.pdi_session.specs.SessionStep.{Event, Up as GoesUp, Arrives, Puts, InitDone as Completes, Closes, SessionState, end_of, judged, phase_after, taken_by}
-use Rattle.pdi_session.specs.Histories.{History, ends_by, handed_by, is_ended}
-use Rattle.pdi_session.specs.Laws.{OverLaw, TakenLaw, items_of}
-use Rattle.safe_machine.specs.declared.Reason.TheVariants.{ClosedByUser}
-use Rattle.safe_machine.specs.declared.Detail.TheVariants.{Unspecified}
-use Rattle.safe_machine.specs.State.{State, leave}
-use Rattle.safe_machine.specs.Decision.{is_closed}
-use Rattle.safe_machine.specs.Step.{guard, tick}
-use Rattle.safe_machine.specs.Moves.{MovesLaw}
-use Rattle.safe_machine.specs.Moves.Move.{Guards, Ticks, Sends, Leaves}
-use Rattle.safe_machine.specs.Octets.{seen_by, arrive_octets}
-use Rattle.safe_machine.specs.World.{Side}
-use Rattle.end_settings.specs.EndSettings.{session_of}
-use Rattle.stack_end.specs.Dialogue.{Dialogue, session_in, phase_in, meets, Leaving, if_ended, Judged, judge_read, unless_leaving, judge_messages, judge_unpacked, judge_units}
-use Rattle.stack_end.specs.Ends.{EndState, is_shut, with_machine, with_session, handed_up, comes_up, rises, answered, leaves, heard, packed}
-use Rattle.stack_engine.specs.Headline.{taken_at}
-use Rattle.stack_engine.specs.Settled.{messages_in, telegrams_in}
+use Rattle.stack_engine.proofs.Words.{◌≡◌, ℕ, List, [], ◌∷◌, ◌++◌, length, drop, Option, Some, None, Result, Ok, Err, Bool, true, false, cond, refl, sym, ap}
+use Rattle.stack_engine.proofs.Words.{subst, ◌∙◌, append-nil, is_none, AllByRecursion, false≢true, by_test, PackFault, unit_seen, TeleFault, Tele, tele_seen}
+use Rattle.stack_engine.proofs.Words.{SessionDetail, GoesUp, Arrives, Puts, Completes, Closes, SessionState, end_of, judged, phase_after, taken_by, History}
+use Rattle.stack_engine.proofs.Words.{ends_by, handed_by, is_ended, OverLaw, TakenLaw, items_of, ClosedByUser, Unspecified, State, leave, is_closed, guard}
+use Rattle.stack_engine.proofs.Words.{tick, MovesLaw, Guards, Ticks, Sends, Leaves, seen_by, arrive_octets, Side, session_of, Dialogue, session_in, phase_in}
+use Rattle.stack_engine.proofs.Words.{meets, Leaving, if_ended, Judged, judge_read, unless_leaving, judge_messages, judge_unpacked, judge_units, EndState}
+use Rattle.stack_engine.proofs.Words.{is_shut, with_machine, with_session, handed_up, comes_up, rises, answered, leaves, heard, packed, taken_at, messages_in}
+use Rattle.stack_engine.proofs.Words.{telegrams_in}
+use Rattle.std.proofs.Common.{not, ◌&&◌}
+use Rattle.pdi_session.specs.SessionStep.{Event}
 use Rattle.stack_engine.proofs.one.Talking.{Talk, talk-units, Hearing, hearing-units}
 use Rattle.stack_engine.proofs.one.Spoken.{Below, Spoken, Still, still-by, HandsUp, hands-up, came, came-more, was-open, drop-front}
 
@@ -56,10 +38,12 @@ pub record Heeding (good : Type 0) (d : Dialogue) (j : Judged) : Type 0 where
   pub goes : is_ended (phase_in d) ≡ false → good → j.left.history.ended_in ≡ None → j.leaving ≡ None
   pub back : j.left.history.ended_in ≡ None → d.history.ended_in ≡ None
 
-heeding-by : (d : Dialogue) (t : Tele) (o : Option SessionDetail) → end_of (judged (session_in d) t) ≡ o → is_ended (phase_in d) ≡ false → (meets (Arrives t) d).history.ended_in ≡ None → if_ended o ≡ None
+heeding-by : (d : Dialogue) (t : Tele) (o : Option SessionDetail) → end_of (judged (session_in d) t) ≡ o → is_ended (phase_in d) ≡ false
+    → (meets (Arrives t) d).history.ended_in ≡ None → if_ended o ≡ None
 heeding-by d t None e on none = refl
 heeding-by d t (Some why) e on none =
-    let ends : ends_by (Arrives t) (session_in d) ≡ true = ap (λ b. not b && not (is_none (end_of (judged (session_in d) t)))) on ∙ ap (λ o. not (is_none o)) e in
+    let ends : ends_by (Arrives t) (session_in d) ≡ true = ap (λ b. not b && not (is_none (end_of (judged (session_in d) t)))) on
+    ∙ ap (λ o. not (is_none o)) e in
     let no : Some (phase_in d) ≡ None = sym (ap (λ b. cond b (Some (phase_in d)) d.history.ended_in) ends) ∙ none in
     cc
 
@@ -81,7 +65,8 @@ heeding-read law m (Err fault) d e =
       back = λ none. none;
     }
 
-heeding-then : (A B : Type 0) (d : Dialogue) (first rest : Judged) (why : Option Leaving) → first.leaving ≡ why → Heeding A d first → Heeding B first.left rest → Heeding (A × B) d (unless_leaving why first rest)
+heeding-then : (A B : Type 0) (d : Dialogue) (first rest : Judged) (why : Option Leaving) → first.leaving ≡ why → Heeding A d first → Heeding B first.left rest
+    → Heeding (A × B) d (unless_leaving why first rest)
 heeding-then A B d first rest None e h k =
     record {
       on = λ none on. k.on none (h.on e on);
@@ -99,9 +84,11 @@ heeding-messages : OverLaw → (ms : List (List ℕ)) (d : Dialogue) → Heeding
 heeding-messages law [] d = record { on = λ _ on. on; goes = λ _ _ _. refl; back = λ none. none }
 heeding-messages law (m ∷ ms) d =
     let first = judge_read (tele_seen m) d in
-    heeding-then (Reads m) (AllByRecursion Reads ms) d first (judge_messages ms first.left) first.leaving refl (heeding-read law m (tele_seen m) d refl) (heeding-messages law ms first.left)
+    heeding-then (Reads m) (AllByRecursion Reads ms) d first (judge_messages ms first.left) first.leaving refl (heeding-read law m (tele_seen m) d refl)
+    (heeding-messages law ms first.left)
 
-pub heeding-unpacked : OverLaw → (u : List ℕ) (seen : Result (List (List ℕ)) PackFault) (d : Dialogue) → unit_seen u ≡ seen → Heeding (IsGood u) d (judge_unpacked seen d)
+pub heeding-unpacked : OverLaw → (u : List ℕ) (seen : Result (List (List ℕ)) PackFault) (d : Dialogue) → unit_seen u ≡ seen
+    → Heeding (IsGood u) d (judge_unpacked seen d)
 heeding-unpacked law u (Ok ms) d e =
     let h = heeding-messages law ms d in
     record {
@@ -122,7 +109,8 @@ pub heeding-units : OverLaw → (us : List (List ℕ)) (d : Dialogue) → Heedin
 heeding-units law [] d = record { on = λ _ on. on; goes = λ _ _ _. refl; back = λ none. none }
 heeding-units law (u ∷ us) d =
     let first = judge_unpacked (unit_seen u) d in
-    heeding-then (IsGood u) (AreGood us) d first (judge_units us first.left) first.leaving refl (heeding-unpacked law u (unit_seen u) d refl) (heeding-units law us first.left)
+    heeding-then (IsGood u) (AreGood us) d first (judge_units us first.left) first.leaving refl (heeding-unpacked law u (unit_seen u) d refl)
+    (heeding-units law us first.left)
 
 -- an end by itself
 pub record Heeds (x : EndState) : Type 0 where
@@ -140,11 +128,14 @@ heeds-still x s t h =
 
 -- an event of the session that hands it no telegram and takes none
 heeds-meets : (e : Event) (x : EndState) → handed_by e ≡ [] → taken_by e (session_in x.session) ≡ [] → ends_by e (session_in x.session) ≡ false
-    → (is_shut x ≡ false → is_ended (phase_in x.session) ≡ false → is_ended (phase_after e (session_in x.session)) ≡ false) → Heeds x → Heeds (with_session (meets e x.session) x)
+    → (is_shut x ≡ false → is_ended (phase_in x.session) ≡ false → is_ended (phase_after e (session_in x.session)) ≡ false) → Heeds x
+    → Heeds (with_session (meets e x.session) x)
 heeds-meets e x quiet none no-end on h =
-    let same : x.session.history.judged ++ handed_by e ≡ x.session.history.judged = ap (λ ts. x.session.history.judged ++ ts) quiet ∙ append-nil x.session.history.judged in
+    let same : x.session.history.judged ++ handed_by e ≡ x.session.history.judged = ap (λ ts. x.session.history.judged ++ ts) quiet
+    ∙ append-nil x.session.history.judged in
     let took : taken_at x ++ taken_by e (session_in x.session) ≡ taken_at x = ap (λ is. taken_at x ++ is) none ∙ append-nil (taken_at x) in
-    let ended : (meets e x.session).history.ended_in ≡ x.session.history.ended_in = ap (λ b. cond b (Some (phase_in x.session)) x.session.history.ended_in) no-end in
+    let ended : (meets e x.session).history.ended_in ≡ x.session.history.ended_in = ap (λ b. cond b (Some (phase_in x.session)) x.session.history.ended_in)
+    no-end in
     record {
       on = λ open-still. on open-still (h.on open-still);
       judged = λ n good. same ∙ h.judged (sym ended ∙ n) good;
@@ -159,7 +150,8 @@ rises-on : OverLaw → (b : Bool) (d : Dialogue) → is_ended (phase_in d) ≡ f
 rises-on law true d on = law GoesUp (session_in d) on refl (λ same. cc)
 rises-on law false d on = on
 
-pub rises-same : (b : Bool) (d : Dialogue) → ((rises b d).history.judged ≡ d.history.judged) × ((rises b d).history.taken ≡ d.history.taken) × ((rises b d).history.ended_in ≡ d.history.ended_in)
+pub rises-same : (b : Bool) (d : Dialogue) → ((rises b d).history.judged ≡ d.history.judged) × ((rises b d).history.taken ≡ d.history.taken)
+    × ((rises b d).history.ended_in ≡ d.history.ended_in)
 rises-same true d = (append-nil d.history.judged, append-nil d.history.taken, refl)
 rises-same false d = (refl, refl, refl)
 
@@ -192,9 +184,11 @@ heeds-hears laws law side now octets x sp h =
     let up = comes_up x.machine.connection s.connection in
     let same = rises-same up j.left in
     let y = answered octets x s in
-    let talk : Talk x.settings.addressing (session_of side x.settings) _ j.left = talk-units laws.session x.settings.addressing (session_of side x.settings) _ us d sp.talk in
+    let talk : Talk x.settings.addressing (session_of side x.settings) _ j.left = talk-units laws.session x.settings.addressing (session_of side x.settings) _
+    us d sp.talk in
     let all : came s ≡ came x.machine ++ telegrams_in (messages_in us) =
-    ap (λ ts. telegrams_in (messages_in ts)) step.taken ∙ came-more x.machine.taken step.more ∙ ap (λ vs. came x.machine ++ telegrams_in (messages_in vs)) (sym us-are)
+    ap (λ ts. telegrams_in (messages_in ts)) step.taken ∙ came-more x.machine.taken step.more ∙ ap (λ vs. came x.machine ++ telegrams_in (messages_in vs))
+    (sym us-are)
     in
     let parts : AreGood s.taken → AreGood x.machine.taken × AreGood us = λ good.
     (let g = good-front x.machine.taken step.more (subst AreGood step.taken good) in (g.0, subst AreGood (sym us-are) g.1))
@@ -203,9 +197,11 @@ heeds-hears laws law side now octets x sp h =
     (by_test (λ b. is_shut x ≡ b → Listened y j.leaving) (is_shut x)
     (λ shut _.
     let still : s ≡ x.machine = step.closed shut in
-    let nothing : us ≡ [] = ap (λ (t : State). handed_up x t) still ∙ ap (λ ts. drop (length x.machine.taken) ts) (sym (append-nil x.machine.taken)) ∙ drop-front x.machine.taken [] in
+    let nothing : us ≡ [] = ap (λ (t : State). handed_up x t) still ∙ ap (λ ts. drop (length x.machine.taken) ts) (sym (append-nil x.machine.taken))
+    ∙ drop-front x.machine.taken [] in
     let left : j.left ≡ d = ap (λ vs. (judge_units vs d).left) nothing in
-    let none-left : y.session.history.ended_in ≡ None → d.history.ended_in ≡ None = λ none. (ap (λ (e : Dialogue). e.history.ended_in) (sym left) ∙ sym same.2 ∙ none) in
+    let none-left : y.session.history.ended_in ≡ None → d.history.ended_in ≡ None =
+    λ none. (ap (λ (e : Dialogue). e.history.ended_in) (sym left) ∙ sym same.2 ∙ none) in
     record {
       on = λ _ on. absurd (false≢true (sym on ∙ ap (λ (t : State). is_closed t.connection) still ∙ shut));
       judged = λ none good. same.0 ∙ ap (λ (e : Dialogue). e.history.judged) left ∙ h.judged (none-left none) (parts good).0 ∙ ap came (sym still);
@@ -250,7 +246,8 @@ heeds-kept laws law side now =
     record {
       guards = λ x h. heeds-still x (guard now x.machine) (still-by laws.moves (Guards now) x.machine refl (λ more e. e)) h;
       ticks = λ x h. heeds-still x (tick now x.machine) (still-by laws.moves (Ticks now) x.machine refl (λ more e. e)) h;
-      closes = λ x h. heeds-still x (leave ClosedByUser Unspecified now x.machine) (still-by laws.moves (Leaves ClosedByUser Unspecified now) x.machine refl (λ more e. e)) h;
+      closes = λ x h. heeds-still x (leave ClosedByUser Unspecified now x.machine)
+          (still-by laws.moves (Leaves ClosedByUser Unspecified now) x.machine refl (λ more e. e)) h;
       ends = λ x shut h. heeds-meets Closes x refl refl refl (λ on _. absurd (false≢true (sym on ∙ shut))) h;
       hears = λ octets x sp h. heeds-hears laws law side now octets x sp h;
       sends = λ x h.
@@ -263,5 +260,6 @@ heeds-kept laws law side now =
             taken = λ none good. h.taken none (subst AreGood same good);
           };
       puts = λ kind payload x h. heeds-meets (Puts kind payload (length x.session.waiting)) x refl refl refl (λ _ on. on) h;
-      dones = λ x h. heeds-meets (Completes (length x.session.waiting)) x refl refl refl (λ _ on. laws.over (Completes (length x.session.waiting)) (session_in x.session) on refl (λ same. cc)) h;
+      dones = λ x h. heeds-meets (Completes (length x.session.waiting)) x refl refl refl
+          (λ _ on. laws.over (Completes (length x.session.waiting)) (session_in x.session) on refl (λ same. cc)) h;
     }

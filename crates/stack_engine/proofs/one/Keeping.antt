@@ -1,19 +1,9 @@
 -- What each change of an end keeps, its calls keep.
-use Rattle.std.proofs.Common.{◌≡◌, ℕ, zero, suc, ◌<◌, ◌^◌, true, false, List, [], ◌∷◌, length, cond}
-use Rattle.octets.proofs.Choices.{by_cond}
-use Rattle.red_layer.specs.Parts.{Part, is_nil}
-use Rattle.red_layer.specs.Redundancy.{Input, Datagram, Tick as RedTick, passed_by}
-use Rattle.safe_machine.specs.declared.Reason.TheVariants.{ClosedByUser}
-use Rattle.safe_machine.specs.declared.Detail.TheVariants.{Unspecified}
-use Rattle.safe_machine.specs.State.{leave}
-use Rattle.safe_machine.specs.Step.{guard, tick, may_send}
-use Rattle.safe_machine.specs.Moves.Move.{Guards, Ticks}
-use Rattle.pdi_session.specs.SessionStep.{Puts, InitDone as Completes, Closes}
-use Rattle.stack_end.specs.Dialogue.{meets}
-use Rattle.stack_end.specs.Ends.{EndState, is_shut, with_machine, with_session, settle, moved, heard, part, parts, with_input, receives, packed, packed_up_to, sends, goes_on, Call, did, call, time_of}
-use Rattle.stack_end.specs.Ends.Call.{Close, Put, InitDone, Tick, Deliver}
-use Rattle.stack_engine.specs.Premise.{AtParts, AtCall, AtInput}
-use Rattle.octets.specs.Octets.{AreOctets}
+use Rattle.stack_engine.proofs.Words.{◌≡◌, ℕ, zero, suc, ◌<◌, ◌^◌, true, false, List, [], ◌∷◌, length, cond, by_cond, Part, is_nil, Input, Datagram, RedTick}
+use Rattle.stack_engine.proofs.Words.{passed_by, ClosedByUser, Unspecified, leave, guard, tick, may_send, Guards, Ticks, Puts, Completes, Closes, meets}
+use Rattle.stack_engine.proofs.Words.{EndState, is_shut, with_machine, with_session, settle, moved, heard, part, parts, with_input, receives, packed}
+use Rattle.stack_engine.proofs.Words.{packed_up_to, sends, goes_on, Call, did, call, time_of, Close, Put, InitDone, Tick, Deliver, AtParts, AtCall, AtInput}
+use Rattle.stack_engine.proofs.Words.{AreOctets}
 
 -- what comes is of its type
 abbrev pub IsTypedInput : Input → Type 0
@@ -63,7 +53,8 @@ module _ (now : ℕ) (Q : EndState → List ℕ → Type 0) (P : EndState → Ty
       keep-packed (length y.session.waiting) y (keep-parts (passed_by i x.red) (with_input i x) (q open-still) (k.inputs i x t h)))
 
 -- the call's own time
-pub call-keeps : (c : Call) (Q : EndState → List ℕ → Type 0) (P : EndState → Type 0) (x : EndState) → Keeps (time_of c) Q P → IsTypedCall c → AtCall Q c x → P x → P (call c x)
+pub call-keeps : (c : Call) (Q : EndState → List ℕ → Type 0) (P : EndState → Type 0) (x : EndState) → Keeps (time_of c) Q P → IsTypedCall c → AtCall Q c x → P x
+    → P (call c x)
 call-keeps (Close now) Q P x k t q h =
     k.times (did (Close now) x) (keep-settle now Q P k (with_machine (leave ClosedByUser Unspecified now x.machine) x) (k.closes x h))
 call-keeps (Put kind payload now) Q P x k t q h =

@@ -1,29 +1,11 @@
 -- The machine of an end: it keeps its settings, sound moves lead to it, and all that waits below it are octets.
-use Rattle.std.proofs.Common.{◌≡◌, inl, inr, ℕ, List, [], ◌∷◌, ◌++◌, take, Option, Some, None, Result, Ok, Err, true, refl, sym, ap, subst, ◌∙◌}
-use Rattle.std.specs.List.{AllByRecursion}
-use Rattle.packing.specs.UnitText.{unit_text}
-use Rattle.red_layer.specs.Parts.{Part}
-use Rattle.red_layer.specs.Redundancy.{Receiver, Input, Datagram, Tick as RedTick, passed_by, after}
-use Rattle.red_layer.specs.Service.{IsAmong, AreAmong, arrivals_of}
-use Rattle.red_layer.specs.Laws.{OriginLaw, PartsLaw}
-use Rattle.safe_pdu.specs.declared.SafeFault.{SafeFault}
-use Rattle.safe_pdu.specs.Pdu.{Pdu}
-use Rattle.safe_pdu.specs.Laws.{ReadLaw}
-use Rattle.safe_machine.specs.declared.Reason.TheVariants.{ClosedByUser}
-use Rattle.safe_machine.specs.declared.Detail.TheVariants.{Unspecified}
-use Rattle.safe_machine.specs.Settings.{is_legal}
-use Rattle.safe_machine.specs.State.{State, leave, opened}
-use Rattle.safe_machine.specs.Step.{guard, tick}
-use Rattle.safe_machine.specs.Moves.{Move, move, moved, AreSoundMoves, IsSoundMove, HaveTexts, TextsLaw, SettingsLaw}
-use Rattle.safe_machine.specs.Moves.Move.{Guards, Hears, Ticks, Sends, Leaves}
-use Rattle.safe_machine.specs.Reached.{IsRead, AreRead}
-use Rattle.safe_machine.specs.Octets.{heard as heard_as, seen_by, arrive_octets}
-use Rattle.safe_machine.specs.World.{Side}
-use Rattle.safe_machine.specs.World.Side.{Il, Fe}
-use Rattle.end_settings.specs.EndSettings.{EndSettings, connection_of, are_fit}
-use Rattle.stack_end.specs.Dialogue.{Leaving, judge_units}
-use Rattle.stack_end.specs.Ends.{EndState, with_machine, handed_up, answered, leaves, heard, packed}
-use Rattle.octets.specs.Octets.{AreOctets}
+use Rattle.stack_engine.proofs.Words.{◌≡◌, inl, inr, ℕ, List, [], ◌∷◌, ◌++◌, take, Option, Some, None, Result, Ok, Err, true, refl, sym, ap, subst, ◌∙◌}
+use Rattle.stack_engine.proofs.Words.{AllByRecursion, unit_text, Part, Receiver, Input, Datagram, RedTick, passed_by, after, IsAmong, AreAmong, arrivals_of}
+use Rattle.stack_engine.proofs.Words.{OriginLaw, PartsLaw, SafeFault, Pdu, ReadLaw, ClosedByUser, Unspecified, is_legal, State, leave, opened, guard, tick}
+use Rattle.stack_engine.proofs.Words.{Move, move, AreSoundMoves, IsSoundMove, HaveTexts, TextsLaw, SettingsLaw, Guards, Hears, Ticks, Sends, Leaves, IsRead}
+use Rattle.stack_engine.proofs.Words.{AreRead, heard_as, seen_by, arrive_octets, Side, Il, Fe, EndSettings, connection_of, are_fit, Leaving, judge_units}
+use Rattle.stack_engine.proofs.Words.{EndState, with_machine, handed_up, answered, leaves, heard, packed, AreOctets}
+use Rattle.safe_machine.specs.Moves.{moved}
 use Rattle.stack_engine.proofs.one.Keeping.{Keeps, IsTypedInput}
 use Rattle.stack_engine.proofs.one.Packing.{unit-sized}
 use Rattle.stack_engine.proofs.one.Talking.{all-append}
@@ -65,7 +47,8 @@ sound-read [] h = tt
 sound-read (m ∷ ms) h = (sound-one m h.0, sound-read ms h.1)
 
 -- the machine alone moves
-pub machined-move : SettingsLaw → (side : Side) (m : Move) (x y : EndState) → IsRead m → y.settings ≡ x.settings → y.red ≡ x.red → y.machine ≡ move m x.machine → Machined side x → Machined side y
+pub machined-move : SettingsLaw → (side : Side) (m : Move) (x y : EndState) → IsRead m → y.settings ≡ x.settings → y.red ≡ x.red → y.machine ≡ move m x.machine
+    → Machined side x → Machined side y
 machined-move law side m x y read a b c h =
     record {
       same = ap (λ (s : State). s.settings) c ∙ law m x.machine ∙ h.same ∙ ap (connection_of side) (sym a);
@@ -98,10 +81,12 @@ legal-role Fe s h = h
 -- every PDU made has a text
 pub machined-texts : TextsLaw → (side : Side) (x : EndState) → are_fit side x.settings ≡ true → Machined side x → HaveTexts x.machine.made
 machined-texts law side x fit h =
-    subst (λ (s : State). HaveTexts s.made) (sym h.machine) (law (connection_of side x.settings) h.first h.began h.moves (legal-role side x.settings (legal-of side x.settings fit)) (sound-read h.moves h.read))
+    subst (λ (s : State). HaveTexts s.made) (sym h.machine)
+    (law (connection_of side x.settings) h.first h.began h.moves (legal-role side x.settings (legal-of side x.settings fit)) (sound-read h.moves h.read))
 
 -- the move that octets make was read
-pub read-heard : ReadLaw → (now : ℕ) (octets : List ℕ) (s : State) → AreOctets octets → (r : Result Pdu SafeFault) → seen_by s octets ≡ r → IsRead (heard_as r now)
+pub read-heard : ReadLaw → (now : ℕ) (octets : List ℕ) (s : State) → AreOctets octets → (r : Result Pdu SafeFault) → seen_by s octets ≡ r
+    → IsRead (heard_as r now)
 read-heard law now octets s octs (Ok p) e = let text = law p s.settings.rule octets octs e in (text.numbers, text.body)
 read-heard law now octets s octs (Err fault) e = tt
 
@@ -113,7 +98,8 @@ machined-hears : Below → (side : Side) (now : ℕ) (octets : List ℕ) (x : En
 machined-hears laws side now octets x octs h =
     let s = arrive_octets octets now x.machine in
     machined-leaves laws.settings side now (judge_units (handed_up x s) x.session).leaving (answered octets x s)
-    (machined-move laws.settings side (heard_as (seen_by x.machine octets) now) x (answered octets x s) (read-heard laws.heard now octets x.machine octs (seen_by x.machine octets) refl) refl refl refl h)
+    (machined-move laws.settings side (heard_as (seen_by x.machine octets) now) x (answered octets x s)
+    (read-heard laws.heard now octets x.machine octs (seen_by x.machine octets) refl) refl refl refl h)
 
 -- parts among octets are octets
 among-one : (p : Part) (qs : List Part) → AllByRecursion OctetPart qs → IsAmong p qs → OctetPart p
@@ -153,11 +139,20 @@ pub whole-keeps : Below → RedLaws → (side : Side) (now : ℕ) → Keeps now 
 whole-keeps laws origin side now =
     let k : Keeps now OctetsUp (Spoken side) = spoken-keeps laws side now OctetsUp in
     record {
-      guards = λ x h. record { spoken = k.guards x h.spoken; machined = machined-move laws.settings side (Guards now) x (with_machine (guard now x.machine) x) tt refl refl refl h.machined };
-      ticks = λ x h. record { spoken = k.ticks x h.spoken; machined = machined-move laws.settings side (Ticks now) x (with_machine (tick now x.machine) x) tt refl refl refl h.machined };
+      guards = λ x h. record {
+        spoken = k.guards x h.spoken;
+        machined = machined-move laws.settings side (Guards now) x (with_machine (guard now x.machine) x)
+            tt refl refl refl h.machined;
+      };
+      ticks = λ x h. record {
+        spoken = k.ticks x h.spoken;
+        machined = machined-move laws.settings side (Ticks now) x (with_machine (tick now x.machine) x) tt
+            refl refl refl h.machined;
+      };
       closes = λ x h. record {
         spoken = k.closes x h.spoken;
-        machined = machined-move laws.settings side (Leaves ClosedByUser Unspecified now) x (with_machine (leave ClosedByUser Unspecified now x.machine) x) tt refl refl refl h.machined;
+        machined = machined-move laws.settings side (Leaves ClosedByUser Unspecified now) x (with_machine (leave ClosedByUser Unspecified now x.machine) x) tt
+            refl refl refl h.machined;
       };
       ends = λ x shut h. record { spoken = k.ends x shut h.spoken; machined = machined-same side x _ refl refl refl h.machined };
       inputs = λ i x t h. record {

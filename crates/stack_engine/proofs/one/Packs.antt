@@ -1,22 +1,10 @@
 -- After each call of an end nothing waits, or its machine may not send.
-use Rattle.std.proofs.Common.{◌≡◌, ◌⊎◌, inl, inr, ◌≤◌, ℕ, zero, suc, List, [], ◌∷◌, length, drop, Option, Some, None, true, false, cond, refl, sym, ap, subst, ◌∙◌, arith}
-use Rattle.std.specs.Prelude.{◌&&◌, nat_lt}
-use Rattle.octets.proofs.Choices.{by_cond, by_test}
-use Rattle.red_layer.specs.Parts.{Part, is_nil}
-use Rattle.red_layer.specs.Redundancy.{Input, Datagram, Tick as RedTick, passed_by}
-use Rattle.safe_machine.specs.declared.Reason.TheVariants.{ClosedByUser}
-use Rattle.safe_machine.specs.declared.Detail.TheVariants.{Unspecified}
-use Rattle.safe_machine.specs.State.{leave, unconfirmed}
-use Rattle.safe_machine.specs.Decision.{in_turn}
-use Rattle.safe_machine.specs.Step.{may_send}
-use Rattle.safe_machine.specs.Moves.{Move, move}
-use Rattle.safe_machine.specs.Moves.Move.{Guards, Ticks}
-use Rattle.safe_machine.specs.Octets.{arrive_octets}
-use Rattle.pdi_session.specs.SessionStep.{Closes, Puts, InitDone as Completes}
-use Rattle.end_settings.specs.EndSettings.{EndSettings}
-use Rattle.stack_end.specs.Dialogue.{Leaving, meets, judge_units}
-use Rattle.stack_end.specs.Ends.{EndState, is_shut, with_machine, with_session, settle, moved as end_moved, handed_up, answered, leaves, heard, part, parts, with_input, receives, packed, packed_up_to, sends, goes_on, Call, call}
-use Rattle.stack_end.specs.Ends.Call.{Close, Put, InitDone, Tick, Deliver}
+use Rattle.stack_engine.proofs.Words.{◌≡◌, ◌⊎◌, inl, inr, ◌≤◌, ℕ, zero, suc, List, [], ◌∷◌, length, drop, Option, Some, None, true, false, cond, refl, sym, ap}
+use Rattle.stack_engine.proofs.Words.{subst, ◌∙◌, arith, ◌&&◌, nat_lt, by_cond, by_test, Part, is_nil, Input, Datagram, RedTick, passed_by, ClosedByUser}
+use Rattle.stack_engine.proofs.Words.{Unspecified, leave, unconfirmed, in_turn, may_send, Move, move, Guards, Ticks, arrive_octets, Closes, Puts, Completes}
+use Rattle.stack_engine.proofs.Words.{EndSettings, Leaving, meets, judge_units, EndState, is_shut, with_machine, with_session, settle, end_moved, handed_up}
+use Rattle.stack_engine.proofs.Words.{answered, leaves, heard, part, parts, with_input, receives, packed, packed_up_to, sends, goes_on, Call, call, Close, Put}
+use Rattle.stack_engine.proofs.Words.{InitDone, Tick, Deliver}
 use Rattle.stack_engine.proofs.one.Spoken.{closed-is}
 
 abbrev pub Packs : EndState → Type 0
@@ -74,12 +62,14 @@ parts-settings : (now : ℕ) (ps : List Part) (x : EndState) → (parts now ps x
 parts-settings now [] x = refl
 parts-settings now (p ∷ ps) x =
     let s = arrive_octets p.1 now x.machine in
-    parts-settings now ps (part now p.1 x) ∙ settle-settings (heard now p.1 x) ∙ leaves-settings now (judge_units (handed_up x s) x.session).leaving (answered p.1 x s)
+    parts-settings now ps (part now p.1 x) ∙ settle-settings (heard now p.1 x) ∙ leaves-settings now (judge_units (handed_up x s) x.session).leaving
+    (answered p.1 x s)
 
 receives-some : (now : ℕ) (i : Input) (m : Move) (x : EndState) → PacksSome x → PacksSome (receives now i (end_moved m x))
 receives-some now i m x some =
     let y = end_moved m x in
-    subst (λ (s : EndSettings). 1 ≤ s.n_maxpacket) (sym (parts-settings now (passed_by i y.red) (with_input i y) ∙ settle-settings (with_machine (move m x.machine) x))) some
+    subst (λ (s : EndSettings). 1 ≤ s.n_maxpacket)
+    (sym (parts-settings now (passed_by i y.red) (with_input i y) ∙ settle-settings (with_machine (move m x.machine) x))) some
 
 pub call-packs : (c : Call) (x : EndState) → PacksSome x → Packs (call c x)
 call-packs (Close now) x some = shut-packs (call (Close now) x) (settle-shut (with_machine (leave ClosedByUser Unspecified now x.machine) x) refl)

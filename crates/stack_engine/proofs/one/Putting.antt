@@ -1,24 +1,10 @@
 -- What is put in at an end: by a put alone.
-use Rattle.std.proofs.Common.{◌≡◌, ℕ, zero, suc, List, [], ◌∷◌, ◌++◌, length, Option, Some, None, Result, Ok, Err, Bool, true, false, cond, refl, sym, ◌∙◌, append-nil}
-use Rattle.octets.proofs.Choices.{by_cond}
-use Rattle.packing.specs.declared.PackFault.{PackFault}
-use Rattle.packing.specs.Places.{unit_seen}
-use Rattle.sci_telegram.specs.declared.TeleFault.{TeleFault}
-use Rattle.sci_telegram.specs.Tele.{Tele}
-use Rattle.sci_telegram.specs.Places.{tele_seen}
-use Rattle.red_layer.specs.Parts.{Part, is_nil}
-use Rattle.red_layer.specs.Redundancy.{Input, Datagram, Tick as RedTick, passed_by}
-use Rattle.safe_machine.specs.Moves.{Move, move}
-use Rattle.safe_machine.specs.Moves.Move.{Guards, Ticks, Leaves}
-use Rattle.safe_machine.specs.Octets.{arrive_octets}
-use Rattle.safe_machine.specs.Step.{may_send}
-use Rattle.safe_machine.specs.declared.Reason.TheVariants.{ClosedByUser}
-use Rattle.safe_machine.specs.declared.Detail.TheVariants.{Unspecified}
-use Rattle.pdi_session.specs.SessionStep.{Item, Puts, InitDone as Completes, Closes}
-use Rattle.pdi_session.specs.Histories.{put_by}
-use Rattle.stack_end.specs.Dialogue.{Dialogue, Judged, Leaving, meets, unless_leaving, judge_read, judge_messages, judge_unpacked, judge_units}
-use Rattle.stack_end.specs.Ends.{EndState, is_shut, with_machine, with_session, settle, moved, handed_up, answered, rises, comes_up, leaves, heard, part, parts, with_input, receives, packed, packed_up_to, sends, goes_on, Call, call}
-use Rattle.stack_end.specs.Ends.Call.{Close, Put, InitDone, Tick, Deliver}
+use Rattle.stack_engine.proofs.Words.{◌≡◌, ℕ, zero, suc, List, [], ◌∷◌, ◌++◌, length, Option, Some, None, Result, Ok, Err, Bool, true, false, cond, refl, sym}
+use Rattle.stack_engine.proofs.Words.{◌∙◌, append-nil, by_cond, PackFault, unit_seen, TeleFault, Tele, tele_seen, Part, is_nil, Input, Datagram, RedTick}
+use Rattle.stack_engine.proofs.Words.{passed_by, Move, move, Guards, Ticks, Leaves, arrive_octets, may_send, ClosedByUser, Unspecified, Item, Puts, Completes}
+use Rattle.stack_engine.proofs.Words.{Closes, put_by, Dialogue, Judged, Leaving, meets, unless_leaving, judge_read, judge_messages, judge_unpacked, judge_units}
+use Rattle.stack_engine.proofs.Words.{EndState, is_shut, with_machine, with_session, settle, moved, handed_up, answered, rises, comes_up, leaves, heard, part}
+use Rattle.stack_engine.proofs.Words.{parts, with_input, receives, packed, packed_up_to, sends, goes_on, Call, call, Close, Put, InitDone, Tick, Deliver}
 
 abbrev SamePut : Dialogue → Dialogue → Type 0
 SamePut d e = e.history.put ≡ d.history.put
@@ -27,7 +13,8 @@ same-read : (r : Result Tele TeleFault) (d : Dialogue) → SamePut d (judge_read
 same-read (Ok t) d = append-nil d.history.put
 same-read (Err fault) d = refl
 
-same-unless : (d : Dialogue) (why : Option Leaving) (first rest : Judged) → SamePut d first.left → SamePut first.left rest.left → SamePut d (unless_leaving why first rest).left
+same-unless : (d : Dialogue) (why : Option Leaving) (first rest : Judged) → SamePut d first.left → SamePut first.left rest.left
+    → SamePut d (unless_leaving why first rest).left
 same-unless d None first rest a b = b ∙ a
 same-unless d (Some why) first rest a b = a
 
@@ -101,8 +88,10 @@ call-put (InitDone now) x =
     let y = with_session (meets (Completes (length x.session.waiting)) x.session) x in
     same-packed (length y.session.waiting) now y
 call-put (Tick now) x =
-    by_cond (Same x) (is_shut x) x (goes_on now (RedTick now) (moved (Ticks now) x)) (λ _. refl) (λ _. same-goes_on now (RedTick now) (moved (Ticks now) x) ∙ same-moved (Ticks now) x)
+    by_cond (Same x) (is_shut x) x (goes_on now (RedTick now) (moved (Ticks now) x)) (λ _. refl)
+    (λ _. same-goes_on now (RedTick now) (moved (Ticks now) x) ∙ same-moved (Ticks now) x)
     ∙ sym (append-nil x.session.history.put)
 call-put (Deliver channel octets now) x =
-    by_cond (Same x) (is_shut x) x (goes_on now (Datagram octets now) (moved (Guards now) x)) (λ _. refl) (λ _. same-goes_on now (Datagram octets now) (moved (Guards now) x) ∙ same-moved (Guards now) x)
+    by_cond (Same x) (is_shut x) x (goes_on now (Datagram octets now) (moved (Guards now) x)) (λ _. refl)
+    (λ _. same-goes_on now (Datagram octets now) (moved (Guards now) x) ∙ same-moved (Guards now) x)
     ∙ sym (append-nil x.session.history.put)

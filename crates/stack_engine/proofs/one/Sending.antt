@@ -1,28 +1,9 @@
 -- Sending keeps an end spoken, and so do all its calls.
-use Rattle.std.proofs.Common.{◌≡◌, ℕ, ◌≤◌, List, [], ◌∷◌, ◌++◌, length, take, drop, Ok, Bool, true, false, cond, refl, sym, ap, subst, ◌∙◌, append_assoc, append-nil, arith}
-use Rattle.std.specs.Prelude.{nat_le, ◌&&◌}
-use Rattle.std.specs.List.{AllByRecursion}
-use Rattle.std.proofs.lemmas.Bool.Decides.{nat_tests}
-use Rattle.std.proofs.lemmas.List.{take-append-drop}
-use Rattle.octets.specs.Lists.{IsBeginning}
-use Rattle.octets.specs.declared.limits.TheConstants.{UNIT_MESSAGES}
-use Rattle.packing.specs.UnitText.{IsMessage, unit_text}
-use Rattle.packing.specs.Places.{unit_seen}
-use Rattle.red_layer.specs.Parts.{is_nil}
-use Rattle.safe_machine.specs.Settings.{is_legal}
-use Rattle.safe_machine.specs.declared.Reason.TheVariants.{ClosedByUser}
-use Rattle.safe_machine.specs.declared.Detail.TheVariants.{Unspecified}
-use Rattle.safe_machine.specs.Made.{units}
-use Rattle.safe_machine.specs.State.{leave}
-use Rattle.safe_machine.specs.Step.{guard, tick, send, may_send}
-use Rattle.safe_machine.specs.Moves.Move.{Guards, Ticks, Sends, Leaves}
-use Rattle.safe_machine.specs.World.{Side}
-use Rattle.sci_telegram.specs.Tele.{Tele}
-use Rattle.pdi_session.specs.SessionStep.{Puts, InitDone as Completes, Closes, texts}
-use Rattle.pdi_session.specs.Laws.{HasMessage}
-use Rattle.end_settings.specs.EndSettings.{EndSettings, in_limits, are_fit}
-use Rattle.stack_end.specs.Ends.{EndState, packed}
-use Rattle.stack_engine.specs.Settled.{messages_in, telegrams_in, found_messages}
+use Rattle.stack_engine.proofs.Words.{◌≡◌, ℕ, ◌≤◌, List, [], ◌∷◌, ◌++◌, length, take, drop, Ok, Bool, true, false, cond, refl, sym, ap, subst, ◌∙◌}
+use Rattle.stack_engine.proofs.Words.{append_assoc, append-nil, arith, nat_le, ◌&&◌, AllByRecursion, nat_tests, take-append-drop, IsBeginning, UNIT_MESSAGES}
+use Rattle.stack_engine.proofs.Words.{IsMessage, unit_text, unit_seen, is_nil, is_legal, ClosedByUser, Unspecified, units, leave, guard, tick, send, may_send}
+use Rattle.stack_engine.proofs.Words.{Guards, Ticks, Sends, Leaves, Side, Tele, Puts, Completes, Closes, texts, HasMessage, EndSettings, in_limits, are_fit}
+use Rattle.stack_engine.proofs.Words.{EndState, packed, messages_in, telegrams_in, found_messages}
 use Rattle.stack_engine.proofs.one.Talking.{messages-append, all-append}
 use Rattle.stack_engine.proofs.one.Packing.{AllMessages, is-unit}
 use Rattle.stack_engine.proofs.one.Keeping.{Keeps}
@@ -41,7 +22,9 @@ legal-of side s h = (and-parts (is_legal s.connection) _ h).0
 -- an end packs one to three messages
 pub packs-some : (side : Side) (s : EndSettings) → are_fit side s ≡ true → (1 ≤ s.n_maxpacket) × (s.n_maxpacket ≤ UNIT_MESSAGES)
 packs-some side s h =
-    let p = and-parts (nat_le 1 s.n_maxpacket) (nat_le s.n_maxpacket UNIT_MESSAGES) (and-parts (nat_le 1 s.n_maxpacket && nat_le s.n_maxpacket UNIT_MESSAGES) _ (and-parts (nat_le 1 s.channels && nat_le s.channels 4) _ (limits-of side s h)).1).0 in
+    let p = and-parts (nat_le 1 s.n_maxpacket) (nat_le s.n_maxpacket UNIT_MESSAGES)
+    (and-parts (nat_le 1 s.n_maxpacket && nat_le s.n_maxpacket UNIT_MESSAGES) _
+    (and-parts (nat_le 1 s.channels && nat_le s.channels 4) _ (limits-of side s h)).1).0 in
     (let l = p.0 in grind (arith, nat_tests), let m = p.1 in grind (arith, nat_tests))
 
 texts-sized : (ts : List Tele) → AllByRecursion HasMessage ts → AllMessages (texts ts)
@@ -55,9 +38,11 @@ all-behind P (x ∷ xs) ys h = all-behind P xs ys h.1
 -- what waits are messages
 pub waits-sized : (side : Side) (x : EndState) → Spoken side x → AllMessages x.session.waiting
 waits-sized side x h =
-    all-behind IsMessage (messages_in (units x.machine.made)) x.session.waiting (subst AllMessages h.talk.queue (texts-sized x.session.history.queue h.talk.messages))
+    all-behind IsMessage (messages_in (units x.machine.made)) x.session.waiting
+    (subst AllMessages h.talk.queue (texts-sized x.session.history.queue h.talk.messages))
 
-pub spoken-packed : Below → (side : Side) (now : ℕ) (x : EndState) → may_send x.machine ≡ true → is_nil x.session.waiting ≡ false → Spoken side x → Spoken side (packed now x)
+pub spoken-packed : Below → (side : Side) (now : ℕ) (x : EndState) → may_send x.machine ≡ true → is_nil x.session.waiting ≡ false → Spoken side x
+    → Spoken side (packed now x)
 spoken-packed laws side now x may some h =
     let n = x.settings.n_maxpacket in
     let waiting = x.session.waiting in
@@ -98,7 +83,8 @@ spoken-keeps laws side now Q =
     record {
       guards = λ x h. spoken-still side x (guard now x.machine) (still-by laws.moves (Guards now) x.machine refl (λ more e. e)) h;
       ticks = λ x h. spoken-still side x (tick now x.machine) (still-by laws.moves (Ticks now) x.machine refl (λ more e. e)) h;
-      closes = λ x h. spoken-still side x (leave ClosedByUser Unspecified now x.machine) (still-by laws.moves (Leaves ClosedByUser Unspecified now) x.machine refl (λ more e. e)) h;
+      closes = λ x h. spoken-still side x (leave ClosedByUser Unspecified now x.machine)
+          (still-by laws.moves (Leaves ClosedByUser Unspecified now) x.machine refl (λ more e. e)) h;
       ends = λ x shut h. spoken-meets laws.session side Closes x tt refl h;
       inputs = λ i x t h. record { fit = h.fit; talk = h.talk; unpack = h.unpack; begins = h.begins; whole = h.whole };
       hears = λ octets x q h. spoken-hears laws side now octets x h;

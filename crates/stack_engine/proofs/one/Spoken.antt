@@ -1,32 +1,12 @@
 -- One end by itself: its queue is what it sent and what waits, and it judged what its machine took.
-use Rattle.std.proofs.Common.{◌≡◌, ℕ, List, [], ◌∷◌, ◌++◌, length, drop, Option, Some, None, Result, Ok, Err, Bool, true, false, refl, sym, ap, subst, ◌∙◌, append_assoc, append-nil}
-use Rattle.std.specs.List.{AllByRecursion}
-use Rattle.std.proofs.lemmas.Bool.{false≢true}
-use Rattle.octets.specs.Lists.{IsBeginning}
-use Rattle.octets.proofs.Choices.{by_test}
-use Rattle.packing.specs.Places.{unit_seen}
-use Rattle.safe_pdu.specs.declared.SafeFault.{SafeFault}
-use Rattle.safe_pdu.specs.Pdu.{Pdu}
-use Rattle.safe_pdu.specs.Laws.{ReadLaw as PduReadLaw}
-use Rattle.safe_machine.specs.declared.ConnectionState.{ConnectionState}
-use Rattle.safe_machine.specs.declared.ConnectionState.TheVariants.{Closed, Down, Start, Up, RetrReq as Requesting, RetrRun}
-use Rattle.safe_machine.specs.Made.{units}
-use Rattle.safe_machine.specs.State.{State, leave}
-use Rattle.safe_machine.specs.Decision.{is_closed}
-use Rattle.safe_machine.specs.Moves.{Move, move, sent_by, MovesLaw, SettingsLaw, IdentifiedLaw, IsTakenBy}
-use Rattle.safe_machine.specs.Moves.Move.{Guards, Hears, Leaves}
-use Rattle.safe_machine.specs.Octets.{heard as heard_as, seen_by, arrive_octets}
-use Rattle.safe_machine.specs.World.{Side}
-use Rattle.safe_machine.specs.InOrder.{OneMoreLaw as EventsLaw}
-use Rattle.sci_telegram.specs.Tele.{Tele}
-use Rattle.pdi_session.specs.Settings.{Addressing, Role}
-use Rattle.pdi_session.specs.SessionStep.{Event, Up as GoesUp}
-use Rattle.pdi_session.specs.Histories.{handed_by}
-use Rattle.pdi_session.specs.Laws.{HasKind, OverLaw}
-use Rattle.end_settings.specs.EndSettings.{session_of, are_fit}
-use Rattle.stack_end.specs.Dialogue.{Dialogue, meets, Leaving, judge_units}
-use Rattle.stack_end.specs.Ends.{EndState, is_shut, with_machine, with_session, handed_up, comes_up, rises, answered, leaves, heard}
-use Rattle.stack_engine.specs.Settled.{messages_in, telegrams_in}
+use Rattle.stack_engine.proofs.Words.{◌≡◌, ℕ, List, [], ◌∷◌, ◌++◌, length, drop, Option, Some, None, Result, Ok, Err, Bool, true, false, refl, sym, ap, subst}
+use Rattle.stack_engine.proofs.Words.{◌∙◌, append_assoc, append-nil, AllByRecursion, false≢true, IsBeginning, by_test, unit_seen, SafeFault, Pdu, PduReadLaw}
+use Rattle.stack_engine.proofs.Words.{ConnectionState, Closed, Down, Start, Up, Requesting, RetrRun, units, State, leave, is_closed, Move, move, sent_by}
+use Rattle.stack_engine.proofs.Words.{MovesLaw, SettingsLaw, IdentifiedLaw, IsTakenBy, Guards, Hears, Leaves, heard_as, seen_by, arrive_octets, Side, EventsLaw}
+use Rattle.stack_engine.proofs.Words.{Tele, Addressing, Role, GoesUp, handed_by, HasKind, OverLaw, session_of, are_fit, Dialogue, meets, Leaving, judge_units}
+use Rattle.stack_engine.proofs.Words.{EndState, is_shut, with_machine, with_session, handed_up, comes_up, rises, answered, leaves, heard, messages_in}
+use Rattle.stack_engine.proofs.Words.{telegrams_in}
+use Rattle.pdi_session.specs.SessionStep.{Event}
 use Rattle.stack_engine.proofs.one.Talking.{Uses, Talk, talk-meets, talk-units, Hearing, hearing-units, messages-append, telegrams-append}
 use Rattle.stack_engine.proofs.one.Packing.{ReadLaw}
 
@@ -96,9 +76,11 @@ spoken-still side x s t h =
     }
 
 -- an event of the session that hands it no telegram
-pub spoken-meets : Uses → (side : Side) (e : Event) (x : EndState) → HasKind e → handed_by e ≡ [] → Spoken side x → Spoken side (with_session (meets e x.session) x)
+pub spoken-meets : Uses → (side : Side) (e : Event) (x : EndState) → HasKind e → handed_by e ≡ [] → Spoken side x
+    → Spoken side (with_session (meets e x.session) x)
 spoken-meets laws side e x kind quiet h =
-    let same : (meets e x.session).history.judged ≡ x.session.history.judged = ap (λ ts. x.session.history.judged ++ ts) quiet ∙ append-nil x.session.history.judged in
+    let same : (meets e x.session).history.judged ≡ x.session.history.judged = ap (λ ts. x.session.history.judged ++ ts) quiet
+    ∙ append-nil x.session.history.judged in
     record {
       fit = h.fit;
       talk = talk-meets laws x.settings.addressing (session_of side x.settings) (messages_in (units x.machine.made)) e x.session kind h.talk;
@@ -137,7 +119,8 @@ pub record Nearly (side : Side) (x : EndState) : Type 0 where
   pub unpack : AllByRecursion Unpacks (units x.machine.made)
   pub begins : IsBeginning x.session.history.judged (came x.machine)
 
-spoken-leaves : MovesLaw → (side : Side) (now : ℕ) (why : Option Leaving) (y : EndState) → Nearly side y → (why ≡ None → is_shut y ≡ false → y.session.history.judged ≡ came y.machine) → Spoken side (leaves now why y)
+spoken-leaves : MovesLaw → (side : Side) (now : ℕ) (why : Option Leaving) (y : EndState) → Nearly side y
+    → (why ≡ None → is_shut y ≡ false → y.session.history.judged ≡ came y.machine) → Spoken side (leaves now why y)
 spoken-leaves law side now None y h whole = record { fit = h.fit; talk = h.talk; unpack = h.unpack; begins = h.begins; whole = whole refl }
 spoken-leaves law side now (Some why) y h whole =
     let t : Still y.machine (leave why.0 why.1 now y.machine) = still-by law (Leaves why.0 why.1 now) y.machine refl (λ more e. e) in
@@ -173,14 +156,16 @@ spoken-hears laws side now octets x h =
     let r = session_of side x.settings in
     let judged : (rises up j.left).history.judged ≡ x.session.history.judged ++ hear.front = rises-judged up j.left ∙ hear.judged in
     let all : came s ≡ came x.machine ++ telegrams_in (messages_in us) =
-    ap (λ ts. telegrams_in (messages_in ts)) step.taken ∙ came-more x.machine.taken step.more ∙ ap (λ vs. came x.machine ++ telegrams_in (messages_in vs)) (sym us-are)
+    ap (λ ts. telegrams_in (messages_in ts)) step.taken ∙ came-more x.machine.taken step.more ∙ ap (λ vs. came x.machine ++ telegrams_in (messages_in vs))
+    (sym us-are)
     in
     let near : Nearly side (answered octets x s) =
     record {
       fit = h.fit;
       talk =
           subst (λ vs. Talk a r (messages_in vs) (rises up j.left)) (sym step.sent)
-          (rises-talk laws.session a r (messages_in (units x.machine.made)) up j.left (talk-units laws.session a r (messages_in (units x.machine.made)) us x.session h.talk));
+          (rises-talk laws.session a r (messages_in (units x.machine.made)) up j.left
+          (talk-units laws.session a r (messages_in (units x.machine.made)) us x.session h.talk));
       unpack = subst (λ vs. AllByRecursion Unpacks vs) (sym step.sent) h.unpack;
       begins =
           by_test (λ b. is_shut x ≡ b → IsBeginning (rises up j.left).history.judged (came s)) (is_shut x)

@@ -1,20 +1,11 @@
 -- What a session's events and judging keep: what waits is the end of its queue, and what it judged a beginning of what came.
-use Rattle.std.proofs.Common.{◌≡◌, ℕ, List, [], ◌∷◌, ◌++◌, Option, Some, None, Result, Ok, Err, refl, sym, ap, subst, ◌∙◌, append_assoc, append-nil}
-use Rattle.std.specs.List.{AllByRecursion}
-use Rattle.octets.specs.Lists.{IsBeginning}
-use Rattle.packing.specs.declared.PackFault.{PackFault}
-use Rattle.packing.specs.Places.{unit_seen}
-use Rattle.sci_telegram.specs.declared.TeleFault.{TeleFault}
-use Rattle.sci_telegram.specs.Tele.{Tele}
-use Rattle.sci_telegram.specs.TeleText.{tele_text}
-use Rattle.sci_telegram.specs.Places.{tele_seen}
-use Rattle.pdi_session.specs.Settings.{Addressing, Role, AreSettings}
-use Rattle.pdi_session.specs.SessionStep.{Event, Arrives, added_by, texts}
-use Rattle.pdi_session.specs.Histories.{begun, grown, grown_along}
-use Rattle.pdi_session.specs.Laws.{HasKind, HasMessage, MessageLaw}
+use Rattle.stack_engine.proofs.Words.{◌≡◌, ℕ, List, [], ◌∷◌, ◌++◌, Option, Some, None, Result, Ok, Err, refl, sym, ap, subst, ◌∙◌, append_assoc, append-nil}
+use Rattle.stack_engine.proofs.Words.{AllByRecursion, IsBeginning, PackFault, unit_seen, TeleFault, Tele, tele_text, tele_seen, Addressing, Role, AreSettings}
+use Rattle.stack_engine.proofs.Words.{Arrives, added_by, texts, begun, grown, grown_along, HasKind, HasMessage, MessageLaw, Dialogue, meets, Leaving, Judged}
+use Rattle.stack_engine.proofs.Words.{judged_none, judged_as, judge_read, unless_leaving, judge_messages, judge_unpacked, judge_units, found_messages}
+use Rattle.stack_engine.proofs.Words.{messages_in, found_telegram, telegrams_in}
+use Rattle.pdi_session.specs.SessionStep.{Event}
 use Rattle.pdi_session.specs.JoinedSessions.{OneMoreLaw}
-use Rattle.stack_end.specs.Dialogue.{Dialogue, meets, Leaving, Judged, judged_none, judged_as, judge_read, unless_leaving, judge_messages, judge_unpacked, judge_units}
-use Rattle.stack_engine.specs.Settled.{found_messages, messages_in, found_telegram, telegrams_in}
 
 -- all of two lists
 pub all-append : {X : Type 0} (P : X → Type 0) (xs ys : List X) → AllByRecursion P xs → AllByRecursion P ys → AllByRecursion P (xs ++ ys)
@@ -29,7 +20,8 @@ messages-append (u ∷ us) vs =
 pub telegrams-append : (ms ns : List (List ℕ)) → telegrams_in (ms ++ ns) ≡ telegrams_in ms ++ telegrams_in ns
 telegrams-append [] ns = refl
 telegrams-append (m ∷ ms) ns =
-    ap (λ ts. found_telegram (tele_seen m) ++ ts) (telegrams-append ms ns) ∙ sym (append_assoc (found_telegram (tele_seen m)) (telegrams_in ms) (telegrams_in ns))
+    ap (λ ts. found_telegram (tele_seen m) ++ ts) (telegrams-append ms ns)
+    ∙ sym (append_assoc (found_telegram (tele_seen m)) (telegrams_in ms) (telegrams_in ns))
 
 pub texts-append : (ts us : List Tele) → texts (ts ++ us) ≡ texts ts ++ texts us
 texts-append [] us = refl
@@ -61,11 +53,13 @@ talk-meets laws a r gone e d kind h =
       queue = texts-append d.history.queue added ∙ ap (λ ms. ms ++ texts added) h.queue ∙ append_assoc gone d.waiting (texts added);
     }
 
-talk-unless : (a : Addressing) (r : Role) (gone : List (List ℕ)) (why : Option Leaving) (first rest : Judged) → Talk a r gone first.left → Talk a r gone rest.left → Talk a r gone (unless_leaving why first rest).left
+talk-unless : (a : Addressing) (r : Role) (gone : List (List ℕ)) (why : Option Leaving) (first rest : Judged) → Talk a r gone first.left
+    → Talk a r gone rest.left → Talk a r gone (unless_leaving why first rest).left
 talk-unless a r gone None first rest h k = k
 talk-unless a r gone (Some why) first rest h k = h
 
-talk-read : Uses → (a : Addressing) (r : Role) (gone : List (List ℕ)) (seen : Result Tele TeleFault) (d : Dialogue) → Talk a r gone d → Talk a r gone (judge_read seen d).left
+talk-read : Uses → (a : Addressing) (r : Role) (gone : List (List ℕ)) (seen : Result Tele TeleFault) (d : Dialogue) → Talk a r gone d
+    → Talk a r gone (judge_read seen d).left
 talk-read laws a r gone (Ok t) d h = talk-meets laws a r gone (Arrives t) d tt h
 talk-read laws a r gone (Err fault) d h = h
 
@@ -76,7 +70,8 @@ talk-messages laws a r gone (m ∷ ms) d h =
     let one = talk-read laws a r gone (tele_seen m) d h in
     talk-unless a r gone first.leaving first (judge_messages ms first.left) one (talk-messages laws a r gone ms first.left one)
 
-talk-unpacked : Uses → (a : Addressing) (r : Role) (gone : List (List ℕ)) (seen : Result (List (List ℕ)) PackFault) (d : Dialogue) → Talk a r gone d → Talk a r gone (judge_unpacked seen d).left
+talk-unpacked : Uses → (a : Addressing) (r : Role) (gone : List (List ℕ)) (seen : Result (List (List ℕ)) PackFault) (d : Dialogue) → Talk a r gone d
+    → Talk a r gone (judge_unpacked seen d).left
 talk-unpacked laws a r gone (Ok ms) d h = talk-messages laws a r gone ms d h
 talk-unpacked laws a r gone (Err fault) d h = h
 
@@ -104,7 +99,8 @@ pub hearing-read : (seen : Result Tele TeleFault) (d : Dialogue) → Hearing d (
 hearing-read (Ok t) d = record { front = t ∷ []; judged = refl; begins = ([], refl); whole = λ _. refl }
 hearing-read (Err fault) d = hearing-as _ d []
 
-hearing-then : (d : Dialogue) (came more : List Tele) (first rest : Judged) (why : Option Leaving) → first.leaving ≡ why → Hearing d came first → Hearing first.left more rest → Hearing d (came ++ more) (unless_leaving why first rest)
+hearing-then : (d : Dialogue) (came more : List Tele) (first rest : Judged) (why : Option Leaving) → first.leaving ≡ why → Hearing d came first
+    → Hearing first.left more rest → Hearing d (came ++ more) (unless_leaving why first rest)
 hearing-then d came more first rest None e h k =
     record {
       front = h.front ++ k.front;
@@ -124,7 +120,8 @@ hearing-messages : (ms : List (List ℕ)) (d : Dialogue) → Hearing d (telegram
 hearing-messages [] d = hearing-none d
 hearing-messages (m ∷ ms) d =
     let first = judge_read (tele_seen m) d in
-    hearing-then d (found_telegram (tele_seen m)) (telegrams_in ms) first (judge_messages ms first.left) first.leaving refl (hearing-read (tele_seen m) d) (hearing-messages ms first.left)
+    hearing-then d (found_telegram (tele_seen m)) (telegrams_in ms) first (judge_messages ms first.left) first.leaving refl (hearing-read (tele_seen m) d)
+    (hearing-messages ms first.left)
 
 pub hearing-unpacked : (seen : Result (List (List ℕ)) PackFault) (d : Dialogue) → Hearing d (telegrams_in (found_messages seen)) (judge_unpacked seen d)
 hearing-unpacked (Ok ms) d = hearing-messages ms d
@@ -136,7 +133,8 @@ hearing-units (u ∷ us) d =
     let first = judge_unpacked (unit_seen u) d in
     let rest = judge_units us first.left in
     subst (λ ts. Hearing d ts (unless_leaving first.leaving first rest)) (sym (telegrams-append (found_messages (unit_seen u)) (messages_in us)))
-    (hearing-then d (telegrams_in (found_messages (unit_seen u))) (telegrams_in (messages_in us)) first rest first.leaving refl (hearing-unpacked (unit_seen u) d) (hearing-units us first.left))
+    (hearing-then d (telegrams_in (found_messages (unit_seen u))) (telegrams_in (messages_in us)) first rest first.leaving refl
+    (hearing-unpacked (unit_seen u) d) (hearing-units us first.left))
 
 -- each telegram of the queue is read from its message
 pub queue-read : (ts : List Tele) → AllByRecursion HasMessage ts → telegrams_in (texts ts) ≡ ts

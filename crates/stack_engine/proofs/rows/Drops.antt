@@ -1,7 +1,6 @@
 -- Numbers that differ, and what stands in a list of one or of none.
-use Rattle.std.specs.Prelude.{ℕ, zero, suc, ◌≡◌, ◌==◌, true, not, List, [], ◌∷◌, drop}
-use Rattle.std.proofs.Common.{arith, refl, sym, ap, ◌∙◌}
-use Rattle.std.proofs.lemmas.Bool.Decides.{nat_tests}
+use Rattle.stack_engine.proofs.Words.{not, arith, refl, sym, ap, ◌∙◌, nat_tests}
+use Rattle.std.specs.Prelude.{ℕ, zero, suc, ◌≡◌, ◌==◌, true, List, [], ◌∷◌, drop}
 
 pub differ : (a b : ℕ) → not (a == b) ≡ true → a ≡ b → ⊥
 differ a b h e = grind (arith, nat_tests)

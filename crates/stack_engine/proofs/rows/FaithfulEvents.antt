@@ -1,9 +1,5 @@
 -- The events of a faithful list: a session is set up over two channels, a status and five commands are put in.
-use Rattle.std.proofs.Common.{ℕ, List, [], ◌∷◌}
-use Rattle.safe_machine.specs.World.Side.{Il, Fe}
-use Rattle.stack_end.specs.Ends.Call.{Put, InitDone, Deliver}
-use Rattle.stack_engine.specs.Pairs.{World, Event, start, happens}
-use Rattle.stack_engine.specs.Pairs.Event.{Open, Calls}
+use Rattle.stack_engine.proofs.Words.{ℕ, List, [], ◌∷◌, Il, Fe, Put, InitDone, Deliver, World, Event, start, happens, Open, Calls}
 use Rattle.stack_engine.proofs.rows.RowSettings.{il_of, fe_of}
 
 -- the datagrams that the ends make, each under its index

@@ -1,31 +1,11 @@
 -- What makes a list of events faithful, as tests that a computation answers.
-use Rattle.std.specs.Prelude.{ℕ, ◌≡◌, ◌+◌, ◌<◌, ◌≤◌, nat_le, nat_lt, Bool, true, false, not, ◌&&◌, ◌||◌, if◌then◌else◌, length, Option, Some, None, List, [], ◌∷◌, ◌++◌, drop}
-use Rattle.std.proofs.Common.{arith, refl, sym, ◌∙◌}
-use Rattle.std.proofs.lemmas.Bool.Decides.{nat_tests}
-use Rattle.std.specs.List.{AllByRecursion}
-use Rattle.std.specs.Str.{bytes_eq}
-use Rattle.std.proofs.lemmas.Slice.Eq.{bytes_eq-Decides}
-use Rattle.red_layer.specs.Parts.{Part, is_nil}
-use Rattle.red_layer.specs.Redundancy.{Input, Datagram, Tick as RedTick, passed_by}
-use Rattle.red_layer.specs.Service.{arrivals_of}
-use Rattle.red_layer.specs.Masking.{Wait, AreAtMost, IsInTime, NoDeadlineFalls, QNear, first_missing, moment_of, no_wait, wait_after}
-use Rattle.safe_pdu.specs.declared.CodeRule.{CodeRule}
-use Rattle.safe_machine.specs.Made.{Made}
-use Rattle.safe_machine.specs.declared.Detail.TheVariants.{Limit, Unspecified}
-use Rattle.safe_machine.specs.declared.Reason.TheVariants.{ProtocolError, Timeout}
-use Rattle.safe_machine.specs.InOrder.{GuardHolds}
-use Rattle.safe_machine.specs.Moves.Move.{Guards, Ticks}
-use Rattle.safe_machine.specs.State.{State, leave}
-use Rattle.safe_machine.specs.Step.{is_live as is_alive}
-use Rattle.safe_machine.specs.World.Side.{Il, Fe}
-use Rattle.end_settings.specs.EndSettings.{rule_of}
-use Rattle.stack_end.specs.Datagrams.{upper_of}
-use Rattle.stack_end.specs.Ends.{EndState, Call, moved, part, with_input}
-use Rattle.stack_end.specs.Ends.Call.{Close, Put, InitDone, Tick, Deliver}
-use Rattle.stack_engine.specs.Faithful.{Carries, CarriesAll, FaithfulCall, FaithfulEvent, GuardsHold, IsNear, IsNoClose, OfBoth, SameRule}
-use Rattle.stack_engine.specs.Pairs.{World, Event, present}
-use Rattle.stack_engine.specs.Pairs.Event.{Open, Calls}
-use Rattle.stack_engine.specs.Premise.{AtOpened, AtParts}
+use Rattle.stack_engine.proofs.Words.{nat_le, nat_lt, not, ◌&&◌, ◌||◌, if◌then◌else◌, arith, refl, sym, ◌∙◌, nat_tests, AllByRecursion, bytes_eq}
+use Rattle.stack_engine.proofs.Words.{bytes_eq-Decides, Part, is_nil, Input, Datagram, RedTick, passed_by, arrivals_of, Wait, AreAtMost, IsInTime}
+use Rattle.stack_engine.proofs.Words.{NoDeadlineFalls, QNear, first_missing, moment_of, no_wait, wait_after, CodeRule, Made, Limit, Unspecified, ProtocolError}
+use Rattle.stack_engine.proofs.Words.{Timeout, GuardHolds, Guards, Ticks, State, leave, is_alive, Il, Fe, rule_of, upper_of, EndState, Call, moved, part}
+use Rattle.stack_engine.proofs.Words.{with_input, Close, Put, InitDone, Tick, Deliver, Carries, CarriesAll, FaithfulCall, FaithfulEvent, GuardsHold, IsNear}
+use Rattle.stack_engine.proofs.Words.{IsNoClose, OfBoth, SameRule, World, Event, present, Open, Calls, AtOpened, AtParts}
+use Rattle.std.specs.Prelude.{ℕ, ◌≡◌, ◌+◌, ◌<◌, ◌≤◌, Bool, true, false, length, Option, Some, None, List, [], ◌∷◌, ◌++◌, drop}
 use Rattle.stack_engine.proofs.two.Confirmed.{nil-is, not-true}
 use Rattle.stack_engine.proofs.one.Sending.{and-parts}
 
@@ -172,7 +152,8 @@ all-brought peer (InitDone now) h = tt
 all-brought peer (Tick now) h = tt
 all-brought peer (Deliver channel octets now) h = all-carried peer (arrivals_of (Datagram octets now)) h
 
-parts-stay : (now : ℕ) (ps : List Part) (x : EndState) → parts_stay now ps x ≡ true → AtParts (λ (y : EndState) (octets : List ℕ). GuardHolds y.machine now) now ps x
+parts-stay : (now : ℕ) (ps : List Part) (x : EndState) → parts_stay now ps x ≡ true → AtParts (λ (y : EndState) (octets : List ℕ). GuardHolds y.machine now) now
+    ps x
 parts-stay now [] x h = tt
 parts-stay now (p ∷ ps) x h =
     let parts = and-parts (not (leaves_by_guard now x.machine)) (parts_stay now ps (part now p.1 x)) h in

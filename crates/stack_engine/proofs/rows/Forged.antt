@@ -1,22 +1,13 @@
 -- Datagrams of an interlocking that was never opened: the field element sets up a session with them and takes a command, and nobody made it.
-use Rattle.std.specs.Prelude.{ℕ, ◌≡◌, ◌==◌, Bool, true, false, not, ◌&&◌, Option, Some, None, is_none, List, [], ◌∷◌, length}
-use Rattle.std.proofs.Common.{refl, ap, subst}
+use Rattle.stack_engine.proofs.Words.{not, ◌&&◌, is_none, refl, ap, subst, Part, is_nil, Datagram, passed_by, Made, Guards, Il, Fe, EndState, is_shut, moved}
+use Rattle.stack_engine.proofs.Words.{part, with_input, Deliver, World, Event, start, happens, made_of, present, refusal, Calls, taken_at, AllFresh, FreshCall}
+use Rattle.stack_engine.proofs.Words.{FreshEvent, TakesFresh, AtOpened, AtParts}
+use Rattle.std.specs.Prelude.{ℕ, ◌≡◌, ◌==◌, Bool, true, false, Option, Some, None, List, [], ◌∷◌, length}
 use Rattle.md4.specs.Digest.{four_steps, after_round, after_block, digest}
 use Rattle.safe_machine.specs.Numbers.{sn_of, ahead}
 use Rattle.packing.specs.Places.{pieces_seen, unit_seen}
 use Rattle.sci_telegram.specs.Places.{tele_seen}
-use Rattle.red_layer.specs.Parts.{Part, is_nil}
-use Rattle.red_layer.specs.Redundancy.{Datagram, decoded, passed_by}
-use Rattle.safe_machine.specs.Made.{Made}
-use Rattle.safe_machine.specs.Moves.Move.{Guards}
-use Rattle.safe_machine.specs.World.Side.{Il, Fe}
-use Rattle.stack_end.specs.Ends.{EndState, is_shut, moved, part, with_input}
-use Rattle.stack_end.specs.Ends.Call.{Deliver}
-use Rattle.stack_engine.specs.Pairs.{World, Event, start, happens, made_of, present, refusal}
-use Rattle.stack_engine.specs.Pairs.Event.{Calls}
-use Rattle.stack_engine.specs.Headline.{taken_at}
-use Rattle.stack_engine.specs.Freshness.{AllFresh, FreshCall, FreshEvent, TakesFresh}
-use Rattle.stack_engine.specs.Premise.{AtOpened, AtParts}
+use Rattle.red_layer.specs.Redundancy.{decoded}
 use Rattle.stack_engine.proofs.two.Confirmed.{nil-is, not-true}
 use Rattle.stack_engine.proofs.one.Sending.{and-parts}
 use Rattle.stack_engine.proofs.rows.GenuineEvents.{e23, e25, e27, e28, e30, e32, e36}
@@ -52,7 +43,8 @@ first-unmade now (p ∷ ps) x h fresh =
     let came = fresh.0 (λ e. differ (length (taken_at (part now p.1 x))) (length (taken_at x)) h (ap length e)) in
     none-found came.2.index came.2.carrier came.2.rest came.2.at
 
-call-unmade : (now channel : ℕ) (octets : List ℕ) (x : Option EndState) → takes_at now octets x ≡ true → AtOpened (FreshCall [] (Deliver channel octets now)) x → ⊥
+call-unmade : (now channel : ℕ) (octets : List ℕ) (x : Option EndState) → takes_at now octets x ≡ true → AtOpened (FreshCall [] (Deliver channel octets now)) x
+    → ⊥
 call-unmade now channel octets None h fresh = not-so h
 call-unmade now channel octets (Some x) h fresh =
     let guarded = moved (Guards now) x in

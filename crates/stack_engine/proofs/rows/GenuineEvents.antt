@@ -1,9 +1,5 @@
 -- The events of a genuine list of two sessions: a lost command in the first, both ends opened anew, and both ways used in the second.
-use Rattle.std.proofs.Common.{ℕ, List, [], ◌∷◌}
-use Rattle.safe_machine.specs.World.Side.{Il, Fe}
-use Rattle.stack_end.specs.Ends.Call.{Put, InitDone, Tick, Deliver}
-use Rattle.stack_engine.specs.Pairs.{World, Event, start, happens}
-use Rattle.stack_engine.specs.Pairs.Event.{Open, Calls}
+use Rattle.stack_engine.proofs.Words.{ℕ, List, [], ◌∷◌, Il, Fe, Put, InitDone, Tick, Deliver, World, Event, start, happens, Open, Calls}
 use Rattle.stack_engine.proofs.rows.RowSettings.{il_of, fe_of}
 
 -- the datagrams that the ends make, each under its index; those of the second opening with a b

@@ -1,22 +1,17 @@
 -- A genuine list of events, computed: a command is lost and sent again, the one behind it is deferred, and status is taken; then both ends are opened
 -- anew, and in the second session both ways are used. At its end both ends are settled.
-use Rattle.std.proofs.Common.{◌≡◌, List, [], ◌∷◌, true, refl, Some, None}
+use Rattle.stack_engine.proofs.Words.{◌≡◌, List, [], ◌∷◌, true, refl, Some, None, Il, Fe, is_settled, start, refusal, present, ends_of, option_map, map}
+use Rattle.stack_engine.proofs.Words.{Faithful, FaithfulEvent, taken_at, joins_in, GenuineInstance, Genuine, GenuineEvent}
 use Rattle.md4.specs.Digest.{four_steps, after_round, after_block, digest}
 use Rattle.safe_machine.specs.Numbers.{sn_of, ahead}
-use Rattle.safe_machine.specs.World.Side.{Il, Fe}
 use Rattle.packing.specs.Places.{pieces_seen, unit_seen}
 use Rattle.sci_telegram.specs.Places.{tele_seen}
 use Rattle.red_layer.specs.Redundancy.{decoded}
-use Rattle.stack_end.specs.Ends.{is_settled}
-use Rattle.stack_engine.specs.Pairs.{start, refusal, present, ends_of}
-use Rattle.std.specs.Prelude.{option_map, map}
-use Rattle.stack_engine.specs.Faithful.{Faithful, FaithfulEvent}
-use Rattle.stack_engine.specs.Headline.{taken_at}
-use Rattle.stack_engine.specs.Joins.{joins_in}
-use Rattle.stack_engine.specs.Premises.{GenuineInstance}
 use Rattle.stack_engine.proofs.rows.PremiseTests.{all-typed}
-use Rattle.stack_engine.specs.Premise.{Genuine, GenuineEvent}
-use Rattle.stack_engine.proofs.rows.GenuineEvents.{events, e1, e2, e3, e4, e5, e6, e7, e8, e9, e10, e11, e12, e13, e14, e15, e16, e17, e18, e19, e20, e21, e22, e23, e24, e25, e26, e27, e28, e29, e30, e31, e32, e33, e34, e35, e36, e37, e38, e39, e40, e41, w1, w2, w3, w4, w5, w6, w7, w8, w9, w10, w11, w12, w13, w14, w15, w16, w17, w18, w19, w20, w21, w22, w23, w24, w25, w26, w27, w28, w29, w30, w31, w32, w33, w34, w35, w36, w37, w38, w39, w40, w41}
+use Rattle.stack_engine.proofs.rows.GenuineEvents.{events, e1, e2, e3, e4, e5, e6, e7, e8, e9, e10, e11, e12, e13, e14, e15, e16, e17, e18, e19, e20, e21, e22}
+use Rattle.stack_engine.proofs.rows.GenuineEvents.{e23, e24, e25, e26, e27, e28, e29, e30, e31, e32, e33, e34, e35, e36, e37, e38, e39, e40, e41, w1, w2, w3}
+use Rattle.stack_engine.proofs.rows.GenuineEvents.{w4, w5, w6, w7, w8, w9, w10, w11, w12, w13, w14, w15, w16, w17, w18, w19, w20, w21, w22, w23, w24, w25, w26}
+use Rattle.stack_engine.proofs.rows.GenuineEvents.{w27, w28, w29, w30, w31, w32, w33, w34, w35, w36, w37, w38, w39, w40, w41}
 
 opens : {X : Type 0} {x : X} {xs : List X} → x ∷ xs ≡ [] → ⊥
 opens e = cc
@@ -91,103 +86,128 @@ unfolding w1 w2 w3 w4 w5 w6 w7 w8 w9 w10 w11 w12 w13 w14 w15 w16 sn_of ahead fou
 genuine17 = λ on. (((λ up asked. refl), tt), λ up still. ((λ up asked. refl), tt))
 
 genuine18 : refusal e18 w17 ≡ None → GenuineEvent e18 w17
-unfolding w1 w2 w3 w4 w5 w6 w7 w8 w9 w10 w11 w12 w13 w14 w15 w16 w17 sn_of ahead four_steps after_round after_block digest pieces_seen unit_seen tele_seen decoded
+unfolding w1 w2 w3 w4 w5 w6 w7 w8 w9 w10 w11 w12 w13 w14 w15 w16 w17 sn_of ahead four_steps after_round after_block digest pieces_seen unit_seen tele_seen
+    decoded
 genuine18 = λ on. (((λ up asked. refl), tt), λ up still. ((λ up asked. refl), tt))
 
 genuine19 : refusal e19 w18 ≡ None → GenuineEvent e19 w18
-unfolding w1 w2 w3 w4 w5 w6 w7 w8 w9 w10 w11 w12 w13 w14 w15 w16 w17 w18 sn_of ahead four_steps after_round after_block digest pieces_seen unit_seen tele_seen decoded
+unfolding w1 w2 w3 w4 w5 w6 w7 w8 w9 w10 w11 w12 w13 w14 w15 w16 w17 w18 sn_of ahead four_steps after_round after_block digest pieces_seen unit_seen tele_seen
+    decoded
 genuine19 = λ on. (((λ up asked. refl), tt), λ up still. ((λ up asked. refl), tt))
 
 genuine20 : refusal e20 w19 ≡ None → GenuineEvent e20 w19
-unfolding w1 w2 w3 w4 w5 w6 w7 w8 w9 w10 w11 w12 w13 w14 w15 w16 w17 w18 w19 sn_of ahead four_steps after_round after_block digest pieces_seen unit_seen tele_seen decoded
+unfolding w1 w2 w3 w4 w5 w6 w7 w8 w9 w10 w11 w12 w13 w14 w15 w16 w17 w18 w19 sn_of ahead four_steps after_round after_block digest pieces_seen unit_seen
+    tele_seen decoded
 genuine20 = λ on. (((λ up asked. refl), tt), λ up still. ((λ up asked. refl), tt))
 
 genuine21 : refusal e21 w20 ≡ None → GenuineEvent e21 w20
-unfolding w1 w2 w3 w4 w5 w6 w7 w8 w9 w10 w11 w12 w13 w14 w15 w16 w17 w18 w19 w20 sn_of ahead four_steps after_round after_block digest pieces_seen unit_seen tele_seen decoded
+unfolding w1 w2 w3 w4 w5 w6 w7 w8 w9 w10 w11 w12 w13 w14 w15 w16 w17 w18 w19 w20 sn_of ahead four_steps after_round after_block digest pieces_seen unit_seen
+    tele_seen decoded
 genuine21 = λ on. (tt, tt)
 
 genuine22 : refusal e22 w21 ≡ None → GenuineEvent e22 w21
-unfolding w1 w2 w3 w4 w5 w6 w7 w8 w9 w10 w11 w12 w13 w14 w15 w16 w17 w18 w19 w20 w21 sn_of ahead four_steps after_round after_block digest pieces_seen unit_seen tele_seen decoded
+unfolding w1 w2 w3 w4 w5 w6 w7 w8 w9 w10 w11 w12 w13 w14 w15 w16 w17 w18 w19 w20 w21 sn_of ahead four_steps after_round after_block digest pieces_seen unit_seen
+    tele_seen decoded
 genuine22 = λ on. (((λ up asked. refl), tt), λ up still. ((λ up asked. refl), tt))
 
 genuine23 : refusal e23 w22 ≡ None → GenuineEvent e23 w22
-unfolding w1 w2 w3 w4 w5 w6 w7 w8 w9 w10 w11 w12 w13 w14 w15 w16 w17 w18 w19 w20 w21 w22 sn_of ahead four_steps after_round after_block digest pieces_seen unit_seen tele_seen decoded
+unfolding w1 w2 w3 w4 w5 w6 w7 w8 w9 w10 w11 w12 w13 w14 w15 w16 w17 w18 w19 w20 w21 w22 sn_of ahead four_steps after_round after_block digest pieces_seen
+    unit_seen tele_seen decoded
 genuine23 = λ on. tt
 
 genuine24 : refusal e24 w23 ≡ None → GenuineEvent e24 w23
-unfolding w1 w2 w3 w4 w5 w6 w7 w8 w9 w10 w11 w12 w13 w14 w15 w16 w17 w18 w19 w20 w21 w22 w23 sn_of ahead four_steps after_round after_block digest pieces_seen unit_seen tele_seen decoded
+unfolding w1 w2 w3 w4 w5 w6 w7 w8 w9 w10 w11 w12 w13 w14 w15 w16 w17 w18 w19 w20 w21 w22 w23 sn_of ahead four_steps after_round after_block digest pieces_seen
+    unit_seen tele_seen decoded
 genuine24 = λ on. tt
 
 genuine25 : refusal e25 w24 ≡ None → GenuineEvent e25 w24
-unfolding w1 w2 w3 w4 w5 w6 w7 w8 w9 w10 w11 w12 w13 w14 w15 w16 w17 w18 w19 w20 w21 w22 w23 w24 sn_of ahead four_steps after_round after_block digest pieces_seen unit_seen tele_seen decoded
+unfolding w1 w2 w3 w4 w5 w6 w7 w8 w9 w10 w11 w12 w13 w14 w15 w16 w17 w18 w19 w20 w21 w22 w23 w24 sn_of ahead four_steps after_round after_block digest
+    pieces_seen unit_seen tele_seen decoded
 genuine25 = λ on. (((λ up asked. refl), tt), λ up still. ((λ up asked. refl), tt))
 
 genuine26 : refusal e26 w25 ≡ None → GenuineEvent e26 w25
-unfolding w1 w2 w3 w4 w5 w6 w7 w8 w9 w10 w11 w12 w13 w14 w15 w16 w17 w18 w19 w20 w21 w22 w23 w24 w25 sn_of ahead four_steps after_round after_block digest pieces_seen unit_seen tele_seen decoded
+unfolding w1 w2 w3 w4 w5 w6 w7 w8 w9 w10 w11 w12 w13 w14 w15 w16 w17 w18 w19 w20 w21 w22 w23 w24 w25 sn_of ahead four_steps after_round after_block digest
+    pieces_seen unit_seen tele_seen decoded
 genuine26 = λ on. (((λ up asked. refl), tt), λ up still. ((λ up asked. refl), tt))
 
 genuine27 : refusal e27 w26 ≡ None → GenuineEvent e27 w26
-unfolding w1 w2 w3 w4 w5 w6 w7 w8 w9 w10 w11 w12 w13 w14 w15 w16 w17 w18 w19 w20 w21 w22 w23 w24 w25 w26 sn_of ahead four_steps after_round after_block digest pieces_seen unit_seen tele_seen decoded
+unfolding w1 w2 w3 w4 w5 w6 w7 w8 w9 w10 w11 w12 w13 w14 w15 w16 w17 w18 w19 w20 w21 w22 w23 w24 w25 w26 sn_of ahead four_steps after_round after_block digest
+    pieces_seen unit_seen tele_seen decoded
 genuine27 = λ on. (((λ up asked. refl), tt), λ up still. ((λ up asked. refl), tt))
 
 genuine28 : refusal e28 w27 ≡ None → GenuineEvent e28 w27
-unfolding w1 w2 w3 w4 w5 w6 w7 w8 w9 w10 w11 w12 w13 w14 w15 w16 w17 w18 w19 w20 w21 w22 w23 w24 w25 w26 w27 sn_of ahead four_steps after_round after_block digest pieces_seen unit_seen tele_seen decoded
+unfolding w1 w2 w3 w4 w5 w6 w7 w8 w9 w10 w11 w12 w13 w14 w15 w16 w17 w18 w19 w20 w21 w22 w23 w24 w25 w26 w27 sn_of ahead four_steps after_round after_block
+    digest pieces_seen unit_seen tele_seen decoded
 genuine28 = λ on. (((λ up asked. refl), tt), λ up still. ((λ up asked. refl), tt))
 
 genuine29 : refusal e29 w28 ≡ None → GenuineEvent e29 w28
-unfolding w1 w2 w3 w4 w5 w6 w7 w8 w9 w10 w11 w12 w13 w14 w15 w16 w17 w18 w19 w20 w21 w22 w23 w24 w25 w26 w27 w28 sn_of ahead four_steps after_round after_block digest pieces_seen unit_seen tele_seen decoded
+unfolding w1 w2 w3 w4 w5 w6 w7 w8 w9 w10 w11 w12 w13 w14 w15 w16 w17 w18 w19 w20 w21 w22 w23 w24 w25 w26 w27 w28 sn_of ahead four_steps after_round after_block
+    digest pieces_seen unit_seen tele_seen decoded
 genuine29 = λ on. (((λ up asked. refl), tt), λ up still. ((λ up asked. refl), tt))
 
 genuine30 : refusal e30 w29 ≡ None → GenuineEvent e30 w29
-unfolding w1 w2 w3 w4 w5 w6 w7 w8 w9 w10 w11 w12 w13 w14 w15 w16 w17 w18 w19 w20 w21 w22 w23 w24 w25 w26 w27 w28 w29 sn_of ahead four_steps after_round after_block digest pieces_seen unit_seen tele_seen decoded
+unfolding w1 w2 w3 w4 w5 w6 w7 w8 w9 w10 w11 w12 w13 w14 w15 w16 w17 w18 w19 w20 w21 w22 w23 w24 w25 w26 w27 w28 w29 sn_of ahead four_steps after_round
+    after_block digest pieces_seen unit_seen tele_seen decoded
 genuine30 = λ on. (((λ up asked. refl), tt), λ up still. ((λ up asked. refl), tt))
 
 genuine31 : refusal e31 w30 ≡ None → GenuineEvent e31 w30
-unfolding w1 w2 w3 w4 w5 w6 w7 w8 w9 w10 w11 w12 w13 w14 w15 w16 w17 w18 w19 w20 w21 w22 w23 w24 w25 w26 w27 w28 w29 w30 sn_of ahead four_steps after_round after_block digest pieces_seen unit_seen tele_seen decoded
+unfolding w1 w2 w3 w4 w5 w6 w7 w8 w9 w10 w11 w12 w13 w14 w15 w16 w17 w18 w19 w20 w21 w22 w23 w24 w25 w26 w27 w28 w29 w30 sn_of ahead four_steps after_round
+    after_block digest pieces_seen unit_seen tele_seen decoded
 genuine31 = λ on. (((λ up asked. refl), tt), λ up still. ((λ up asked. refl), tt))
 
 genuine32 : refusal e32 w31 ≡ None → GenuineEvent e32 w31
-unfolding w1 w2 w3 w4 w5 w6 w7 w8 w9 w10 w11 w12 w13 w14 w15 w16 w17 w18 w19 w20 w21 w22 w23 w24 w25 w26 w27 w28 w29 w30 w31 sn_of ahead four_steps after_round after_block digest pieces_seen unit_seen tele_seen decoded
+unfolding w1 w2 w3 w4 w5 w6 w7 w8 w9 w10 w11 w12 w13 w14 w15 w16 w17 w18 w19 w20 w21 w22 w23 w24 w25 w26 w27 w28 w29 w30 w31 sn_of ahead four_steps after_round
+    after_block digest pieces_seen unit_seen tele_seen decoded
 genuine32 = λ on. (tt, tt)
 
 genuine33 : refusal e33 w32 ≡ None → GenuineEvent e33 w32
-unfolding w1 w2 w3 w4 w5 w6 w7 w8 w9 w10 w11 w12 w13 w14 w15 w16 w17 w18 w19 w20 w21 w22 w23 w24 w25 w26 w27 w28 w29 w30 w31 w32 sn_of ahead four_steps after_round after_block digest pieces_seen unit_seen tele_seen decoded
+unfolding w1 w2 w3 w4 w5 w6 w7 w8 w9 w10 w11 w12 w13 w14 w15 w16 w17 w18 w19 w20 w21 w22 w23 w24 w25 w26 w27 w28 w29 w30 w31 w32 sn_of ahead four_steps
+    after_round after_block digest pieces_seen unit_seen tele_seen decoded
 genuine33 = λ on. (((λ up asked. refl), tt), λ up still. ((λ up asked. refl), tt))
 
 genuine34 : refusal e34 w33 ≡ None → GenuineEvent e34 w33
-unfolding w1 w2 w3 w4 w5 w6 w7 w8 w9 w10 w11 w12 w13 w14 w15 w16 w17 w18 w19 w20 w21 w22 w23 w24 w25 w26 w27 w28 w29 w30 w31 w32 w33 sn_of ahead four_steps after_round after_block digest pieces_seen unit_seen tele_seen decoded
+unfolding w1 w2 w3 w4 w5 w6 w7 w8 w9 w10 w11 w12 w13 w14 w15 w16 w17 w18 w19 w20 w21 w22 w23 w24 w25 w26 w27 w28 w29 w30 w31 w32 w33 sn_of ahead four_steps
+    after_round after_block digest pieces_seen unit_seen tele_seen decoded
 genuine34 = λ on. (tt, tt)
 
 genuine35 : refusal e35 w34 ≡ None → GenuineEvent e35 w34
-unfolding w1 w2 w3 w4 w5 w6 w7 w8 w9 w10 w11 w12 w13 w14 w15 w16 w17 w18 w19 w20 w21 w22 w23 w24 w25 w26 w27 w28 w29 w30 w31 w32 w33 w34 sn_of ahead four_steps after_round after_block digest pieces_seen unit_seen tele_seen decoded
+unfolding w1 w2 w3 w4 w5 w6 w7 w8 w9 w10 w11 w12 w13 w14 w15 w16 w17 w18 w19 w20 w21 w22 w23 w24 w25 w26 w27 w28 w29 w30 w31 w32 w33 w34 sn_of ahead four_steps
+    after_round after_block digest pieces_seen unit_seen tele_seen decoded
 genuine35 = λ on. (tt, tt)
 
 genuine36 : refusal e36 w35 ≡ None → GenuineEvent e36 w35
-unfolding w1 w2 w3 w4 w5 w6 w7 w8 w9 w10 w11 w12 w13 w14 w15 w16 w17 w18 w19 w20 w21 w22 w23 w24 w25 w26 w27 w28 w29 w30 w31 w32 w33 w34 w35 sn_of ahead four_steps after_round after_block digest pieces_seen unit_seen tele_seen decoded
+unfolding w1 w2 w3 w4 w5 w6 w7 w8 w9 w10 w11 w12 w13 w14 w15 w16 w17 w18 w19 w20 w21 w22 w23 w24 w25 w26 w27 w28 w29 w30 w31 w32 w33 w34 w35 sn_of ahead
+    four_steps after_round after_block digest pieces_seen unit_seen tele_seen decoded
 genuine36 = λ on. (((λ up asked. refl), tt), λ up still. ((λ up asked. refl), tt))
 
 genuine37 : refusal e37 w36 ≡ None → GenuineEvent e37 w36
-unfolding w1 w2 w3 w4 w5 w6 w7 w8 w9 w10 w11 w12 w13 w14 w15 w16 w17 w18 w19 w20 w21 w22 w23 w24 w25 w26 w27 w28 w29 w30 w31 w32 w33 w34 w35 w36 sn_of ahead four_steps after_round after_block digest pieces_seen unit_seen tele_seen decoded
+unfolding w1 w2 w3 w4 w5 w6 w7 w8 w9 w10 w11 w12 w13 w14 w15 w16 w17 w18 w19 w20 w21 w22 w23 w24 w25 w26 w27 w28 w29 w30 w31 w32 w33 w34 w35 w36 sn_of ahead
+    four_steps after_round after_block digest pieces_seen unit_seen tele_seen decoded
 genuine37 = λ on. (((λ up asked. refl), tt), λ up still. ((λ up asked. refl), tt))
 
 genuine38 : refusal e38 w37 ≡ None → GenuineEvent e38 w37
-unfolding w1 w2 w3 w4 w5 w6 w7 w8 w9 w10 w11 w12 w13 w14 w15 w16 w17 w18 w19 w20 w21 w22 w23 w24 w25 w26 w27 w28 w29 w30 w31 w32 w33 w34 w35 w36 w37 sn_of ahead four_steps after_round after_block digest pieces_seen unit_seen tele_seen decoded
+unfolding w1 w2 w3 w4 w5 w6 w7 w8 w9 w10 w11 w12 w13 w14 w15 w16 w17 w18 w19 w20 w21 w22 w23 w24 w25 w26 w27 w28 w29 w30 w31 w32 w33 w34 w35 w36 w37 sn_of ahead
+    four_steps after_round after_block digest pieces_seen unit_seen tele_seen decoded
 genuine38 = λ on. (tt, λ up still. tt)
 
 genuine39 : refusal e39 w38 ≡ None → GenuineEvent e39 w38
-unfolding w1 w2 w3 w4 w5 w6 w7 w8 w9 w10 w11 w12 w13 w14 w15 w16 w17 w18 w19 w20 w21 w22 w23 w24 w25 w26 w27 w28 w29 w30 w31 w32 w33 w34 w35 w36 w37 w38 sn_of ahead four_steps after_round after_block digest pieces_seen unit_seen tele_seen decoded
+unfolding w1 w2 w3 w4 w5 w6 w7 w8 w9 w10 w11 w12 w13 w14 w15 w16 w17 w18 w19 w20 w21 w22 w23 w24 w25 w26 w27 w28 w29 w30 w31 w32 w33 w34 w35 w36 w37 w38 sn_of
+    ahead four_steps after_round after_block digest pieces_seen unit_seen tele_seen decoded
 genuine39 = λ on. (tt, λ up still. tt)
 
 genuine40 : refusal e40 w39 ≡ None → GenuineEvent e40 w39
-unfolding w1 w2 w3 w4 w5 w6 w7 w8 w9 w10 w11 w12 w13 w14 w15 w16 w17 w18 w19 w20 w21 w22 w23 w24 w25 w26 w27 w28 w29 w30 w31 w32 w33 w34 w35 w36 w37 w38 w39 sn_of ahead four_steps after_round after_block digest pieces_seen unit_seen tele_seen decoded
+unfolding w1 w2 w3 w4 w5 w6 w7 w8 w9 w10 w11 w12 w13 w14 w15 w16 w17 w18 w19 w20 w21 w22 w23 w24 w25 w26 w27 w28 w29 w30 w31 w32 w33 w34 w35 w36 w37 w38 w39
+    sn_of ahead four_steps after_round after_block digest pieces_seen unit_seen tele_seen decoded
 genuine40 = λ on. (((λ up asked. refl), tt), λ up still. ((λ up asked. refl), tt))
 
 genuine41 : refusal e41 w40 ≡ None → GenuineEvent e41 w40
-unfolding w1 w2 w3 w4 w5 w6 w7 w8 w9 w10 w11 w12 w13 w14 w15 w16 w17 w18 w19 w20 w21 w22 w23 w24 w25 w26 w27 w28 w29 w30 w31 w32 w33 w34 w35 w36 w37 w38 w39 w40 sn_of ahead four_steps after_round after_block digest pieces_seen unit_seen tele_seen decoded
+unfolding w1 w2 w3 w4 w5 w6 w7 w8 w9 w10 w11 w12 w13 w14 w15 w16 w17 w18 w19 w20 w21 w22 w23 w24 w25 w26 w27 w28 w29 w30 w31 w32 w33 w34 w35 w36 w37 w38 w39 w40
+    sn_of ahead four_steps after_round after_block digest pieces_seen unit_seen tele_seen decoded
 genuine41 = λ on. (((λ up asked. refl), tt), λ up still. ((λ up asked. refl), tt))
 
 pub genuine : Genuine events start
-unfolding w1 w2 w3 w4 w5 w6 w7 w8 w9 w10 w11 w12 w13 w14 w15 w16 w17 w18 w19 w20 w21 w22 w23 w24 w25 w26 w27 w28 w29 w30 w31 w32 w33 w34 w35 w36 w37 w38 w39 w40 w41
+unfolding w1 w2 w3 w4 w5 w6 w7 w8 w9 w10 w11 w12 w13 w14 w15 w16 w17 w18 w19 w20 w21 w22 w23 w24 w25 w26 w27 w28 w29 w30 w31 w32 w33 w34 w35 w36 w37 w38 w39 w40
+    w41
 genuine = (
   genuine1,
   (
@@ -256,7 +276,16 @@ genuine = (
                                                                   genuine33,
                                                                   (
                                                                     genuine34,
-                                                                    (genuine35, (genuine36, (genuine37, (genuine38, (genuine39, (genuine40, (genuine41, tt))))))),
+                                                                    (
+                                                                      genuine35,
+                                                                      (
+                                                                        genuine36,
+                                                                        (
+                                                                          genuine37,
+                                                                          (genuine38, (genuine39, (genuine40, (genuine41, tt)))),
+                                                                        ),
+                                                                      ),
+                                                                    ),
                                                                   ),
                                                                 ),
                                                               ),
@@ -294,7 +323,8 @@ genuine = (
 
 -- the field element is opened a second time
 opened-twice : (refusal e23 w22 ≡ None → FaithfulEvent e23 w22) → ⊥
-unfolding w1 w2 w3 w4 w5 w6 w7 w8 w9 w10 w11 w12 w13 w14 w15 w16 w17 w18 w19 w20 w21 w22 sn_of ahead four_steps after_round after_block digest pieces_seen unit_seen tele_seen decoded
+unfolding w1 w2 w3 w4 w5 w6 w7 w8 w9 w10 w11 w12 w13 w14 w15 w16 w17 w18 w19 w20 w21 w22 sn_of ahead four_steps after_round after_block digest pieces_seen
+    unit_seen tele_seen decoded
 opened-twice h = opens (h refl)
 
 unfaithful : Faithful events → ⊥
@@ -302,27 +332,33 @@ unfolding w1 w2 w3 w4 w5 w6 w7 w8 w9 w10 w11 w12 w13 w14 w15 w16 w17 w18 w19 w20
 unfaithful h = opened-twice h.events.1.1.1.1.1.1.1.1.1.1.1.1.1.1.1.1.1.1.1.1.1.1.0
 
 joined : joins_in w41.fes ≡ Some 2 ∷ Some 1 ∷ []
-unfolding w1 w2 w3 w4 w5 w6 w7 w8 w9 w10 w11 w12 w13 w14 w15 w16 w17 w18 w19 w20 w21 w22 w23 w24 w25 w26 w27 w28 w29 w30 w31 w32 w33 w34 w35 w36 w37 w38 w39 w40 w41 sn_of ahead four_steps after_round after_block digest pieces_seen unit_seen tele_seen decoded
+unfolding w1 w2 w3 w4 w5 w6 w7 w8 w9 w10 w11 w12 w13 w14 w15 w16 w17 w18 w19 w20 w21 w22 w23 w24 w25 w26 w27 w28 w29 w30 w31 w32 w33 w34 w35 w36 w37 w38 w39 w40
+    w41 sn_of ahead four_steps after_round after_block digest pieces_seen unit_seen tele_seen decoded
 joined = refl
 
 il-took : map taken_at w41.ils ≡ ((512, 5 ∷ []) ∷ []) ∷ ((512, 3 ∷ []) ∷ []) ∷ []
-unfolding w1 w2 w3 w4 w5 w6 w7 w8 w9 w10 w11 w12 w13 w14 w15 w16 w17 w18 w19 w20 w21 w22 w23 w24 w25 w26 w27 w28 w29 w30 w31 w32 w33 w34 w35 w36 w37 w38 w39 w40 w41 sn_of ahead four_steps after_round after_block digest pieces_seen unit_seen tele_seen decoded
+unfolding w1 w2 w3 w4 w5 w6 w7 w8 w9 w10 w11 w12 w13 w14 w15 w16 w17 w18 w19 w20 w21 w22 w23 w24 w25 w26 w27 w28 w29 w30 w31 w32 w33 w34 w35 w36 w37 w38 w39 w40
+    w41 sn_of ahead four_steps after_round after_block digest pieces_seen unit_seen tele_seen decoded
 il-took = refl
 
 fe-took : map taken_at (ends_of w41.fes) ≡ ((256, 4 ∷ []) ∷ []) ∷ ((256, 1 ∷ []) ∷ (256, 2 ∷ []) ∷ []) ∷ []
-unfolding w1 w2 w3 w4 w5 w6 w7 w8 w9 w10 w11 w12 w13 w14 w15 w16 w17 w18 w19 w20 w21 w22 w23 w24 w25 w26 w27 w28 w29 w30 w31 w32 w33 w34 w35 w36 w37 w38 w39 w40 w41 sn_of ahead four_steps after_round after_block digest pieces_seen unit_seen tele_seen decoded
+unfolding w1 w2 w3 w4 w5 w6 w7 w8 w9 w10 w11 w12 w13 w14 w15 w16 w17 w18 w19 w20 w21 w22 w23 w24 w25 w26 w27 w28 w29 w30 w31 w32 w33 w34 w35 w36 w37 w38 w39 w40
+    w41 sn_of ahead four_steps after_round after_block digest pieces_seen unit_seen tele_seen decoded
 fe-took = refl
 
 il-settled : option_map is_settled (present Il w41) ≡ Some true
-unfolding w1 w2 w3 w4 w5 w6 w7 w8 w9 w10 w11 w12 w13 w14 w15 w16 w17 w18 w19 w20 w21 w22 w23 w24 w25 w26 w27 w28 w29 w30 w31 w32 w33 w34 w35 w36 w37 w38 w39 w40 w41 sn_of ahead four_steps after_round after_block digest pieces_seen unit_seen tele_seen decoded
+unfolding w1 w2 w3 w4 w5 w6 w7 w8 w9 w10 w11 w12 w13 w14 w15 w16 w17 w18 w19 w20 w21 w22 w23 w24 w25 w26 w27 w28 w29 w30 w31 w32 w33 w34 w35 w36 w37 w38 w39 w40
+    w41 sn_of ahead four_steps after_round after_block digest pieces_seen unit_seen tele_seen decoded
 il-settled = refl
 
 fe-settled : option_map is_settled (present Fe w41) ≡ Some true
-unfolding w1 w2 w3 w4 w5 w6 w7 w8 w9 w10 w11 w12 w13 w14 w15 w16 w17 w18 w19 w20 w21 w22 w23 w24 w25 w26 w27 w28 w29 w30 w31 w32 w33 w34 w35 w36 w37 w38 w39 w40 w41 sn_of ahead four_steps after_round after_block digest pieces_seen unit_seen tele_seen decoded
+unfolding w1 w2 w3 w4 w5 w6 w7 w8 w9 w10 w11 w12 w13 w14 w15 w16 w17 w18 w19 w20 w21 w22 w23 w24 w25 w26 w27 w28 w29 w30 w31 w32 w33 w34 w35 w36 w37 w38 w39 w40
+    w41 sn_of ahead four_steps after_round after_block digest pieces_seen unit_seen tele_seen decoded
 fe-settled = refl
 
 pub instance : GenuineInstance events
-unfolding w1 w2 w3 w4 w5 w6 w7 w8 w9 w10 w11 w12 w13 w14 w15 w16 w17 w18 w19 w20 w21 w22 w23 w24 w25 w26 w27 w28 w29 w30 w31 w32 w33 w34 w35 w36 w37 w38 w39 w40 w41
+unfolding w1 w2 w3 w4 w5 w6 w7 w8 w9 w10 w11 w12 w13 w14 w15 w16 w17 w18 w19 w20 w21 w22 w23 w24 w25 w26 w27 w28 w29 w30 w31 w32 w33 w34 w35 w36 w37 w38 w39 w40
+    w41
 instance =
     let events-typed = all-typed events refl in
     record {

@@ -1,14 +1,7 @@
 -- Each clause of a promise refuses a world that all other clauses admit.
+use Rattle.stack_engine.proofs.Words.{arith, refl, sym, ap, subst, inl, inr, lit<, lit≤, IsBeginning, Pdu, Made, Fresh, State, Item, EndState, one, two}
+use Rattle.stack_engine.proofs.Words.{HeadlineInstances, SettledInstances, made_one, confirming, carried, FreshInstances, Instances}
 use Rattle.std.specs.Prelude.{ℕ, ◌≡◌, ◌+◌, ◌-◌, ◌<◌, ◌≤◌, Bool, true, false, Option, Some, None, List, [], ◌∷◌, ◌++◌, drop}
-use Rattle.std.proofs.Common.{arith, refl, sym, ap, subst, inl, inr, lit<, lit≤}
-use Rattle.octets.specs.Lists.{IsBeginning}
-use Rattle.safe_pdu.specs.Pdu.{Pdu}
-use Rattle.safe_machine.specs.Made.{Made}
-use Rattle.safe_machine.specs.Law.{Fresh}
-use Rattle.safe_machine.specs.State.{State}
-use Rattle.pdi_session.specs.SessionStep.{Item}
-use Rattle.stack_end.specs.Ends.{EndState}
-use Rattle.stack_engine.specs.Instances.{one, two, HeadlineInstances, SettledInstances, made_one, confirming, carried, FreshInstances, Instances}
 use Rattle.stack_engine.proofs.rows.Drops.{differ, no-item, none-found, one-found}
 use Rattle.stack_engine.proofs.one.Spoken.{nil-front}
 use Rattle.stack_engine.proofs.rows.Forged.{taken-from-nobody}
@@ -83,7 +76,8 @@ headline-instances x =
           };
       other_joined =
           record {
-            refused = λ h. elim h.only_joined.1.0 [ inl e ↦ no-item one [] e | inr joined ↦ elim joined [ inl e ↦ differ 2 1 refl (ap number_or e) | inr none ↦ none ] ];
+            refused = λ h. elim h.only_joined.1.0
+                [ inl e ↦ no-item one [] e | inr joined ↦ elim joined [ inl e ↦ differ 2 1 refl (ap number_or e) | inr none ↦ none ] ];
             beginnings = ((nothing-begins [], nothing-begins []), tt);
             joins_fall = (lit< tt, tt);
           };
@@ -121,12 +115,17 @@ record FreshOfOne (s : State) (p : Pdu) (now : ℕ) (c b : Made) : Type 0 where
 fresh-of-one : (s : State) (p : Pdu) (now : ℕ) (c b : Made) → s.made ≡ b ∷ [] → Fresh s p now (c ∷ []) → FreshOfOne s p now c b
 fresh-of-one s p now c b made h =
     let carrier : h.carrier ≡ c = sym (one-found h.index c h.carrier h.rest h.at) in
-    let own : drop (h.carrier.behind - 1) (b ∷ []) ≡ h.basis ∷ h.own_rest = subst (λ (ms : List Made). drop (h.carrier.behind - 1) ms ≡ h.basis ∷ h.own_rest) made h.own_at in
+    let own : drop (h.carrier.behind - 1) (b ∷ []) ≡ h.basis ∷ h.own_rest = subst (λ (ms : List Made). drop (h.carrier.behind - 1) ms ≡ h.basis ∷ h.own_rest)
+    made h.own_at in
     let basis : h.basis ≡ b = sym (one-found (h.carrier.behind - 1) b h.basis h.own_rest own) in
     record {
       is = subst (λ (m : Made). m.pdu ≡ p) carrier h.is;
       has_basis = subst (λ (m : Made). 1 ≤ m.behind) carrier h.has_basis;
-      found = (h.own_rest, subst (λ (m : Made). drop (m.behind - 1) s.made ≡ b ∷ h.own_rest) carrier (subst (λ (m : Made). drop (h.carrier.behind - 1) s.made ≡ m ∷ h.own_rest) basis h.own_at));
+      found = (
+        h.own_rest,
+        subst (λ (m : Made). drop (m.behind - 1) s.made ≡ b ∷ h.own_rest) carrier
+            (subst (λ (m : Made). drop (h.carrier.behind - 1) s.made ≡ m ∷ h.own_rest) basis h.own_at),
+      );
       number = subst (λ (m : Made). m.pdu.sn ≡ p.cs) basis h.number;
       stamp = subst (λ (m : Made). m.pdu.ts ≡ p.cts) basis h.stamp;
       recent = subst (λ (m : Made). now < m.time + s.settings.t_max) basis h.recent;
@@ -160,7 +159,8 @@ fresh-instances s m p =
             recent = lit< tt;
           };
       made_by_nobody = λ h. none-found h.index h.carrier h.rest h.at;
-      another_pdu = λ h. differ 9 8 refl (ap (λ (q : Pdu). q.cts) (fresh-of-one (made_one 7 8 s m) (confirming p) 109 (carried 1 (record p { cs = 7; cts = 9 })) (basis_of 7 8 m) refl h).is);
+      another_pdu = λ h. differ 9 8 refl
+          (ap (λ (q : Pdu). q.cts) (fresh-of-one (made_one 7 8 s m) (confirming p) 109 (carried 1 (record p { cs = 7; cts = 9 })) (basis_of 7 8 m) refl h).is);
       upon_none = λ h. none-behind (fresh-of-one (made_one 7 8 s m) (confirming p) 109 (carried 0 (confirming p)) (basis_of 7 8 m) refl h).has_basis;
       upon_unmade = λ h. let found = (fresh-of-one (made_one 7 8 s m) (confirming p) 109 (carried 2 (confirming p)) (basis_of 7 8 m) refl h).found in
           no-item (basis_of 7 8 m) found.0 (sym found.1);

@@ -1,14 +1,8 @@
 -- Each clause of "nothing lost" refuses a world that all other clauses admit.
+use Rattle.stack_engine.proofs.Words.{arith, refl, inl, inr, Start, Up, Made, Initialising, Established, EndState, AllArrived, AllThere, Match, NothingLost}
+use Rattle.stack_engine.proofs.Words.{one, Course, LossInstances, both, early, fe_with, il_with, lost, plain, starting, waits}
 use Rattle.std.specs.Prelude.{ℕ, ◌≡◌, ◌≢◌, ◌<◌, ◌≤◌, List, [], ◌∷◌}
-use Rattle.std.proofs.Common.{arith, refl, inl, inr}
-use Rattle.safe_machine.specs.declared.ConnectionState.TheVariants.{Start, Up}
-use Rattle.safe_machine.specs.Made.{Made}
 use Rattle.sci_telegram.specs.Places.{tele_seen}
-use Rattle.pdi_session.specs.declared.Phase.TheVariants.{Initialising, Established}
-use Rattle.stack_end.specs.Ends.{EndState}
-use Rattle.stack_engine.specs.Faithful.{AllArrived, AllThere, Match, NothingLost}
-use Rattle.stack_engine.specs.Instances.{one}
-use Rattle.stack_engine.specs.LossInstances.{Course, LossInstances, both, early, fe_with, il_with, lost, plain, starting, waits}
 use Rattle.stack_engine.proofs.rows.Drops.{no-item}
 use Rattle.stack_engine.proofs.rows.Instances.{true-is-false}
 

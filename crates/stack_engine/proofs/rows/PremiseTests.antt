@@ -1,25 +1,8 @@
 -- What the computed lists of events have at their ends, as tests that a computation answers.
-use Rattle.std.specs.Prelude.{ℕ, zero, suc, ◌≡◌, ◌≢◌, ◌==◌, ◌<◌, ◌≤◌, ◌^◌, nat_lt, Bool, true, false, not, ◌&&◌, Option, Some, None, List, [], ◌∷◌, length}
-use Rattle.std.proofs.Common.{arith, sym, subst, inl, inr, ◌∙◌}
-use Rattle.std.proofs.lemmas.Bool.Decides.{nat_tests}
-use Rattle.std.specs.List.{list_any}
-use Rattle.std.specs.Str.{bytes_eq}
-use Rattle.std.proofs.lemmas.Slice.Eq.{bytes_eq-Decides}
-use Rattle.std.proofs.lemmas.Bool.{cases_lt}
-use Rattle.octets.specs.Octets.{AreOctets}
-use Rattle.red_layer.specs.FiniteMap.{has_number}
-use Rattle.red_layer.specs.Parts.{Part, is_nil}
-use Rattle.red_layer.specs.Service.{arrivals}
-use Rattle.safe_pdu.specs.declared.CodeRule.{CodeRule}
-use Rattle.pdi_session.specs.Settings.{first_version}
-use Rattle.stack_end.specs.Ends.{EndState}
-use Rattle.stack_end.specs.Ends.Call.{Close, Put, InitDone, Tick, Deliver}
-use Rattle.stack_engine.specs.Pairs.{Event}
-use Rattle.stack_engine.specs.Pairs.Event.{Open, Calls}
-use Rattle.stack_engine.specs.Premise.{AtOpened, AreTyped, IsTyped}
-use Rattle.stack_engine.specs.Headline.{taken_at}
-use Rattle.stack_engine.specs.Faithful.{AllArrived, Match}
-use Rattle.stack_engine.specs.Premises.{Arrived, OfOpened}
+use Rattle.stack_engine.proofs.Words.{nat_lt, not, ◌&&◌, arith, sym, subst, inl, inr, ◌∙◌, nat_tests, list_any, bytes_eq, bytes_eq-Decides, cases_lt, AreOctets}
+use Rattle.stack_engine.proofs.Words.{has_number, Part, is_nil, arrivals, CodeRule, first_version, EndState, Close, Put, InitDone, Tick, Deliver, Event, Open}
+use Rattle.stack_engine.proofs.Words.{Calls, AtOpened, AreTyped, IsTyped, taken_at, AllArrived, Match, Arrived, OfOpened}
+use Rattle.std.specs.Prelude.{ℕ, zero, suc, ◌≡◌, ◌≢◌, ◌==◌, ◌<◌, ◌≤◌, ◌^◌, Bool, true, false, Option, Some, None, List, [], ◌∷◌, length}
 use Rattle.stack_engine.proofs.rows.FaithfulTests.{HasRule, below}
 use Rattle.stack_engine.proofs.one.Sending.{and-parts}
 
@@ -126,7 +109,8 @@ is_whole (Some il) (Some fe) =
     (has_come il fe && has_come fe il) && (is_match il fe && (not (is_nil (taken_at il)) && not (is_nil (taken_at fe))))
 is_whole _ _ = false
 
-pub arrived : (rule : CodeRule) (il fe : Option EndState) → AtOpened (HasRule rule) il → AtOpened (HasRule rule) fe → is_whole il fe ≡ true → OfOpened Arrived il fe
+pub arrived : (rule : CodeRule) (il fe : Option EndState) → AtOpened (HasRule rule) il → AtOpened (HasRule rule) fe → is_whole il fe ≡ true
+    → OfOpened Arrived il fe
 arrived rule None fe il_rule fe_rule h = true-is-false (sym h)
 arrived rule (Some il) None il_rule fe_rule h = true-is-false (sym h)
 arrived rule (Some il) (Some fe) il_rule fe_rule h =

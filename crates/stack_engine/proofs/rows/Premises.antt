@@ -1,5 +1,5 @@
 -- The computed lists of events, and what the promises say of them.
-use Rattle.stack_engine.specs.Premises.{Premises}
+use Rattle.stack_engine.proofs.Words.{Premises}
 use Rattle.stack_engine.proofs.rows.GenuineRow as genuine_row
 use Rattle.stack_engine.proofs.rows.GenuineEvents as genuine_events
 use Rattle.stack_engine.proofs.rows.FaithfulRow as faithful_row

@@ -1,8 +1,5 @@
 -- The settings of the ends in the computed lists of events.
-use Rattle.std.proofs.Common.{ℕ, List, [], ◌∷◌, true, codes}
-use Rattle.md4.specs.declared.TheConstants.{INITIAL_VALUE}
-use Rattle.safe_pdu.specs.declared.CodeLength.TheVariants.{Eight}
-use Rattle.end_settings.specs.EndSettings.{EndSettings}
+use Rattle.stack_engine.proofs.Words.{ℕ, List, [], ◌∷◌, true, codes, INITIAL_VALUE, Eight, EndSettings}
 
 -- the window, and the units taken before a heartbeat
 abbrev settings : (window mwa own peer : ℕ) → (name peer_name : List ℕ) → EndSettings

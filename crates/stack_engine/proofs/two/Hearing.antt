@@ -1,29 +1,10 @@
 -- The premise on octets gives the one on PDUs.
-use Rattle.std.proofs.Common.{◌≡◌, ◌≢◌, inl, inr, ◌==◌, ◌&&◌, ℕ, zero, suc, List, [], ◌∷◌, drop, Option, Some, None, Result, Ok, Err, Bool, true, false, cond, refl, sym, ap, subst, ◌∙◌}
-use Rattle.std.specs.Str.{bytes_eq}
-use Rattle.std.proofs.lemmas.Bool.{eqb-true}
-use Rattle.std.proofs.lemmas.Slice.Eq.{bytes_eq-Decides}
-use Rattle.octets.proofs.Choices.{by_test}
-use Rattle.safe_pdu.specs.declared.CodeRule.{CodeRule}
-use Rattle.safe_pdu.specs.declared.SafeFault.{SafeFault}
-use Rattle.safe_pdu.specs.Pdu.{Pdu}
-use Rattle.safe_pdu.specs.SafeText.{SafeText, safe_text}
-use Rattle.safe_pdu.specs.Places.{safe_seen}
-use Rattle.safe_pdu.specs.Laws.{ReadAlikeLaw, ReadAskedLaw, AskedLaw}
-use Rattle.safe_machine.specs.declared.ConnectionState.{ConnectionState}
-use Rattle.safe_machine.specs.declared.ConnectionState.TheVariants.{Closed, Down, Start, Up, RetrReq as Requesting, RetrRun}
-use Rattle.safe_machine.specs.Settings.{Settings}
-use Rattle.safe_machine.specs.Made.{Made}
-use Rattle.safe_machine.specs.Decision.{is_closed, is_stranger}
-use Rattle.safe_machine.specs.Moves.{HaveTexts}
-use Rattle.safe_machine.specs.Octets.{heard as heard_as, seen_by}
-use Rattle.safe_machine.specs.World.{Side, Among}
-use Rattle.safe_machine.specs.World.Side.{Il, Fe}
-use Rattle.end_settings.specs.EndSettings.{EndSettings, connection_of, rule_of}
-use Rattle.stack_end.specs.Ends.{EndState}
-use Rattle.stack_end.specs.Datagrams.{upper_of}
-use Rattle.stack_engine.specs.Pairs.{made_of, has_made}
-use Rattle.stack_engine.specs.Premise.{is_asked_of, is_live, IsGenuine}
+use Rattle.stack_engine.proofs.Words.{◌≡◌, ◌≢◌, inl, inr, ◌==◌, ℕ, zero, suc, List, [], ◌∷◌, drop, Option, Some, None, Result, Ok, Err, Bool, true, false, cond}
+use Rattle.stack_engine.proofs.Words.{refl, sym, ap, subst, ◌∙◌, bytes_eq, eqb-true, bytes_eq-Decides, by_test, CodeRule, SafeFault, Pdu, SafeText, safe_text}
+use Rattle.stack_engine.proofs.Words.{safe_seen, ReadAlikeLaw, ReadAskedLaw, AskedLaw, ConnectionState, Closed, Down, Start, Up, Requesting, RetrRun, Settings}
+use Rattle.stack_engine.proofs.Words.{Made, is_closed, is_stranger, HaveTexts, heard_as, seen_by, Side, Among, Il, Fe, EndSettings, connection_of, rule_of}
+use Rattle.stack_engine.proofs.Words.{EndState, upper_of, made_of, has_made, is_asked_of, is_live, IsGenuine}
+use Rattle.std.proofs.Common.{◌&&◌}
 use Rattle.stack_engine.proofs.one.Reading.{same-length}
 use Rattle.stack_engine.proofs.two.Reached.{GenuineMove}
 use Rattle.stack_engine.proofs.one.Sending.{and-parts}
@@ -86,16 +67,19 @@ abbrev pub TextsOf : Option EndState → Type 0
 TextsOf peer = HaveTexts (made_of peer)
 
 -- octets that are live are of a live PDU
-pub live-among : TextLaws → (x : EndState) (peer : Option EndState) (dead : ℕ) (octets : List ℕ) (p : Pdu) → TextsOf peer → safe_seen (rule_of x.settings) octets ≡ Ok p
+pub live-among : TextLaws → (x : EndState) (peer : Option EndState) (dead : ℕ) (octets : List ℕ) (p : Pdu) → TextsOf peer
+    → safe_seen (rule_of x.settings) octets ≡ Ok p
     → is_live x peer dead octets ≡ true → Among p (drop dead (made_of peer))
 live-among law x None dead octets p texts read h = cc
 live-among law x (Some peer) dead octets p texts read h =
     let parts = and-parts _ (has_made (rule_of peer.settings) octets (drop dead peer.machine.made)) h in
     let same = same-length (rule_of x.settings).length (rule_of peer.settings).length (eqb-true _ _ parts.0) in
-    has-among law (rule_of x.settings) (rule_of peer.settings) octets p (drop dead peer.machine.made) same read (texts-dropped dead peer.machine.made texts) parts.1
+    has-among law (rule_of x.settings) (rule_of peer.settings) octets p (drop dead peer.machine.made) same read (texts-dropped dead peer.machine.made texts)
+    parts.1
 
 -- an end that hears its own identifiers is asked
-pub asked-heard : TextLaws → (side : Side) (x : EndState) (octets : List ℕ) (p : Pdu) → x.machine.settings ≡ connection_of side x.settings → seen_by x.machine octets ≡ Ok p
+pub asked-heard : TextLaws → (side : Side) (x : EndState) (octets : List ℕ) (p : Pdu) → x.machine.settings ≡ connection_of side x.settings
+    → seen_by x.machine octets ≡ Ok p
     → is_stranger x.machine p ≡ false → (safe_seen (rule_of x.settings) octets ≡ Ok p) × (is_asked_of x octets ≡ true)
 asked-heard law side x octets p same read ours =
     let c = x.settings.connection in
@@ -111,8 +95,10 @@ asked-heard law side x octets p same read ours =
     let asked = law.read_asked p (rule_of x.settings) c.own c.peer octets seen (eqb-true p.receiver c.own parts.0) (eqb-true p.sender c.peer parts.1) in
     (seen, (law.asked (rule_of x.settings) c.own c.peer octets).1 asked)
 
-pub genuine-heard : TextLaws → (side : Side) (x : EndState) (peer : Option EndState) (dead now : ℕ) (octets : List ℕ) → x.machine.settings ≡ connection_of side x.settings → TextsOf peer
-    → IsGenuine peer dead x octets → (r : Result Pdu SafeFault) → seen_by x.machine octets ≡ r → GenuineMove x.machine (drop dead (made_of peer)) (heard_as r now)
+pub genuine-heard : TextLaws → (side : Side) (x : EndState) (peer : Option EndState) (dead now : ℕ) (octets : List ℕ)
+    → x.machine.settings ≡ connection_of side x.settings → TextsOf peer
+    → IsGenuine peer dead x octets → (r : Result Pdu SafeFault) → seen_by x.machine octets ≡ r → GenuineMove x.machine (drop dead (made_of peer))
+    (heard_as r now)
 genuine-heard law side x peer dead now octets same texts g (Err fault) read = tt
 genuine-heard law side x peer dead now octets same texts g (Ok p) read = λ listens ours.
     let asked = asked-heard law side x octets p same read ours in

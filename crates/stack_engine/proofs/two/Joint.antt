@@ -1,27 +1,13 @@
 -- Two joined sessions, each of which is handed the other's queue in turn.
-use Rattle.std.proofs.Common.{◌≡◌, ℕ, List, [], ◌∷◌, ◌++◌, length, drop, Option, Some, None, Result, Ok, Err, Bool, true, false, refl, sym, ap, subst, ◌∙◌, append_assoc, append-nil}
-use Rattle.std.specs.List.{AllByRecursion}
-use Rattle.octets.specs.Lists.{IsBeginning}
-use Rattle.octets.proofs.Choices.{by_test}
-use Rattle.packing.specs.declared.PackFault.{PackFault}
-use Rattle.packing.specs.Places.{unit_seen}
-use Rattle.sci_telegram.specs.declared.TeleFault.{TeleFault}
-use Rattle.sci_telegram.specs.Tele.{Tele}
-use Rattle.sci_telegram.specs.Places.{tele_seen}
-use Rattle.pdi_session.specs.SessionStep.{Event, Up as GoesUp, Arrives, Puts, InitDone as Completes, Closes}
-use Rattle.pdi_session.specs.Histories.{History, begun, grown, grown_along, handed_by, is_ended}
-use Rattle.pdi_session.specs.Laws.{OverLaw}
-use Rattle.pdi_session.specs.Settings.{first_version}
-use Rattle.pdi_session.specs.JoinedSessions.{Joined, JoinedEvent, AtIl, AtFe, InTurn, IsNext, OneMoreLaw, happen, happens, joined}
-use Rattle.safe_machine.specs.State.{State}
-use Rattle.safe_machine.specs.Made.{units}
-use Rattle.safe_machine.specs.World.{Side}
-use Rattle.safe_machine.specs.World.Side.{Il, Fe}
-use Rattle.safe_machine.specs.Octets.{seen_by, arrive_octets}
-use Rattle.end_settings.specs.EndSettings.{EndSettings, session_of}
-use Rattle.stack_end.specs.Dialogue.{Dialogue, phase_in, Leaving, Judged, judge_read, unless_leaving, judge_messages, judge_unpacked, judge_units}
-use Rattle.stack_end.specs.Ends.{EndState, is_shut, handed_up, comes_up, rises, answered, leaves, heard}
-use Rattle.stack_engine.specs.Settled.{messages_in, telegrams_in, found_messages, found_telegram}
+use Rattle.stack_engine.proofs.Words.{◌≡◌, ℕ, List, [], ◌∷◌, ◌++◌, length, drop, Option, Some, None, Result, Ok, Err, Bool, true, false, refl, sym, ap, subst}
+use Rattle.stack_engine.proofs.Words.{◌∙◌, append_assoc, append-nil, AllByRecursion, IsBeginning, by_test, PackFault, unit_seen, TeleFault, Tele, tele_seen}
+use Rattle.stack_engine.proofs.Words.{GoesUp, Arrives, Puts, Completes, Closes, History, begun, grown, grown_along, handed_by, is_ended, OverLaw, first_version}
+use Rattle.stack_engine.proofs.Words.{Joined, JoinedEvent, AtIl, AtFe, InTurn, IsNext, happen, joined, State, units, Side, Il, Fe, seen_by, arrive_octets}
+use Rattle.stack_engine.proofs.Words.{EndSettings, session_of, Dialogue, phase_in, Leaving, Judged, judge_read, unless_leaving, judge_messages, judge_unpacked}
+use Rattle.stack_engine.proofs.Words.{judge_units, EndState, is_shut, handed_up, comes_up, rises, answered, leaves, heard, messages_in, telegrams_in}
+use Rattle.stack_engine.proofs.Words.{found_messages, found_telegram}
+use Rattle.pdi_session.specs.SessionStep.{Event}
+use Rattle.pdi_session.specs.JoinedSessions.{OneMoreLaw, happens}
 use Rattle.stack_engine.proofs.one.Talking.{telegrams-append, Hearing, hearing-read, hearing-unpacked}
 use Rattle.stack_engine.proofs.one.Spoken.{Below, Spoken, HandsUp, hands-up, came, came-more, drop-front, nil-front}
 use Rattle.stack_engine.proofs.one.Heeding.{Heeds, Heeding, Reads, IsGood, heeding-read, heeding-unpacked}
@@ -66,16 +52,19 @@ module _ (y : History) (J : History → Type 0) (more : (e : Event) (x : History
   begin-front : (a b : List Tele) → IsBeginning (a ++ b) y.queue → IsBeginning a y.queue
   begin-front a b h = (b ++ h.0, sym (append_assoc a b h.0) ∙ h.1)
 
-  by-leaving : (o : Option Leaving) (first rest : Judged) → J first.left.history → (first.leaving ≡ None → J rest.left.history) → first.leaving ≡ o → J (unless_leaving o first rest).left.history
+  by-leaving : (o : Option Leaving) (first rest : Judged) → J first.left.history → (first.leaving ≡ None → J rest.left.history) → first.leaving ≡ o
+      → J (unless_leaving o first rest).left.history
   by-leaving None first rest one other e = other e
   by-leaving (Some why) first rest one other e = one
 
-  joint-read : (seen : Result Tele TeleFault) (d : Dialogue) → is_ended (phase_in d) ≡ false → IsBeginning (d.history.judged ++ found_telegram seen) y.queue → J d.history → J (judge_read seen d).left.history
+  joint-read : (seen : Result Tele TeleFault) (d : Dialogue) → is_ended (phase_in d) ≡ false → IsBeginning (d.history.judged ++ found_telegram seen) y.queue
+      → J d.history → J (judge_read seen d).left.history
   joint-read (Ok t) d on begins h = more (Arrives t) d.history (on, begins) h
   joint-read (Err fault) d on begins h = h
 
   -- judging one piece after another
-  joint-then : (a b : List Tele) (d : Dialogue) (first rest : Judged) (A : Type 0) → Hearing d a first → Heeding A d first → is_ended (phase_in d) ≡ false → IsBeginning (d.history.judged ++ (a ++ b)) y.queue
+  joint-then : (a b : List Tele) (d : Dialogue) (first rest : Judged) (A : Type 0) → Hearing d a first → Heeding A d first → is_ended (phase_in d) ≡ false
+      → IsBeginning (d.history.judged ++ (a ++ b)) y.queue
       → (IsBeginning (d.history.judged ++ a) y.queue → J first.left.history)
       → (is_ended (phase_in first.left) ≡ false → IsBeginning (first.left.history.judged ++ b) y.queue → J first.left.history → J rest.left.history)
       → J (unless_leaving first.leaving first rest).left.history
@@ -83,30 +72,36 @@ module _ (y : History) (J : History → Type 0) (more : (e : Event) (x : History
       let line : IsBeginning ((d.history.judged ++ a) ++ b) y.queue = subst (λ ts. IsBeginning ts y.queue) (sym (append_assoc d.history.judged a b)) begins in
       let there : J first.left.history = one (begin-front (d.history.judged ++ a) b line) in
       by-leaving first.leaving first rest there
-      (λ none. other (heed.on none on) (subst (λ ts. IsBeginning (ts ++ b) y.queue) (sym (hear.judged ∙ ap (λ ts. d.history.judged ++ ts) (hear.whole none))) line) there) refl
+      (λ none. other (heed.on none on)
+      (subst (λ ts. IsBeginning (ts ++ b) y.queue) (sym (hear.judged ∙ ap (λ ts. d.history.judged ++ ts) (hear.whole none))) line) there) refl
 
-  joint-messages : OverLaw → (ms : List (List ℕ)) (d : Dialogue) → is_ended (phase_in d) ≡ false → IsBeginning (d.history.judged ++ telegrams_in ms) y.queue → J d.history
+  joint-messages : OverLaw → (ms : List (List ℕ)) (d : Dialogue) → is_ended (phase_in d) ≡ false → IsBeginning (d.history.judged ++ telegrams_in ms) y.queue
+      → J d.history
       → J (judge_messages ms d).left.history
   joint-messages law [] d on begins h = h
   joint-messages law (m ∷ ms) d on begins h =
       let seen = tele_seen m in
       let first = judge_read seen d in
-      joint-then (found_telegram seen) (telegrams_in ms) d first (judge_messages ms first.left) (Reads m) (hearing-read seen d) (heeding-read law m seen d refl) on begins
+      joint-then (found_telegram seen) (telegrams_in ms) d first (judge_messages ms first.left) (Reads m) (hearing-read seen d) (heeding-read law m seen d refl)
+      on begins
       (λ front. joint-read seen d on front h)
       (λ on-then rest there. joint-messages law ms first.left on-then rest there)
 
-  joint-unpacked : OverLaw → (seen : Result (List (List ℕ)) PackFault) (d : Dialogue) → is_ended (phase_in d) ≡ false → IsBeginning (d.history.judged ++ telegrams_in (found_messages seen)) y.queue → J d.history
+  joint-unpacked : OverLaw → (seen : Result (List (List ℕ)) PackFault) (d : Dialogue) → is_ended (phase_in d) ≡ false
+      → IsBeginning (d.history.judged ++ telegrams_in (found_messages seen)) y.queue → J d.history
       → J (judge_unpacked seen d).left.history
   joint-unpacked law (Ok ms) d on begins h = joint-messages law ms d on begins h
   joint-unpacked law (Err fault) d on begins h = h
 
-  joint-units : OverLaw → (us : List (List ℕ)) (d : Dialogue) → is_ended (phase_in d) ≡ false → IsBeginning (d.history.judged ++ telegrams_in (messages_in us)) y.queue → J d.history
+  joint-units : OverLaw → (us : List (List ℕ)) (d : Dialogue) → is_ended (phase_in d) ≡ false → IsBeginning (d.history.judged ++ telegrams_in (messages_in us))
+      y.queue → J d.history
       → J (judge_units us d).left.history
   joint-units law [] d on begins h = h
   joint-units law (u ∷ us) d on begins h =
       let seen = unit_seen u in
       let first = judge_unpacked seen d in
-      joint-then (telegrams_in (found_messages seen)) (telegrams_in (messages_in us)) d first (judge_units us first.left) (IsGood u) (hearing-unpacked seen d) (heeding-unpacked law u seen d refl) on
+      joint-then (telegrams_in (found_messages seen)) (telegrams_in (messages_in us)) d first (judge_units us first.left) (IsGood u) (hearing-unpacked seen d)
+      (heeding-unpacked law u seen d refl) on
       (subst (λ ts. IsBeginning (d.history.judged ++ ts) y.queue) (telegrams-append (found_messages seen) (messages_in us)) begins)
       (λ front. joint-unpacked law seen d on front h)
       (λ on-then rest there. joint-units law us first.left on-then rest there)
@@ -120,7 +115,8 @@ module _ (y : History) (J : History → Type 0) (more : (e : Event) (x : History
   joint-leaves now (Some why) x h = h
 
   -- octets come to an end whose units are a beginning of what its peer sent
-  pub joint-hears : Below → (side : Side) (now : ℕ) (octets : List ℕ) (x : EndState) → Spoken side x → Heeds x → IsBeginning (came (arrive_octets octets now x.machine)) y.queue → J x.session.history
+  pub joint-hears : Below → (side : Side) (now : ℕ) (octets : List ℕ) (x : EndState) → Spoken side x → Heeds x
+      → IsBeginning (came (arrive_octets octets now x.machine)) y.queue → J x.session.history
       → J (heard now octets x).session.history
   joint-hears laws side now octets x sp he begins h =
       let s = arrive_octets octets now x.machine in
@@ -130,13 +126,15 @@ module _ (y : History) (J : History → Type 0) (more : (e : Event) (x : History
       let d = x.session in
       let j = judge_units us d in
       let all : came s ≡ came x.machine ++ telegrams_in (messages_in us) =
-      ap (λ ts. telegrams_in (messages_in ts)) step.taken ∙ came-more x.machine.taken step.more ∙ ap (λ vs. came x.machine ++ telegrams_in (messages_in vs)) (sym us-are)
+      ap (λ ts. telegrams_in (messages_in ts)) step.taken ∙ came-more x.machine.taken step.more ∙ ap (λ vs. came x.machine ++ telegrams_in (messages_in vs))
+      (sym us-are)
       in
       let left : J j.left.history =
       by_test (λ b. is_shut x ≡ b → J j.left.history) (is_shut x)
       (λ shut _.
       let still : s ≡ x.machine = step.closed shut in
-      let nothing : us ≡ [] = ap (λ (t : State). handed_up x t) still ∙ ap (λ ts. drop (length x.machine.taken) ts) (sym (append-nil x.machine.taken)) ∙ drop-front x.machine.taken [] in
+      let nothing : us ≡ [] = ap (λ (t : State). handed_up x t) still ∙ ap (λ ts. drop (length x.machine.taken) ts) (sym (append-nil x.machine.taken))
+      ∙ drop-front x.machine.taken [] in
       subst (λ vs. J (judge_units vs d).left.history) (sym nothing) h)
       (λ open-still _.
       joint-units laws.over us d (he.on open-still)
@@ -146,9 +144,11 @@ module _ (y : History) (J : History → Type 0) (more : (e : Event) (x : History
       joint-leaves now j.leaving (answered octets x s) (joint-rises (comes_up x.machine.connection s.connection) j.left left)
 
 -- what came to an end that took a beginning of what its peer sent
-pub begins-queue : (side : Side) (us : List (List ℕ)) (y : EndState) → Spoken side y → IsBeginning us (units y.machine.made) → IsBeginning (telegrams_in (messages_in us)) y.session.history.queue
+pub begins-queue : (side : Side) (us : List (List ℕ)) (y : EndState) → Spoken side y → IsBeginning us (units y.machine.made)
+    → IsBeginning (telegrams_in (messages_in us)) y.session.history.queue
 begins-queue side us y sp begins =
-    begin-then (telegrams_in (messages_in us)) (telegrams_in (messages_in (units y.machine.made))) y.session.history.queue (begin-came us (units y.machine.made) begins)
+    begin-then (telegrams_in (messages_in us)) (telegrams_in (messages_in (units y.machine.made))) y.session.history.queue
+    (begin-came us (units y.machine.made) begins)
     (telegrams_in y.session.waiting, sym (queue-is side y sp))
 
 -- two ends that have judged nothing are joint
@@ -182,9 +182,11 @@ along-fe law b (e ∷ es) x y q h = along-fe law b es x (grown e y) q.1 (joint-f
 quiet-events : (side : Side) (x : EndState) (sp : Spoken side x) → x.machine.taken ≡ [] → AllByRecursion IsQuiet sp.talk.events
 quiet-events side x sp none =
     let judged : x.session.history.judged ≡ [] = nil-front x.session.history.judged sp.begins.0 (sp.begins.1 ∙ ap (λ us. telegrams_in (messages_in us)) none) in
-    quiet-all sp.talk.events (sym (judged-along sp.talk.events (begun x.settings.addressing (session_of side x.settings))) ∙ ap (λ (h : History). h.judged) (sym sp.talk.history) ∙ judged)
+    quiet-all sp.talk.events (sym (judged-along sp.talk.events (begun x.settings.addressing (session_of side x.settings)))
+    ∙ ap (λ (h : History). h.judged) (sym sp.talk.history) ∙ judged)
 
-pub joint-new : OneMoreLaw → (g f : EndState) → Spoken Il g → Spoken Fe f → g.machine.taken ≡ [] → f.machine.taken ≡ [] → Joint (new_pair g.settings f.settings) g.session.history f.session.history
+pub joint-new : OneMoreLaw → (g f : EndState) → Spoken Il g → Spoken Fe f → g.machine.taken ≡ [] → f.machine.taken ≡ []
+    → Joint (new_pair g.settings f.settings) g.session.history f.session.history
 joint-new law g f sg sf ng nf =
     let b = new_pair g.settings f.settings in
     let start-at : Joint b b.il b.fe = record { events = []; in_turn = tt; leads = refl } in

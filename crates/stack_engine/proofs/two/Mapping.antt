@@ -1,38 +1,18 @@
 -- What one call of an end is in the world of machines.
-use Rattle.std.proofs.Common.{◌≡◌, ◌+◌, ◌≤◌, ℕ, zero, suc, List, [], ◌∷◌, take, length, drop, Option, Some, None, Result, Ok, Err, Bool, true, false, cond, refl, sym, ap, subst, ◌∙◌, arith}
-use Rattle.std.specs.List.{AllByRecursion}
-use Rattle.octets.proofs.Choices.{by_cond, by_test}
-use Rattle.packing.specs.UnitText.{unit_text}
-use Rattle.red_layer.specs.Parts.{Part}
-use Rattle.red_layer.specs.Redundancy.{Receiver, Input, Datagram, Tick as RedTick, passed_by}
-use Rattle.safe_pdu.specs.declared.SafeFault.{SafeFault}
-use Rattle.safe_pdu.specs.Pdu.{Pdu}
-use Rattle.safe_machine.specs.declared.ConnectionState.{ConnectionState}
-use Rattle.safe_machine.specs.declared.ConnectionState.TheVariants.{Closed, Down, Start, Up, RetrReq as Requesting, RetrRun}
-use Rattle.safe_machine.specs.declared.Reason.TheVariants.{ClosedByUser}
-use Rattle.safe_machine.specs.declared.Detail.TheVariants.{Unspecified}
-use Rattle.safe_machine.specs.Made.{Made}
-use Rattle.safe_machine.specs.State.{State}
-use Rattle.safe_machine.specs.Moves.{Move, move, MovesLaw, HearsOwn}
-use Rattle.safe_machine.specs.Moves.Move.{Guards, Hears, Ticks, Sends, Leaves}
-use Rattle.safe_machine.specs.Octets.{heard as heard_as, seen_by, arrive_octets}
-use Rattle.safe_machine.specs.World.{Side, joins}
-use Rattle.safe_machine.specs.World.Side.{Il, Fe}
-use Rattle.safe_machine.specs.World as M
-use Rattle.end_settings.specs.EndSettings.{rule_of}
-use Rattle.stack_end.specs.Dialogue.{Leaving, judge_units}
-use Rattle.stack_end.specs.Ends.{EndState, is_shut, noted, handed_up, settle, answered, leaves, heard, packed, with_machine, with_input, moved as end_moved, part, Call}
-use Rattle.stack_end.specs.Ends.Call.{Close, Put, InitDone, Tick, Deliver}
-use Rattle.stack_engine.specs.Pairs.{JoinedEnd, made_of, has_made, latest, latest_maker, joined_by}
-use Rattle.stack_engine.specs.Premise.{is_live, IsGenuine, AtParts, AtInput, AtCall}
-use Rattle.octets.specs.Octets.{AreOctets}
+use Rattle.stack_engine.proofs.Words.{◌≡◌, ◌+◌, ◌≤◌, ℕ, zero, suc, List, [], ◌∷◌, take, length, drop, Option, Some, None, Result, Ok, Err, Bool, true, false}
+use Rattle.stack_engine.proofs.Words.{cond, refl, sym, ap, subst, ◌∙◌, arith, AllByRecursion, by_cond, by_test, unit_text, Part, Receiver, Input, Datagram}
+use Rattle.stack_engine.proofs.Words.{RedTick, passed_by, SafeFault, Pdu, ConnectionState, Closed, Down, Start, Up, Requesting, RetrRun, ClosedByUser}
+use Rattle.stack_engine.proofs.Words.{Unspecified, Made, State, Move, move, MovesLaw, HearsOwn, Guards, Hears, Ticks, Sends, Leaves, heard_as, seen_by}
+use Rattle.stack_engine.proofs.Words.{arrive_octets, Side, joins, Il, Fe, rule_of, Leaving, judge_units, EndState, is_shut, noted, handed_up, settle, answered}
+use Rattle.stack_engine.proofs.Words.{leaves, heard, packed, with_machine, with_input, end_moved, part, Call, Close, Put, InitDone, Tick, Deliver, JoinedEnd}
+use Rattle.stack_engine.proofs.Words.{made_of, has_made, latest, latest_maker, joined_by, is_live, IsGenuine, AtParts, AtInput, AtCall, AreOctets, EventsLaw}
 use Rattle.stack_engine.proofs.one.Keeping.{Keeps, IsTypedCall, IsTypedInput}
-use Rattle.safe_machine.specs.InOrder.{OneMoreLaw as EventsLaw}
 use Rattle.stack_engine.proofs.two.Reached.{Reached, il_at, fe_at, il-moves, fe-moves, GenuineMove, move_time}
 use Rattle.stack_engine.proofs.two.Hearing.{TextLaws, TextsOf, genuine-heard, asked-heard, not-shut}
 use Rattle.stack_engine.proofs.one.Sending.{and-parts}
 use Rattle.stack_engine.proofs.one.Spoken.{Below}
 use Rattle.stack_engine.proofs.one.Machined.{RedLaws, Whole, OctetsUp, OctetPart, whole-keeps, red-keeps}
+use Rattle.safe_machine.specs.World as M
 
 -- the laws of the layers below
 pub record Laws : Type 0 where
@@ -63,14 +43,17 @@ pub record IlAt (m : M.World) (now : ℕ) (x : EndState) : Type 0 where
 at-now : (n : ℕ) → n ≤ n
 at-now n = omega arith
 
-il-move : EventsLaw → (m : M.World) (now : ℕ) (mv : Move) (x y : EndState) → move_time mv ≡ now → GenuineMove x.machine (drop m.dead_fe m.fe.made) mv → Whole Il y → y.machine ≡ move mv x.machine
+il-move : EventsLaw → (m : M.World) (now : ℕ) (mv : Move) (x y : EndState) → move_time mv ≡ now → GenuineMove x.machine (drop m.dead_fe m.fe.made) mv
+    → Whole Il y → y.machine ≡ move mv x.machine
     → IlAt m now x → IlAt m now y
 il-move law m now mv x y t g whole e h =
     record {
       whole = whole;
       clock = now;
       within = at-now now;
-      reached = subst (λ s. Reached (il_at s now m)) (sym e) (subst (λ n. Reached (il_at (move mv x.machine) n m)) t (il-moves law m x.machine h.clock mv (subst (λ n. h.clock ≤ n) (sym t) h.within) g h.reached));
+      reached = subst (λ s. Reached (il_at s now m)) (sym e)
+          (subst (λ n. Reached (il_at (move mv x.machine) n m)) t
+          (il-moves law m x.machine h.clock mv (subst (λ n. h.clock ≤ n) (sym t) h.within) g h.reached));
     }
 
 il-same : (m : M.World) (now : ℕ) (x y : EndState) → Whole Il y → y.machine ≡ x.machine → IlAt m now x → IlAt m now y
@@ -82,7 +65,8 @@ heard-time (Ok p) now = refl
 heard-time (Err fault) now = refl
 
 -- the world of machines once octets were heard
-pub il-heard : Laws → (m : M.World) (peer : Option EndState) (dead now : ℕ) → PeerIs peer dead m.fe m.dead_fe → (octets : List ℕ) (x : EndState) → Comes peer dead x octets → IlAt m now x
+pub il-heard : Laws → (m : M.World) (peer : Option EndState) (dead now : ℕ) → PeerIs peer dead m.fe m.dead_fe → (octets : List ℕ) (x : EndState)
+    → Comes peer dead x octets → IlAt m now x
     → Reached (il_at (arrive_octets octets now x.machine) now m)
 il-heard laws m peer dead now is octets x q h =
     let r = seen_by x.machine octets in
@@ -93,7 +77,8 @@ il-heard laws m peer dead now is octets x q h =
     subst (λ n. Reached (il_at (move (heard_as r now) x.machine) n m)) (heard-time r now)
     (il-moves laws.below.events m x.machine h.clock (heard_as r now) (subst (λ n. h.clock ≤ n) (sym (heard-time r now)) h.within) g h.reached)
 
-il-leaves : EventsLaw → (m : M.World) (now : ℕ) (why : Option Leaving) (y : EndState) → Reached (il_at y.machine now m) → Whole Il (leaves now why y) → IlAt m now (leaves now why y)
+il-leaves : EventsLaw → (m : M.World) (now : ℕ) (why : Option Leaving) (y : EndState) → Reached (il_at y.machine now m) → Whole Il (leaves now why y)
+    → IlAt m now (leaves now why y)
 il-leaves law m now None y h whole = record { whole = whole; clock = now; within = at-now now; reached = h }
 il-leaves law m now (Some why) y h whole =
     record { whole = whole; clock = now; within = at-now now; reached = il-moves law m y.machine now (Leaves why.0 why.1 now) (at-now now) tt h }
@@ -109,8 +94,10 @@ il-keeps laws m peer dead now is =
       inputs = λ i x t h. il-same m now x _ (k.inputs i x t h.whole) refl h;
       hears = λ octets x q h.
           let s = arrive_octets octets now x.machine in
-          il-leaves laws.below.events m now (judge_units (handed_up x s) x.session).leaving (answered octets x s) (il-heard laws m peer dead now is octets x q h) (k.hears octets x q.0 h.whole);
-      sends = λ x may some h. il-move laws.below.events m now (Sends (unit_text (take x.settings.n_maxpacket x.session.waiting)) now) x (packed now x) refl tt (k.sends x may some h.whole) refl h;
+          il-leaves laws.below.events m now (judge_units (handed_up x s) x.session).leaving (answered octets x s)
+          (il-heard laws m peer dead now is octets x q h) (k.hears octets x q.0 h.whole);
+      sends = λ x may some h. il-move laws.below.events m now (Sends (unit_text (take x.settings.n_maxpacket x.session.waiting)) now) x (packed now x) refl tt
+          (k.sends x may some h.whole) refl h;
       puts = λ kind payload x fits h. il-same m now x _ (k.puts kind payload x fits h.whole) refl h;
       dones = λ x h. il-same m now x _ (k.dones x h.whole) refl h;
       times = λ x h. il-same m now x _ (k.times x h.whole) refl h;
@@ -146,7 +133,8 @@ quiet law mv s deaf =
     (λ _ _. refl) refl
 
 fe-move : Below → (ils : List EndState) (f : JoinedEnd) (m : M.World) (now : ℕ) (mv : Move) (x y : EndState) → move_time mv ≡ now → (HearsOwn mv x.machine → ⊥)
-    → GenuineMove x.machine (drop m.dead_il m.il.made) mv → Whole Fe y → y.machine ≡ move mv x.machine → y.request ≡ x.request → FeAt ils f m now x → FeAt ils f m now y
+    → GenuineMove x.machine (drop m.dead_il m.il.made) mv → Whole Fe y → y.machine ≡ move mv x.machine → y.request ≡ x.request → FeAt ils f m now x
+    → FeAt ils f m now y
 fe-move laws ils f m now mv x y t deaf g whole e same h =
     let law = laws.moves in
     let joined = joined_by ils f.joined f.end.request x.request in
@@ -167,7 +155,8 @@ fe-move laws ils f m now mv x y t deaf g whole e same h =
       first = λ none. h.first (sym same ∙ none);
     }
 
-fe-same : (ils : List EndState) (f : JoinedEnd) (m : M.World) (now : ℕ) (x y : EndState) → Whole Fe y → y.machine ≡ x.machine → y.request ≡ x.request → FeAt ils f m now x → FeAt ils f m now y
+fe-same : (ils : List EndState) (f : JoinedEnd) (m : M.World) (now : ℕ) (x y : EndState) → Whole Fe y → y.machine ≡ x.machine → y.request ≡ x.request
+    → FeAt ils f m now x → FeAt ils f m now y
 fe-same ils f m now x y whole e same h =
     record {
       whole = whole;
@@ -196,10 +185,12 @@ made-dropped rule octets (suc n) (m ∷ ms) h = by_cond (λ b. b ≡ true) _ tru
 
 live-made : (ils : List EndState) (x : EndState) (dead : ℕ) (octets : List ℕ) → is_live x (latest ils) dead octets ≡ true → MadeBy ils octets
 live-made [] x dead octets h = cc
-live-made (g ∷ before) x dead octets h = made-dropped (rule_of g.settings) octets dead g.machine.made (and-parts _ (has_made (rule_of g.settings) octets (drop dead g.machine.made)) h).1
+live-made (g ∷ before) x dead octets h = made-dropped (rule_of g.settings) octets dead g.machine.made
+    (and-parts _ (has_made (rule_of g.settings) octets (drop dead g.machine.made)) h).1
 
 -- who starts on these octets has heard a PDU that the present interlocking made
-joins-made : TextLaws → MovesLaw → (ils : List EndState) (x : EndState) (dead now : ℕ) (octets : List ℕ) → Whole Fe x → IsGenuine (latest ils) dead x octets → (r : Result Pdu SafeFault) → seen_by x.machine octets ≡ r
+joins-made : TextLaws → MovesLaw → (ils : List EndState) (x : EndState) (dead now : ℕ) (octets : List ℕ) → Whole Fe x → IsGenuine (latest ils) dead x octets
+    → (r : Result Pdu SafeFault) → seen_by x.machine octets ≡ r
     → joins x.machine.connection (move (heard_as r now) x.machine).connection ≡ true → MadeBy ils octets
 joins-made texts law ils x dead now octets whole g (Err fault) read h =
     let both = joins-both x.machine.connection (move (Guards now) x.machine).connection h in
@@ -210,11 +201,13 @@ joins-made texts law ils x dead now octets whole g (Ok p) read h =
     let asked = asked-heard texts Fe x octets p whole.machined.same read ours in
     live-made ils x dead octets (g (not-shut x.machine.connection (λ closed. let no = sym closed ∙ both.0 in cc)) asked.1)
 
-joined-first : (ils : List EndState) (old : Option ℕ) (before : Option (List ℕ)) (octets : List ℕ) → before ≡ None → joined_by ils old before (Some octets) ≡ latest_maker octets ils
+joined-first : (ils : List EndState) (old : Option ℕ) (before : Option (List ℕ)) (octets : List ℕ) → before ≡ None → joined_by ils old before (Some octets)
+    ≡ latest_maker octets ils
 joined-first ils old None octets e = refl
 joined-first ils old (Some r) octets e = cc
 
-joined-noted : (ils : List EndState) (n : ℕ) (f : JoinedEnd) (octets : List ℕ) (request : Option (List ℕ)) (b : Bool) → n ≡ length ils → (request ≡ None → f.end.request ≡ None)
+joined-noted : (ils : List EndState) (n : ℕ) (f : JoinedEnd) (octets : List ℕ) (request : Option (List ℕ)) (b : Bool) → n ≡ length ils
+    → (request ≡ None → f.end.request ≡ None)
     → (b ≡ true → (request ≡ None) × MadeBy ils octets)
     → cond b (Some n) (joined_by ils f.joined f.end.request request) ≡ joined_by ils f.joined f.end.request (noted b octets request)
 joined-noted ils n f octets request false count first h = refl
@@ -235,7 +228,8 @@ pub record FeHeard (ils : List EndState) (f : JoinedEnd) (m : M.World) (now : �
   pub idle : y.machine.connection ≡ Down → y.request ≡ None
   pub first : y.request ≡ None → f.end.request ≡ None
 
-fe-leaves : Below → (ils : List EndState) (f : JoinedEnd) (m : M.World) (now : ℕ) (why : Option Leaving) (y : EndState) → FeHeard ils f m now y → Whole Fe (leaves now why y) → FeAt ils f m now (leaves now why y)
+fe-leaves : Below → (ils : List EndState) (f : JoinedEnd) (m : M.World) (now : ℕ) (why : Option Leaving) (y : EndState) → FeHeard ils f m now y
+    → Whole Fe (leaves now why y) → FeAt ils f m now (leaves now why y)
 fe-leaves laws ils f m now None y h whole = record { whole = whole; clock = now; within = at-now now; reached = h.there; idle = h.idle; first = h.first }
 fe-leaves laws ils f m now (Some why) y h whole =
     let law = laws.moves in
@@ -255,7 +249,8 @@ fe-leaves laws ils f m now (Some why) y h whole =
 heard-down : MovesLaw → (r : Result Pdu SafeFault) (now : ℕ) (s : State) → (move (heard_as r now) s).connection ≡ Down → s.connection ≡ Down
 heard-down law r now s = (law (heard_as r now) s).never_down
 
-pub fe-heard : Laws → (ils : List EndState) (f : JoinedEnd) (m : M.World) (dead now : ℕ) (octets : List ℕ) (x : EndState) → length m.il_before ≡ length ils → PeerIs (latest ils) dead m.il m.dead_il
+pub fe-heard : Laws → (ils : List EndState) (f : JoinedEnd) (m : M.World) (dead now : ℕ) (octets : List ℕ) (x : EndState) → length m.il_before ≡ length ils
+    → PeerIs (latest ils) dead m.il m.dead_il
     → Comes (latest ils) dead x octets → FeAt ils f m now x → FeHeard ils f m now (answered octets x (arrive_octets octets now x.machine))
 fe-heard laws ils f m dead now octets x count is q h =
     let law = laws.below.moves in
@@ -275,20 +270,28 @@ fe-heard laws ils f m dead now octets x count is q h =
       there =
           subst (λ q. Reached (fe_at s q now m))
           (joined-noted ils (length m.il_before) f octets x.request joining count h.first
-          (λ is-so. (h.idle (joins-both x.machine.connection s.connection is-so).0, joins-made laws.texts_read law ils x dead now octets h.whole q.1 r refl is-so)))
+          (λ is-so. (
+            h.idle (joins-both x.machine.connection s.connection is-so).0,
+            joins-made laws.texts_read law ils x dead now octets h.whole q.1 r refl
+                is-so,
+          )))
           moved;
-      idle = λ down. noted-none joining octets x.request (λ is-so. let no = sym (joins-both x.machine.connection s.connection is-so).1 ∙ down in cc) (h.idle (heard-down law r now x.machine down));
+      idle = λ down. noted-none joining octets x.request (λ is-so. let no = sym (joins-both x.machine.connection s.connection is-so).1 ∙ down in cc)
+          (h.idle (heard-down law r now x.machine down));
       first = λ none. h.first (noted-first joining octets x.request none);
     }
 
-fe-hears : Laws → (ils : List EndState) (f : JoinedEnd) (m : M.World) (dead now : ℕ) (octets : List ℕ) (x : EndState) → length m.il_before ≡ length ils → PeerIs (latest ils) dead m.il m.dead_il
+fe-hears : Laws → (ils : List EndState) (f : JoinedEnd) (m : M.World) (dead now : ℕ) (octets : List ℕ) (x : EndState) → length m.il_before ≡ length ils
+    → PeerIs (latest ils) dead m.il m.dead_il
     → Comes (latest ils) dead x octets → FeAt ils f m now x → FeAt ils f m now (heard now octets x)
 fe-hears laws ils f m dead now octets x count is q h =
     let s = arrive_octets octets now x.machine in
-    fe-leaves laws.below ils f m now (judge_units (handed_up x s) x.session).leaving (answered octets x s) (fe-heard laws ils f m dead now octets x count is q h)
+    fe-leaves laws.below ils f m now (judge_units (handed_up x s) x.session).leaving (answered octets x s)
+    (fe-heard laws ils f m dead now octets x count is q h)
     ((whole-keeps laws.below laws.redundancy Fe now).hears octets x q.0 h.whole)
 
-pub fe-keeps : Laws → (ils : List EndState) (f : JoinedEnd) (m : M.World) (dead now : ℕ) → length m.il_before ≡ length ils → PeerIs (latest ils) dead m.il m.dead_il
+pub fe-keeps : Laws → (ils : List EndState) (f : JoinedEnd) (m : M.World) (dead now : ℕ) → length m.il_before ≡ length ils
+    → PeerIs (latest ils) dead m.il m.dead_il
     → Keeps now (Comes (latest ils) dead) (FeAt ils f m now)
 fe-keeps laws ils f m dead now count is =
     let k : Keeps now OctetsUp (Whole Fe) = whole-keeps laws.below laws.redundancy Fe now in
@@ -300,7 +303,8 @@ fe-keeps laws ils f m dead now count is =
       inputs = λ i x t h. fe-same ils f m now x _ (k.inputs i x t h.whole) refl refl h;
       hears = λ octets x q h. fe-hears laws ils f m dead now octets x count is q h;
       sends = λ x may some h.
-          fe-move laws.below ils f m now (Sends (unit_text (take x.settings.n_maxpacket x.session.waiting)) now) x (packed now x) refl (λ no. no) tt (k.sends x may some h.whole) refl refl h;
+          fe-move laws.below ils f m now (Sends (unit_text (take x.settings.n_maxpacket x.session.waiting)) now) x (packed now x) refl (λ no. no) tt
+          (k.sends x may some h.whole) refl refl h;
       puts = λ kind payload x fits h. fe-same ils f m now x _ (k.puts kind payload x fits h.whole) refl refl h;
       dones = λ x h. fe-same ils f m now x _ (k.dones x h.whole) refl refl h;
       times = λ x h. fe-same ils f m now x _ (k.times x h.whole) refl refl h;
@@ -314,11 +318,13 @@ octets-parts now (p ∷ ps) x h = (h.0, octets-parts now ps (part now p.1 x) h.1
 settled-red : (x : EndState) → (settle x).red ≡ x.red
 settled-red x = by_cond (λ (y : EndState). y.red ≡ x.red) (is_shut x) _ x (λ _. refl) (λ _. refl)
 
-octets-input : RedLaws → (now : ℕ) (i : Input) (m : Move) (x : EndState) → IsTypedInput i → AllByRecursion OctetPart x.red.waiting → AtInput OctetsUp now i (end_moved m x)
+octets-input : RedLaws → (now : ℕ) (i : Input) (m : Move) (x : EndState) → IsTypedInput i → AllByRecursion OctetPart x.red.waiting
+    → AtInput OctetsUp now i (end_moved m x)
 octets-input law now i m x t h = λ _.
     let y = end_moved m x in
     let same : y.red ≡ x.red = settled-red (with_machine (move m x.machine) x) in
-    octets-parts now (passed_by i y.red) (with_input i y) (red-keeps law i y.red t (subst (λ (r : Receiver). AllByRecursion OctetPart r.waiting) (sym same) h)).0
+    octets-parts now (passed_by i y.red) (with_input i y)
+    (red-keeps law i y.red t (subst (λ (r : Receiver). AllByRecursion OctetPart r.waiting) (sym same) h)).0
 
 pub octets-call : RedLaws → (c : Call) (x : EndState) → IsTypedCall c → AllByRecursion OctetPart x.red.waiting → AtCall OctetsUp c x
 octets-call law (Close now) x t h = tt
@@ -328,7 +334,8 @@ octets-call law (Tick now) x t h = λ _. octets-input law now (RedTick now) (Tic
 octets-call law (Deliver channel octets now) x t h = λ _. octets-input law now (Datagram octets now) (Guards now) x t h
 
 -- two things that hold of each part
-both-parts : (P Q : EndState → List ℕ → Type 0) (now : ℕ) (ps : List Part) (x : EndState) → AtParts P now ps x → AtParts Q now ps x → AtParts (λ y o. P y o × Q y o) now ps x
+both-parts : (P Q : EndState → List ℕ → Type 0) (now : ℕ) (ps : List Part) (x : EndState) → AtParts P now ps x → AtParts Q now ps x
+    → AtParts (λ y o. P y o × Q y o) now ps x
 both-parts P Q now [] x h k = tt
 both-parts P Q now (p ∷ ps) x h k = ((h.0, k.0), both-parts P Q now ps (part now p.1 x) h.1 k.1)
 
@@ -336,6 +343,8 @@ pub both-call : (P Q : EndState → List ℕ → Type 0) (c : Call) (x : EndStat
 both-call P Q (Close now) x h k = tt
 both-call P Q (Put kind payload now) x h k = tt
 both-call P Q (InitDone now) x h k = tt
-both-call P Q (Tick now) x h k = λ a b. both-parts P Q now (passed_by (RedTick now) (end_moved (Ticks now) x).red) (with_input (RedTick now) (end_moved (Ticks now) x)) (h a b) (k a b)
+both-call P Q (Tick now) x h k = λ a b. both-parts P Q now (passed_by (RedTick now) (end_moved (Ticks now) x).red)
+    (with_input (RedTick now) (end_moved (Ticks now) x)) (h a b) (k a b)
 both-call P Q (Deliver channel octets now) x h k = λ a b.
-    both-parts P Q now (passed_by (Datagram octets now) (end_moved (Guards now) x).red) (with_input (Datagram octets now) (end_moved (Guards now) x)) (h a b) (k a b)
+    both-parts P Q now (passed_by (Datagram octets now) (end_moved (Guards now) x).red) (with_input (Datagram octets now) (end_moved (Guards now) x)) (h a b)
+    (k a b)

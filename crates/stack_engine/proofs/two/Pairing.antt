@@ -1,39 +1,24 @@
 -- The sessions of each joined pair are joint, whatever calls come.
-use Rattle.std.proofs.Common.{◌≡◌, ◌⊎◌, inl, inr, ◌==◌, ◌+◌, ◌≤◌, ◌<◌, ℕ, List, [], ◌∷◌, length, Option, Some, None, Bool, true, false, cond, refl, sym, ap, subst, ◌∙◌, arith}
-use Rattle.std.specs.Prelude.{MatchOption}
-use Rattle.std.specs.List.{AllByRecursion}
-use Rattle.std.proofs.lemmas.Bool.{eqb-true}
-use Rattle.std.proofs.lemmas.Bool.Decides.{nat_tests}
-use Rattle.octets.specs.Lists.{IsBeginning}
-use Rattle.octets.proofs.Choices.{by_test}
-use Rattle.safe_machine.specs.Made.{units}
-use Rattle.safe_machine.specs.State.{State}
-use Rattle.safe_machine.specs.Moves.{TextsLaw}
-use Rattle.safe_machine.specs.Octets.{arrive_octets}
-use Rattle.safe_machine.specs.World.{Side, joins}
-use Rattle.safe_machine.specs.World.Side.{Il, Fe}
-use Rattle.safe_machine.specs.World as M
-use Rattle.safe_machine.specs.Law as L
-use Rattle.pdi_session.specs.SessionStep.{Event as SessionEvent, Puts, InitDone as Completes, Closes}
-use Rattle.pdi_session.specs.Histories.{History, grown}
-use Rattle.pdi_session.specs.Laws.{TakenLaw}
-use Rattle.pdi_session.specs.JoinedSessions.{IsNext, OneMoreLaw}
-use Rattle.end_settings.specs.EndSettings.{EndSettings}
-use Rattle.stack_end.specs.Dialogue.{Leaving, meets, judge_units}
-use Rattle.stack_end.specs.Ends.{EndState, new_end, with_session, noted, handed_up, answered, leaves, heard, Call, time_of, call}
-use Rattle.stack_engine.specs.Pairs.{World, JoinedEnd, Event, start, ends_of, latest, call_refusal, refusal, joined_by, with_joined, call_il, call_fe, changed, happens, run}
-use Rattle.stack_engine.specs.Pairs.Event.{Open, Calls}
-use Rattle.stack_engine.specs.Premise.{IsGenuine, AtCall, AtOpened, GenuineCall, GenuineEvent, Genuine, IsTyped, AreTyped}
-use Rattle.stack_engine.specs.Headline.{incarnation}
+use Rattle.stack_engine.proofs.Words.{◌≡◌, ◌⊎◌, inl, inr, ◌==◌, ◌+◌, ◌≤◌, ◌<◌, ℕ, List, [], ◌∷◌, length, Option, Some, None, Bool, true, false, cond, refl, sym}
+use Rattle.stack_engine.proofs.Words.{ap, subst, ◌∙◌, arith, MatchOption, AllByRecursion, eqb-true, nat_tests, IsBeginning, by_test, units, State, TextsLaw}
+use Rattle.stack_engine.proofs.Words.{arrive_octets, Side, joins, Il, Fe, SessionEvent, Puts, Completes, Closes, History, grown, TakenLaw, IsNext, EndSettings}
+use Rattle.stack_engine.proofs.Words.{Leaving, meets, judge_units, EndState, new_end, with_session, noted, handed_up, answered, leaves, heard, Call, time_of}
+use Rattle.stack_engine.proofs.Words.{call, World, JoinedEnd, Event, start, ends_of, latest, call_refusal, refusal, joined_by, with_joined, call_il, call_fe}
+use Rattle.stack_engine.proofs.Words.{changed, happens, run, Open, Calls, IsGenuine, AtCall, AtOpened, GenuineCall, GenuineEvent, Genuine, IsTyped, AreTyped}
+use Rattle.stack_engine.proofs.Words.{incarnation}
+use Rattle.pdi_session.specs.JoinedSessions.{OneMoreLaw}
 use Rattle.stack_engine.proofs.one.Keeping.{Keeps, IsTypedCall, call-keeps}
 use Rattle.stack_engine.proofs.two.Reached.{Reached, il_at, fe_at}
 use Rattle.stack_engine.proofs.one.Spoken.{Spoken}
 use Rattle.stack_engine.proofs.one.Machined.{Whole}
 use Rattle.stack_engine.proofs.two.Mapping.{Laws, Comes, PeerIs, IlAt, FeAt, FeHeard, il-keeps, fe-keeps, il-heard, fe-heard, joins-both, noted-first}
-use Rattle.stack_engine.proofs.two.Worlds.{states, served, unserved, machines, AllWhole, Mapped, MappedWorld, mapped-event, call-timely, typed-call, at-call, made-fe, made-il, texts-latest, joined-same, before-length, states-length, unless}
+use Rattle.stack_engine.proofs.two.Worlds.{states, served, unserved, machines, AllWhole, Mapped, MappedWorld, mapped-event, call-timely, typed-call, at-call}
+use Rattle.stack_engine.proofs.two.Worlds.{made-fe, made-il, texts-latest, joined-same, before-length, states-length, unless}
 use Rattle.stack_engine.proofs.one.Heeding.{Heeds, HeedsKept, heeds-kept}
 use Rattle.stack_engine.proofs.two.Headlines.{law-of, taken-before, il-incarnations, fe-incarnations}
 use Rattle.stack_engine.proofs.two.Joint.{new_pair, Joint, joint-il, joint-fe, joint-hears, joint-new, begins-queue}
+use Rattle.safe_machine.specs.World as M
+use Rattle.safe_machine.specs.Law as L
 
 -- the laws that are used beside those of the layers
 pub record PairLaws : Type 0 where
@@ -79,14 +64,16 @@ pub inc-some : (ils : List EndState) (number : ℕ) (g : EndState) → incarnati
 inc-some [] number g e = cc
 inc-some (x ∷ before) number g e =
     ap (λ n. cond (number == n + 1) (Some x.machine) (L.incarnation (states before) number)) (states-length before)
-    ∙ by_test (λ b. cond b (Some x) (incarnation before number) ≡ Some g → cond b (Some x.machine) (L.incarnation (states before) number) ≡ Some g.machine) (number == length before + 1)
+    ∙ by_test (λ b. cond b (Some x) (incarnation before number) ≡ Some g → cond b (Some x.machine) (L.incarnation (states before) number) ≡ Some g.machine)
+    (number == length before + 1)
     (λ _ same. let is : x ≡ g = cc in ap (λ (y : EndState). Some y.machine) is) (λ _ more. inc-some before number g more) e
 
 pub inc-none : (ils : List EndState) (number : ℕ) → incarnation ils number ≡ None → L.incarnation (states ils) number ≡ None
 inc-none [] number e = refl
 inc-none (x ∷ before) number e =
     ap (λ n. cond (number == n + 1) (Some x.machine) (L.incarnation (states before) number)) (states-length before)
-    ∙ by_test (λ b. cond b (Some x) (incarnation before number) ≡ None → cond b (Some x.machine) (L.incarnation (states before) number) ≡ None) (number == length before + 1)
+    ∙ by_test (λ b. cond b (Some x) (incarnation before number) ≡ None → cond b (Some x.machine) (L.incarnation (states before) number) ≡ None)
+    (number == length before + 1)
     (λ _ no. cc) (λ _ more. inc-none before number more) e
 
 pub inc-whole : (ils : List EndState) (number : ℕ) (g : EndState) → AllWhole Il ils → incarnation ils number ≡ Some g → Whole Il g
@@ -95,10 +82,12 @@ inc-whole (x ∷ before) number g h e =
     by_test (λ b. cond b (Some x) (incarnation before number) ≡ Some g → Whole Il g) (number == length before + 1)
     (λ _ same. let is : x ≡ g = cc in subst (Whole Il) is h.0) (λ _ more. inc-whole before number g h.1 more) e
 
-inc-takes : (fs : List M.Served) (ils : List EndState) (number : ℕ) (g : EndState) → L.OnlyJoinedTake fs (states ils) → incarnation ils number ≡ Some g → (g.machine.taken ≡ []) ⊎ L.IsJoined number fs
+inc-takes : (fs : List M.Served) (ils : List EndState) (number : ℕ) (g : EndState) → L.OnlyJoinedTake fs (states ils) → incarnation ils number ≡ Some g
+    → (g.machine.taken ≡ []) ⊎ L.IsJoined number fs
 inc-takes fs [] number g h e = cc
 inc-takes fs (x ∷ before) number g h e =
-    by_test (λ b. (number == length before + 1) ≡ b → cond b (Some x) (incarnation before number) ≡ Some g → (g.machine.taken ≡ []) ⊎ L.IsJoined number fs) (number == length before + 1)
+    by_test (λ b. (number == length before + 1) ≡ b → cond b (Some x) (incarnation before number) ≡ Some g → (g.machine.taken ≡ []) ⊎ L.IsJoined number fs)
+    (number == length before + 1)
     (λ at _ same.
     let is : x ≡ g = cc in
     let n : length (states before) + 1 ≡ number = ap (λ k. k + 1) (states-length before) ∙ sym (eqb-true number (length before + 1) at) in
@@ -117,12 +106,14 @@ joined-below bound number (f ∷ fs) h (inl e) = below-step bound number f.joine
 joined-below bound number (f ∷ fs) h (inr k) = below-step bound number f.joined h.0 (inr (joined-below (L.next_bound bound f.joined) number fs h.1 k))
 
 -- The law in the middle of a call.
-law-il : (s : State) (x : EndState) (before : List EndState) (fes : List JoinedEnd) (di df ci cf now : ℕ) → L.Law (il_at s now (machines (x ∷ before) fes di df ci cf)) → L.LawOf (s ∷ states before) (served fes)
+law-il : (s : State) (x : EndState) (before : List EndState) (fes : List JoinedEnd) (di df ci cf now : ℕ)
+    → L.Law (il_at s now (machines (x ∷ before) fes di df ci cf)) → L.LawOf (s ∷ states before) (served fes)
 law-il s x before fes di df ci cf now h =
     subst (λ fs. L.LawOf (s ∷ states before) fs) (fe-incarnations (served fes))
     (subst (λ ss. L.LawOf ss (L.fe_incarnations (il_at s now (machines (x ∷ before) fes di df ci cf)))) (taken-before M.unopened s (states before)) h)
 
-law-fe : (s : State) (q : Option ℕ) (ils : List EndState) (f : JoinedEnd) (fs : List JoinedEnd) (di df ci cf now : ℕ) → L.Law (fe_at s q now (machines ils (f ∷ fs) di df ci cf))
+law-fe : (s : State) (q : Option ℕ) (ils : List EndState) (f : JoinedEnd) (fs : List JoinedEnd) (di df ci cf now : ℕ)
+    → L.Law (fe_at s q now (machines ils (f ∷ fs) di df ci cf))
     → L.LawOf (states ils) (record { machine = s; joined = q } ∷ served fs)
 law-fe s q ils f fs di df ci cf now h =
     subst (λ gs. L.LawOf (states ils) gs) (taken-before unserved (record { machine = s; joined = q }) (served fs))
@@ -149,19 +140,23 @@ record IlPair (s : EndSettings) (number : ℕ) (fes : List JoinedEnd) (m : M.Wor
   set : y.settings ≡ s
   joints : AllByRecursion (JointIl s number y) fes
 
-il-quiet : OneMoreLaw → (s : EndSettings) (number : ℕ) (fes : List JoinedEnd) (e : SessionEvent) (x y : EndState) → ((h k : History) → IsNext e h k) → y.session.history ≡ grown e x.session.history
+il-quiet : OneMoreLaw → (s : EndSettings) (number : ℕ) (fes : List JoinedEnd) (e : SessionEvent) (x y : EndState) → ((h k : History) → IsNext e h k)
+    → y.session.history ≡ grown e x.session.history
     → AllByRecursion (JointIl s number x) fes → AllByRecursion (JointIl s number y) fes
 il-quiet law s number fes e x y next same h =
     all-map (JointIl s number x) (JointIl s number y)
     (λ f j is. subst (λ (k : History). Joint (new_pair s f.end.settings) k f.end.session.history) (sym same)
     (joint-il law (new_pair s f.end.settings) x.session.history f.end.session.history e (next x.session.history f.end.session.history) (j is))) fes h
 
-il-joined : (ss : List State) (s : State) (f : M.Served) (number : ℕ) → L.TakesBeginnings (s ∷ ss) f.machine f.joined → f.joined ≡ Some number → (number == length ss + 1) ≡ true → IsBeginning s.taken (units f.machine.made)
+il-joined : (ss : List State) (s : State) (f : M.Served) (number : ℕ) → L.TakesBeginnings (s ∷ ss) f.machine f.joined → f.joined ≡ Some number
+    → (number == length ss + 1) ≡ true → IsBeginning s.taken (units f.machine.made)
 il-joined ss s f number h is at =
-    (subst (λ b. MatchOption (cond b (Some s) (L.incarnation ss number)) ⊥ (λ il. IsBeginning f.machine.taken (units il.made) × IsBeginning il.taken (units f.machine.made))) at
+    (subst (λ b. MatchOption (cond b (Some s) (L.incarnation ss number)) ⊥
+    (λ il. IsBeginning f.machine.taken (units il.made) × IsBeginning il.taken (units f.machine.made))) at
     (subst (λ o. L.TakesBeginnings (s ∷ ss) f.machine o) is h)).1
 
-il-pairs-hear : (p : PairLaws) (s : EndSettings) (number : ℕ) (ss : List State) (now : ℕ) (octets : List ℕ) (x : EndState) → (number == length ss + 1) ≡ true → Spoken Il x → Heeds x
+il-pairs-hear : (p : PairLaws) (s : EndSettings) (number : ℕ) (ss : List State) (now : ℕ) (octets : List ℕ) (x : EndState) → (number == length ss + 1) ≡ true
+    → Spoken Il x → Heeds x
     → (fes : List JoinedEnd) → AllWhole Fe (ends_of fes) → L.AllTakeBeginnings (arrive_octets octets now x.machine ∷ ss) (served fes)
     → AllByRecursion (JointIl s number x) fes → AllByRecursion (JointIl s number (heard now octets x)) fes
 il-pairs-hear p s number ss now octets x at sp he [] whole law h = tt
@@ -170,13 +165,16 @@ il-pairs-hear p s number ss now octets x at sp he (f ∷ fs) whole law h = (
       let b = new_pair s f.end.settings in
       let t = arrive_octets octets now x.machine in
       let sent = il-joined ss t (record { machine = f.end.machine; joined = f.joined }) number law.0 is at in
-      joint-hears f.end.session.history (λ k. Joint b k f.end.session.history) (λ e k next j. joint-il p.one_more b k f.end.session.history e next j) p.laws.below Il now octets x sp he
+      joint-hears f.end.session.history (λ k. Joint b k f.end.session.history) (λ e k next j. joint-il p.one_more b k f.end.session.history e next j)
+      p.laws.below Il now octets x sp he
       (begins-queue Fe t.taken f.end whole.0.spoken sent) (h.0 is),
   il-pairs-hear p s number ss now octets x at sp he fs whole.1 law.1 h.1,
 )
 
-il-pair-keeps : (p : PairLaws) (x0 : EndState) (before : List EndState) (fes : List JoinedEnd) (di df ci cf now : ℕ) → let m = machines (x0 ∷ before) fes di df ci cf in
-    PeerIs (latest (ends_of fes)) df m.fe m.dead_fe → AllWhole Fe (ends_of fes) → Keeps now (Comes (latest (ends_of fes)) df) (IlPair x0.settings (length before + 1) fes m now)
+il-pair-keeps : (p : PairLaws) (x0 : EndState) (before : List EndState) (fes : List JoinedEnd) (di df ci cf now : ℕ)
+    → let m = machines (x0 ∷ before) fes di df ci cf in
+    PeerIs (latest (ends_of fes)) df m.fe m.dead_fe → AllWhole Fe (ends_of fes)
+    → Keeps now (Comes (latest (ends_of fes)) df) (IlPair x0.settings (length before + 1) fes m now)
 il-pair-keeps p x0 before fes di df ci cf now is whole =
     let m = machines (x0 ∷ before) fes di df ci cf in
     let peer = latest (ends_of fes) in
@@ -188,27 +186,53 @@ il-pair-keeps p x0 before fes di df ci cf now is whole =
       guards = λ x h. record { at = k.guards x h.at; heeds = hk.guards x h.heeds; set = h.set; joints = h.joints };
       ticks = λ x h. record { at = k.ticks x h.at; heeds = hk.ticks x h.heeds; set = h.set; joints = h.joints };
       closes = λ x h. record { at = k.closes x h.at; heeds = hk.closes x h.heeds; set = h.set; joints = h.joints };
-      ends = λ x shut h. record { at = k.ends x shut h.at; heeds = hk.ends x shut h.heeds; set = h.set; joints = il-quiet p.one_more s number fes Closes x (with_session (meets Closes x.session) x) (λ _ _. tt) refl h.joints };
-      inputs = λ i x t h. record { at = k.inputs i x t h.at; heeds = record { on = h.heeds.on; judged = h.heeds.judged; taken = h.heeds.taken }; set = h.set; joints = h.joints };
+      ends = λ x shut h. record {
+        at = k.ends x shut h.at;
+        heeds = hk.ends x shut h.heeds;
+        set = h.set;
+        joints = il-quiet p.one_more s number fes Closes x
+            (with_session (meets Closes x.session) x) (λ _ _. tt) refl h.joints;
+      };
+      inputs = λ i x t h. record {
+        at = k.inputs i x t h.at;
+        heeds = record { on = h.heeds.on; judged = h.heeds.judged; taken = h.heeds.taken };
+        set = h.set;
+        joints = h.joints;
+      };
       hears = λ octets x q h.
           let t = arrive_octets octets now x.machine in
-          let law : L.LawOf (t ∷ states before) (served fes) = law-il t x0 before fes di df ci cf now (law-at p.units (il_at t now m) (il-heard p.laws m peer df now is octets x q h.at)) in
+          let law : L.LawOf (t ∷ states before) (served fes) = law-il t x0 before fes di df ci cf now
+          (law-at p.units (il_at t now m) (il-heard p.laws m peer df now is octets x q h.at)) in
           record {
             at = k.hears octets x q h.at;
             heeds = hk.hears octets x h.at.whole.spoken h.heeds;
             set = leaves-settings now (judge_units (handed_up x t) x.session).leaving (answered octets x t) ∙ h.set;
             joints =
-                il-pairs-hear p s number (states before) now octets x (ap (λ n. number == n + 1) (states-length before) ∙ eqb-same number) h.at.whole.spoken h.heeds fes whole law.beginnings h.joints;
+                il-pairs-hear p s number (states before) now octets x (ap (λ n. number == n + 1) (states-length before) ∙ eqb-same number) h.at.whole.spoken
+                h.heeds fes whole law.beginnings h.joints;
           };
       sends = λ x may some h. record { at = k.sends x may some h.at; heeds = hk.sends x h.heeds; set = h.set; joints = h.joints };
       puts = λ kind payload x fits h. record {
         at = k.puts kind payload x fits h.at;
         heeds = hk.puts kind payload x h.heeds;
         set = h.set;
-        joints = il-quiet p.one_more s number fes (Puts kind payload (length x.session.waiting)) x (with_session (meets (Puts kind payload (length x.session.waiting)) x.session) x) (λ _ _. tt) refl h.joints;
+        joints = il-quiet p.one_more s number fes (Puts kind payload (length x.session.waiting)) x
+            (with_session (meets (Puts kind payload (length x.session.waiting)) x.session) x) (λ _ _. tt) refl h.joints;
       };
-      dones = λ x h. record { at = k.dones x h.at; heeds = hk.dones x h.heeds; set = h.set; joints = il-quiet p.one_more s number fes (Completes (length x.session.waiting)) x (with_session (meets (Completes (length x.session.waiting)) x.session) x) (λ _ _. tt) refl h.joints };
-      times = λ x h. record { at = k.times x h.at; heeds = record { on = h.heeds.on; judged = h.heeds.judged; taken = h.heeds.taken }; set = h.set; joints = h.joints };
+      dones = λ x h. record {
+        at = k.dones x h.at;
+        heeds = hk.dones x h.heeds;
+        set = h.set;
+        joints = il-quiet p.one_more s number fes
+            (Completes (length x.session.waiting)) x (with_session (meets (Completes (length x.session.waiting)) x.session) x) (λ _ _. tt) refl h.joints;
+      };
+      times = λ x h. record {
+        at = k.times x h.at;
+        heeds = record { on = h.heeds.on; judged = h.heeds.judged; taken = h.heeds.taken };
+        set = h.set;
+        joints =
+            h.joints;
+      };
     }
 
 -- The field element during a call, with the interlocking to which it is joined by now.
@@ -220,32 +244,38 @@ record FePair (s : EndSettings) (ils : List EndState) (f : JoinedEnd) (m : M.Wor
   heeds : Heeds x
   set : x.settings ≡ s
   unjoined : x.request ≡ None → JoinedNow ils f x ≡ None
-  joint : (number : ℕ) → JoinedNow ils f x ≡ Some number → MatchOption (incarnation ils number) ⊥ (λ g. Joint (new_pair g.settings s) g.session.history x.session.history)
+  joint : (number : ℕ) → JoinedNow ils f x ≡ Some number
+      → MatchOption (incarnation ils number) ⊥ (λ g. Joint (new_pair g.settings s) g.session.history x.session.history)
 
 fe-quiet : OneMoreLaw → (s : EndSettings) (ils : List EndState) (e : SessionEvent) (h : History) (number : ℕ) → ((j k : History) → IsNext e j k)
-    → MatchOption (incarnation ils number) ⊥ (λ g. Joint (new_pair g.settings s) g.session.history h) → MatchOption (incarnation ils number) ⊥ (λ g. Joint (new_pair g.settings s) g.session.history (grown e h))
+    → MatchOption (incarnation ils number) ⊥ (λ g. Joint (new_pair g.settings s) g.session.history h)
+    → MatchOption (incarnation ils number) ⊥ (λ g. Joint (new_pair g.settings s) g.session.history (grown e h))
 fe-quiet law s ils e h number next =
     match-map (λ g. Joint (new_pair g.settings s) g.session.history h) (λ g. Joint (new_pair g.settings s) g.session.history (grown e h))
     (λ g j. joint-fe law (new_pair g.settings s) g.session.history h e (next h g.session.history) j) (incarnation ils number)
 
 -- what octets do to a pair, once the interlocking is known
-fe-with : (p : PairLaws) (s : EndSettings) (now : ℕ) (octets : List ℕ) (x g : EndState) → Spoken Fe x → Heeds x → Spoken Il g → IsBeginning (arrive_octets octets now x.machine).taken (units g.machine.made)
+fe-with : (p : PairLaws) (s : EndSettings) (now : ℕ) (octets : List ℕ) (x g : EndState) → Spoken Fe x → Heeds x → Spoken Il g
+    → IsBeginning (arrive_octets octets now x.machine).taken (units g.machine.made)
     → Joint (new_pair g.settings s) g.session.history x.session.history → Joint (new_pair g.settings s) g.session.history (heard now octets x).session.history
 fe-with p s now octets x g sx he sg sent j =
     let b = new_pair g.settings s in
-    joint-hears g.session.history (λ k. Joint b g.session.history k) (λ e k next l. joint-fe p.one_more b g.session.history k e next l) p.laws.below Fe now octets x sx he
+    joint-hears g.session.history (λ k. Joint b g.session.history k) (λ e k next l. joint-fe p.one_more b g.session.history k e next l) p.laws.below Fe now
+    octets x sx he
     (begins-queue Il (arrive_octets octets now x.machine).taken g sg sent) j
 
 not-joined : (o : Option ℕ) (number : ℕ) (fs : List M.Served) → o ≡ None → L.JoinsFall number fs → (o ≡ Some number) ⊎ L.IsJoined number fs → ⊥
 not-joined o number fs none fall (inl e) = let no : Some number ≡ None = sym e ∙ none in cc
 not-joined o number fs none fall (inr k) = let lt = joined-below number number fs fall k in omega (arith, lt)
 
-none-or : (o : Option ℕ) (number : ℕ) (fs : List M.Served) (g : EndState) → o ≡ None → L.JoinsFall number fs → (g.machine.taken ≡ []) ⊎ ((o ≡ Some number) ⊎ L.IsJoined number fs) → g.machine.taken ≡ []
+none-or : (o : Option ℕ) (number : ℕ) (fs : List M.Served) (g : EndState) → o ≡ None → L.JoinsFall number fs
+    → (g.machine.taken ≡ []) ⊎ ((o ≡ Some number) ⊎ L.IsJoined number fs) → g.machine.taken ≡ []
 none-or o number fs g none fall (inl e) = e
 none-or o number fs g none fall (inr k) = absurd (not-joined o number fs none fall k)
 
 -- the pair before octets come: joined already, or new
-fe-before : (p : PairLaws) (s : EndSettings) (ils : List EndState) (f : JoinedEnd) (fs : List JoinedEnd) (m : M.World) (now : ℕ) (octets : List ℕ) (x g : EndState) (number : ℕ) (b : Bool)
+fe-before : (p : PairLaws) (s : EndSettings) (ils : List EndState) (f : JoinedEnd) (fs : List JoinedEnd) (m : M.World) (now : ℕ) (octets : List ℕ)
+    (x g : EndState) (number : ℕ) (b : Bool)
     → joins x.machine.connection (arrive_octets octets now x.machine).connection ≡ b → FePair s ils f m now x → Whole Il g → incarnation ils number ≡ Some g
     → L.LawOf (states ils) (record { machine = x.machine; joined = JoinedNow ils f x } ∷ served fs)
     → L.JoinsFall number (served fs)
@@ -265,21 +295,25 @@ fe-before p s ils f fs m now octets x g number true e h whole inc law fall is =
     (joint-new p.one_more g x whole.spoken h.at.whole.spoken g-none x-none)
 
 -- what a part does to the pair
-fe-joint : (p : PairLaws) (s : EndSettings) (ils : List EndState) (f : JoinedEnd) (fs : List JoinedEnd) (m : M.World) (now : ℕ) (octets : List ℕ) (x : EndState) → AllWhole Il ils → FePair s ils f m now x
+fe-joint : (p : PairLaws) (s : EndSettings) (ils : List EndState) (f : JoinedEnd) (fs : List JoinedEnd) (m : M.World) (now : ℕ) (octets : List ℕ) (x : EndState)
+    → AllWhole Il ils → FePair s ils f m now x
     → L.LawOf (states ils) (record { machine = x.machine; joined = JoinedNow ils f x } ∷ served fs)
-    → let y = answered octets x (arrive_octets octets now x.machine) in L.LawOf (states ils) (record { machine = y.machine; joined = JoinedNow ils f y } ∷ served fs)
+    → let y = answered octets x (arrive_octets octets now x.machine) in L.LawOf (states ils)
+    (record { machine = y.machine; joined = JoinedNow ils f y } ∷ served fs)
     → (number : ℕ) → JoinedNow ils f y ≡ Some number → (o : Option EndState) → incarnation ils number ≡ o
     → MatchOption o ⊥ (λ g. Joint (new_pair g.settings s) g.session.history (heard now octets x).session.history)
 fe-joint p s ils f fs m now octets x wholes h before after number is None inc =
     let y = answered octets x (arrive_octets octets now x.machine) in
     let takes : L.TakesBeginnings (states ils) y.machine (Some number) = subst (λ o. L.TakesBeginnings (states ils) y.machine o) is after.beginnings.0 in
-    subst (λ o. MatchOption o ⊥ (λ il. IsBeginning y.machine.taken (units il.made) × IsBeginning il.taken (units y.machine.made))) (inc-none ils number inc) takes
+    subst (λ o. MatchOption o ⊥ (λ il. IsBeginning y.machine.taken (units il.made) × IsBeginning il.taken (units y.machine.made))) (inc-none ils number inc)
+    takes
 fe-joint p s ils f fs m now octets x wholes h before after number is (Some g) inc =
     let t = arrive_octets octets now x.machine in
     let y = answered octets x t in
     let takes : L.TakesBeginnings (states ils) y.machine (Some number) = subst (λ o. L.TakesBeginnings (states ils) y.machine o) is after.beginnings.0 in
     let sent : IsBeginning t.taken (units g.machine.made) =
-    (subst (λ o. MatchOption o ⊥ (λ il. IsBeginning y.machine.taken (units il.made) × IsBeginning il.taken (units y.machine.made))) (inc-some ils number g inc) takes).0
+    (subst (λ o. MatchOption o ⊥ (λ il. IsBeginning y.machine.taken (units il.made) × IsBeginning il.taken (units y.machine.made))) (inc-some ils number g inc)
+    takes).0
     in
     let whole = inc-whole ils number g wholes inc in
     let fall : L.JoinsFall number (served fs) = subst (λ o. L.JoinsFall (L.next_bound (length (states ils) + 1) o) (served fs)) is after.joins_fall.1 in
@@ -304,7 +338,13 @@ fe-pair-keeps p ils f fs di df ci cf now is wholes =
         unjoined = h.unjoined;
         joint = λ number e. fe-quiet p.one_more s ils Closes x.session.history number (λ _ _. tt) (h.joint number e);
       };
-      inputs = λ i x t h. record { at = k.inputs i x t h.at; heeds = record { on = h.heeds.on; judged = h.heeds.judged; taken = h.heeds.taken }; set = h.set; unjoined = h.unjoined; joint = h.joint };
+      inputs = λ i x t h. record {
+        at = k.inputs i x t h.at;
+        heeds = record { on = h.heeds.on; judged = h.heeds.judged; taken = h.heeds.taken };
+        set = h.set;
+        unjoined = h.unjoined;
+        joint = h.joint;
+      };
       hears = λ octets x q h.
           let t = arrive_octets octets now x.machine in
           let y = answered octets x t in
@@ -344,7 +384,14 @@ fe-pair-keeps p ils f fs di df ci cf now is wholes =
         unjoined = h.unjoined;
         joint = λ number e. fe-quiet p.one_more s ils (Completes (length x.session.waiting)) x.session.history number (λ _ _. tt) (h.joint number e);
       };
-      times = λ x h. record { at = k.times x h.at; heeds = record { on = h.heeds.on; judged = h.heeds.judged; taken = h.heeds.taken }; set = h.set; unjoined = h.unjoined; joint = h.joint };
+      times = λ x h. record {
+        at = k.times x h.at;
+        heeds = record { on = h.heeds.on; judged = h.heeds.judged; taken = h.heeds.taken };
+        set = h.set;
+        unjoined =
+            h.unjoined;
+        joint = h.joint;
+      };
     }
 
 -- The events of a world.
@@ -353,7 +400,8 @@ new-heeds Il s first now = record { on = λ _. refl; judged = λ _ _. refl; take
 new-heeds Fe s first now = record { on = λ _. refl; judged = λ _ _. refl; taken = λ _ _. refl }
 
 -- a new incarnation of the interlocking has a number that none is joined to
-pairs-open : (y : EndState) (ils : List EndState) (bound : ℕ) (fes : List JoinedEnd) → bound ≤ length ils + 1 → L.JoinsFall bound (served fes) → AllByRecursion (PairAt ils) fes → AllByRecursion (PairAt (y ∷ ils)) fes
+pairs-open : (y : EndState) (ils : List EndState) (bound : ℕ) (fes : List JoinedEnd) → bound ≤ length ils + 1 → L.JoinsFall bound (served fes)
+    → AllByRecursion (PairAt ils) fes → AllByRecursion (PairAt (y ∷ ils)) fes
 pairs-open y ils bound [] le fall h = tt
 pairs-open y ils bound (f ∷ fs) le fall h = (
   λ number is.
@@ -371,19 +419,23 @@ pub law-now : (p : PairLaws) (ils : List EndState) (fes : List JoinedEnd) (di df
 law-now p ils fes di df h = law-of ils fes di df h.clock_il h.clock_fe (law-at p.units (machines ils fes di df h.clock_il h.clock_fe) h.reached)
 
 -- the pairs of the present interlocking, and all pairs from these
-present-joints : (x : EndState) (before : List EndState) (fes : List JoinedEnd) → AllByRecursion (PairAt (x ∷ before)) fes → AllByRecursion (JointIl x.settings (length before + 1) x) fes
+present-joints : (x : EndState) (before : List EndState) (fes : List JoinedEnd) → AllByRecursion (PairAt (x ∷ before)) fes
+    → AllByRecursion (JointIl x.settings (length before + 1) x) fes
 present-joints x before [] h = tt
 present-joints x before (f ∷ fs) h = (
-  λ is. subst (λ b. MatchOption (cond b (Some x) (incarnation before (length before + 1))) ⊥ (λ g. JointEnds f.end.settings g f.end)) (eqb-same (length before + 1)) (h.0 (length before + 1) is),
+  λ is. subst (λ b. MatchOption (cond b (Some x) (incarnation before (length before + 1))) ⊥ (λ g. JointEnds f.end.settings g f.end))
+      (eqb-same (length before + 1)) (h.0 (length before + 1) is),
   present-joints x before fs h.1,
 )
 
-with-present : (x y : EndState) (before : List EndState) (fes : List JoinedEnd) → y.settings ≡ x.settings → AllByRecursion (JointIl x.settings (length before + 1) y) fes → AllByRecursion (PairAt (x ∷ before)) fes
+with-present : (x y : EndState) (before : List EndState) (fes : List JoinedEnd) → y.settings ≡ x.settings
+    → AllByRecursion (JointIl x.settings (length before + 1) y) fes → AllByRecursion (PairAt (x ∷ before)) fes
     → AllByRecursion (PairAt (y ∷ before)) fes
 with-present x y before [] set j h = tt
 with-present x y before (f ∷ fs) set j h = (
   λ number is.
-      by_test (λ b. (number == length before + 1) ≡ b → MatchOption (cond b (Some x) (incarnation before number)) ⊥ (λ g. JointEnds f.end.settings g f.end) → MatchOption (cond b (Some y) (incarnation before number)) ⊥ (λ g. JointEnds f.end.settings g f.end))
+      by_test (λ b. (number == length before + 1) ≡ b → MatchOption (cond b (Some x) (incarnation before number)) ⊥ (λ g. JointEnds f.end.settings g f.end)
+      → MatchOption (cond b (Some y) (incarnation before number)) ⊥ (λ g. JointEnds f.end.settings g f.end))
       (number == length before + 1)
       (λ at _ _.
       let n : number ≡ length before + 1 = eqb-true number (length before + 1) at in
@@ -408,7 +460,8 @@ paired-il p c x before fes di df typed timely g h w =
     }
     in
     let end-at : IlPair x.settings (length before + 1) fes m now (call c x) =
-    call-keeps c (Comes peer df) (IlPair x.settings (length before + 1) fes m now) x (il-pair-keeps p x before fes di df h.clock_il h.clock_fe now is h.fe_whole) typed
+    call-keeps c (Comes peer df) (IlPair x.settings (length before + 1) fes m now) x
+    (il-pair-keeps p x before fes di df h.clock_il h.clock_fe now is h.fe_whole) typed
     (at-call p.laws df peer Il c x typed h.il_whole.0 g) start-at
     in
     record {
@@ -451,7 +504,11 @@ paired-fe p c ils f fs di df typed timely g h w =
       il_heeds = w.il_heeds;
       fe_heeds = (end-at.heeds, w.fe_heeds.1);
       unjoined = end-at.unjoined;
-      pairs = (λ number e. subst (λ (t : EndSettings). MatchOption (incarnation ils number) ⊥ (λ g. Joint (new_pair g.settings t) g.session.history (call c f.end).session.history)) (sym end-at.set) (end-at.joint number e), w.pairs.1);
+      pairs = (
+        λ number e. subst (λ (t : EndSettings). MatchOption (incarnation ils number) ⊥
+            (λ g. Joint (new_pair g.settings t) g.session.history (call c f.end).session.history)) (sym end-at.set) (end-at.joint number e),
+        w.pairs.1,
+      );
     }
 
 paired-calls-il : (p : PairLaws) (c : Call) (ils : List EndState) (fes : List JoinedEnd) (di df : ℕ) → IsTypedCall c → call_refusal c (latest ils) ≡ None
@@ -459,12 +516,14 @@ paired-calls-il : (p : PairLaws) (c : Call) (ils : List EndState) (fes : List Jo
 paired-calls-il p c [] fes di df typed ok g h w = cc
 paired-calls-il p c (x ∷ before) fes di df typed ok g h w = paired-il p c x before fes di df typed (call-timely c x ok) g.1 h w
 
-paired-calls-fe : (p : PairLaws) (c : Call) (ils : List EndState) (fes : List JoinedEnd) (di df : ℕ) → IsTypedCall c → call_refusal c (latest (ends_of fes)) ≡ None
+paired-calls-fe : (p : PairLaws) (c : Call) (ils : List EndState) (fes : List JoinedEnd) (di df : ℕ) → IsTypedCall c → call_refusal c (latest (ends_of fes))
+    ≡ None
     → AtOpened (GenuineCall (latest ils) di c) (latest (ends_of fes)) → Mapped ils fes di df → Paired ils fes → Paired ils (call_fe c ils fes)
 paired-calls-fe p c ils [] di df typed ok g h w = cc
 paired-calls-fe p c ils (f ∷ fs) di df typed ok g h w = paired-fe p c ils f fs di df typed (call-timely c f.end ok) g.1 h w
 
-paired-changed : (p : PairLaws) (e : Event) (w : World) → IsTyped e → refusal e w ≡ None → GenuineEvent e w → MappedWorld w → PairedWorld w → PairedWorld (changed e w)
+paired-changed : (p : PairLaws) (e : Event) (w : World) → IsTyped e → refusal e w ≡ None → GenuineEvent e w → MappedWorld w → PairedWorld w
+    → PairedWorld (changed e w)
 paired-changed p (Open Il s first now) w t ok g h k =
     let law = law-now p w.ils w.fes w.dead_il w.dead_fe h in
     let le : length (states w.ils) + 1 ≤ length w.ils + 1 = let e = states-length w.ils in omega (arith, e) in
@@ -484,7 +543,8 @@ paired-changed p (Open Fe s first now) w t ok g h k =
 paired-changed p (Calls Il c) w t ok g h k = paired-calls-il p c w.ils w.fes w.dead_il w.dead_fe (typed-call Il c t) ok g h k
 paired-changed p (Calls Fe c) w t ok g h k = paired-calls-fe p c w.ils w.fes w.dead_il w.dead_fe (typed-call Fe c t) ok g h k
 
-pub paired-event : (p : PairLaws) (e : Event) (w : World) → IsTyped e → (refusal e w ≡ None → GenuineEvent e w) → MappedWorld w → PairedWorld w → PairedWorld (happens w e)
+pub paired-event : (p : PairLaws) (e : Event) (w : World) → IsTyped e → (refusal e w ≡ None → GenuineEvent e w) → MappedWorld w → PairedWorld w
+    → PairedWorld (happens w e)
 paired-event p e w t g h k = unless PairedWorld (refusal e w) w (changed e w) k (λ ok. paired-changed p e w t ok (g ok) h k)
 
 pub paired-run : (p : PairLaws) (es : List Event) (w : World) → AreTyped es → Genuine es w → MappedWorld w → PairedWorld w → PairedWorld (run es w)

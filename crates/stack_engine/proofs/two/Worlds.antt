@@ -1,36 +1,19 @@
 -- The machines of a genuine world are those that a genuine list of machine events leads to, and every end is whole.
-use Rattle.std.proofs.Common.{◌≡◌, ◌≤◌, ℕ, suc, List, [], ◌∷◌, ◌++◌, length, Option, Some, None, Bool, true, false, cond, refl, ap, subst, ◌∙◌, arith}
-use Rattle.std.specs.Prelude.{◌^◌, ◌||◌, nat_lt, nat_le}
-use Rattle.std.specs.List.{AllByRecursion}
-use Rattle.std.proofs.lemmas.Bool.Decides.{nat_tests}
-use Rattle.std.proofs.lemmas.List.{length-append}
-use Rattle.octets.proofs.Choices.{by_test}
-use Rattle.octets.specs.declared.limits.TheConstants.{NAME_LENGTH}
-use Rattle.safe_machine.specs.declared.ConnectionState.TheVariants.{Down}
-use Rattle.safe_machine.specs.Settings.{is_legal}
-use Rattle.safe_machine.specs.State.{State}
-use Rattle.safe_machine.specs.Moves.{TextsLaw}
-use Rattle.safe_machine.specs.World.{Side}
-use Rattle.safe_machine.specs.World.Side.{Il, Fe}
-use Rattle.safe_machine.specs.World as M
-use Rattle.safe_machine.specs.World.Event.{Open as OpenMachine}
-use Rattle.sci_telegram.specs.Names.{IsName}
-use Rattle.pdi_session.specs.declared.TheConstants.{CHECKSUM_MAX}
-use Rattle.pdi_session.specs.Settings.{AreSettings, checksum_of}
-use Rattle.end_settings.specs.EndSettings.{EndSettings, session_of, are_fit, in_limits, is_addressing, is_name}
-use Rattle.stack_end.specs.Ends.{EndState, new_end, Call, time_of, call}
-use Rattle.stack_end.specs.Ends.Call.{Close, Put, InitDone, Tick, Deliver}
-use Rattle.stack_engine.specs.Pairs.{World, JoinedEnd, Event, Refusal, start, ends_of, latest, made_of, last_time, is_untimely, session_refusal, call_refusal, open_refusal, refusal, joined_by, with_joined, call_il, call_fe, changed, unless_refused, happens, run}
-use Rattle.stack_engine.specs.Pairs.Event.{Open, Calls}
-use Rattle.stack_engine.specs.Pairs.Refusal.{BadConfig, Clock}
-use Rattle.stack_engine.specs.Premise.{IsGenuine, AtCall, AtOpened, GenuineCall, GenuineEvent, Genuine, IsTyped, AreTyped}
+use Rattle.stack_engine.proofs.Words.{◌≡◌, ◌≤◌, ℕ, suc, List, [], ◌∷◌, ◌++◌, length, Option, Some, None, Bool, true, false, cond, refl, ap, subst, ◌∙◌, arith}
+use Rattle.stack_engine.proofs.Words.{◌||◌, nat_lt, nat_le, AllByRecursion, nat_tests, length-append, by_test, NAME_LENGTH, Down, is_legal, State, TextsLaw}
+use Rattle.stack_engine.proofs.Words.{Side, Il, Fe, OpenMachine, IsName, CHECKSUM_MAX, AreSettings, checksum_of, EndSettings, session_of, are_fit, in_limits}
+use Rattle.stack_engine.proofs.Words.{is_addressing, is_name, EndState, new_end, Call, time_of, call, Close, Put, InitDone, Tick, Deliver, World, JoinedEnd}
+use Rattle.stack_engine.proofs.Words.{Event, Refusal, start, ends_of, latest, made_of, last_time, is_untimely, session_refusal, call_refusal, open_refusal}
+use Rattle.stack_engine.proofs.Words.{refusal, joined_by, with_joined, call_il, call_fe, changed, unless_refused, happens, run, Open, Calls, BadConfig, Clock}
+use Rattle.stack_engine.proofs.Words.{IsGenuine, AtCall, AtOpened, GenuineCall, GenuineEvent, Genuine, IsTyped, AreTyped, EventsLaw}
+use Rattle.std.specs.Prelude.{◌^◌}
 use Rattle.stack_engine.proofs.one.Keeping.{IsTypedCall, call-keeps}
-use Rattle.safe_machine.specs.InOrder.{OneMoreLaw as EventsLaw}
 use Rattle.stack_engine.proofs.two.Reached.{Reached, reached, fe_at}
 use Rattle.stack_engine.proofs.two.Hearing.{TextsOf}
 use Rattle.stack_engine.proofs.one.Sending.{and-parts, legal-of}
 use Rattle.stack_engine.proofs.one.Machined.{Whole, OctetsUp, machined-texts}
 use Rattle.stack_engine.proofs.two.Mapping.{Laws, Comes, PeerIs, IlAt, FeAt, il-keeps, fe-keeps, octets-call, both-call}
+use Rattle.safe_machine.specs.World as M
 
 -- the machines of ends
 abbrev pub states : List EndState → List State
@@ -116,7 +99,8 @@ pub record Opens (side : Side) (s : EndSettings) (now : ℕ) (x : Option EndStat
 
 pub opens : (side : Side) (s : EndSettings) (now : ℕ) (x : Option EndState) → open_refusal side s now x ≡ None → Opens side s now x
 opens side s now x h =
-    by_test (λ b. are_fit side s ≡ b → cond b (cond (is_untimely (last_time x) now) (Some Clock) None) (Some BadConfig) ≡ None → Opens side s now x) (are_fit side s)
+    by_test (λ b. are_fit side s ≡ b → cond b (cond (is_untimely (last_time x) now) (Some Clock) None) (Some BadConfig) ≡ None → Opens side s now x)
+    (are_fit side s)
     (λ fit _ k. record {
       fit = fit;
       timely =
@@ -176,7 +160,10 @@ new-whole Fe s first now fit =
     }
 
 -- the opening in the world of machines
-opened-il : (s : EndSettings) (first now : ℕ) (ils : List EndState) (fes : List JoinedEnd) (di df ci cf : ℕ) → M.happens (machines ils fes di df ci cf) (OpenMachine Il s.connection first now) ≡ M.clocked (OpenMachine Il s.connection first now) (machines ils fes di df ci cf) (cond (is_legal s.connection) (M.open_il s.connection first now (machines ils fes di df ci cf)) (machines ils fes di df ci cf))
+opened-il : (s : EndSettings) (first now : ℕ) (ils : List EndState) (fes : List JoinedEnd) (di df ci cf : ℕ)
+    → M.happens (machines ils fes di df ci cf) (OpenMachine Il s.connection first now) ≡ M.clocked (OpenMachine Il s.connection first now)
+    (machines ils fes di df ci cf)
+    (cond (is_legal s.connection) (M.open_il s.connection first now (machines ils fes di df ci cf)) (machines ils fes di df ci cf))
 opened-il s first now ils fes di df ci cf = refl
 
 open-il : (s : EndSettings) (first now : ℕ) (ils : List EndState) (fes : List JoinedEnd) (di df ci cf : ℕ) → is_legal s.connection ≡ true
@@ -195,7 +182,8 @@ open-fe s first now [] (f ∷ fs) di df ci cf legal = rw legal refl
 open-fe s first now (x ∷ xs) [] di df ci cf legal = rw legal refl
 open-fe s first now (x ∷ xs) (f ∷ fs) di df ci cf legal = rw legal refl
 
-mapped-open-il : EventsLaw → (s : EndSettings) (first now : ℕ) (ils : List EndState) (fes : List JoinedEnd) (di df : ℕ) → Opens Il s now (latest ils) → Mapped ils fes di df
+mapped-open-il : EventsLaw → (s : EndSettings) (first now : ℕ) (ils : List EndState) (fes : List JoinedEnd) (di df : ℕ) → Opens Il s now (latest ils)
+    → Mapped ils fes di df
     → Mapped (new_end Il s first now ∷ ils) fes 0 (length (made_of (latest (ends_of fes))))
 mapped-open-il law s first now ils fes di df o h =
     let w = machines ils fes di df h.clock_il h.clock_fe in
@@ -203,7 +191,8 @@ mapped-open-il law s first now ils fes di df o h =
     record {
       clock_il = now;
       clock_fe = h.clock_fe;
-      reached = subst Reached (open-il s first now ils fes di df h.clock_il h.clock_fe (legal-of Il s o.fit)) (reached law w (OpenMachine Il s.connection first now) tt t h.reached);
+      reached = subst Reached (open-il s first now ils fes di df h.clock_il h.clock_fe (legal-of Il s o.fit))
+          (reached law w (OpenMachine Il s.connection first now) tt t h.reached);
       il_within = omega arith;
       fe_within = h.fe_within;
       idle = h.idle;
@@ -211,7 +200,8 @@ mapped-open-il law s first now ils fes di df o h =
       fe_whole = h.fe_whole;
     }
 
-mapped-open-fe : EventsLaw → (s : EndSettings) (first now : ℕ) (ils : List EndState) (fes : List JoinedEnd) (di df : ℕ) → Opens Fe s now (latest (ends_of fes)) → Mapped ils fes di df
+mapped-open-fe : EventsLaw → (s : EndSettings) (first now : ℕ) (ils : List EndState) (fes : List JoinedEnd) (di df : ℕ) → Opens Fe s now (latest (ends_of fes))
+    → Mapped ils fes di df
     → Mapped ils (record { end = new_end Fe s first now; joined = None } ∷ fes) (length (made_of (latest ils))) 0
 mapped-open-fe law s first now ils fes di df o h =
     let w = machines ils fes di df h.clock_il h.clock_fe in
@@ -219,7 +209,8 @@ mapped-open-fe law s first now ils fes di df o h =
     record {
       clock_il = h.clock_il;
       clock_fe = now;
-      reached = subst Reached (open-fe s first now ils fes di df h.clock_il h.clock_fe (legal-of Fe s o.fit)) (reached law w (OpenMachine Fe s.connection first now) tt t h.reached);
+      reached = subst Reached (open-fe s first now ils fes di df h.clock_il h.clock_fe (legal-of Fe s o.fit))
+          (reached law w (OpenMachine Fe s.connection first now) tt t h.reached);
       il_within = h.il_within;
       fe_within = omega arith;
       idle = λ _. refl;
@@ -249,18 +240,27 @@ before-length [] = refl
 before-length (x ∷ xs) = length-append (states xs) (M.unopened ∷ []) ∙ let e = states-length xs in omega (arith, e)
 
 -- the interlocking at the head, and the field element
-pub at-call : (laws : Laws) (dead : ℕ) (peer : Option EndState) (side : Side) (c : Call) (x : EndState) → IsTypedCall c → Whole side x → AtCall (IsGenuine peer dead) c x → AtCall (Comes peer dead) c x
+pub at-call : (laws : Laws) (dead : ℕ) (peer : Option EndState) (side : Side) (c : Call) (x : EndState) → IsTypedCall c → Whole side x
+    → AtCall (IsGenuine peer dead) c x → AtCall (Comes peer dead) c x
 at-call laws dead peer side c x t whole g = both-call OctetsUp (IsGenuine peer dead) c x (octets-call laws.redundancy c x t whole.machined.waits) g
 
-mapped-il : (laws : Laws) → TextsLaw → (c : Call) (x : EndState) (before : List EndState) (fes : List JoinedEnd) (di df : ℕ) → IsTypedCall c → x.time ≤ time_of c
+mapped-il : (laws : Laws) → TextsLaw → (c : Call) (x : EndState) (before : List EndState) (fes : List JoinedEnd) (di df : ℕ) → IsTypedCall c
+    → x.time ≤ time_of c
     → AtCall (IsGenuine (latest (ends_of fes)) df) c x → Mapped (x ∷ before) fes di df → Mapped (call c x ∷ before) fes di df
 mapped-il laws texts c x before fes di df typed timely g h =
     let now = time_of c in
     let m = machines (x ∷ before) fes di df h.clock_il h.clock_fe in
     let peer = latest (ends_of fes) in
     let is : PeerIs peer df m.fe m.dead_fe = record { made = made-fe fes; same_dead = refl; texts = texts-latest texts Fe (ends_of fes) h.fe_whole } in
-    let start-at : IlAt m now x = record { whole = h.il_whole.0; clock = h.clock_il; within = (let a = h.il_within in omega (arith, a, timely)); reached = h.reached } in
-    let end-at : IlAt m now (call c x) = call-keeps c (Comes peer df) (IlAt m now) x (il-keeps laws m peer df now is) typed (at-call laws df peer Il c x typed h.il_whole.0 g) start-at in
+    let start-at : IlAt m now x = record {
+      whole = h.il_whole.0;
+      clock = h.clock_il;
+      within = (let a = h.il_within in omega (arith, a, timely));
+      reached =
+          h.reached;
+    } in
+    let end-at : IlAt m now (call c x) = call-keeps c (Comes peer df) (IlAt m now) x (il-keeps laws m peer df now is) typed
+    (at-call laws df peer Il c x typed h.il_whole.0 g) start-at in
     record {
       clock_il = end-at.clock;
       clock_fe = h.clock_fe;
@@ -276,7 +276,8 @@ pub joined-same : (ils : List EndState) (old : Option ℕ) (q : Option (List ℕ
 joined-same ils old None = refl
 joined-same ils old (Some octets) = refl
 
-mapped-fe : (laws : Laws) → TextsLaw → (c : Call) (ils : List EndState) (f : JoinedEnd) (before : List JoinedEnd) (di df : ℕ) → IsTypedCall c → f.end.time ≤ time_of c
+mapped-fe : (laws : Laws) → TextsLaw → (c : Call) (ils : List EndState) (f : JoinedEnd) (before : List JoinedEnd) (di df : ℕ) → IsTypedCall c
+    → f.end.time ≤ time_of c
     → AtCall (IsGenuine (latest ils) di) c f.end → Mapped ils (f ∷ before) di df → Mapped ils (with_joined ils f (call c f.end) ∷ before) di df
 mapped-fe laws texts c ils f before di df typed timely g h =
     let now = time_of c in
@@ -293,7 +294,8 @@ mapped-fe laws texts c ils f before di df typed timely g h =
     }
     in
     let end-at : FeAt ils f m now (call c f.end) =
-    call-keeps c (Comes (latest ils) di) (FeAt ils f m now) f.end (fe-keeps laws ils f m di now (before-length ils) is) typed (at-call laws di (latest ils) Fe c f.end typed h.fe_whole.0 g) start-at
+    call-keeps c (Comes (latest ils) di) (FeAt ils f m now) f.end (fe-keeps laws ils f m di now (before-length ils) is) typed
+    (at-call laws di (latest ils) Fe c f.end typed h.fe_whole.0 g) start-at
     in
     record {
       clock_il = h.clock_il;
@@ -318,14 +320,18 @@ calls-il : (laws : Laws) → TextsLaw → (c : Call) (ils : List EndState) (fes 
 calls-il laws texts c [] fes di df typed ok g h = cc
 calls-il laws texts c (x ∷ before) fes di df typed ok g h = mapped-il laws texts c x before fes di df typed (call-timely c x ok) g.1 h
 
-calls-fe : (laws : Laws) → TextsLaw → (c : Call) (ils : List EndState) (fes : List JoinedEnd) (di df : ℕ) → IsTypedCall c → call_refusal c (latest (ends_of fes)) ≡ None
+calls-fe : (laws : Laws) → TextsLaw → (c : Call) (ils : List EndState) (fes : List JoinedEnd) (di df : ℕ) → IsTypedCall c
+    → call_refusal c (latest (ends_of fes)) ≡ None
     → AtOpened (GenuineCall (latest ils) di c) (latest (ends_of fes)) → Mapped ils fes di df → Mapped ils (call_fe c ils fes) di df
 calls-fe laws texts c ils [] di df typed ok g h = cc
 calls-fe laws texts c ils (f ∷ before) di df typed ok g h = mapped-fe laws texts c ils f before di df typed (call-timely c f.end ok) g.1 h
 
-mapped-changed : (laws : Laws) → TextsLaw → (e : Event) (w : World) → IsTyped e → refusal e w ≡ None → GenuineEvent e w → MappedWorld w → MappedWorld (changed e w)
-mapped-changed laws texts (Open Il s first now) w t ok g h = mapped-open-il laws.below.events s first now w.ils w.fes w.dead_il w.dead_fe (opens Il s now (latest w.ils) ok) h
-mapped-changed laws texts (Open Fe s first now) w t ok g h = mapped-open-fe laws.below.events s first now w.ils w.fes w.dead_il w.dead_fe (opens Fe s now (latest (ends_of w.fes)) ok) h
+mapped-changed : (laws : Laws) → TextsLaw → (e : Event) (w : World) → IsTyped e → refusal e w ≡ None → GenuineEvent e w → MappedWorld w
+    → MappedWorld (changed e w)
+mapped-changed laws texts (Open Il s first now) w t ok g h = mapped-open-il laws.below.events s first now w.ils w.fes w.dead_il w.dead_fe
+    (opens Il s now (latest w.ils) ok) h
+mapped-changed laws texts (Open Fe s first now) w t ok g h = mapped-open-fe laws.below.events s first now w.ils w.fes w.dead_il w.dead_fe
+    (opens Fe s now (latest (ends_of w.fes)) ok) h
 mapped-changed laws texts (Calls Il c) w t ok g h = calls-il laws texts c w.ils w.fes w.dead_il w.dead_fe (typed-call Il c t) ok g h
 mapped-changed laws texts (Calls Fe c) w t ok g h = calls-fe laws texts c w.ils w.fes w.dead_il w.dead_fe (typed-call Fe c t) ok g h
 
@@ -333,7 +339,8 @@ pub unless : (P : World → Type 0) (r : Option Refusal) (old new : World) → P
 unless P None old new h k = k refl
 unless P (Some why) old new h k = h
 
-pub mapped-event : (laws : Laws) → TextsLaw → (e : Event) (w : World) → IsTyped e → (refusal e w ≡ None → GenuineEvent e w) → MappedWorld w → MappedWorld (happens w e)
+pub mapped-event : (laws : Laws) → TextsLaw → (e : Event) (w : World) → IsTyped e → (refusal e w ≡ None → GenuineEvent e w) → MappedWorld w
+    → MappedWorld (happens w e)
 mapped-event laws texts e w t g h = unless MappedWorld (refusal e w) w (changed e w) h (λ ok. mapped-changed laws texts e w t ok (g ok) h)
 
 pub mapped-run : (laws : Laws) → TextsLaw → (es : List Event) (w : World) → AreTyped es → Genuine es w → MappedWorld w → MappedWorld (run es w)

@@ -10,16 +10,20 @@ pub returns-then-has_made : goal.returns-then-has_made
 returns-then-has_made g c = λ xs h.
     let n : ℕ = c.loop-number.number - 1 in
     let is : suc n ≡ c.loop-number.number = omega (arith, c.loop-number-test.true) in
-    sym (found c.args.octets.now c.args.incarnations.now n c.index-incarnations-number.result (omega (arith, is, c.loop-number.invariant.0)) c.index-incarnations-number.is
-    (λ x k. sym (c.has_made.ensures x k) ∙ c.if-has_made.true) (subst (IsLeft c.args.octets.now c.args.incarnations.now) (sym is) c.loop-number.invariant.1) xs h ∙ ap Some is)
+    sym (found c.args.octets.now c.args.incarnations.now n c.index-incarnations-number.result (omega (arith, is, c.loop-number.invariant.0))
+    c.index-incarnations-number.is
+    (λ x k. sym (c.has_made.ensures x k) ∙ c.if-has_made.true) (subst (IsLeft c.args.octets.now c.args.incarnations.now) (sym is) c.loop-number.invariant.1) xs
+    h ∙ ap Some is)
 
 pub loop-number-preserved : goal.loop-number-preserved
 loop-number-preserved g c =
     let n : ℕ = c.loop-number.number - 1 in
     let is : suc n ≡ c.loop-number.number = omega (arith, c.loop-number-test.true) in (
       omega (arith, c.loop-number.invariant.0),
-      go-back c.args.octets.now c.args.incarnations.now n c.index-incarnations-number.result (omega (arith, is, c.loop-number.invariant.0)) c.index-incarnations-number.is
-          (λ x k. sym (c.has_made.ensures x k) ∙ c.if-has_made.false) (subst (IsLeft c.args.octets.now c.args.incarnations.now) (sym is) c.loop-number.invariant.1),
+      go-back c.args.octets.now c.args.incarnations.now n c.index-incarnations-number.result (omega (arith, is, c.loop-number.invariant.0))
+          c.index-incarnations-number.is
+          (λ x k. sym (c.has_made.ensures x k) ∙ c.if-has_made.false)
+          (subst (IsLeft c.args.octets.now c.args.incarnations.now) (sym is) c.loop-number.invariant.1),
     )
 
 pub returns : goal.returns

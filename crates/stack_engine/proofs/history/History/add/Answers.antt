@@ -20,7 +20,8 @@ returns-in-Open g c =
       added =
           ap (λ (cs : List EndConfig). events_in cs c.add.new.self.texts) c.push_reserved.ensures.items
           ∙ (ap (λ (ts : List (Entry × List ℕ)). events_in (configs ++ c.in-Open.config ∷ []) ts) c.add.ensures.added
-          ∙ (opening-added configs c.in-Open.config entries _ [] c.in-Open.first_sn c.self.invariant (ap (λ n. deed.Open n c.in-Open.first_sn) (c.len.ensures ∙ size))
+          ∙ (opening-added configs c.in-Open.config entries _ [] c.in-Open.first_sn c.self.invariant
+          (ap (λ n. deed.Open n c.in-Open.first_sn) (c.len.ensures ∙ size))
           ∙ (ap (λ (d : Doing). events_in configs entries ++ doing_of (side_of e.side) e.time d ∷ []) (sym c.in-Open.is)
           ∙ ap (λ (h : Events). h.events ++ event_of e ∷ []) c.self.view_is)));
     }

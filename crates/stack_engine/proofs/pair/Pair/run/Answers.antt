@@ -8,7 +8,8 @@ use Rattle.stack_engine.proofs.pair.Pair.run.Goals.{in-Ok, in-Err+else-is_memory
 pub returns-then-is_memory-clause-memory : goal.returns-then-is_memory-clause-memory
 returns-then-is_memory-clause-memory g c =
     ran-before c.args.self.now c.loop-event.self c.happen.new.self c.args.events.now c.loop-event.event-index c.event-item.result c.in-Err.fault
-    c.loop-event-test.true c.event-item.is c.loop-event.invariant.ran (sym c.is_memory.ensures ∙ c.if-is_memory.true) c.in-Err.ensures.refusal c.in-Err.ensures.err
+    c.loop-event-test.true c.event-item.is c.loop-event.invariant.ran (sym c.is_memory.ensures ∙ c.if-is_memory.true) c.in-Err.ensures.refusal
+    c.in-Err.ensures.err
 
 pub loop-event-preserved : goal.loop-event-preserved
 loop-event-preserved g c =

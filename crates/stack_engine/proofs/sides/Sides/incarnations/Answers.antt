@@ -4,7 +4,9 @@ use Rattle.stack_engine.proofs.code.Reporting.{count-by, il-report, fe-report}
 use Rattle.stack_engine.proofs.sides.Sides.incarnations.Goals as goal
 
 pub returns-in-Interlocking : goal.returns-in-Interlocking
-returns-in-Interlocking g c = λ w h. rw c.in-Interlocking.is (c.len.ensures ∙ count-by (entry_of None) c.args.self.now.il _ (il-report c.args.self.now.il w.ils h.il))
+returns-in-Interlocking g c = λ w h. rw c.in-Interlocking.is
+    (c.len.ensures ∙ count-by (entry_of None) c.args.self.now.il _ (il-report c.args.self.now.il w.ils h.il))
 
 pub returns-in-FieldElement : goal.returns-in-FieldElement
-returns-in-FieldElement g c = λ w h. rw c.in-FieldElement.is (c.len-in-FieldElement.ensures ∙ count-by joined_entry c.args.self.now.fe _ (fe-report c.args.self.now.fe w.fes h.fe h.joins))
+returns-in-FieldElement g c = λ w h. rw c.in-FieldElement.is
+    (c.len-in-FieldElement.ensures ∙ count-by joined_entry c.args.self.now.fe _ (fe-report c.args.self.now.fe w.fes h.fe h.joins))
