@@ -1,19 +1,9 @@
 -- A list in order, with all arrived, after which both ends are closed: a closing is allowed in order.
-use Rattle.std.proofs.Common.{◌≡◌, inl, inr, ℕ, List, [], ◌∷◌, true, refl, arith}
-use Rattle.safe_pdu.specs.declared.CodeLength.TheVariants.{Eight}
-use Rattle.safe_pdu.specs.declared.Kind.TheVariants.{ConnReq, ConnResp, Heartbeat, Data, DiscReq}
-use Rattle.safe_pdu.specs.Pdu.{Pdu}
+use Rattle.safe_machine.proofs.Words.{◌≡◌, inl, inr, ℕ, List, [], ◌∷◌, true, refl, arith, Eight, ConnReq, ConnResp, Heartbeat, Data, DiscReq, Pdu, opening_body}
+use Rattle.safe_machine.proofs.Words.{leaving_body, Settings, Event, start, run, Genuine, Timely, Il, Fe, Open, Close, Arrive, InOrder, all_heard_by_il}
+use Rattle.safe_machine.proofs.Words.{all_heard_by_fe, Closed, ClosedByUser, Unspecified}
 use Rattle.safe_machine.specs.Numbers.{sn_of, ahead}
-use Rattle.safe_machine.specs.Made.{opening_body, leaving_body}
-use Rattle.safe_machine.specs.Settings.{Settings}
-use Rattle.safe_machine.specs.World.{Event, start, run, Genuine, Timely}
-use Rattle.safe_machine.specs.World.Side.{Il, Fe}
-use Rattle.safe_machine.specs.World.Event.{Open, Close, Arrive}
-use Rattle.safe_machine.specs.InOrder.{InOrder, all_heard_by_il, all_heard_by_fe}
 use Rattle.std.specs.Prelude.{length}
-use Rattle.safe_machine.specs.declared.ConnectionState.TheVariants.{Closed}
-use Rattle.safe_machine.specs.declared.Reason.TheVariants.{ClosedByUser}
-use Rattle.safe_machine.specs.declared.Detail.TheVariants.{Unspecified}
 
 -- the two ends bear 1 and 2, and their first numbers are 10 and 500
 abbrev row_settings : (own peer n_sendmax : ℕ) → Settings

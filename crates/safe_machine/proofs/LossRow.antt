@@ -1,19 +1,8 @@
 -- A genuine list of events in which units are taken on both sides, through a loss, a retransmission and a reopening of both ends.
-use Rattle.std.proofs.Common.{inl, inr, Some, ◌≡◌, ℕ, List, [], ◌∷◌, true, refl, arith}
-use Rattle.safe_pdu.specs.declared.CodeLength.TheVariants.{Eight}
-use Rattle.safe_pdu.specs.declared.Kind.{Kind}
-use Rattle.safe_pdu.specs.declared.Kind.TheVariants.{ConnReq, ConnResp, RetrReq, RetrResp, Heartbeat, Data, RetrData}
-use Rattle.safe_pdu.specs.Pdu.{Pdu}
-use Rattle.safe_machine.specs.declared.ConnectionState.TheVariants.{Up}
-use Rattle.safe_machine.specs.declared.Reason.TheVariants.{ClosedByUser}
-use Rattle.safe_machine.specs.declared.Detail.TheVariants.{Unspecified}
+use Rattle.safe_machine.proofs.Words.{inl, inr, Some, ◌≡◌, ℕ, List, [], ◌∷◌, true, refl, arith, Eight, Kind, ConnReq, ConnResp, RetrReq, RetrResp, Heartbeat}
+use Rattle.safe_machine.proofs.Words.{Data, RetrData, Pdu, Up, ClosedByUser, Unspecified, opening_body, Settings, State, Il, Fe, Served, Event, start, run}
+use Rattle.safe_machine.proofs.Words.{Genuine, Timely, Open, Send, Close, Arrive}
 use Rattle.safe_machine.specs.Numbers.{sn_of, ahead}
-use Rattle.safe_machine.specs.Made.{opening_body}
-use Rattle.safe_machine.specs.Settings.{Settings}
-use Rattle.safe_machine.specs.State.{State}
-use Rattle.safe_machine.specs.World.Side.{Il, Fe}
-use Rattle.safe_machine.specs.World.{Served, Event, start, run, Genuine, Timely}
-use Rattle.safe_machine.specs.World.Event.{Open, Send, Close, Arrive}
 
 set_of : (own peer : ℕ) → Settings
 set_of own peer = record { client = true; own = own; peer = peer; n_sendmax = 20; t_max = 1800; t_h = 300; mwa = 10; pdu_limit = 4294901760; rule = record { length = Eight; initial_value = [] } }

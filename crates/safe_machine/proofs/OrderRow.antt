@@ -1,15 +1,7 @@
 -- A worked list of events that come in order: the connection is opened, and one unit is sent and taken.
-use Rattle.std.proofs.Common.{◌≡◌, inl, inr, ℕ, List, [], ◌∷◌, true, refl, arith}
-use Rattle.safe_pdu.specs.declared.CodeLength.TheVariants.{Eight}
-use Rattle.safe_pdu.specs.declared.Kind.TheVariants.{ConnReq, ConnResp, Heartbeat, Data}
-use Rattle.safe_pdu.specs.Pdu.{Pdu}
+use Rattle.safe_machine.proofs.Words.{◌≡◌, inl, inr, ℕ, List, [], ◌∷◌, true, refl, arith, Eight, ConnReq, ConnResp, Heartbeat, Data, Pdu, opening_body}
+use Rattle.safe_machine.proofs.Words.{Settings, Event, start, run, Genuine, Timely, Il, Fe, Open, Send, Arrive, InOrder}
 use Rattle.safe_machine.specs.Numbers.{sn_of, ahead}
-use Rattle.safe_machine.specs.Made.{opening_body}
-use Rattle.safe_machine.specs.Settings.{Settings}
-use Rattle.safe_machine.specs.World.{Event, start, run, Genuine, Timely}
-use Rattle.safe_machine.specs.World.Side.{Il, Fe}
-use Rattle.safe_machine.specs.World.Event.{Open, Send, Arrive}
-use Rattle.safe_machine.specs.InOrder.{InOrder}
 
 -- the two ends bear 1 and 2, and their first numbers are 10 and 500
 abbrev row_settings : (own peer n_sendmax : ℕ) → Settings

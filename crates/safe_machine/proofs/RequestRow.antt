@@ -1,19 +1,8 @@
 -- A genuine list of events at whose end a request for retransmission comes with the number that an end in RetrReq expects.
-use Rattle.std.proofs.Common.{inl, inr, ◌≡◌, ℕ, List, [], ◌∷◌, drop, true, refl, arith}
-use Rattle.safe_pdu.specs.declared.CodeLength.TheVariants.{Eight}
-use Rattle.safe_pdu.specs.declared.Kind.TheVariants.{ConnReq, ConnResp, RetrReq, RetrResp, Heartbeat, Data, RetrData}
-use Rattle.safe_pdu.specs.Pdu.{Pdu}
-use Rattle.safe_machine.specs.declared.ConnectionState.TheVariants.{RetrReq as Requesting}
+use Rattle.safe_machine.proofs.Words.{inl, inr, ◌≡◌, ℕ, List, [], ◌∷◌, drop, true, refl, arith, Eight, ConnReq, ConnResp, RetrReq, RetrResp, Heartbeat, Data}
+use Rattle.safe_machine.proofs.Words.{RetrData, Pdu, Requesting, Made, opening_body, Settings, unconfirmed, decide, distance, AnswersEarly, Il, Fe, World}
+use Rattle.safe_machine.proofs.Words.{Event, start, happens, Genuine, GenuineEvent, Timely, TimelyEvent, Open, Send, Tick, Arrive, kept_of}
 use Rattle.safe_machine.specs.Numbers.{sn_of, ahead}
-use Rattle.safe_machine.specs.Made.{Made, opening_body}
-use Rattle.safe_machine.specs.Settings.{Settings}
-use Rattle.safe_machine.specs.State.{unconfirmed}
-use Rattle.safe_machine.specs.Decision.{decide, distance}
-use Rattle.safe_machine.specs.declared.arrival.Decision.TheVariants.{AnswersEarly}
-use Rattle.safe_machine.specs.World.Side.{Il, Fe}
-use Rattle.safe_machine.specs.World.{World, Event, start, happens, Genuine, GenuineEvent, Timely, TimelyEvent}
-use Rattle.safe_machine.specs.World.Event.{Open, Send, Tick, Arrive}
-use Rattle.safe_machine.specs.View.{kept_of}
 
 -- an end with these identifiers, window and mwa
 abbrev row_settings : (own peer n_sendmax mwa : ℕ) → Settings

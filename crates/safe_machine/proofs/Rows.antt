@@ -1,29 +1,13 @@
 -- The definitions computed on worked cases: the table, each cause of a drop, each reason of leaving.
-use Rattle.std.proofs.Common.{inl, inr, Some, ◌≡◌, ℕ, List, [], ◌∷◌, drop, true, false, refl, Err}
-use Rattle.safe_pdu.specs.declared.CodeLength.TheVariants.{Eight}
-use Rattle.safe_pdu.specs.declared.SafeFault.TheVariants.{Short}
-use Rattle.safe_pdu.specs.declared.Kind.{Kind}
-use Rattle.safe_pdu.specs.declared.Kind.TheVariants.{ConnReq, ConnResp, RetrReq, RetrResp, DiscReq, Heartbeat, Data, RetrData}
-use Rattle.safe_pdu.specs.Pdu.{Pdu, kind_number}
-use Rattle.safe_machine.specs.declared.ConnectionState.TheVariants.{Start, Up, RetrReq as Requesting, RetrRun}
-use Rattle.safe_machine.specs.declared.DropCause.TheVariants.{Fault, Stranger, NotOpened, Number, Request, Answered, Below}
-use Rattle.safe_machine.specs.declared.Step.TheVariants.{Dropped, Gap, Left, Taken, Nothing as NoAnswer}
-use Rattle.safe_machine.specs.declared.Reason.TheVariants.{ClosedByUser, UnexpectedPdu, SequenceError, Timeout, ServiceNotAllowed, WrongVersion, RetransmissionImpossible, ProtocolError}
-use Rattle.safe_machine.specs.declared.Detail.TheVariants.{Unspecified, VersionDiffers, OutOfOrder, NotWellFormed, Limit, BadUnit, ConfirmedNumber, ConfirmedTimestamp}
+use Rattle.safe_machine.proofs.Words.{inl, inr, Some, ◌≡◌, ℕ, List, [], ◌∷◌, drop, true, false, refl, Err, Eight, Short, Kind, ConnReq, ConnResp, RetrReq}
+use Rattle.safe_machine.proofs.Words.{RetrResp, DiscReq, Heartbeat, Data, RetrData, Pdu, kind_number, Start, Up, Requesting, RetrRun, Fault, Stranger}
+use Rattle.safe_machine.proofs.Words.{NotOpened, Number, Request, Answered, Below, Dropped, Gap, Left, Taken, NoAnswer, ClosedByUser, UnexpectedPdu}
+use Rattle.safe_machine.proofs.Words.{SequenceError, Timeout, ServiceNotAllowed, WrongVersion, RetransmissionImpossible, ProtocolError, Unspecified}
+use Rattle.safe_machine.proofs.Words.{VersionDiffers, OutOfOrder, NotWellFormed, Limit, BadUnit, ConfirmedNumber, ConfirmedTimestamp, Made, opening_body}
+use Rattle.safe_machine.proofs.Words.{leaving_body, Settings, State, opened, leave, Decision, decide, Nothing, Drops, Shuts, Leaves, Rejects, Accepts, Connects}
+use Rattle.safe_machine.proofs.Words.{Takes, Asks, Resumes, AnswersNext, AnswersEarly, arrive, send, tick, arrive_answer, Il, Fe, Event, start, run, Genuine}
+use Rattle.safe_machine.proofs.Words.{Open, Send, Arrive, heard_answer, kept_of}
 use Rattle.safe_machine.specs.Numbers.{sn_of, ahead}
-use Rattle.safe_machine.specs.Made.{Made, opening_body, leaving_body}
-use Rattle.safe_machine.specs.Settings.{Settings}
-use Rattle.safe_machine.specs.State.{State, opened, leave}
-use Rattle.safe_machine.specs.declared.arrival.Decision.{Decision}
-use Rattle.safe_machine.specs.Decision.{decide}
-use Rattle.safe_machine.specs.declared.arrival.Decision.TheVariants.{Nothing, Drops, Shuts, Leaves, Rejects, Accepts, Connects, Takes, Asks, Resumes, AnswersNext, AnswersEarly}
-use Rattle.safe_machine.specs.Step.{arrive, send, tick}
-use Rattle.safe_machine.specs.Turns.{arrive_answer}
-use Rattle.safe_machine.specs.World.Side.{Il, Fe}
-use Rattle.safe_machine.specs.World.{Event, start, run, Genuine}
-use Rattle.safe_machine.specs.World.Event.{Open, Send, Arrive}
-use Rattle.safe_machine.specs.Octets.{heard_answer}
-use Rattle.safe_machine.specs.View.{kept_of}
 
 settings : Settings
 settings = record { client = false; own = 2; peer = 1; n_sendmax = 20; t_max = 1800; t_h = 300; mwa = 10; pdu_limit = 4294901760; rule = record { length = Eight; initial_value = [] } }

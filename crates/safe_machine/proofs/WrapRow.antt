@@ -1,17 +1,9 @@
 -- A genuine list of events across 2^32, of the times and of the interlocking's sequence numbers: windows told, timestamps of what is made, and a
 -- heartbeat at the mwa-th unit (here 2).
-use Rattle.std.proofs.Common.{inl, inr, ◌≡◌, ℕ, List, [], ◌∷◌, drop, length, true, refl, arith}
-use Rattle.safe_pdu.specs.declared.CodeLength.TheVariants.{Eight}
-use Rattle.safe_pdu.specs.declared.Kind.TheVariants.{ConnReq, ConnResp, Heartbeat, Data}
-use Rattle.safe_pdu.specs.Pdu.{Pdu}
-use Rattle.safe_machine.specs.declared.ConnectionState.TheVariants.{Start, Up}
+use Rattle.safe_machine.proofs.Words.{inl, inr, ◌≡◌, ℕ, List, [], ◌∷◌, drop, length, true, refl, arith, Eight, ConnReq, ConnResp, Heartbeat, Data, Pdu, Start}
+use Rattle.safe_machine.proofs.Words.{Up, Made, opening_body, Settings, unconfirmed, Il, Fe, World, Event, start, happens, Genuine, GenuineEvent, Timely}
+use Rattle.safe_machine.proofs.Words.{TimelyEvent, Open, Send, Arrive}
 use Rattle.safe_machine.specs.Numbers.{sn_of, ahead}
-use Rattle.safe_machine.specs.Made.{Made, opening_body}
-use Rattle.safe_machine.specs.Settings.{Settings}
-use Rattle.safe_machine.specs.State.{unconfirmed}
-use Rattle.safe_machine.specs.World.Side.{Il, Fe}
-use Rattle.safe_machine.specs.World.{World, Event, start, happens, Genuine, GenuineEvent, Timely, TimelyEvent}
-use Rattle.safe_machine.specs.World.Event.{Open, Send, Arrive}
 
 -- an end with these identifiers, window and mwa
 abbrev row_settings : (own peer n_sendmax mwa : ℕ) → Settings

@@ -1,21 +1,11 @@
 -- What a decision allows its branch to rely on, and what the guard before it makes of an arrival.
-use Rattle.std.proofs.Common.{◌≡◌, ℕ, ◌-◌, ◌<◌, List, [], length, refl, sym, ap, subst, ◌∙◌, append-nil}
+use Rattle.safe_machine.proofs.Words.{◌≡◌, ℕ, ◌-◌, ◌<◌, List, [], length, refl, sym, ap, subst, ◌∙◌, ltb-true, leb-true, Pdu, IsBody, Down, Reason, Detail}
+use Rattle.safe_machine.proofs.Words.{Decision, decide, cs_step, Accepts, Connects, Takes, Resumes, AnswersNext, AnswersEarly, View, Turn, arrives, goes_on}
+use Rattle.safe_machine.proofs.Words.{guards, handed_by, hands, leaves, responds, still, Allows, Passes, overdue}
+use Rattle.std.proofs.Common.{append-nil}
 use Rattle.std.specs.Prelude.{Option, Some, None}
-use Rattle.std.proofs.lemmas.Bool.{ltb-true, leb-true}
-use Rattle.safe_pdu.specs.Pdu.{Pdu}
-use Rattle.safe_pdu.specs.Bodies.{IsBody}
-use Rattle.safe_machine.specs.declared.ConnectionState.TheVariants.{Down}
-use Rattle.safe_machine.specs.declared.Reason.{Reason}
-use Rattle.safe_machine.specs.declared.Detail.{Detail}
-use Rattle.safe_machine.specs.declared.arrival.Decision.{Decision}
-use Rattle.safe_machine.specs.Decision.{decide, cs_step}
-use Rattle.safe_machine.specs.declared.arrival.Decision.TheVariants.{Accepts, Connects, Takes, Resumes, AnswersNext, AnswersEarly}
-use Rattle.safe_machine.specs.View.{View}
-use Rattle.safe_machine.specs.Turns.{Turn, arrives, goes_on, guards, handed_by, hands, leaves, responds, still}
 use Rattle.safe_machine.proofs.one.Deciding.{Fits, Tested}
 use Rattle.safe_machine.proofs.one.Turning.{by_guard-two}
-use Rattle.safe_machine.specs.inner.Allows.{Allows, Passes}
-use Rattle.safe_machine.specs.Deadlines.{overdue}
 
 passes-from : (v : View) (p : Pdu) (now : ℕ) → Tested v p now → Passes v p now
 passes-from v p now t = (ltb-true _ (v.made - v.confirmed) t.cs, leb-true _ (now - v.confirmed_at) t.cts)

@@ -1,27 +1,14 @@
 -- How far the index of the peer's next PDU moves.
-use Rattle.std.proofs.Common.{◌≡◌, ℕ, ◌+◌, ◌≤◌, [], refl, sym, ap, subst, ◌∙◌, arith}
-use Rattle.safe_pdu.specs.declared.Kind.TheVariants.{RetrResp}
-use Rattle.safe_pdu.specs.Pdu.{Pdu}
-use Rattle.safe_machine.specs.declared.Reason.{Reason}
-use Rattle.safe_machine.specs.declared.Detail.{Detail}
-use Rattle.safe_machine.specs.Settings.{Settings}
-use Rattle.safe_machine.specs.State.{State, make, move_to, pass, note_request, reply, unconfirmed, leave, opened}
-use Rattle.safe_machine.specs.declared.arrival.Decision.{Decision}
-use Rattle.safe_machine.specs.Decision.{decide, distance}
-use Rattle.safe_machine.specs.declared.arrival.Decision.TheVariants.{Leaves, Takes, Resumes, AnswersNext, AnswersEarly}
-use Rattle.safe_machine.specs.Step.{carry_out, arrive, guard, take_unit, tests_passed, confirm_units}
-use Rattle.safe_machine.specs.Moves.{moved}
-use Rattle.safe_machine.specs.Reached.{IsReached}
-use Rattle.safe_machine.specs.View.{View, kept_of}
-use Rattle.safe_machine.specs.Moves.Move.{Guards, Hears}
-use Rattle.safe_machine.specs.Turns.{arrives, guards}
+use Rattle.safe_machine.proofs.Words.{◌≡◌, ℕ, ◌+◌, ◌≤◌, [], refl, sym, ap, subst, ◌∙◌, arith, RetrResp, Pdu, Reason, Detail, Settings, State, make, move_to}
+use Rattle.safe_machine.proofs.Words.{pass, note_request, reply, unconfirmed, leave, opened, Decision, decide, distance, Leaves, Takes, Resumes, AnswersNext}
+use Rattle.safe_machine.proofs.Words.{AnswersEarly, carry_out, arrive, guard, take_unit, tests_passed, confirm_units, moved, IsReached, View, kept_of, Guards}
+use Rattle.safe_machine.proofs.Words.{Hears, arrives, guards, index_step}
 use Rattle.safe_machine.proofs.one.Turning.{turns_law_holds}
 use Rattle.safe_machine.proofs.one.Legal.{legal}
 use Rattle.safe_machine.proofs.one.Deciding.{Fits, decide-fits}
 use Rattle.safe_machine.proofs.two.Lone.{lone-guard, arrive-by}
 use Rattle.safe_machine.proofs.code.Reaching.{legal-reached}
 use Rattle.safe_machine.proofs.one.Resending.{resend-expected}
-use Rattle.safe_machine.specs.Properties.{index_step}
 use Rattle.safe_machine.proofs.one.StepCases.{leave-cases, unit-cases, early-cases}
 
 leave-expected : (reason : Reason) (detail : Detail) (now : ℕ) (s : State) → (leave reason detail now s).expected ≡ s.expected

@@ -1,30 +1,13 @@
 -- The properties of an arrival, from its turn.
-use Rattle.std.proofs.Common.{◌≡◌, ◌≢◌, ℕ, ◌+◌, ◌<◌, ◌==◌, List, [], ◌∷◌, Bool, true, false, refl, sym, ap, subst, ◌∙◌, arith, Result, Ok, Err}
-use Rattle.std.specs.Prelude.{if◌then◌else◌, ◌&&◌}
-use Rattle.std.specs.List.{FoldsTo}
-use Rattle.std.proofs.lemmas.Bool.{eq-eqb}
-use Rattle.safe_pdu.specs.declared.SafeFault.{SafeFault}
-use Rattle.safe_pdu.specs.Pdu.{Pdu}
-use Rattle.safe_machine.specs.declared.ConnectionState.TheVariants.{Up}
-use Rattle.safe_machine.specs.Made.{carries}
-use Rattle.safe_machine.specs.State.{State, opened}
-use Rattle.safe_machine.specs.declared.arrival.Decision.{Decision}
-use Rattle.safe_machine.specs.Decision.{decide, distance, is_goodbye, is_stranger, by_table, cts_step}
-use Rattle.safe_machine.specs.Table.{cell}
-use Rattle.safe_machine.specs.declared.arrival.Decision.TheVariants.{Shuts, Takes}
-use Rattle.safe_machine.specs.Moves.{moved}
-use Rattle.safe_machine.specs.Reached.{IsReached}
-use Rattle.safe_machine.specs.Turns.{Turn, arrives, both_confirmed, carries_out, handed_by, hands, passed, takes_unit}
-use Rattle.safe_machine.specs.View.{View, kept_of}
-use Rattle.safe_machine.specs.Octets.{heard, hears_units}
-use Rattle.safe_machine.specs.Turned.{handed}
-use Rattle.safe_pdu.specs.Places.{safe_seen}
-use Rattle.safe_machine.specs.Properties.{HandsIf, IsNextData, IsRecent}
+use Rattle.safe_machine.proofs.Words.{◌≡◌, ◌≢◌, ℕ, ◌+◌, ◌<◌, List, [], ◌∷◌, Bool, true, false, refl, sym, ap, subst, ◌∙◌, arith, Result, Ok, Err, if◌then◌else◌}
+use Rattle.safe_machine.proofs.Words.{◌&&◌, FoldsTo, eq-eqb, SafeFault, Pdu, Up, carries, State, opened, Decision, decide, distance, is_goodbye, is_stranger}
+use Rattle.safe_machine.proofs.Words.{by_table, cts_step, cell, Shuts, Takes, moved, IsReached, Turn, arrives, both_confirmed, carries_out, handed_by, hands}
+use Rattle.safe_machine.proofs.Words.{passed, takes_unit, View, kept_of, heard, hears_units, handed, safe_seen, HandsIf, IsNextData, IsRecent, is_live}
+use Rattle.std.proofs.Common.{◌==◌}
 use Rattle.safe_machine.proofs.one.Deciding.{Fits, decide-fits, listens-live}
 use Rattle.safe_machine.proofs.one.StepCases.{by_guard-cases}
 use Rattle.safe_machine.proofs.code.Arriving.{arrives-goes, hands-goes}
 use Rattle.safe_machine.proofs.order.OrderDecide.{decided, table-takes}
-use Rattle.safe_machine.specs.Connections.{is_live}
 
 -- who hands up is live behind its guard
 recent-decided : (p : Pdu) (now : ℕ) (d : Decision) (v : View) → Fits v p now d → handed_by d p ≢ [] → is_live v.connection ≡ true

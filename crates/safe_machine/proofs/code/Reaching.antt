@@ -1,30 +1,14 @@
 -- What holds of every machine, since it stands for a state that moves lead to from an opening.
-use Rattle.std.proofs.Common.{◌≡◌, ℕ, zero, suc, ◌+◌, ◌<◌, ◌≤◌, List, [], ◌∷◌, ◌++◌, length, drop, true, refl, sym, ap, subst, ◌∙◌, arith, ◌⊎◌, inl, inr, ⊎_elim}
-use Rattle.std.specs.Prelude.{◌&&◌, ◌==◌, nat_le}
-use Rattle.std.specs.List.{list_all}
-use Rattle.std.proofs.lemmas.Bool.{leb-true, false≢true, cond_both, and_parts}
-use Rattle.std.proofs.lemmas.List.{drop_all, length-drop}
-use Rattle.std.proofs.lemmas.List.Elements.{All-nil, All-cons, All-push, All-weaker}
-use Rattle.retrans.specs.Units.{Numbered, octets_of}
-use Rattle.safe_machine.specs.Ring.{after_at, carried_at, ring_of}
+use Rattle.safe_machine.proofs.Words.{◌≡◌, ℕ, zero, suc, ◌+◌, ◌<◌, ◌≤◌, List, [], ◌∷◌, ◌++◌, length, drop, true, refl, sym, ap, subst, ◌∙◌, arith, ◌⊎◌, inl}
+use Rattle.safe_machine.proofs.Words.{inr, ⊎_elim, ◌&&◌, ◌==◌, nat_le, list_all, leb-true, false≢true, cond_both, and_parts, drop_all, length-drop, All-nil}
+use Rattle.safe_machine.proofs.Words.{All-cons, All-push, All-weaker, Numbered, octets_of, after_at, carried_at, ring_of, Kind, ConnReq, ConnResp, RetrResp}
+use Rattle.safe_machine.proofs.Words.{Heartbeat, Data, RetrData, Pdu, IsBody, window_of, version_of, is_digit, is_zero, HasNumbers, Down, Start, Reason, Detail}
+use Rattle.safe_machine.proofs.Words.{Made, opening_body, Settings, is_legal, Decision, decide, distance, Nothing, Drops, Shuts, Leaves, Takes, Resumes}
+use Rattle.safe_machine.proofs.Words.{AnswersNext, AnswersEarly, take_unit, tests_passed, carry_out, guard, respond, heartbeat, send, confirm_units, Move, move}
+use Rattle.safe_machine.proofs.Words.{moved, IsUnitSized, Guards, Hears, Ticks, Sends, LeavesNow, State, opened, blank, make, move_to, pass, note_request}
+use Rattle.safe_machine.proofs.Words.{resend, reply, unconfirmed, leave, IsRead, AreRead, IsReached, AllBelow, AllUnits, Sound, MaySend, turn, View, kept_of}
+use Rattle.safe_machine.proofs.Words.{is_connected}
 use Rattle.safe_machine.proofs.one.Ring.{octets_of-length, ring_of-units}
-use Rattle.safe_pdu.specs.declared.Kind.{Kind}
-use Rattle.safe_pdu.specs.declared.Kind.TheVariants.{ConnReq, ConnResp, RetrResp, Heartbeat, Data, RetrData}
-use Rattle.safe_pdu.specs.Pdu.{Pdu}
-use Rattle.safe_pdu.specs.Bodies.{IsBody, window_of, version_of, is_digit, is_zero}
-use Rattle.safe_pdu.specs.SafeText.{HasNumbers}
-use Rattle.safe_machine.specs.declared.ConnectionState.TheVariants.{Down, Start}
-use Rattle.safe_machine.specs.declared.Reason.{Reason}
-use Rattle.safe_machine.specs.declared.Detail.{Detail}
-use Rattle.safe_machine.specs.Made.{Made, opening_body}
-use Rattle.safe_machine.specs.Settings.{Settings, is_legal}
-use Rattle.safe_machine.specs.declared.arrival.Decision.{Decision}
-use Rattle.safe_machine.specs.Decision.{decide, distance}
-use Rattle.safe_machine.specs.declared.arrival.Decision.TheVariants.{Nothing, Drops, Shuts, Leaves, Takes, Resumes, AnswersNext, AnswersEarly}
-use Rattle.safe_machine.specs.Step.{take_unit, tests_passed, carry_out, guard, respond, heartbeat, send, confirm_units}
-use Rattle.safe_machine.specs.Moves.{Move, move, moved, IsUnitSized}
-use Rattle.safe_machine.specs.Moves.Move.{Guards, Hears, Ticks, Sends, Leaves as LeavesNow}
-use Rattle.safe_machine.specs.State.{State, opened, blank, make, move_to, pass, note_request, resend, reply, unconfirmed, leave}
 use Rattle.safe_machine.proofs.two.Invariant.{is_opening}
 use Rattle.safe_machine.proofs.one.Deciding.{Fits, decide-fits}
 use Rattle.safe_machine.proofs.two.Lone.{arrive-by}
@@ -32,13 +16,8 @@ use Rattle.safe_machine.proofs.one.Counting.{Bounded, bounded-guard, bounded-res
 use Rattle.safe_machine.proofs.one.Kept.{Kept, AllowsMove, Anything, anything, kept-move}
 use Rattle.safe_machine.proofs.one.Legal.{legal as lawful}
 use Rattle.safe_machine.proofs.one.Texts.{Texts, own-legal, kept-texts, texts-make, AllSized, sized-run, texts-drop}
-use Rattle.safe_machine.specs.Reached.{IsRead, AreRead, IsReached}
-use Rattle.safe_machine.specs.inner.Sound.{AllBelow, AllUnits, Sound}
-use Rattle.safe_machine.specs.Turned.{MaySend, turn}
-use Rattle.safe_machine.specs.View.{View, kept_of}
 use Rattle.safe_machine.proofs.one.Turning.{tells_law_holds, turns_law_holds}
 use Rattle.safe_machine.proofs.one.Resending.{resend-settings, resend-connection}
-use Rattle.safe_machine.specs.Connections.{is_connected}
 use Rattle.safe_machine.proofs.one.StepCases.{leave-cases, guard-cases, heartbeat-cases, unit-cases, send-cases, early-cases}
 use Rattle.safe_machine.proofs.one.ConnectionFacts.{turn-connected, turn-live, connected-up}
 

@@ -1,20 +1,10 @@
 -- Units that are made again, one by one, and what a confirmation leaves of them.
-use Rattle.std.proofs.Common.{◌≡◌, ℕ, ◌+◌, ◌<◌, ◌≤◌, List, [], ◌∷◌, ◌++◌, length, refl, sym, ap, subst, ◌∙◌, arith}
-use Rattle.std.specs.Prelude.{IfSome, Some, get_or, nat_lt, slice_get, take}
-use Rattle.std.proofs.lemmas.Bool.Decides.{nat_tests}
-use Rattle.std.proofs.lemmas.List.{map-append, take_more}
-use Rattle.std.proofs.lemmas.List.Elements.{All-filter}
-use Rattle.std.proofs.lemmas.Option.{slice_get-get_or}
-use Rattle.std.specs.List.{FoldsTo}
-use Rattle.octets.proofs.Steps.{FoldsTo-append}
-use Rattle.retrans.specs.Units.{Numbered, above, octets_of}
-use Rattle.safe_pdu.specs.Bodies.{IsBody}
-use Rattle.safe_pdu.specs.declared.CodeRule.{CodeRule}
-use Rattle.safe_pdu.specs.declared.Kind.TheVariants.{Heartbeat, RetrData, RetrResp}
-use Rattle.safe_machine.specs.Settings.{Settings}
-use Rattle.safe_machine.specs.Turns.{Out, Turn, counted, goes_on, next_made, replies, resends, says}
-use Rattle.safe_machine.specs.View.{View, text_of, texts}
-use Rattle.safe_machine.specs.inner.Sound.{AllUnits}
+use Rattle.safe_machine.proofs.Words.{◌≡◌, ℕ, ◌+◌, ◌<◌, ◌≤◌, List, [], ◌∷◌, ◌++◌, length, refl, sym, ap, subst, ◌∙◌, arith, IfSome, get_or, nat_lt, slice_get}
+use Rattle.safe_machine.proofs.Words.{nat_tests, map-append, take_more, All-filter, slice_get-get_or, FoldsTo, FoldsTo-append, Numbered, above, octets_of}
+use Rattle.safe_machine.proofs.Words.{IsBody, CodeRule, Heartbeat, RetrData, RetrResp, Settings, Out, Turn, counted, goes_on, replies, resends, says, View}
+use Rattle.safe_machine.proofs.Words.{text_of, texts, AllUnits}
+use Rattle.std.specs.Prelude.{Some, take}
+use Rattle.safe_machine.specs.Turns.{next_made}
 use Rattle.safe_machine.proofs.one.Ring.{octets_of-append}
 
 resends-append : (a b : List (List ℕ)) (now : ℕ) (v : View) → resends (a ++ b) now v ≡ goes_on (resends a now v) (resends b now)

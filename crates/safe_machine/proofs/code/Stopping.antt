@@ -1,35 +1,15 @@
 -- Which units an arrival confirms.
-use Rattle.std.proofs.Common.{◌≡◌, ◌⊎◌, inl, inr, ℕ, ◌+◌, ◌-◌, ◌<◌, List, [], ◌∷◌, ◌++◌, length, drop, true, refl, sym, ap, subst, ◌∙◌, arith, length-append}
-use Rattle.std.proofs.lemmas.Bool.{ltb-true}
-use Rattle.std.proofs.lemmas.List.{length-drop}
-use Rattle.retrans.specs.Units.{above, octets_of, renumbered}
-use Rattle.safe_pdu.specs.Pdu.{Pdu}
-use Rattle.safe_pdu.specs.Bodies.{window_of}
-use Rattle.safe_pdu.specs.declared.Kind.TheVariants.{ConnResp, RetrResp, RetrReq, Heartbeat, DiscReq}
-use Rattle.safe_machine.specs.declared.ConnectionState.TheVariants.{Down}
-use Rattle.safe_machine.specs.declared.Reason.{Reason}
-use Rattle.safe_machine.specs.declared.Reason.TheVariants.{WrongVersion}
-use Rattle.safe_machine.specs.declared.Detail.{Detail}
-use Rattle.safe_machine.specs.declared.Detail.TheVariants.{Unspecified}
-use Rattle.safe_machine.specs.Numbers.{sn_of, ahead}
-use Rattle.safe_machine.specs.Made.{Made, leaving_body, opening_body}
-use Rattle.safe_machine.specs.State.{State, next_made, make, move_to, pass, note_request, resend, reply, unconfirmed, hand_up, leave, ask, opened}
-use Rattle.safe_machine.specs.declared.arrival.Decision.{Decision}
-use Rattle.safe_machine.specs.Decision.{decide, distance, cs_fits, cs_step}
-use Rattle.safe_machine.specs.declared.arrival.Decision.TheVariants.{Nothing, Drops, Shuts, Leaves, Rejects, Accepts, Connects, Takes, Asks, Resumes, AnswersNext, AnswersEarly}
-use Rattle.safe_machine.specs.Step.{carry_out, arrive, guard, take_unit, tests_passed, set_window, confirm_units}
-use Rattle.safe_machine.specs.Ring.{carried_at, ring_of}
-use Rattle.safe_machine.specs.Moves.{moved}
-use Rattle.safe_machine.specs.Reached.{IsReached}
-use Rattle.safe_machine.specs.View.{View, beside, kept_of}
-use Rattle.safe_machine.specs.Moves.Move.{Guards, Hears}
-use Rattle.safe_machine.specs.Turns.{arrives, guards}
+use Rattle.safe_machine.proofs.Words.{◌≡◌, ◌⊎◌, inl, inr, ℕ, ◌+◌, ◌-◌, ◌<◌, List, [], ◌∷◌, ◌++◌, length, drop, true, refl, sym, ap, subst, ◌∙◌, arith}
+use Rattle.safe_machine.proofs.Words.{length-append, ltb-true, length-drop, above, octets_of, renumbered, Pdu, window_of, ConnResp, RetrResp, RetrReq}
+use Rattle.safe_machine.proofs.Words.{Heartbeat, DiscReq, Down, Reason, WrongVersion, Detail, Unspecified, sn_of, ahead, Made, leaving_body, opening_body}
+use Rattle.safe_machine.proofs.Words.{State, next_made, make, move_to, pass, note_request, resend, reply, unconfirmed, hand_up, leave, ask, opened, Decision}
+use Rattle.safe_machine.proofs.Words.{decide, distance, cs_fits, cs_step, Nothing, Drops, Shuts, Leaves, Rejects, Accepts, Connects, Takes, Asks, Resumes}
+use Rattle.safe_machine.proofs.Words.{AnswersNext, AnswersEarly, carry_out, arrive, guard, take_unit, tests_passed, set_window, confirm_units, carried_at}
+use Rattle.safe_machine.proofs.Words.{ring_of, moved, IsReached, View, beside, kept_of, Guards, Hears, arrives, guards, StopsOnly, octets-renumbered}
 use Rattle.safe_machine.proofs.one.Turning.{turns_law_holds}
-use Rattle.safe_machine.specs.Properties.{StopsOnly}
 use Rattle.safe_machine.proofs.one.Deciding.{Fits, decide-fits}
 use Rattle.safe_machine.proofs.two.Lone.{lone-guard, arrive-by}
 use Rattle.safe_machine.proofs.one.Ring.{ring_of-units, ring-resend}
-use Rattle.retrans.proofs.UnitLemmas.{octets-renumbered}
 use Rattle.safe_machine.proofs.one.RingMoves.{plain-ring, ring-step, answer-ring}
 use Rattle.safe_machine.proofs.code.Reaching.{reached-sound}
 use Rattle.safe_machine.proofs.one.StepCases.{leave-cases, guard-cases, unit-cases, early-cases}

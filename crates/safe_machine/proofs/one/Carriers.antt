@@ -1,27 +1,18 @@
 -- The run of unconfirmed units is the list of those whose carrier lies behind the last PDU confirmed.
-use Rattle.std.proofs.Common.{◌≡◌, ◌⊎◌, inl, inr, ℕ, suc, ◌+◌, ◌-◌, ◌<◌, ◌≤◌, List, [], ◌∷◌, ◌++◌, length, take, drop, Bool, true, false, refl, sym, ap, subst, ◌∙◌, arith, append_assoc, append-nil, length-append}
-use Rattle.std.specs.Prelude.{if◌then◌else◌, nat_lt}
-use Rattle.std.proofs.lemmas.List.{drop-append-le, length-drop}
-use Rattle.std.proofs.Math.Seq.{take-append_seam, drop-append_seam}
-use Rattle.std.proofs.lemmas.Bool.{lt-ltb, ltb-true, cond_both}
-use Rattle.std.proofs.lemmas.Bool.Decides.{nat_tests}
-use Rattle.safe_pdu.specs.declared.Kind.{Kind}
-use Rattle.safe_pdu.specs.declared.Kind.TheVariants.{ConnReq, ConnResp, RetrReq, RetrResp, DiscReq, Heartbeat, Data, RetrData}
-use Rattle.safe_machine.specs.declared.ConnectionState.TheVariants.{Start, Down}
-use Rattle.safe_machine.specs.Made.{Made, units, first_sent, opening_body}
-use Rattle.safe_machine.specs.Settings.{Settings}
-use Rattle.safe_machine.specs.State.{State, next_made, make, resend, reply, unconfirmed, opened, blank}
-use Rattle.retrans.specs.Units.{Numbered, above, renumbered, octets_of}
-use Rattle.safe_machine.specs.Ring.{after_at, carried_at, is_resent, resent, carried_again, after_carrier, carriers_from, carriers}
-use Rattle.safe_machine.specs.Moves.{Move, moved, move, ReachedState, ReachedLaw}
+use Rattle.safe_machine.proofs.Words.{◌≡◌, ◌⊎◌, inl, inr, ℕ, suc, ◌+◌, ◌-◌, ◌<◌, ◌≤◌, List, [], ◌∷◌, ◌++◌, length, take, drop, Bool, true, false, refl, sym, ap}
+use Rattle.safe_machine.proofs.Words.{subst, ◌∙◌, arith, append_assoc, length-append, if◌then◌else◌, nat_lt, drop-append-le, length-drop, take-append_seam}
+use Rattle.safe_machine.proofs.Words.{drop-append_seam, lt-ltb, ltb-true, cond_both, nat_tests, Kind, ConnReq, ConnResp, RetrReq, RetrResp, DiscReq, Heartbeat}
+use Rattle.safe_machine.proofs.Words.{Data, RetrData, Start, Down, Made, units, first_sent, opening_body, Settings, State, next_made, make, resend, reply}
+use Rattle.safe_machine.proofs.Words.{unconfirmed, opened, blank, Numbered, above, renumbered, octets_of, after_at, carried_at, is_resent, resent}
+use Rattle.safe_machine.proofs.Words.{carried_again, after_carrier, carriers_from, carriers, Move, moved, move, ReachedState, ReachedLaw, octets-renumbered}
+use Rattle.safe_machine.proofs.Words.{cs_step, kept_of}
+use Rattle.std.proofs.Common.{append-nil}
 use Rattle.safe_machine.proofs.one.Runs.{units-append}
 use Rattle.safe_machine.proofs.one.OneMachine.{plain-reply}
-use Rattle.safe_machine.proofs.one.Ring.{octets_of-append, octets_of-length, carried_at-append, above-append, carried_at-above, ring_of-units, ring-confirm, ring-resend}
+use Rattle.safe_machine.proofs.one.Ring.{octets_of-append, octets_of-length, carried_at-append, above-append, carried_at-above, ring_of-units, ring-confirm}
+use Rattle.safe_machine.proofs.one.Ring.{ring-resend}
 use Rattle.safe_machine.proofs.one.Kept.{Kept, Anything, anything, kept-move, is_plain}
 use Rattle.safe_machine.proofs.one.Resending.{resend-confirmed}
-use Rattle.retrans.proofs.UnitLemmas.{octets-renumbered}
-use Rattle.safe_machine.specs.Decision.{cs_step}
-use Rattle.safe_machine.specs.View.{kept_of}
 
 -- Carriers of a list that grows. A RetrData at its front would be counted with a RetrResp before it.
 abbrev Begins : List Made → Type 0

@@ -1,21 +1,8 @@
 -- An end that sends in turn has made the PDU that was last confirmed, and every move keeps that.
-use Rattle.std.proofs.Common.{◌≡◌, ℕ, ◌<◌, ◌-◌, [], length, true, false, sym, ap, subst, arith}
-use Rattle.std.proofs.lemmas.Bool.{false≢true, ltb-true}
-use Rattle.safe_pdu.specs.Pdu.{Pdu}
-use Rattle.safe_pdu.specs.declared.Kind.TheVariants.{ConnResp, Data, Heartbeat}
-use Rattle.safe_machine.specs.declared.arrival.Decision.{Decision}
-use Rattle.safe_machine.specs.declared.arrival.Decision.TheVariants.{Nothing, Drops, Shuts, Leaves, Rejects, Accepts, Connects, Takes, Asks, Resumes, AnswersNext, AnswersEarly}
-use Rattle.safe_machine.specs.declared.Reason.{Reason}
-use Rattle.safe_machine.specs.declared.Detail.{Detail}
-use Rattle.safe_machine.specs.Connections.{in_turn}
-use Rattle.safe_machine.specs.Decision.{cs_fits, cs_step, decide}
-use Rattle.safe_machine.specs.Made.{opening_body}
-use Rattle.safe_machine.specs.Moves.{Move, move}
-use Rattle.safe_machine.specs.Moves.Move.{Guards, Hears, Ticks, Sends, Leaves as LeavesNow}
-use Rattle.safe_machine.specs.State.{State, make, leave}
-use Rattle.safe_machine.specs.Step.{carry_out, guard}
-use Rattle.safe_machine.specs.Turned.{HasMade, MaySend, turn}
-use Rattle.safe_machine.specs.View.{View, StandsFor, kept_of}
+use Rattle.safe_machine.proofs.Words.{◌≡◌, ℕ, ◌<◌, ◌-◌, [], length, true, false, sym, ap, subst, arith, false≢true, ltb-true, Pdu, ConnResp, Data, Heartbeat}
+use Rattle.safe_machine.proofs.Words.{Decision, Nothing, Drops, Shuts, Leaves, Rejects, Accepts, Connects, Takes, Asks, Resumes, AnswersNext, AnswersEarly}
+use Rattle.safe_machine.proofs.Words.{Reason, Detail, in_turn, cs_fits, cs_step, decide, opening_body, Move, move, Guards, Hears, Ticks, Sends, LeavesNow}
+use Rattle.safe_machine.proofs.Words.{State, make, leave, carry_out, guard, HasMade, MaySend, turn, View, StandsFor, kept_of}
 use Rattle.safe_machine.proofs.one.Counting.{confirmed-made, length-make, replied}
 use Rattle.safe_machine.proofs.one.Deciding.{Fits, decide-fits}
 use Rattle.safe_machine.proofs.one.Kept.{Anything, Kept, anything, kept-decided, kept-move}

@@ -1,9 +1,6 @@
 -- The states of a connection: what one test of them says of another.
-use Rattle.std.proofs.Common.{◌≡◌, ◌≢◌, ◌⊎◌, inl, inr, true, false, refl, sym, ap, ◌∙◌}
-use Rattle.std.proofs.lemmas.Bool.{false≢true}
-use Rattle.safe_machine.specs.declared.ConnectionState.{ConnectionState}
-use Rattle.safe_machine.specs.declared.ConnectionState.TheVariants.{Closed, Down, Start, Up, RetrRun}
-use Rattle.safe_machine.specs.Connections.{is_live, is_connected, in_turn}
+use Rattle.safe_machine.proofs.Words.{◌≡◌, ◌≢◌, ◌⊎◌, inl, inr, true, false, refl, sym, ap, ◌∙◌, false≢true, ConnectionState, Closed, Down, Start, Up, RetrRun}
+use Rattle.safe_machine.proofs.Words.{is_live, is_connected, in_turn}
 
 pub connected-live : (connection : ConnectionState) → is_connected connection ≡ true → is_live connection ≡ true
 connected-live Closed e = cc

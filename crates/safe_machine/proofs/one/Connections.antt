@@ -1,35 +1,19 @@
 -- How the state of a connection goes on.
-use Rattle.std.proofs.Common.{◌≡◌, ◌⊎◌, inl, inr, ◌==◌, ◌+◌, ◌*◌, ℕ, [], Bool, true, false, refl, sym, ap, subst, ◌∙◌}
-use Rattle.std.specs.Prelude.{if◌then◌else◌, ◌&&◌, nat_le}
-use Rattle.octets.specs.declared.limits.TheConstants.{REACH}
-use Rattle.safe_pdu.specs.declared.Kind.{Kind}
-use Rattle.safe_pdu.specs.declared.Kind.TheVariants.{ConnReq, ConnResp, RetrResp, Heartbeat, Data}
-use Rattle.safe_pdu.specs.Pdu.{Pdu}
-use Rattle.safe_machine.specs.declared.ConnectionState.{ConnectionState}
-use Rattle.safe_machine.specs.declared.ConnectionState.TheVariants.{Closed, Down, Start, Up}
-use Rattle.safe_machine.specs.declared.DropCause.TheVariants.{Stranger, Number, Answered, Below}
-use Rattle.safe_machine.specs.declared.Reason.{Reason}
-use Rattle.safe_machine.specs.declared.Reason.TheVariants.{WrongVersion, UnexpectedPdu, SequenceError, ProtocolError, RetransmissionImpossible}
-use Rattle.safe_machine.specs.declared.Detail.{Detail}
-use Rattle.safe_machine.specs.declared.Detail.TheVariants.{Unspecified, ConfirmedNumber, ConfirmedTimestamp}
-use Rattle.safe_machine.specs.State.{State, make, move_to, pass, note_request, reply, unconfirmed}
-use Rattle.safe_machine.specs.declared.arrival.Cell.{Cell}
-use Rattle.safe_machine.specs.Table.{cell, start_row}
-use Rattle.safe_machine.specs.declared.arrival.Cell.TheVariants.{Take, Ask, Answer, Resume, Refuse, Skip}
-use Rattle.safe_machine.specs.declared.arrival.Decision.{Decision}
-use Rattle.safe_machine.specs.Decision.{is_stranger, is_goodbye, is_ours, cs_fits, cts_fits, tested, in_down, as_client, in_start, by_cell, by_table, by_connection, by_sender, distance, cs_step}
-use Rattle.safe_machine.specs.declared.arrival.Decision.TheVariants.{Nothing, Drops, Shuts, Leaves, Rejects, Accepts, Connects, Takes, Resumes, AnswersNext, AnswersEarly}
-use Rattle.safe_machine.specs.Step.{carry_out, guard, respond, tests_passed, confirm_units}
-use Rattle.safe_machine.specs.Moves.{Move, move, GoesOn, HearsNothing, ConnectionsLaw}
-use Rattle.safe_machine.specs.Moves.Move.{Guards, Hears, Ticks, Sends, Leaves as LeavesNow}
+use Rattle.safe_machine.proofs.Words.{◌≡◌, ◌⊎◌, inl, inr, ◌+◌, ◌*◌, ℕ, [], Bool, true, false, refl, sym, ap, subst, ◌∙◌, if◌then◌else◌, ◌&&◌, nat_le, REACH}
+use Rattle.safe_machine.proofs.Words.{Kind, ConnReq, ConnResp, RetrResp, Heartbeat, Data, Pdu, ConnectionState, Closed, Down, Start, Up, Stranger, Number}
+use Rattle.safe_machine.proofs.Words.{Answered, Below, Reason, WrongVersion, UnexpectedPdu, SequenceError, ProtocolError, RetransmissionImpossible, Detail}
+use Rattle.safe_machine.proofs.Words.{Unspecified, ConfirmedNumber, ConfirmedTimestamp, State, make, move_to, pass, note_request, reply, unconfirmed, Cell}
+use Rattle.safe_machine.proofs.Words.{cell, start_row, Take, Ask, Answer, Resume, Refuse, Skip, Decision, is_stranger, is_goodbye, is_ours, cs_fits, cts_fits}
+use Rattle.safe_machine.proofs.Words.{tested, in_down, as_client, in_start, by_cell, by_table, by_connection, by_sender, distance, cs_step, Nothing, Drops}
+use Rattle.safe_machine.proofs.Words.{Shuts, Leaves, Rejects, Accepts, Connects, Takes, Resumes, AnswersNext, AnswersEarly, carry_out, guard, respond}
+use Rattle.safe_machine.proofs.Words.{tests_passed, confirm_units, Move, move, GoesOn, HearsNothing, ConnectionsLaw, Guards, Hears, Ticks, Sends, LeavesNow}
+use Rattle.safe_machine.proofs.Words.{is_closed, in_turn, is_connected, kept_of, cond_both}
+use Rattle.std.proofs.Common.{◌==◌}
 use Rattle.safe_machine.proofs.one.Resending.{resend-connection}
 use Rattle.safe_machine.proofs.one.OneMachine.{send-connection}
 use Rattle.safe_machine.proofs.one.Strangers.{guarded}
 use Rattle.safe_machine.proofs.one.TableLemmas.{Allowed, cell-allowed}
-use Rattle.safe_machine.specs.Connections.{is_closed, in_turn, is_connected}
-use Rattle.safe_machine.specs.View.{kept_of}
 use Rattle.safe_machine.proofs.one.StepCases.{heartbeat-cases, unit-cases, early-cases}
-use Rattle.std.proofs.lemmas.Bool.{cond_both}
 
 module _ (p : Pdu) (now : ℕ) (s : State) where
   abbrev Q : Decision → Type 0

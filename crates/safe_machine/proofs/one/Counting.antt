@@ -1,30 +1,16 @@
 -- How many PDUs an end makes, and how many units are unconfirmed.
-use Rattle.std.proofs.Common.{◌≡◌, ℕ, ◌+◌, ◌-◌, ◌<◌, ◌≤◌, List, [], ◌∷◌, ◌++◌, length, take, drop, true, refl, sym, ap, ◌∙◌, arith, append_assoc, length-append}
-use Rattle.std.proofs.lemmas.List.{append-nil, drop-append-le, take-append-drop, drop-drop}
-use Rattle.std.proofs.lemmas.Bool.{ltb-true, false≢true}
-use Rattle.safe_pdu.specs.declared.Kind.{Kind}
-use Rattle.safe_pdu.specs.declared.Kind.TheVariants.{ConnResp, RetrReq, RetrResp, DiscReq, Heartbeat, Data, RetrData}
-use Rattle.safe_machine.specs.declared.ConnectionState.{ConnectionState}
-use Rattle.safe_machine.specs.declared.ConnectionState.TheVariants.{Closed, Down, Start, Up, RetrRun}
-use Rattle.safe_pdu.specs.Pdu.{Pdu}
-use Rattle.safe_pdu.specs.Bodies.{window_of}
-use Rattle.safe_machine.specs.Made.{Made, after_pdu, run_after, run_of, opening_body, leaving_body}
-use Rattle.safe_machine.specs.Settings.{Settings}
-use Rattle.safe_machine.specs.State.{State, unconfirmed, next_made, make, move_to, pass, hand_up, note_request, resend, reply, ask, leave}
-use Rattle.safe_machine.specs.declared.arrival.Decision.{Decision}
-use Rattle.safe_machine.specs.Decision.{cs_fits, distance, decide, cs_step}
-use Rattle.safe_machine.specs.declared.arrival.Decision.TheVariants.{Nothing, Drops, Shuts, Leaves, Rejects, Accepts, Connects, Takes, Asks, Resumes, AnswersNext, AnswersEarly}
-use Rattle.safe_machine.specs.Step.{tests_passed, carry_out, set_window, confirm_to, guard, respond, send, heartbeat, confirm_units}
+use Rattle.safe_machine.proofs.Words.{◌≡◌, ℕ, ◌+◌, ◌-◌, ◌<◌, ◌≤◌, List, [], ◌∷◌, ◌++◌, length, take, drop, true, refl, sym, ap, ◌∙◌, arith, append_assoc}
+use Rattle.safe_machine.proofs.Words.{length-append, append-nil, drop-append-le, take-append-drop, drop-drop, ltb-true, false≢true, Kind, ConnResp, RetrReq}
+use Rattle.safe_machine.proofs.Words.{RetrResp, DiscReq, Heartbeat, Data, RetrData, ConnectionState, Closed, Down, Start, Up, RetrRun, Pdu, window_of, Made}
+use Rattle.safe_machine.proofs.Words.{after_pdu, run_after, run_of, opening_body, leaving_body, Settings, State, unconfirmed, next_made, make, move_to, pass}
+use Rattle.safe_machine.proofs.Words.{hand_up, note_request, resend, reply, ask, leave, Decision, cs_fits, distance, decide, cs_step, Nothing, Drops, Shuts}
+use Rattle.safe_machine.proofs.Words.{Leaves, Rejects, Accepts, Connects, Takes, Asks, Resumes, AnswersNext, AnswersEarly, tests_passed, carry_out, set_window}
+use Rattle.safe_machine.proofs.Words.{confirm_to, guard, respond, send, heartbeat, confirm_units, Reason, WrongVersion, Detail, Unspecified, is_live, in_turn}
+use Rattle.safe_machine.proofs.Words.{is_connected, kept_of}
 use Rattle.safe_machine.proofs.one.Runs.{run_after-append}
 use Rattle.safe_machine.proofs.two.Invariant.{is_opening}
 use Rattle.safe_machine.proofs.one.Deciding.{Fits, listens-live, decide-fits}
-use Rattle.safe_machine.specs.declared.Reason.{Reason}
-use Rattle.safe_machine.specs.declared.Reason.TheVariants.{WrongVersion}
-use Rattle.safe_machine.specs.declared.Detail.{Detail}
-use Rattle.safe_machine.specs.declared.Detail.TheVariants.{Unspecified}
 use Rattle.safe_machine.proofs.one.Resending.{resend-settings, resend-connection, resend-confirmed, resend-window}
-use Rattle.safe_machine.specs.Connections.{is_live, in_turn, is_connected}
-use Rattle.safe_machine.specs.View.{kept_of}
 use Rattle.safe_machine.proofs.one.StepCases.{leave-cases, guard-cases, heartbeat-cases, unit-cases, send-cases, early-cases}
 use Rattle.safe_machine.proofs.one.ConnectionFacts.{connected-live, turn-live}
 

@@ -1,26 +1,13 @@
 -- What each decision says of the state and of the PDU.
-use Rattle.std.proofs.Common.{◌≡◌, ℕ, ◌+◌, ◌*◌, ◌<◌, ◌≤◌, Bool, true, false, refl, ap, ◌∙◌}
-use Rattle.std.specs.Prelude.{if◌then◌else◌, ◌==◌, ◌&&◌, nat_le}
-use Rattle.std.proofs.lemmas.Bool.{leb-true, eqb-true, cond_both, and_parts, leb-false}
-use Rattle.safe_pdu.specs.declared.Kind.{Kind}
-use Rattle.safe_pdu.specs.declared.Kind.TheVariants.{ConnReq, ConnResp, RetrReq}
-use Rattle.safe_machine.specs.declared.ConnectionState.{ConnectionState}
-use Rattle.safe_machine.specs.declared.ConnectionState.TheVariants.{Closed, Down, Start, Up, RetrReq as Requesting, RetrRun}
-use Rattle.safe_pdu.specs.Pdu.{Pdu}
-use Rattle.safe_machine.specs.Made.{is_answer}
-use Rattle.safe_machine.specs.declared.arrival.Cell.{Cell}
-use Rattle.safe_machine.specs.Table.{cell}
-use Rattle.safe_machine.specs.declared.arrival.Cell.TheVariants.{Take, Ask, Answer, Resume, Refuse, Skip}
-use Rattle.safe_machine.specs.declared.arrival.Decision.{Decision}
-use Rattle.safe_machine.specs.Decision.{is_foreign, is_ours, cs_fits, cts_fits, tested, in_down, as_client, distance, answering, by_cell, by_table, in_start, is_goodbye, by_connection, decide, by_sender, cs_step}
-use Rattle.safe_machine.specs.declared.arrival.Decision.TheVariants.{Nothing, Drops, Shuts, Leaves, Rejects, Accepts, Connects, Takes, Asks, Resumes, AnswersNext, AnswersEarly}
-use Rattle.safe_machine.specs.declared.DropCause.TheVariants.{Stranger, Number, Answered, Below}
+use Rattle.safe_machine.proofs.Words.{◌≡◌, ℕ, ◌+◌, ◌*◌, ◌<◌, ◌≤◌, Bool, true, false, refl, ap, ◌∙◌, if◌then◌else◌, ◌==◌, ◌&&◌, nat_le, leb-true, eqb-true}
+use Rattle.safe_machine.proofs.Words.{cond_both, and_parts, leb-false, Kind, ConnReq, ConnResp, RetrReq, ConnectionState, Closed, Down, Start, Up, Requesting}
+use Rattle.safe_machine.proofs.Words.{RetrRun, Pdu, is_answer, Cell, cell, Take, Ask, Answer, Resume, Refuse, Skip, Decision, is_foreign, is_ours, cs_fits}
+use Rattle.safe_machine.proofs.Words.{cts_fits, tested, in_down, as_client, distance, answering, by_cell, by_table, in_start, is_goodbye, by_connection, decide}
+use Rattle.safe_machine.proofs.Words.{by_sender, cs_step, Nothing, Drops, Shuts, Leaves, Rejects, Accepts, Connects, Takes, Asks, Resumes, AnswersNext}
+use Rattle.safe_machine.proofs.Words.{AnswersEarly, Stranger, Number, Answered, Below, WrongVersion, RetransmissionImpossible, ProtocolError, Unspecified}
+use Rattle.safe_machine.proofs.Words.{ConfirmedNumber, ConfirmedTimestamp, in_turn, is_closed, is_live, is_connected, View}
 use Rattle.safe_machine.proofs.two.Invariant.{room, needs_peer}
 use Rattle.safe_machine.proofs.one.TableLemmas.{Allowed, cell-allowed}
-use Rattle.safe_machine.specs.declared.Reason.TheVariants.{WrongVersion, RetransmissionImpossible, ProtocolError}
-use Rattle.safe_machine.specs.declared.Detail.TheVariants.{Unspecified, ConfirmedNumber, ConfirmedTimestamp}
-use Rattle.safe_machine.specs.Connections.{in_turn, is_closed, is_live, is_connected}
-use Rattle.safe_machine.specs.View.{View}
 
 -- the states that the table decides
 abbrev pub listens : ConnectionState → Bool → Bool

@@ -1,28 +1,13 @@
 -- How few PDUs a move makes.
-use Rattle.std.proofs.Common.{◌≡◌, ℕ, ◌+◌, ◌≤◌, List, [], ◌∷◌, length, true, sym, ap, ◌∙◌, arith, length-append}
-use Rattle.std.specs.Prelude.{nat_lt}
-use Rattle.std.proofs.lemmas.Bool.{false≢true, cond_both, and_parts}
-use Rattle.safe_pdu.specs.declared.Kind.TheVariants.{ConnResp, RetrReq, RetrResp, DiscReq, Heartbeat, Data}
-use Rattle.safe_pdu.specs.Pdu.{Pdu}
-use Rattle.safe_pdu.specs.Bodies.{window_of}
-use Rattle.safe_machine.specs.declared.Reason.{Reason}
-use Rattle.safe_machine.specs.declared.Reason.TheVariants.{WrongVersion}
-use Rattle.safe_machine.specs.declared.Detail.{Detail}
-use Rattle.safe_machine.specs.declared.Detail.TheVariants.{Unspecified}
-use Rattle.safe_machine.specs.Made.{leaving_body, opening_body}
-use Rattle.safe_machine.specs.State.{State, unconfirmed, make, move_to, pass, hand_up, note_request, resend, reply, leave, opened}
-use Rattle.safe_machine.specs.declared.arrival.Decision.{Decision}
-use Rattle.safe_machine.specs.Decision.{decide, distance, cs_step}
-use Rattle.safe_machine.specs.declared.arrival.Decision.TheVariants.{Leaves, Rejects, Accepts, Connects, Takes, Asks, AnswersNext, AnswersEarly}
-use Rattle.safe_machine.specs.Step.{tests_passed, carry_out, set_window, guard, tick, send, may_send, confirm_units}
-use Rattle.safe_machine.specs.Moves.{Move, move, moved}
-use Rattle.safe_machine.specs.Moves.Move.{Guards, Hears, Ticks, Sends, Leaves as LeavesNow}
-use Rattle.safe_machine.specs.Reached.{FewLaw}
+use Rattle.safe_machine.proofs.Words.{◌≡◌, ℕ, ◌+◌, ◌≤◌, List, [], ◌∷◌, length, true, sym, ap, ◌∙◌, arith, length-append, nat_lt, false≢true, cond_both}
+use Rattle.safe_machine.proofs.Words.{and_parts, ConnResp, RetrReq, RetrResp, DiscReq, Heartbeat, Data, Pdu, window_of, Reason, WrongVersion, Detail}
+use Rattle.safe_machine.proofs.Words.{Unspecified, leaving_body, opening_body, State, unconfirmed, make, move_to, pass, hand_up, note_request, resend, reply}
+use Rattle.safe_machine.proofs.Words.{leave, opened, Decision, decide, distance, cs_step, Leaves, Rejects, Accepts, Connects, Takes, Asks, AnswersNext}
+use Rattle.safe_machine.proofs.Words.{AnswersEarly, tests_passed, carry_out, set_window, guard, tick, send, may_send, confirm_units, Move, move, moved, Guards}
+use Rattle.safe_machine.proofs.Words.{Hears, Ticks, Sends, LeavesNow, FewLaw, in_turn, kept_of}
 use Rattle.safe_machine.proofs.one.Counting.{Bounded, bounded-guard, unconfirmed-make, length-make, resend-length, run_of-shrinks}
 use Rattle.safe_machine.proofs.two.Lone.{arrive-by}
 use Rattle.safe_machine.proofs.code.Reaching.{sure-moved, opened-sure}
-use Rattle.safe_machine.specs.Connections.{in_turn}
-use Rattle.safe_machine.specs.View.{kept_of}
 use Rattle.safe_machine.proofs.one.StepCases.{leave-cases, guard-cases, heartbeat-cases, unit-cases, send-cases, early-cases}
 use Rattle.safe_machine.proofs.one.ConnectionFacts.{turn-live}
 

@@ -1,14 +1,9 @@
 -- A machine's settings stay, and every PDU that it makes bears its identifiers.
-use Rattle.std.proofs.Common.{◌≡◌, ℕ, List, [], ◌∷◌, ◌++◌, refl, sym, subst, ◌∙◌}
-use Rattle.safe_pdu.specs.declared.Kind.{Kind}
-use Rattle.safe_pdu.specs.declared.Kind.TheVariants.{ConnResp, RetrResp, Heartbeat, Data, RetrData}
-use Rattle.safe_machine.specs.Made.{Made, opening_body}
-use Rattle.safe_machine.specs.Settings.{Settings}
-use Rattle.safe_machine.specs.State.{State, next_made, make, resend, unconfirmed, opened}
-use Rattle.safe_machine.specs.Moves.{Move, move, moved, AreFrom, SettingsLaw, IdentifiedLaw}
+use Rattle.safe_machine.proofs.Words.{◌≡◌, ℕ, List, [], ◌∷◌, ◌++◌, refl, sym, subst, ◌∙◌, Kind, ConnResp, RetrResp, Heartbeat, Data, RetrData, Made}
+use Rattle.safe_machine.proofs.Words.{opening_body, Settings, State, next_made, make, resend, unconfirmed, opened, Move, move, moved, AreFrom, SettingsLaw}
+use Rattle.safe_machine.proofs.Words.{IdentifiedLaw, cond_both}
 use Rattle.safe_machine.proofs.one.Resending.{resend-settings}
 use Rattle.safe_machine.proofs.one.Kept.{Kept, Anything, anything, kept-move}
-use Rattle.std.proofs.lemmas.Bool.{cond_both}
 
 pub settings_law_holds : SettingsLaw
 settings_law_holds m s =

@@ -1,26 +1,12 @@
 -- A property that every single change of a machine keeps is kept by every move.
-use Rattle.std.proofs.Common.{◌≡◌, ℕ, List, [], Bool, true, false, refl}
+use Rattle.safe_machine.proofs.Words.{◌≡◌, ℕ, List, [], Bool, true, false, refl, Kind, ConnResp, RetrReq, DiscReq, Heartbeat, Data, Pdu, IsBody, window_of}
+use Rattle.safe_machine.proofs.Words.{Closed, Start, Up, Requesting, RetrRun, Reason, WrongVersion, Detail, Unspecified, opening_body, leaving_body, State}
+use Rattle.safe_machine.proofs.Words.{make, move_to, pass, hand_up, note_request, reply, leave, Decision, decide, cs_fits, distance, Nothing, Drops, Shuts}
+use Rattle.safe_machine.proofs.Words.{Leaves, Rejects, Accepts, Connects, Takes, Asks, Resumes, AnswersNext, AnswersEarly, set_window, confirm_to, tests_passed}
+use Rattle.safe_machine.proofs.Words.{carry_out, guard, confirm_units, confirm_time, Move, move, Guards, Hears, Ticks, Sends, LeavesNow, kept_of}
 use Rattle.std.specs.Prelude.{length}
-use Rattle.safe_pdu.specs.declared.Kind.{Kind}
-use Rattle.safe_pdu.specs.declared.Kind.TheVariants.{ConnResp, RetrReq, DiscReq, Heartbeat, Data}
-use Rattle.safe_pdu.specs.Pdu.{Pdu}
-use Rattle.safe_pdu.specs.Bodies.{IsBody, window_of}
-use Rattle.safe_machine.specs.declared.ConnectionState.TheVariants.{Closed, Start, Up, RetrReq as Requesting, RetrRun}
-use Rattle.safe_machine.specs.declared.Reason.{Reason}
-use Rattle.safe_machine.specs.declared.Reason.TheVariants.{WrongVersion}
-use Rattle.safe_machine.specs.declared.Detail.{Detail}
-use Rattle.safe_machine.specs.declared.Detail.TheVariants.{Unspecified}
-use Rattle.safe_machine.specs.Made.{opening_body, leaving_body}
-use Rattle.safe_machine.specs.State.{State, make, move_to, pass, hand_up, note_request, reply, leave}
-use Rattle.safe_machine.specs.declared.arrival.Decision.{Decision}
-use Rattle.safe_machine.specs.Decision.{decide, cs_fits, distance}
-use Rattle.safe_machine.specs.declared.arrival.Decision.TheVariants.{Nothing, Drops, Shuts, Leaves, Rejects, Accepts, Connects, Takes, Asks, Resumes, AnswersNext, AnswersEarly}
-use Rattle.safe_machine.specs.Step.{set_window, confirm_to, tests_passed, carry_out, guard, confirm_units, confirm_time}
-use Rattle.safe_machine.specs.Moves.{Move, move}
-use Rattle.safe_machine.specs.Moves.Move.{Guards, Hears, Ticks, Sends, Leaves as LeavesNow}
 use Rattle.safe_machine.proofs.one.Deciding.{Fits, decide-fits}
 use Rattle.safe_machine.proofs.two.Lone.{arrive-by}
-use Rattle.safe_machine.specs.View.{kept_of}
 use Rattle.safe_machine.proofs.one.StepCases.{leave-cases, guard-cases, heartbeat-cases, unit-cases, send-cases, early-cases}
 
 -- nothing changes that is kept of the PDUs made

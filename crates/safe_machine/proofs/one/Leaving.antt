@@ -1,21 +1,11 @@
 -- Which moves of a machine leave Down, and that none leads back.
-use Rattle.std.proofs.Common.{◌≡◌, ℕ, List, [], true, false, refl, sym, subst, ◌∙◌}
-use Rattle.safe_machine.specs.declared.ConnectionState.{ConnectionState}
-use Rattle.safe_machine.specs.declared.ConnectionState.TheVariants.{Closed, Down, Start}
-use Rattle.safe_pdu.specs.declared.Kind.TheVariants.{RetrResp}
-use Rattle.safe_pdu.specs.Pdu.{Pdu}
-use Rattle.safe_machine.specs.State.{State, leave, make, move_to, reply, pass, note_request, unconfirmed}
-use Rattle.safe_machine.specs.Step.{guard, tick, send, arrive, heartbeat, carry_out, take_unit, tests_passed, confirm_units}
-use Rattle.safe_machine.specs.declared.arrival.Decision.{Decision}
-use Rattle.safe_machine.specs.Decision.{decide, distance, is_stranger}
-use Rattle.safe_machine.specs.declared.arrival.Decision.TheVariants.{Nothing, Drops, Rejects, Accepts, Takes, AnswersNext, AnswersEarly}
-use Rattle.safe_machine.specs.World.{joins}
+use Rattle.safe_machine.proofs.Words.{◌≡◌, ℕ, List, [], true, false, refl, sym, subst, ◌∙◌, ConnectionState, Closed, Down, Start, RetrResp, Pdu, State, leave}
+use Rattle.safe_machine.proofs.Words.{make, move_to, reply, pass, note_request, unconfirmed, guard, tick, send, arrive, heartbeat, carry_out, take_unit}
+use Rattle.safe_machine.proofs.Words.{tests_passed, confirm_units, Decision, decide, distance, is_stranger, Nothing, Drops, Rejects, Accepts, Takes}
+use Rattle.safe_machine.proofs.Words.{AnswersNext, AnswersEarly, joins, Reason, Detail, kept_of}
 use Rattle.safe_machine.proofs.one.Deciding.{Fits, decide-fits}
 use Rattle.safe_machine.proofs.two.Lone.{arrive-by}
-use Rattle.safe_machine.specs.declared.Reason.{Reason}
-use Rattle.safe_machine.specs.declared.Detail.{Detail}
 use Rattle.safe_machine.proofs.one.Resending.{resend-connection}
-use Rattle.safe_machine.specs.View.{kept_of}
 use Rattle.safe_machine.proofs.one.StepCases.{guard-cases, heartbeat-cases, unit-cases, send-cases, early-cases}
 use Rattle.safe_machine.proofs.one.ConnectionFacts.{connected-up}
 

@@ -1,8 +1,7 @@
 -- What legal settings say, one fact each.
-use Rattle.std.proofs.Common.{◌≡◌, ◌==◌, ◌≤◌, ◌<◌, ◌^◌, true, false}
-use Rattle.std.specs.Prelude.{if◌then◌else◌, ◌&&◌, nat_le, nat_lt}
-use Rattle.std.proofs.lemmas.Bool.{leb-true, ltb-true, and_parts}
-use Rattle.safe_machine.specs.Settings.{Settings, is_legal, in_range, are_two, is_coded}
+use Rattle.safe_machine.proofs.Words.{◌≡◌, ◌≤◌, ◌<◌, ◌^◌, true, false, if◌then◌else◌, ◌&&◌, nat_le, nat_lt, leb-true, ltb-true, and_parts, Settings, is_legal}
+use Rattle.safe_machine.proofs.Words.{in_range, are_two, is_coded}
+use Rattle.std.proofs.Common.{◌==◌}
 
 pub record Legal (s : Settings) : Type 0 where
   pub own : s.own < 256 ^ 4

@@ -1,23 +1,16 @@
 -- What every move of a machine does, in every state.
-use Rattle.std.proofs.Common.{◌≡◌, ℕ, ◌+◌, List, [], ◌∷◌, ◌++◌, Bool, true, false, refl, sym, ap, ◌∙◌, append_assoc, append-nil}
-use Rattle.std.specs.Prelude.{length, if◌then◌else◌, ◌&&◌, nat_le, nat_lt}
-use Rattle.std.proofs.lemmas.Bool.{false≢true}
-use Rattle.safe_pdu.specs.declared.Kind.{Kind}
-use Rattle.safe_pdu.specs.declared.Kind.TheVariants.{ConnResp, RetrResp, Heartbeat, Data, RetrData}
-use Rattle.safe_machine.specs.declared.ConnectionState.{ConnectionState}
-use Rattle.safe_machine.specs.declared.ConnectionState.TheVariants.{Closed, Down, Start}
-use Rattle.safe_machine.specs.Made.{Made, units, opening_body, last_time}
-use Rattle.safe_machine.specs.State.{State, next_made, make, resend, unconfirmed, leave}
-use Rattle.safe_machine.specs.Step.{guard, arrive, tick, send, may_send, heartbeat}
-use Rattle.safe_machine.specs.World.{joins}
-use Rattle.safe_machine.specs.Moves.{Move, move, sent_by, MovesLaw}
-use Rattle.safe_machine.specs.Moves.Move.{Guards, Hears, Ticks, Sends, Leaves}
+use Rattle.safe_machine.proofs.Words.{◌≡◌, ℕ, ◌+◌, List, [], ◌∷◌, ◌++◌, Bool, true, false, refl, sym, ap, ◌∙◌, append_assoc, if◌then◌else◌, ◌&&◌, nat_le}
+use Rattle.safe_machine.proofs.Words.{nat_lt, false≢true, Kind, ConnResp, RetrResp, Heartbeat, Data, RetrData, ConnectionState, Closed, Down, Start, Made}
+use Rattle.safe_machine.proofs.Words.{units, opening_body, last_time, State, next_made, make, resend, unconfirmed, leave, guard, arrive, tick, send, may_send}
+use Rattle.safe_machine.proofs.Words.{heartbeat, joins, Move, move, sent_by, MovesLaw, Guards, Hears, Ticks, Sends, in_turn, is_connected}
+use Rattle.std.proofs.Common.{append-nil}
+use Rattle.std.specs.Prelude.{length}
+use Rattle.safe_machine.specs.Moves.Move.{Leaves}
 use Rattle.safe_machine.proofs.one.Runs.{units-append}
 use Rattle.safe_machine.proofs.one.Leaving.{quiet-guard, quiet-tick, quiet-send, quiet-leave, arrive-down, arrive-joins}
 use Rattle.safe_machine.proofs.one.OneMachine.{plain-guard, plain-tick, plain-leave, send-taken, takes-arrive, closed-guard, closed-arrive}
 use Rattle.safe_machine.proofs.two.Lone.{lone-leave}
 use Rattle.safe_machine.proofs.one.Kept.{Kept, Anything, anything, kept-move}
-use Rattle.safe_machine.specs.Connections.{in_turn, is_connected}
 
 -- the PDUs made before stand in front
 abbrev Grown : List Made → State → Type 0

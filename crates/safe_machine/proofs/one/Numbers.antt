@@ -1,6 +1,6 @@
 -- How far sequence numbers lie apart.
-use Rattle.std.proofs.Common.{◌≡◌, ℕ, ◌+◌, ◌-◌, ◌<◌, ◌≤◌, arith}
-use Rattle.safe_machine.specs.Numbers.{wrap, sn_of, ahead}
+use Rattle.safe_machine.proofs.Words.{◌≡◌, ℕ, ◌+◌, ◌-◌, ◌<◌, ◌≤◌, arith, wrap}
+use Rattle.safe_machine.specs.Numbers.{sn_of, ahead}
 
 -- a later index within reach
 pub ahead-up : (first r i : ℕ) → r ≤ i → i - r < wrap → ahead (sn_of first r) (sn_of first i) ≡ i - r

@@ -1,24 +1,12 @@
 -- What one machine's moves do to its lists.
-use Rattle.std.proofs.Common.{◌≡◌, ◌⊎◌, inl, inr, ℕ, List, [], ◌∷◌, ◌++◌, refl, sym, ap, ◌∙◌, append-nil}
-use Rattle.std.specs.Prelude.{if◌then◌else◌}
-use Rattle.safe_pdu.specs.declared.Kind.{Kind}
-use Rattle.safe_machine.specs.declared.ConnectionState.TheVariants.{Closed}
-use Rattle.safe_pdu.specs.declared.Kind.TheVariants.{Heartbeat, RetrResp, RetrData, DiscReq, ConnResp, RetrReq}
-use Rattle.safe_pdu.specs.Pdu.{Pdu}
-use Rattle.safe_pdu.specs.Bodies.{window_of}
-use Rattle.safe_machine.specs.Made.{units, first_sent, opening_body, leaving_body}
-use Rattle.safe_machine.specs.State.{State, next_made, leave, make, move_to, reply, resend, ask, pass, note_request, unconfirmed, hand_up}
-use Rattle.safe_machine.specs.Step.{guard, respond, tick, send, arrive, carry_out, tests_passed, set_window, confirm_units}
-use Rattle.safe_machine.specs.declared.arrival.Decision.{Decision}
-use Rattle.safe_machine.specs.Decision.{decide, distance, by_sender}
-use Rattle.safe_machine.specs.declared.arrival.Decision.TheVariants.{Nothing, Drops, Shuts, Leaves, Rejects, Accepts, Connects, Takes, Asks, Resumes, AnswersNext, AnswersEarly}
+use Rattle.safe_machine.proofs.Words.{◌≡◌, ◌⊎◌, inl, inr, ℕ, List, [], ◌∷◌, ◌++◌, refl, sym, ap, ◌∙◌, if◌then◌else◌, Kind, Closed, Heartbeat, RetrResp}
+use Rattle.safe_machine.proofs.Words.{RetrData, DiscReq, ConnResp, RetrReq, Pdu, window_of, units, first_sent, opening_body, leaving_body, State, next_made}
+use Rattle.safe_machine.proofs.Words.{leave, make, move_to, reply, resend, ask, pass, note_request, unconfirmed, hand_up, guard, respond, tick, send, arrive}
+use Rattle.safe_machine.proofs.Words.{carry_out, tests_passed, set_window, confirm_units, Decision, decide, distance, by_sender, Nothing, Drops, Shuts, Leaves}
+use Rattle.safe_machine.proofs.Words.{Rejects, Accepts, Connects, Takes, Asks, Resumes, AnswersNext, AnswersEarly, Reason, WrongVersion, Detail, Unspecified}
+use Rattle.safe_machine.proofs.Words.{is_closed, kept_of}
+use Rattle.std.proofs.Common.{append-nil}
 use Rattle.safe_machine.proofs.one.Runs.{units-append}
-use Rattle.safe_machine.specs.declared.Reason.{Reason}
-use Rattle.safe_machine.specs.declared.Reason.TheVariants.{WrongVersion}
-use Rattle.safe_machine.specs.declared.Detail.{Detail}
-use Rattle.safe_machine.specs.declared.Detail.TheVariants.{Unspecified}
-use Rattle.safe_machine.specs.Connections.{is_closed}
-use Rattle.safe_machine.specs.View.{kept_of}
 use Rattle.safe_machine.proofs.one.StepCases.{leave-cases, guard-cases, guard-idle, heartbeat-cases, unit-cases, send-cases, early-cases}
 use Rattle.safe_machine.proofs.one.ConnectionFacts.{closed-idle}
 

@@ -1,21 +1,9 @@
 -- Who starts a connection has heard a ConnReq.
-use Rattle.std.proofs.Common.{◌≡◌, ℕ, true, false, cond, refl, sym, ap, subst, ◌∙◌}
-use Rattle.octets.proofs.Choices.{by_cond, by_test}
-use Rattle.safe_pdu.specs.declared.Kind.{Kind}
-use Rattle.safe_pdu.specs.declared.Kind.TheVariants.{ConnReq}
-use Rattle.safe_pdu.specs.Pdu.{Pdu}
-use Rattle.safe_machine.specs.declared.ConnectionState.TheVariants.{Down, Start}
-use Rattle.safe_machine.specs.declared.DropCause.TheVariants.{Stranger}
-use Rattle.safe_machine.specs.State.{State}
-use Rattle.safe_machine.specs.declared.arrival.Decision.{Decision}
-use Rattle.safe_machine.specs.Decision.{is_stranger, is_ours, in_down, by_connection, by_sender, decide}
-use Rattle.safe_machine.specs.declared.arrival.Decision.TheVariants.{Nothing, Drops, Rejects, Accepts}
-use Rattle.safe_machine.specs.Step.{carry_out, guard, respond}
-use Rattle.safe_machine.specs.Moves.{RequestsLaw}
-use Rattle.safe_machine.specs.Moves.Move.{Guards, Hears, Ticks, Sends, Leaves}
+use Rattle.safe_machine.proofs.Words.{◌≡◌, ℕ, true, false, cond, refl, sym, ap, subst, ◌∙◌, by_cond, by_test, Kind, ConnReq, Pdu, Down, Start, Stranger, State}
+use Rattle.safe_machine.proofs.Words.{Decision, is_stranger, is_ours, in_down, by_connection, by_sender, decide, Nothing, Drops, Rejects, Accepts, carry_out}
+use Rattle.safe_machine.proofs.Words.{guard, respond, RequestsLaw, Guards, Hears, Ticks, Sends, is_closed, is_live, kept_of}
+use Rattle.safe_machine.specs.Moves.Move.{Leaves}
 use Rattle.safe_machine.proofs.one.MovesLaw.{moves_law_holds}
-use Rattle.safe_machine.specs.Connections.{is_closed, is_live}
-use Rattle.safe_machine.specs.View.{kept_of}
 
 abbrev IsRequest : Pdu → Type 0
 IsRequest p = (p.kind ≡ ConnReq) × (is_ours p.body ≡ true)

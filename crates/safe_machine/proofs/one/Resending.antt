@@ -1,7 +1,5 @@
 -- What units that are sent again leave as it was.
-use Rattle.std.proofs.Common.{◌≡◌, ℕ, List, [], ◌∷◌, refl, ◌∙◌}
-use Rattle.safe_pdu.specs.declared.Kind.TheVariants.{RetrData}
-use Rattle.safe_machine.specs.State.{State, make, resend}
+use Rattle.safe_machine.proofs.Words.{◌≡◌, ℕ, List, [], ◌∷◌, refl, ◌∙◌, RetrData, State, make, resend}
 
 -- every part of a state that one of them leaves
 resend-keeps : {X : Type 0} (part : State → X) → ((unit : List ℕ) (now : ℕ) (s : State) → part (make RetrData unit now s) ≡ part s) →

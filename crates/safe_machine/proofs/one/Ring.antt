@@ -1,17 +1,8 @@
 -- Confirming drops from the ring what is not above, an answer numbers it anew, and its units are the unconfirmed ones.
-use Rattle.std.proofs.Common.{◌≡◌, ℕ, ◌+◌, ◌-◌, ◌<◌, ◌≤◌, List, [], ◌∷◌, ◌++◌, length, take, drop, Bool, false, refl, sym, ap, ◌∙◌, arith, append_assoc, length-append}
-use Rattle.std.specs.Prelude.{if◌then◌else◌, nat_lt}
-use Rattle.std.proofs.lemmas.List.{append-nil, drop-drop, take-append-drop, drop-append-le, length-take, length-drop}
-use Rattle.std.proofs.lemmas.Bool.{lt-ltb}
-use Rattle.std.proofs.lemmas.Bool.Decides.{nat_tests}
-use Rattle.safe_pdu.specs.declared.Kind.{Kind}
-use Rattle.safe_pdu.specs.declared.Kind.TheVariants.{RetrResp, Data, RetrData}
-use Rattle.safe_machine.specs.Made.{Made, after_pdu, run_after}
-use Rattle.safe_machine.specs.State.{State, next_made, make, resend, unconfirmed}
-use Rattle.retrans.specs.Units.{Numbered, above, renumbered, octets_of}
-use Rattle.safe_machine.specs.Ring.{after_at, carried_at, ring_of}
-use Rattle.std.proofs.lemmas.List.{map-append, length-map}
-use Rattle.std.proofs.lemmas.List.Elements.{filter-append}
+use Rattle.safe_machine.proofs.Words.{◌≡◌, ℕ, ◌+◌, ◌-◌, ◌<◌, ◌≤◌, List, [], ◌∷◌, ◌++◌, length, take, drop, Bool, false, refl, sym, ap, ◌∙◌, arith, append_assoc}
+use Rattle.safe_machine.proofs.Words.{length-append, if◌then◌else◌, nat_lt, append-nil, drop-drop, take-append-drop, drop-append-le, length-take, length-drop}
+use Rattle.safe_machine.proofs.Words.{lt-ltb, nat_tests, Kind, RetrResp, Data, RetrData, Made, after_pdu, run_after, State, next_made, make, resend}
+use Rattle.safe_machine.proofs.Words.{unconfirmed, Numbered, above, renumbered, octets_of, after_at, carried_at, ring_of, map-append, length-map, filter-append}
 
 pub octets_of-append : (a b : List Numbered) → octets_of (a ++ b) ≡ octets_of a ++ octets_of b
 octets_of-append = map-append (λ (c : Numbered). c.octets)

@@ -1,16 +1,7 @@
 -- What a move does to the ring of a history, and to what is kept of it.
-use Rattle.std.proofs.Common.{◌≡◌, ℕ, zero, suc, ◌+◌, ◌-◌, ◌<◌, List, [], ◌∷◌, ◌++◌, length, drop, Bool, true, false, refl, sym, ap, ◌∙◌, arith, length-append}
-use Rattle.std.proofs.lemmas.List.{drop-append-le, length-drop}
-use Rattle.retrans.specs.Units.{Numbered, above}
-use Rattle.safe_pdu.specs.declared.Kind.{Kind}
-use Rattle.safe_pdu.specs.declared.Kind.TheVariants.{RetrResp, Data, RetrData}
-use Rattle.safe_pdu.specs.Pdu.{Pdu}
-use Rattle.safe_machine.specs.Decision.{cs_step}
-use Rattle.safe_machine.specs.Made.{Made, last_time}
-use Rattle.safe_machine.specs.Ring.{after_at, carried_at, ring_of}
-use Rattle.safe_machine.specs.State.{State, make, next_made}
-use Rattle.safe_machine.specs.Step.{confirm_units}
-use Rattle.safe_machine.specs.View.{beside, kept_of}
+use Rattle.safe_machine.proofs.Words.{◌≡◌, ℕ, zero, suc, ◌+◌, ◌-◌, ◌<◌, List, [], ◌∷◌, ◌++◌, length, drop, Bool, true, false, refl, sym, ap, ◌∙◌, arith}
+use Rattle.safe_machine.proofs.Words.{length-append, drop-append-le, length-drop, Numbered, above, Kind, RetrResp, Data, RetrData, Pdu, cs_step, Made}
+use Rattle.safe_machine.proofs.Words.{last_time, after_at, carried_at, ring_of, State, make, next_made, confirm_units, beside, kept_of}
 use Rattle.safe_machine.proofs.one.Ring.{carried_at-append, ring-confirm}
 
 last_time-push : (ms : List Made) (m : Made) (time : ℕ) → last_time (ms ++ m ∷ []) time ≡ m.time

@@ -1,10 +1,7 @@
 -- What lists of PDUs carry, by their pieces.
-use Rattle.std.proofs.Common.{◌⊎◌, inl, inr, suc, zero, ◌≡◌, ℕ, ◌+◌, ◌-◌, ◌<◌, ◌≤◌, List, [], ◌∷◌, ◌++◌, length, take, drop, refl, sym, ap, subst, ◌∙◌, arith, append_assoc}
-use Rattle.std.proofs.lemmas.List.{drop-drop, take-append-drop, length-drop}
-use Rattle.safe_pdu.specs.declared.Kind.{Kind}
-use Rattle.safe_pdu.specs.declared.Kind.TheVariants.{RetrResp, Data, RetrData}
-use Rattle.safe_machine.specs.Numbers.{sn_of}
-use Rattle.safe_machine.specs.Made.{Made, units, first_sent, after_pdu, run_after, run_of, is_request, is_answer}
+use Rattle.safe_machine.proofs.Words.{◌⊎◌, inl, inr, suc, zero, ◌≡◌, ℕ, ◌+◌, ◌-◌, ◌<◌, ◌≤◌, List, [], ◌∷◌, ◌++◌, length, take, drop, refl, sym, ap, subst, ◌∙◌}
+use Rattle.safe_machine.proofs.Words.{arith, append_assoc, drop-drop, take-append-drop, length-drop, Kind, RetrResp, Data, RetrData, sn_of, Made, units}
+use Rattle.safe_machine.proofs.Words.{first_sent, after_pdu, run_after, run_of, is_request, is_answer}
 
 pub units-append : (a b : List Made) → units (a ++ b) ≡ units a ++ units b
 units-append [] b = refl

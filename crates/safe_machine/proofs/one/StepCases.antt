@@ -1,21 +1,9 @@
 -- The steps of a machine with a case split: what holds of each case holds of the step.
-use Rattle.std.proofs.Common.{◌≡◌, ℕ, ◌+◌, ◌<◌, List, [], length, true, false, refl, sym, ◌∙◌}
-use Rattle.std.specs.Prelude.{if◌then◌else◌, ◌&&◌, nat_le, nat_lt}
-use Rattle.std.proofs.lemmas.Bool.{and_parts, cond_both, false≢true, leb-false, ltb-true}
-use Rattle.safe_pdu.specs.declared.Kind.TheVariants.{DiscReq, Heartbeat, Data}
-use Rattle.safe_pdu.specs.Pdu.{Pdu}
-use Rattle.safe_machine.specs.declared.ConnectionState.TheVariants.{Closed}
-use Rattle.safe_machine.specs.declared.Reason.{Reason}
-use Rattle.safe_machine.specs.declared.Reason.TheVariants.{Timeout, ProtocolError}
-use Rattle.safe_machine.specs.declared.Detail.{Detail}
-use Rattle.safe_machine.specs.declared.Detail.TheVariants.{Unspecified, Limit}
-use Rattle.safe_machine.specs.declared.arrival.Decision.TheVariants.{AnswersEarly}
-use Rattle.safe_machine.specs.Connections.{is_live, is_connected, in_turn}
-use Rattle.safe_machine.specs.Made.{carries, last_time, leaving_body}
-use Rattle.safe_machine.specs.State.{State, make, move_to, leave, hand_up, ask, unconfirmed}
-use Rattle.safe_machine.specs.View.{View, kept_of}
-use Rattle.safe_machine.specs.Deadlines.{by_guard}
-use Rattle.safe_machine.specs.Step.{guard, heartbeat, beat, take_unit, send, may_send, carry_out, answered_ahead}
+use Rattle.safe_machine.proofs.Words.{◌≡◌, ℕ, ◌+◌, ◌<◌, List, [], length, true, false, refl, sym, ◌∙◌, if◌then◌else◌, ◌&&◌, nat_le, nat_lt, and_parts}
+use Rattle.safe_machine.proofs.Words.{cond_both, false≢true, leb-false, ltb-true, DiscReq, Heartbeat, Data, Pdu, Closed, Reason, Timeout, ProtocolError, Detail}
+use Rattle.safe_machine.proofs.Words.{Unspecified, Limit, AnswersEarly, is_live, is_connected, in_turn, carries, last_time, leaving_body, State, make, move_to}
+use Rattle.safe_machine.proofs.Words.{leave, hand_up, ask, unconfirmed, View, kept_of, by_guard, guard, heartbeat, beat, take_unit, send, may_send, carry_out}
+use Rattle.safe_machine.proofs.Words.{answered_ahead}
 
 -- a DiscReq, or nothing, and closed
 pub leave-cases : (P : State → Type 0) (reason : Reason) (detail : Detail) (now : ℕ) (s : State) →

@@ -1,32 +1,15 @@
 -- A PDU of a stranger changes nothing, and before the connection is up nothing is taken.
-use Rattle.std.proofs.Common.{◌≡◌, ◌⊎◌, inl, inr, ◌==◌, ◌*◌, ℕ, Bool, true, false, refl, sym, ap, subst, ◌∙◌}
-use Rattle.std.specs.Prelude.{if◌then◌else◌, ◌&&◌, nat_le}
-use Rattle.safe_pdu.specs.declared.Kind.{Kind}
-use Rattle.safe_pdu.specs.declared.Kind.TheVariants.{ConnReq, ConnResp, Heartbeat, Data}
-use Rattle.safe_pdu.specs.Pdu.{Pdu}
-use Rattle.safe_machine.specs.declared.ConnectionState.TheVariants.{Closed, Down, Start, Up}
-use Rattle.safe_machine.specs.declared.DropCause.TheVariants.{Stranger, Number}
-use Rattle.safe_machine.specs.declared.Reason.{Reason}
-use Rattle.safe_machine.specs.declared.Reason.TheVariants.{WrongVersion, UnexpectedPdu, SequenceError, ProtocolError}
-use Rattle.safe_machine.specs.declared.Detail.{Detail}
-use Rattle.safe_machine.specs.declared.Detail.TheVariants.{Unspecified, ConfirmedNumber, ConfirmedTimestamp}
-use Rattle.safe_machine.specs.Made.{carries}
-use Rattle.safe_machine.specs.Settings.{Settings}
-use Rattle.safe_machine.specs.State.{State, move_to, pass, hand_up}
-use Rattle.safe_machine.specs.Table.{cell, start_row}
-use Rattle.safe_machine.specs.declared.arrival.Decision.{Decision}
-use Rattle.safe_machine.specs.Decision.{is_stranger, is_goodbye, is_ours, cs_fits, cts_fits, tested, in_down, as_client, in_start, by_cell, by_table, by_connection, by_sender, distance}
-use Rattle.safe_machine.specs.declared.arrival.Decision.TheVariants.{Nothing, Drops, Shuts, Leaves, Rejects, Accepts, Connects, Takes}
-use Rattle.safe_machine.specs.Step.{carry_out, guard, respond, beat, tests_passed}
-use Rattle.safe_machine.specs.Moves.{StrangersLaw, WaitsLaw}
-use Rattle.safe_machine.specs.Moves.Move.{Guards, Hears, Ticks, Sends, Leaves as LeavesNow}
-use Rattle.octets.specs.declared.limits.TheConstants.{REACH}
+use Rattle.safe_machine.proofs.Words.{◌≡◌, ◌⊎◌, inl, inr, ◌*◌, ℕ, Bool, true, false, refl, sym, ap, subst, ◌∙◌, if◌then◌else◌, ◌&&◌, nat_le, Kind, ConnReq}
+use Rattle.safe_machine.proofs.Words.{ConnResp, Heartbeat, Data, Pdu, Closed, Down, Start, Up, Stranger, Number, Reason, WrongVersion, UnexpectedPdu}
+use Rattle.safe_machine.proofs.Words.{SequenceError, ProtocolError, Detail, Unspecified, ConfirmedNumber, ConfirmedTimestamp, carries, Settings, State, move_to}
+use Rattle.safe_machine.proofs.Words.{pass, hand_up, cell, start_row, Decision, is_stranger, is_goodbye, is_ours, cs_fits, cts_fits, tested, in_down, as_client}
+use Rattle.safe_machine.proofs.Words.{in_start, by_cell, by_table, by_connection, by_sender, distance, Nothing, Drops, Shuts, Leaves, Rejects, Accepts}
+use Rattle.safe_machine.proofs.Words.{Connects, Takes, carry_out, guard, respond, beat, tests_passed, StrangersLaw, WaitsLaw, Guards, Hears, Ticks, Sends}
+use Rattle.safe_machine.proofs.Words.{LeavesNow, REACH, is_closed, kept_of, cond_both}
+use Rattle.std.proofs.Common.{◌==◌}
 use Rattle.safe_machine.proofs.one.OneMachine.{plain-guard, plain-tick, plain-leave, send-taken, closed-respond}
 use Rattle.safe_machine.proofs.one.Identified.{settings_law_holds}
-use Rattle.safe_machine.specs.Connections.{is_closed}
-use Rattle.safe_machine.specs.View.{kept_of}
 use Rattle.safe_machine.proofs.one.StepCases.{guard-cases}
-use Rattle.std.proofs.lemmas.Bool.{cond_both}
 
 strange-drops : (p : Pdu) (now : ℕ) (s : State) → is_stranger s p ≡ true → respond p now s ≡ s
 strange-drops p now s strange =

@@ -1,15 +1,8 @@
 -- What the table says of each of its cells.
-use Rattle.std.proofs.Common.{◌≡◌, ℕ, List, [], ◌∷◌, Bool, true, false, refl}
-use Rattle.safe_pdu.specs.declared.Kind.{Kind}
-use Rattle.safe_pdu.specs.declared.Kind.TheVariants.{RetrReq, RetrResp, Heartbeat, Data, RetrData}
-use Rattle.safe_machine.specs.declared.ConnectionState.{ConnectionState}
-use Rattle.safe_machine.specs.declared.ConnectionState.TheVariants.{Start, Up, RetrReq as Requesting, RetrRun}
-use Rattle.safe_machine.specs.Made.{carries, after_pdu, is_answer}
-use Rattle.safe_machine.specs.declared.arrival.Cell.{Cell}
-use Rattle.safe_machine.specs.Table.{cell, start_row, up_row, run_row, request_row}
-use Rattle.safe_machine.specs.declared.arrival.Cell.TheVariants.{Take, Ask, Answer, Resume, Refuse, Skip}
+use Rattle.safe_machine.proofs.Words.{◌≡◌, ℕ, List, [], ◌∷◌, Bool, true, false, refl, Kind, RetrReq, RetrResp, Heartbeat, Data, RetrData, ConnectionState}
+use Rattle.safe_machine.proofs.Words.{Start, Up, Requesting, RetrRun, carries, after_pdu, is_answer, Cell, cell, start_row, up_row, run_row, request_row, Take}
+use Rattle.safe_machine.proofs.Words.{Ask, Answer, Resume, Refuse, Skip, in_turn, is_connected}
 use Rattle.safe_machine.proofs.two.Invariant.{room, needs_peer}
-use Rattle.safe_machine.specs.Connections.{in_turn, is_connected}
 
 -- the facts on which the law rests: each entry of the table, and nothing else of it
 abbrev pub Allowed : ConnectionState → Bool → Kind → Cell → Type 0

@@ -1,22 +1,10 @@
 -- Each PDU that a machine makes has a text.
-use Rattle.std.proofs.Common.{◌≡◌, ◌≤◌, ◌<◌, ◌+◌, ◌^◌, ℕ, zero, suc, List, [], ◌∷◌, ◌++◌, Bool, true, refl, sym, ap, subst, ◌∙◌, arith, length, drop}
-use Rattle.std.specs.Prelude.{◌&&◌, nat_le}
-use Rattle.std.proofs.lemmas.Bool.{le-leb, leb-true, eqb-true, cond_both, and_parts}
-use Rattle.octets.specs.declared.limits.TheConstants.{LEAVING_BODY, UNIT_MIN, UNIT_MAX}
-use Rattle.safe_pdu.specs.declared.Kind.{Kind}
-use Rattle.safe_pdu.specs.declared.Kind.TheVariants.{ConnReq, ConnResp, RetrReq, RetrResp, DiscReq, Heartbeat, Data, RetrData}
-use Rattle.safe_pdu.specs.declared.CodeLength.TheVariants.{Eight}
-use Rattle.safe_pdu.specs.Pdu.{Pdu}
-use Rattle.safe_pdu.specs.Bodies.{IsBody, window_of}
-use Rattle.safe_pdu.specs.SafeText.{HasNumbers}
-use Rattle.safe_pdu.proofs.SafeLemmas.{length-text}
+use Rattle.safe_machine.proofs.Words.{◌≡◌, ◌≤◌, ◌<◌, ◌+◌, ◌^◌, ℕ, zero, suc, List, [], ◌∷◌, ◌++◌, Bool, true, refl, sym, ap, subst, ◌∙◌, arith, length, drop}
+use Rattle.safe_machine.proofs.Words.{◌&&◌, nat_le, le-leb, leb-true, eqb-true, cond_both, and_parts, LEAVING_BODY, UNIT_MIN, UNIT_MAX, Kind, ConnReq, ConnResp}
+use Rattle.safe_machine.proofs.Words.{RetrReq, RetrResp, DiscReq, Heartbeat, Data, RetrData, Eight, Pdu, IsBody, window_of, HasNumbers, length-text, Made}
+use Rattle.safe_machine.proofs.Words.{opening_body, after_pdu, run_after, State, next_made, make, resend, reply, unconfirmed, opened, blank, Settings, is_legal}
+use Rattle.safe_machine.proofs.Words.{Move, moved, move, HasText, HaveTexts, IsUnitSized, AreSoundMoves, IsSoundMove, TextsLaw, Guards, Start, Down}
 use Rattle.safe_machine.specs.Numbers.{sn_of}
-use Rattle.safe_machine.specs.Made.{Made, opening_body, after_pdu, run_after}
-use Rattle.safe_machine.specs.State.{State, next_made, make, resend, reply, unconfirmed, opened, blank}
-use Rattle.safe_machine.specs.Settings.{Settings, is_legal}
-use Rattle.safe_machine.specs.Moves.{Move, moved, move, HasText, HaveTexts, IsUnitSized, AreSoundMoves, IsSoundMove, TextsLaw}
-use Rattle.safe_machine.specs.Moves.Move.{Guards}
-use Rattle.safe_machine.specs.declared.ConnectionState.TheVariants.{Start, Down}
 use Rattle.safe_machine.proofs.one.Legal.{legal}
 use Rattle.safe_machine.proofs.two.Receiving.{opening_window}
 use Rattle.safe_machine.proofs.one.Kept.{Kept, AllowsMove, kept-move, is_plain}

@@ -1,37 +1,18 @@
 -- A history's view takes the view's turn, and the history grows by what the turn made and what it handed up.
-use Rattle.std.proofs.Common.{◌≡◌, ℕ, ◌+◌, ◌-◌, ◌<◌, List, [], ◌∷◌, ◌++◌, length, Bool, true, false, refl, sym, ap, subst, ◌∙◌, arith, append_assoc, append-nil, length-append, Result, Ok, Err}
-use Rattle.std.specs.Prelude.{if◌then◌else◌, nat_le}
-use Rattle.std.proofs.lemmas.Bool.{ltb-true, and_parts}
-use Rattle.std.proofs.lemmas.List.{drop_all}
-use Rattle.retrans.specs.Units.{Numbered, octets_of, renumbered}
-use Rattle.safe_pdu.specs.declared.Kind.{Kind}
-use Rattle.safe_pdu.specs.declared.Kind.TheVariants.{ConnReq, ConnResp, RetrReq, RetrResp, DiscReq, Heartbeat, Data, RetrData}
-use Rattle.safe_pdu.specs.Pdu.{Pdu}
-use Rattle.safe_pdu.specs.Bodies.{window_of}
-use Rattle.safe_pdu.specs.Places.{safe_seen}
-use Rattle.safe_pdu.specs.declared.SafeFault.{SafeFault}
-use Rattle.safe_machine.specs.declared.ConnectionState.{ConnectionState}
-use Rattle.safe_machine.specs.declared.ConnectionState.TheVariants.{Closed, Down, Start, Up, RetrReq as Requesting, RetrRun}
-use Rattle.safe_machine.specs.declared.Reason.{Reason}
-use Rattle.safe_machine.specs.declared.Reason.TheVariants.{Timeout, ProtocolError, WrongVersion}
-use Rattle.safe_machine.specs.declared.Detail.{Detail}
-use Rattle.safe_machine.specs.declared.Detail.TheVariants.{Unspecified, Limit}
-use Rattle.safe_machine.specs.declared.arrival.Decision.{Decision}
-use Rattle.safe_machine.specs.declared.arrival.Decision.TheVariants.{Nothing, Drops, Shuts, Leaves, Rejects, Accepts, Connects, Takes, Asks, Resumes, AnswersNext, AnswersEarly}
-use Rattle.safe_machine.specs.Connections.{in_turn, is_live}
-use Rattle.safe_machine.specs.Deadlines.{beat_due, by_guard}
-use Rattle.safe_machine.specs.Decision.{cs_fits, cs_step, decide, distance}
-use Rattle.safe_machine.specs.Made.{carries, leaving_body, opening_body}
-use Rattle.safe_machine.specs.Moves.{Move, move}
-use Rattle.safe_machine.specs.Moves.Move.{Guards, Hears, Ticks, Sends, Leaves as LeavesNow}
-use Rattle.safe_machine.specs.Octets.{arrive_octets, heard, hears, hears_units}
-use Rattle.safe_machine.specs.Ring.{carried_at, ring_of}
-use Rattle.safe_machine.specs.Settings.{Settings}
-use Rattle.safe_machine.specs.State.{State, ask, blank, hand_up, leave, make, move_to, next_made, note_request, opened, pass, reply, resend, unconfirmed}
-use Rattle.safe_machine.specs.Step.{answered_ahead, arrive, beat, carry_out, confirm_to, confirm_units, guard, heartbeat, may_send, respond, send, set_window, take_unit, tests_passed, tick}
-use Rattle.safe_machine.specs.Turned.{MaySend, OpenedTurn, Tells, Turned, handed, turn}
-use Rattle.safe_machine.specs.Turns.{Turn, answers_ahead, arrives, asks, beats, both_confirmed, carried, carries_out, confirmed_to, counted, goes_on, guards, hands, handed_by, has_room, is_open, leaves, moved_to, opens, passed, renumbers, replies, requested, resends, responds, says, sends, sends_unit, still, takes_unit, units_confirmed, unsaid, windowed}
-use Rattle.safe_machine.specs.View.{View, StandsFor, beside, kept_of}
+use Rattle.safe_machine.proofs.Words.{◌≡◌, ℕ, ◌+◌, ◌-◌, ◌<◌, List, [], ◌∷◌, ◌++◌, length, Bool, true, false, refl, sym, ap, subst, ◌∙◌, arith, append_assoc}
+use Rattle.safe_machine.proofs.Words.{length-append, Result, Ok, Err, if◌then◌else◌, nat_le, ltb-true, and_parts, drop_all, Numbered, octets_of, renumbered}
+use Rattle.safe_machine.proofs.Words.{Kind, ConnReq, ConnResp, RetrReq, RetrResp, DiscReq, Heartbeat, Data, RetrData, Pdu, window_of, safe_seen, SafeFault}
+use Rattle.safe_machine.proofs.Words.{ConnectionState, Closed, Down, Start, Up, Requesting, RetrRun, Reason, Timeout, ProtocolError, WrongVersion, Detail}
+use Rattle.safe_machine.proofs.Words.{Unspecified, Limit, Decision, Nothing, Drops, Shuts, Leaves, Rejects, Accepts, Connects, Takes, Asks, Resumes}
+use Rattle.safe_machine.proofs.Words.{AnswersNext, AnswersEarly, in_turn, is_live, beat_due, by_guard, cs_fits, cs_step, decide, distance, carries}
+use Rattle.safe_machine.proofs.Words.{leaving_body, opening_body, Move, move, Guards, Hears, Ticks, Sends, LeavesNow, arrive_octets, heard, hears, hears_units}
+use Rattle.safe_machine.proofs.Words.{carried_at, ring_of, Settings, State, ask, blank, hand_up, leave, make, move_to, next_made, note_request, opened, pass}
+use Rattle.safe_machine.proofs.Words.{reply, resend, unconfirmed, answered_ahead, arrive, beat, carry_out, confirm_to, confirm_units, guard, heartbeat}
+use Rattle.safe_machine.proofs.Words.{may_send, respond, send, set_window, take_unit, tests_passed, tick, MaySend, OpenedTurn, Tells, Turned, handed, turn}
+use Rattle.safe_machine.proofs.Words.{Turn, answers_ahead, arrives, asks, beats, both_confirmed, carried, carries_out, confirmed_to, counted, goes_on, guards}
+use Rattle.safe_machine.proofs.Words.{hands, handed_by, has_room, is_open, leaves, moved_to, opens, passed, renumbers, replies, requested, resends, responds}
+use Rattle.safe_machine.proofs.Words.{says, sends, sends_unit, still, takes_unit, units_confirmed, unsaid, windowed, View, StandsFor, beside, kept_of}
+use Rattle.std.proofs.Common.{append-nil}
 use Rattle.safe_machine.proofs.one.Deciding.{Fits, decide-fits}
 use Rattle.safe_machine.proofs.one.OneMachine.{plain-guard}
 use Rattle.safe_machine.proofs.one.StepCases.{early-cases, heartbeat-cases, leave-cases, send-cases, unit-cases}

@@ -1,17 +1,11 @@
 -- The next PDU of the peer passes every test.
-use Rattle.std.proofs.Common.{◌≡◌, ℕ, ◌+◌, ◌-◌, ◌<◌, ◌≤◌, List, [], ◌∷◌, ◌++◌, length, drop, true, refl, sym, ap, ◌∙◌, arith}
-use Rattle.std.proofs.lemmas.Bool.{lt-ltb, le-leb}
-use Rattle.std.proofs.lemmas.List.{append-nil}
-use Rattle.safe_machine.specs.Numbers.{sn_of, ahead}
-use Rattle.safe_machine.specs.Made.{Made, units, run_of}
-use Rattle.safe_machine.specs.State.{State}
-use Rattle.safe_machine.specs.Decision.{cs_fits, cts_fits, distance, cs_step, cts_step}
+use Rattle.safe_machine.proofs.Words.{◌≡◌, ℕ, ◌+◌, ◌-◌, ◌<◌, ◌≤◌, List, [], ◌∷◌, ◌++◌, length, drop, true, refl, sym, ap, ◌∙◌, arith, lt-ltb, le-leb}
+use Rattle.safe_machine.proofs.Words.{append-nil, sn_of, ahead, Made, units, run_of, State, cs_fits, cts_fits, distance, cs_step, cts_step, kept_of}
 use Rattle.safe_machine.proofs.one.Numbers.{ahead-up, ahead-next}
 use Rattle.safe_machine.proofs.one.Runs.{every-at, numbered-at}
 use Rattle.safe_machine.proofs.two.Invariant.{Told, Solo, Half, Few}
 use Rattle.safe_machine.proofs.two.Times.{Timed}
 use Rattle.safe_machine.proofs.two.Timing.{Coming, basis}
-use Rattle.safe_machine.specs.View.{kept_of}
 
 pub next-distance : (m : Made) (rest : List Made) (x y : State) → Solo y → Half y x → 1 ≤ x.expected → drop x.expected y.made ≡ m ∷ rest → distance (kept_of x) m.pdu ≡ 0
 next-distance m rest x y solo h late at =

@@ -1,13 +1,7 @@
 -- Two ends that have not met, each opened once at most: nothing comes to the interlocking, and nothing to a field element
 -- that is not closed.
-use Rattle.std.proofs.Common.{◌≡◌, ◌≢◌, ◌⊎◌, inl, inr, ℕ, ◌+◌, ◌≤◌, List, [], ◌∷◌, ◌++◌, length, drop, sym, ap, subst, ◌∙◌, arith, length-append}
-use Rattle.safe_pdu.specs.Pdu.{Pdu}
-use Rattle.safe_machine.specs.declared.ConnectionState.TheVariants.{Closed, Down}
-use Rattle.safe_machine.specs.Made.{Made}
-use Rattle.safe_machine.specs.State.{State}
-use Rattle.safe_machine.specs.Step.{arrive}
-use Rattle.safe_machine.specs.World.{Served, GenuineAt}
-use Rattle.safe_machine.specs.InOrder.{NextArrival}
+use Rattle.safe_machine.proofs.Words.{◌≡◌, ◌≢◌, ◌⊎◌, inl, inr, ℕ, ◌+◌, ◌≤◌, List, [], ◌∷◌, ◌++◌, length, drop, sym, ap, subst, ◌∙◌, arith, length-append, Pdu}
+use Rattle.safe_machine.proofs.Words.{Closed, Down, Made, State, arrive, Served, GenuineAt, NextArrival}
 use Rattle.safe_machine.proofs.one.Runs.{Every, every-at}
 use Rattle.safe_machine.proofs.one.OneMachine.{closed-arrive}
 use Rattle.safe_machine.proofs.two.Invariant.{is_opening, NotOpening}

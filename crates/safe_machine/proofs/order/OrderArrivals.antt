@@ -1,17 +1,8 @@
 -- The next PDU of the peer comes in.
-use Rattle.std.proofs.Common.{◌≡◌, ◌≢◌, inl, inr, ℕ, suc, zero, ◌+◌, ◌-◌, ◌<◌, ◌≤◌, List, [], ◌∷◌, length, drop, Bool, true, false, refl, sym, ap, subst, ◌∙◌, arith, length-append}
-use Rattle.std.proofs.lemmas.Bool.{false≢true}
-use Rattle.safe_pdu.specs.declared.Kind.TheVariants.{ConnReq, ConnResp, Heartbeat}
-use Rattle.safe_pdu.specs.Bodies.{window_of}
-use Rattle.safe_machine.specs.declared.ConnectionState.{ConnectionState}
-use Rattle.safe_machine.specs.declared.ConnectionState.TheVariants.{Closed, Down, Start, Up}
-use Rattle.safe_machine.specs.Made.{Made, opening_body}
-use Rattle.safe_machine.specs.State.{State, next_made, move_to, pass, hand_up}
-use Rattle.safe_machine.specs.declared.arrival.Decision.{Decision}
-use Rattle.safe_machine.specs.Decision.{decide, is_stranger, cs_fits, cts_fits}
-use Rattle.safe_machine.specs.declared.arrival.Decision.TheVariants.{Accepts, Connects, Takes}
-use Rattle.safe_machine.specs.Step.{tests_passed, set_window, carry_out, respond}
-use Rattle.safe_machine.specs.InOrder.{client_state, server_state}
+use Rattle.safe_machine.proofs.Words.{◌≡◌, ◌≢◌, inl, inr, ℕ, suc, zero, ◌+◌, ◌-◌, ◌<◌, ◌≤◌, List, [], ◌∷◌, length, drop, Bool, true, false, refl, sym, ap}
+use Rattle.safe_machine.proofs.Words.{subst, ◌∙◌, arith, length-append, false≢true, ConnReq, ConnResp, Heartbeat, window_of, ConnectionState, Closed, Down}
+use Rattle.safe_machine.proofs.Words.{Start, Up, Made, opening_body, State, next_made, move_to, pass, hand_up, Decision, decide, is_stranger, cs_fits, cts_fits}
+use Rattle.safe_machine.proofs.Words.{Accepts, Connects, Takes, tests_passed, set_window, carry_out, respond, client_state, server_state, is_live, kept_of}
 use Rattle.safe_machine.proofs.one.Runs.{every-at, every-from}
 use Rattle.safe_machine.proofs.two.Invariant.{needs_peer, Started, Solo, Pair, Few}
 use Rattle.safe_machine.proofs.two.Arrivals.{Arrival}
@@ -22,8 +13,6 @@ use Rattle.safe_machine.proofs.order.InOrder.{next-distance, next-cs, next-cts}
 use Rattle.safe_machine.proofs.order.OrderKinds.{GoodAt, is_plain, is_bare, bare-plain, good-bare, kinds-push}
 use Rattle.safe_machine.proofs.order.OrderEnds.{state_of, Beyond, End, Ends, end-make, end-made, ends-make, ends-close, end-take}
 use Rattle.safe_machine.proofs.order.OrderDecide.{Passes, ShutsOrTakes, decide-up, decide-granted, decide-connects, decide-accepts}
-use Rattle.safe_machine.specs.Connections.{is_live}
-use Rattle.safe_machine.specs.View.{kept_of}
 use Rattle.safe_machine.proofs.one.StepCases.{unit-cases}
 
 -- what is known where the next PDU of y comes in at x, which is not closed

@@ -1,26 +1,11 @@
 -- What an end decides on the next PDU of its peer.
-use Rattle.std.proofs.Common.{◌≡◌, ◌⊎◌, inl, inr, ℕ, ◌*◌, Bool, true, false, refl, sym, ap, subst, ◌∙◌, arith}
-use Rattle.std.specs.Prelude.{if◌then◌else◌, nat_le}
-use Rattle.std.proofs.lemmas.Bool.{le-leb}
-use Rattle.safe_pdu.specs.declared.Kind.{Kind}
-use Rattle.safe_pdu.specs.declared.Kind.TheVariants.{ConnReq, ConnResp, DiscReq, Heartbeat, Data}
-use Rattle.safe_machine.specs.declared.ConnectionState.{ConnectionState}
-use Rattle.safe_machine.specs.declared.ConnectionState.TheVariants.{Down, Start, Up}
-use Rattle.safe_machine.specs.declared.DropCause.TheVariants.{Stranger, Number}
-use Rattle.safe_machine.specs.declared.Reason.TheVariants.{WrongVersion, ProtocolError}
-use Rattle.safe_machine.specs.declared.Detail.TheVariants.{Unspecified, ConfirmedNumber, ConfirmedTimestamp}
-use Rattle.safe_pdu.specs.Pdu.{Pdu}
-use Rattle.safe_machine.specs.Made.{opening_body}
-use Rattle.safe_machine.specs.State.{State}
-use Rattle.safe_machine.specs.Table.{cell}
-use Rattle.safe_machine.specs.declared.arrival.Cell.TheVariants.{Take}
-use Rattle.safe_machine.specs.declared.arrival.Decision.{Decision}
-use Rattle.safe_machine.specs.Decision.{is_ours, is_stranger, cs_fits, cts_fits, tested, in_down, as_client, distance, by_cell, by_table, is_goodbye, by_connection, decide}
-use Rattle.safe_machine.specs.declared.arrival.Decision.TheVariants.{Nothing, Drops, Shuts, Leaves, Rejects, Accepts, Connects, Takes}
+use Rattle.safe_machine.proofs.Words.{◌≡◌, ◌⊎◌, inl, inr, ℕ, ◌*◌, Bool, true, false, refl, sym, ap, subst, ◌∙◌, arith, if◌then◌else◌, nat_le, le-leb, Kind}
+use Rattle.safe_machine.proofs.Words.{ConnReq, ConnResp, DiscReq, Heartbeat, Data, ConnectionState, Down, Start, Up, Stranger, Number, WrongVersion}
+use Rattle.safe_machine.proofs.Words.{ProtocolError, Unspecified, ConfirmedNumber, ConfirmedTimestamp, Pdu, opening_body, State, cell, Take, Decision, is_ours}
+use Rattle.safe_machine.proofs.Words.{is_stranger, cs_fits, cts_fits, tested, in_down, as_client, distance, by_cell, by_table, is_goodbye, by_connection}
+use Rattle.safe_machine.proofs.Words.{decide, Nothing, Drops, Shuts, Leaves, Rejects, Accepts, Connects, Takes, is_closed, kept_of}
 use Rattle.safe_machine.proofs.two.Invariant.{needs_peer}
 use Rattle.safe_machine.proofs.order.OrderKinds.{is_plain, is_bare}
-use Rattle.safe_machine.specs.Connections.{is_closed}
-use Rattle.safe_machine.specs.View.{kept_of}
 
 -- an end in this state, to which the PDU is addressed
 pub decided : (s : State) (p : Pdu) (now : ℕ) (connection : ConnectionState) → s.connection ≡ connection → is_stranger s p ≡ false →

@@ -1,19 +1,12 @@
 -- What holds of an end and its peer while everything comes in order, and the moves that keep it.
-use Rattle.std.proofs.Common.{◌≡◌, ◌≢◌, ℕ, ◌+◌, ◌-◌, ◌≤◌, List, [], ◌∷◌, length, drop, Bool, true, false, refl, sym, ◌∙◌, arith, length-append}
-use Rattle.std.proofs.lemmas.List.{drop-drop}
-use Rattle.safe_pdu.specs.declared.Kind.{Kind}
-use Rattle.safe_machine.specs.declared.ConnectionState.{ConnectionState}
-use Rattle.safe_machine.specs.declared.ConnectionState.TheVariants.{Closed, Up}
-use Rattle.safe_machine.specs.Made.{Made}
-use Rattle.safe_machine.specs.State.{State, next_made, make, move_to}
-use Rattle.safe_machine.specs.Decision.{cs_fits, cs_step}
-use Rattle.safe_machine.specs.InOrder.{client_state, server_state}
+use Rattle.safe_machine.proofs.Words.{◌≡◌, ◌≢◌, ℕ, ◌+◌, ◌-◌, ◌≤◌, List, [], ◌∷◌, length, drop, Bool, true, false, refl, sym, ◌∙◌, arith, length-append}
+use Rattle.safe_machine.proofs.Words.{drop-drop, Kind, ConnectionState, Closed, Up, Made, State, next_made, make, move_to, cs_fits, cs_step, client_state}
+use Rattle.safe_machine.proofs.Words.{server_state, kept_of}
 use Rattle.safe_machine.proofs.one.Runs.{Every, every-from, every-drop_push}
 use Rattle.safe_machine.proofs.two.Invariant.{needs_peer}
 use Rattle.safe_machine.proofs.two.Arrivals.{Arrival, arrival-index}
 use Rattle.safe_machine.proofs.two.Times.{Rises, behind_of}
 use Rattle.safe_machine.proofs.order.OrderKinds.{GoodAt, Kinds, kinds-push}
-use Rattle.safe_machine.specs.View.{kept_of}
 
 -- the state of an end in this role after a number of arrivals
 abbrev pub state_of : Bool → ℕ → ConnectionState

@@ -1,11 +1,8 @@
 -- What two ends make to which everything comes in order.
-use Rattle.std.proofs.Common.{◌≡◌, inl, inr, ℕ, suc, zero, ◌≤◌, List, [], ◌∷◌, ◌++◌, length, take, drop, Bool, true, false, refl, sym, ap, subst, ◌∙◌, arith, append_assoc, length-append}
-use Rattle.std.proofs.lemmas.List.{append-nil, append_cancel_right, take-append-drop}
-use Rattle.std.proofs.lemmas.Bool.{false≢true}
-use Rattle.safe_pdu.specs.declared.Kind.{Kind}
-use Rattle.safe_pdu.specs.declared.Kind.TheVariants.{ConnReq, ConnResp, RetrReq, RetrResp, DiscReq, Heartbeat, Data, RetrData}
-use Rattle.safe_machine.specs.Made.{Made, opening_body, units, first_sent, after_pdu, run_after, run_of}
-use Rattle.safe_machine.specs.InOrder.{AsksNothing}
+use Rattle.safe_machine.proofs.Words.{◌≡◌, inl, inr, ℕ, suc, zero, ◌≤◌, List, [], ◌∷◌, ◌++◌, length, take, drop, Bool, true, false, refl, sym, ap, subst, ◌∙◌}
+use Rattle.safe_machine.proofs.Words.{arith, append_assoc, length-append, append-nil, append_cancel_right, take-append-drop, false≢true, Kind, ConnReq}
+use Rattle.safe_machine.proofs.Words.{ConnResp, RetrReq, RetrResp, DiscReq, Heartbeat, Data, RetrData, Made, opening_body, units, first_sent, after_pdu}
+use Rattle.safe_machine.proofs.Words.{run_after, run_of, AsksNothing}
 use Rattle.safe_machine.proofs.one.Runs.{units-append, Every, every-drop, every-from, at-length}
 use Rattle.safe_machine.proofs.two.Times.{at-append}
 

@@ -1,18 +1,11 @@
 -- Over every list of events in which each end hears the peer's PDUs one by one in the order of their making, nothing is
 -- asked for again and everything is taken.
-use Rattle.std.proofs.Common.{◌≡◌, ◌≢◌, inl, inr, ℕ, suc, zero, ◌+◌, ◌≤◌, List, [], ◌∷◌, ◌++◌, length, take, drop, Bool, true, false, refl, sym, ap, subst, ◌∙◌, arith}
-use Rattle.std.proofs.lemmas.Bool.{false≢true, cond_both}
-use Rattle.safe_machine.specs.World.Side.{Il, Fe}
-use Rattle.safe_pdu.specs.declared.Kind.TheVariants.{ConnReq}
-use Rattle.safe_machine.specs.declared.ConnectionState.{ConnectionState}
-use Rattle.safe_machine.specs.declared.ConnectionState.TheVariants.{Closed, Down, Start, Up}
-use Rattle.safe_machine.specs.Made.{Made, opening_body, units, run_of}
-use Rattle.safe_machine.specs.Settings.{Settings, is_legal}
-use Rattle.safe_machine.specs.State.{State, next_made, blank, opened, leave}
-use Rattle.safe_machine.specs.Step.{guard, arrive, tick, send}
-use Rattle.safe_machine.specs.World.{World, Served, Event, start, run, event_end, event_time, at_end, changed, happens, GenuineEvent, Genuine, Timely, as_role, open_il, open_fe}
-use Rattle.safe_machine.specs.World.Event.{Open, Send, Close, Guard, Tick, Arrive}
-use Rattle.safe_machine.specs.InOrder.{AsksNothing, client_state, server_state, KeepsOrder, InOrderEvent, InOrder, heard_by_il, heard_by_fe, all_heard_by_il, all_heard_by_fe, OrderLaw}
+use Rattle.safe_machine.proofs.Words.{◌≡◌, ◌≢◌, inl, inr, ℕ, suc, zero, ◌+◌, ◌≤◌, List, [], ◌∷◌, ◌++◌, length, take, drop, Bool, true, false, refl, sym, ap}
+use Rattle.safe_machine.proofs.Words.{subst, ◌∙◌, arith, false≢true, cond_both, Il, Fe, ConnReq, ConnectionState, Closed, Down, Start, Up, Made, opening_body}
+use Rattle.safe_machine.proofs.Words.{units, run_of, Settings, is_legal, State, next_made, blank, opened, leave, guard, arrive, tick, send, World, Served}
+use Rattle.safe_machine.proofs.Words.{Event, start, run, event_end, event_time, at_end, changed, happens, GenuineEvent, Genuine, Timely, as_role, open_il}
+use Rattle.safe_machine.proofs.Words.{open_fe, Open, Send, Close, Guard, Tick, Arrive, AsksNothing, client_state, server_state, KeepsOrder, InOrderEvent}
+use Rattle.safe_machine.proofs.Words.{InOrder, heard_by_il, heard_by_fe, all_heard_by_il, all_heard_by_fe, OrderLaw}
 use Rattle.safe_machine.proofs.one.Runs.{Every, every-from, every-drop_all}
 use Rattle.safe_machine.proofs.two.Invariant.{needs_peer, is_opening, NotOpening, Started}
 use Rattle.safe_machine.proofs.two.Lone.{lone-leave, lone-guard, lone-tick, lone-send}

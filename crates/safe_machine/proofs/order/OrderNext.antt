@@ -1,24 +1,13 @@
 -- In order, no PDU but a DiscReq closes an end that is not closed, and none has it make a DiscReq.
-use Rattle.std.proofs.Common.{◌≡◌, ◌≢◌, ℕ, suc, zero, List, [], Bool, true, false, refl, sym, ap, subst, ◌∙◌, arith}
-use Rattle.std.specs.Prelude.{if◌then◌else◌}
-use Rattle.safe_pdu.specs.declared.Kind.{Kind}
-use Rattle.safe_pdu.specs.declared.Kind.TheVariants.{ConnResp, Heartbeat, Data}
-use Rattle.safe_pdu.specs.Pdu.{Pdu}
-use Rattle.safe_pdu.specs.Bodies.{window_of}
-use Rattle.safe_machine.specs.declared.ConnectionState.TheVariants.{Closed, Down, Start, Up}
-use Rattle.safe_machine.specs.Made.{Made, opening_body}
-use Rattle.safe_machine.specs.State.{State, next_made, make, move_to, pass, hand_up}
-use Rattle.safe_machine.specs.Table.{cell}
-use Rattle.safe_machine.specs.Decision.{is_stranger, is_goodbye, by_table, decide, distance, as_client}
-use Rattle.safe_machine.specs.declared.arrival.Decision.TheVariants.{Shuts, Takes, Connects, Accepts}
-use Rattle.safe_machine.specs.Step.{carry_out, respond, set_window, tests_passed}
+use Rattle.safe_machine.proofs.Words.{◌≡◌, ◌≢◌, ℕ, suc, zero, List, [], Bool, true, false, refl, sym, ap, subst, ◌∙◌, arith, if◌then◌else◌, Kind, ConnResp}
+use Rattle.safe_machine.proofs.Words.{Heartbeat, Data, Pdu, window_of, Closed, Down, Start, Up, Made, opening_body, State, next_made, make, move_to, pass}
+use Rattle.safe_machine.proofs.Words.{hand_up, cell, is_stranger, is_goodbye, by_table, decide, distance, as_client, Shuts, Takes, Connects, Accepts, carry_out}
+use Rattle.safe_machine.proofs.Words.{respond, set_window, tests_passed, is_live, kept_of}
 use Rattle.safe_machine.proofs.one.Runs.{Every, every-push}
 use Rattle.safe_machine.proofs.two.Invariant.{needs_peer}
 use Rattle.safe_machine.proofs.order.OrderKinds.{GoodAt, is_plain, is_bare, bare-plain}
 use Rattle.safe_machine.proofs.order.OrderDecide.{Passes, decided, table-takes, up-cell, start-cell, decide-connects, decide-accepts}
 use Rattle.safe_machine.proofs.order.OrderArrivals.{NextIn, next-tests, next-passes}
-use Rattle.safe_machine.specs.Connections.{is_live}
-use Rattle.safe_machine.specs.View.{kept_of}
 use Rattle.safe_machine.proofs.one.StepCases.{unit-cases}
 use Rattle.safe_machine.proofs.one.ConnectionFacts.{start≢closed}
 

@@ -1,19 +1,8 @@
 -- Each step of an end keeps what holds of it and its peer while everything comes in order.
-use Rattle.std.proofs.Common.{◌≡◌, ◌≢◌, inl, inr, ℕ, suc, zero, ◌+◌, ◌<◌, ◌≤◌, List, [], length, drop, Bool, true, false, refl, sym, ap, subst, ◌∙◌, arith}
-use Rattle.std.specs.Prelude.{◌&&◌, nat_lt}
-use Rattle.std.proofs.lemmas.Bool.{ltb-false}
-use Rattle.safe_pdu.specs.declared.Kind.TheVariants.{DiscReq, Heartbeat, Data}
-use Rattle.safe_pdu.specs.Pdu.{Pdu}
-use Rattle.safe_machine.specs.declared.ConnectionState.{ConnectionState}
-use Rattle.safe_machine.specs.declared.ConnectionState.TheVariants.{Closed, Down, Start, Up, RetrRun}
-use Rattle.safe_machine.specs.declared.Reason.{Reason}
-use Rattle.safe_machine.specs.declared.Detail.{Detail}
-use Rattle.safe_machine.specs.Made.{Made, leaving_body}
-use Rattle.safe_machine.specs.State.{State, unconfirmed, next_made, make, leave}
-use Rattle.safe_machine.specs.Decision.{is_stranger}
-use Rattle.safe_machine.specs.Step.{guard, respond, arrive, heartbeat, tick, may_send, send}
-use Rattle.safe_machine.specs.World.{GenuineAt}
-use Rattle.safe_machine.specs.InOrder.{GuardHolds, NextArrival, AllThere}
+use Rattle.safe_machine.proofs.Words.{◌≡◌, ◌≢◌, inl, inr, ℕ, suc, zero, ◌+◌, ◌<◌, ◌≤◌, List, [], length, drop, Bool, true, false, refl, sym, ap, subst, ◌∙◌}
+use Rattle.safe_machine.proofs.Words.{arith, ◌&&◌, nat_lt, ltb-false, DiscReq, Heartbeat, Data, Pdu, ConnectionState, Closed, Down, Start, Up, RetrRun, Reason}
+use Rattle.safe_machine.proofs.Words.{Detail, Made, leaving_body, State, unconfirmed, next_made, make, leave, is_stranger, guard, respond, arrive, heartbeat}
+use Rattle.safe_machine.proofs.Words.{tick, may_send, send, GenuineAt, GuardHolds, NextArrival, AllThere, is_live, in_turn}
 use Rattle.safe_machine.proofs.two.Invariant.{Started, Solo, Pair}
 use Rattle.safe_machine.proofs.two.Moves.{pair-leave, started-parts}
 use Rattle.safe_machine.proofs.one.Counting.{Bounded}
@@ -25,7 +14,6 @@ use Rattle.safe_machine.proofs.order.InOrder.{all-taken}
 use Rattle.safe_machine.proofs.order.OrderKinds.{good-bare, good-plain}
 use Rattle.safe_machine.proofs.order.OrderEnds.{state_of, opposite, Ends, ends-make, ends-close, ends-closed}
 use Rattle.safe_machine.proofs.order.OrderArrivals.{NextIn, next-ends}
-use Rattle.safe_machine.specs.Connections.{is_live, in_turn}
 use Rattle.safe_machine.proofs.one.StepCases.{leave-cases, heartbeat-cases, send-cases}
 use Rattle.safe_machine.proofs.one.ConnectionFacts.{closed_or}
 

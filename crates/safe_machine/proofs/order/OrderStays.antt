@@ -1,16 +1,9 @@
 -- Over every list of events in order without a closing by a caller, no end that was opened closes.
-use Rattle.std.proofs.Common.{◌≡◌, ◌≢◌, ℕ, ◌≤◌, List, [], ◌∷◌, Bool, true, false, refl, sym, subst, arith}
-use Rattle.std.specs.Prelude.{if◌then◌else◌}
-use Rattle.std.proofs.lemmas.Bool.{false≢true, cond_both}
-use Rattle.safe_pdu.specs.declared.Kind.TheVariants.{Heartbeat, Data}
-use Rattle.safe_pdu.specs.Pdu.{Pdu}
-use Rattle.safe_machine.specs.World.Side.{Il, Fe}
-use Rattle.safe_machine.specs.Settings.{Settings, is_legal}
-use Rattle.safe_machine.specs.State.{State, opened}
-use Rattle.safe_machine.specs.Step.{guard, respond, arrive, heartbeat, tick, send}
-use Rattle.safe_machine.specs.World.{World, Event, start, run, event_end, event_time, at_end, changed, happens, GenuineEvent, Genuine, Timely, as_role, open_il, open_fe}
-use Rattle.safe_machine.specs.World.Event.{Open, Send, Close, Guard, Tick, Arrive}
-use Rattle.safe_machine.specs.InOrder.{GuardHolds, NextArrival, InOrderEvent, InOrder, heard_by_il, heard_by_fe, is_close, has_close, StaysLaw}
+use Rattle.safe_machine.proofs.Words.{◌≡◌, ◌≢◌, ℕ, ◌≤◌, List, [], ◌∷◌, Bool, true, false, refl, sym, subst, arith, if◌then◌else◌, false≢true, cond_both}
+use Rattle.safe_machine.proofs.Words.{Heartbeat, Data, Pdu, Il, Fe, Settings, is_legal, State, opened, guard, respond, arrive, heartbeat, tick, send, World}
+use Rattle.safe_machine.proofs.Words.{Event, start, run, event_end, event_time, at_end, changed, happens, GenuineEvent, Genuine, Timely, as_role, open_il}
+use Rattle.safe_machine.proofs.Words.{open_fe, Open, Send, Close, Guard, Tick, Arrive, GuardHolds, NextArrival, InOrderEvent, InOrder, heard_by_il, heard_by_fe}
+use Rattle.safe_machine.proofs.Words.{is_close, has_close, StaysLaw}
 use Rattle.safe_machine.proofs.one.Runs.{every-at}
 use Rattle.safe_machine.proofs.one.Counting.{Bounded}
 use Rattle.safe_machine.proofs.two.Freshness.{TInv, t-event, t-start}

@@ -1,24 +1,15 @@
 -- An arrival of a PDU that the peer made keeps the invariant.
-use Rattle.std.proofs.Common.{◌≡◌, ℕ, ◌+◌, ◌-◌, ◌<◌, ◌≤◌, List, [], ◌∷◌, ◌++◌, length, drop, true, false, refl, sym, ap, ◌∙◌, arith}
-use Rattle.std.proofs.lemmas.List.{append-nil}
-use Rattle.safe_pdu.specs.declared.Kind.TheVariants.{RetrReq, RetrResp}
-use Rattle.safe_machine.specs.declared.ConnectionState.{ConnectionState}
-use Rattle.safe_machine.specs.declared.ConnectionState.TheVariants.{RetrRun}
-use Rattle.safe_machine.specs.Made.{Made, after_pdu, carries, is_request, is_answer}
-use Rattle.safe_machine.specs.State.{State, make, move_to, pass, hand_up, note_request, reply, ask, unconfirmed}
-use Rattle.safe_machine.specs.Decision.{cs_fits, distance, cs_step}
-use Rattle.safe_machine.specs.declared.arrival.Decision.TheVariants.{Takes, Resumes, AnswersNext, AnswersEarly}
-use Rattle.safe_machine.specs.Step.{tests_passed, carry_out, confirm_units}
+use Rattle.safe_machine.proofs.Words.{◌≡◌, ℕ, ◌+◌, ◌-◌, ◌<◌, ◌≤◌, List, [], ◌∷◌, ◌++◌, length, drop, true, false, refl, sym, ap, ◌∙◌, arith, append-nil}
+use Rattle.safe_machine.proofs.Words.{RetrReq, RetrResp, ConnectionState, RetrRun, Made, after_pdu, carries, is_request, is_answer, State, make, move_to, pass}
+use Rattle.safe_machine.proofs.Words.{hand_up, note_request, reply, ask, unconfirmed, cs_fits, distance, cs_step, Takes, Resumes, AnswersNext, AnswersEarly}
+use Rattle.safe_machine.proofs.Words.{tests_passed, carry_out, confirm_units, in_turn, is_connected, kept_of, cond_both}
 use Rattle.safe_machine.proofs.one.Runs.{requests, answers, count-at, every-at, no_requests, RequestAt}
 use Rattle.safe_machine.proofs.two.Invariant.{room, needs_peer, Told, Sound, Started, SoloOf, Solo, Half, Pair, Few}
 use Rattle.safe_machine.proofs.two.Moves.{room-le, pair-beat, pair-ask, pair-reply, started-from}
 use Rattle.safe_machine.proofs.two.Passing.{half-take, half-resume, half-confirm, confirm-index}
 use Rattle.safe_machine.proofs.one.TableLemmas.{carries-unit, carries-none, in_turn-room}
 use Rattle.safe_machine.proofs.one.Resending.{resend-connection}
-use Rattle.safe_machine.specs.Connections.{in_turn, is_connected}
-use Rattle.safe_machine.specs.View.{kept_of}
 use Rattle.safe_machine.proofs.one.StepCases.{unit-cases}
-use Rattle.std.proofs.lemmas.Bool.{cond_both}
 
 -- what is known where a PDU of the peer comes in
 pub record Arrival (d : ℕ) (m : Made) (rest : List Made) (x y : State) : Type 0 where

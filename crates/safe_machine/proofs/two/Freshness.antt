@@ -1,22 +1,11 @@
 -- Over every list of events with clocks that never go back, what is taken is fresh.
-use Rattle.std.proofs.Common.{◌≡◌, ◌≢◌, ◌⊎◌, inl, inr, ℕ, suc, zero, ◌+◌, ◌-◌, ◌<◌, ◌≤◌, List, [], ◌∷◌, ◌++◌, length, drop, true, refl, sym, ap, subst, ◌∙◌, arith}
-use Rattle.std.proofs.lemmas.Bool.{false≢true, cond_both}
-use Rattle.safe_machine.specs.World.Side.{Il, Fe}
-use Rattle.safe_pdu.specs.declared.Kind.TheVariants.{ConnReq, RetrResp}
-use Rattle.safe_machine.specs.declared.ConnectionState.{ConnectionState}
-use Rattle.safe_machine.specs.declared.ConnectionState.TheVariants.{Closed, Down, Start}
-use Rattle.safe_pdu.specs.Pdu.{Pdu}
-use Rattle.safe_machine.specs.Made.{Made, opening_body}
-use Rattle.safe_machine.specs.Numbers.{sn_of}
-use Rattle.safe_machine.specs.Settings.{Settings, is_legal}
-use Rattle.safe_machine.specs.State.{State, unconfirmed, make, move_to, pass, note_request, reply, leave, opened, blank, next_made}
-use Rattle.safe_machine.specs.declared.arrival.Decision.{Decision}
-use Rattle.safe_machine.specs.Decision.{decide, distance}
-use Rattle.safe_machine.specs.declared.arrival.Decision.TheVariants.{Leaves, Takes, AnswersNext, AnswersEarly}
-use Rattle.safe_machine.specs.Step.{guard, respond, arrive, carry_out, tick, send, tests_passed, confirm_units}
-use Rattle.safe_machine.specs.World.{World, Event, start, changed, run, event_end, event_time, at_end, Timely, happens, GenuineAt, GenuineEvent, Genuine, as_role, open_il, open_fe, with_il, with_fe}
-use Rattle.safe_machine.specs.World.Event.{Open, Send, Close, Guard, Tick, Arrive}
-use Rattle.safe_machine.specs.Law.{Fresh, FreshEvent, AllFresh, FreshLaw, FreshAtLastLaw}
+use Rattle.safe_machine.proofs.Words.{◌≡◌, ◌≢◌, ◌⊎◌, inl, inr, ℕ, suc, zero, ◌+◌, ◌-◌, ◌<◌, ◌≤◌, List, [], ◌∷◌, ◌++◌, length, drop, true, refl, sym, ap, subst}
+use Rattle.safe_machine.proofs.Words.{◌∙◌, arith, false≢true, cond_both, Il, Fe, ConnReq, RetrResp, ConnectionState, Closed, Down, Start, Pdu, Made}
+use Rattle.safe_machine.proofs.Words.{opening_body, sn_of, Settings, is_legal, State, unconfirmed, make, move_to, pass, note_request, reply, leave, opened}
+use Rattle.safe_machine.proofs.Words.{blank, next_made, Decision, decide, distance, Leaves, Takes, AnswersNext, AnswersEarly, guard, respond, arrive, carry_out}
+use Rattle.safe_machine.proofs.Words.{tick, send, tests_passed, confirm_units, World, Event, start, changed, run, event_end, event_time, at_end, Timely}
+use Rattle.safe_machine.proofs.Words.{happens, GenuineAt, GenuineEvent, Genuine, as_role, open_il, open_fe, with_il, with_fe, Open, Send, Close, Guard, Tick}
+use Rattle.safe_machine.proofs.Words.{Arrive, Fresh, FreshEvent, AllFresh, FreshLaw, FreshAtLastLaw, is_live, kept_of}
 use Rattle.safe_machine.proofs.one.Legal.{legal as lawful}
 use Rattle.safe_machine.proofs.one.Runs.{Every, every-at, every-weaken, every-drop_all, at-length, numbered-at}
 use Rattle.safe_machine.proofs.two.Invariant.{NotOpening, Solo, Half, Pair, Told}
@@ -27,11 +16,10 @@ use Rattle.safe_machine.proofs.two.Lone.{Lone, lone-leave, lone-guard, lone-tick
 use Rattle.safe_machine.proofs.two.Status.{Mute, Met, Status, Untouched, mute-leave, mute-guard, mute-tick, mute-send, mute-arrive, deaf-arrive, still-arrive}
 use Rattle.safe_machine.proofs.two.Status.Status.{met, il_later, fe_later}
 use Rattle.safe_machine.proofs.two.Times.{Timed, Steps, Stamped, timed-receiver, timed-sender}
-use Rattle.safe_machine.proofs.two.Timing.{Makes, makes-then, makes-leave, makes-guard, makes-heartbeat, makes-send, steps-none, steps-then, steps-carry, guard-passed, fresh-take}
+use Rattle.safe_machine.proofs.two.Timing.{Makes, makes-then, makes-leave, makes-guard, makes-heartbeat, makes-send, steps-none, steps-then, steps-carry}
+use Rattle.safe_machine.proofs.two.Timing.{guard-passed, fresh-take}
 use Rattle.safe_machine.proofs.two.Worlds.{Inv, inv-event, inv-open_il, inv-open_fe, inv-start, nobody-among, mute-il, still-lone, on-lone}
 use Rattle.safe_machine.proofs.one.Resending.{resend-settings, resend-taken}
-use Rattle.safe_machine.specs.Connections.{is_live}
-use Rattle.safe_machine.specs.View.{kept_of}
 use Rattle.safe_machine.proofs.one.StepCases.{guard-cases, unit-cases, early-cases}
 use Rattle.safe_machine.proofs.one.ConnectionFacts.{down_or}
 

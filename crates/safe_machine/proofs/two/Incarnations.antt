@@ -1,13 +1,7 @@
 -- The law over the lists of incarnations: what an opening and a step change.
-use Rattle.std.proofs.Common.{◌≡◌, inl, inr, ℕ, ◌+◌, ◌<◌, ◌≤◌, List, [], ◌∷◌, length, Option, Some, None, Bool, false, refl, sym, ap, subst, ◌∙◌, arith}
-use Rattle.std.specs.Prelude.{if◌then◌else◌, ◌==◌, MatchOption}
-use Rattle.std.proofs.lemmas.Bool.{eq-eqb}
-use Rattle.std.proofs.lemmas.Bool.Decides.{eqb_tells}
-use Rattle.octets.specs.Lists.{IsBeginning}
-use Rattle.safe_machine.specs.Made.{units}
-use Rattle.safe_machine.specs.State.{State}
-use Rattle.safe_machine.specs.World.{Served}
-use Rattle.safe_machine.specs.Law.{JoinedBelow, next_bound, JoinsFall, IsJoined}
+use Rattle.safe_machine.proofs.Words.{◌≡◌, inl, inr, ℕ, ◌+◌, ◌<◌, ◌≤◌, List, [], ◌∷◌, length, Option, Some, None, Bool, false, refl, sym, ap, subst, ◌∙◌, arith}
+use Rattle.safe_machine.proofs.Words.{if◌then◌else◌, ◌==◌, MatchOption, eq-eqb, eqb_tells, IsBeginning, units, State, Served, JoinedBelow, next_bound}
+use Rattle.safe_machine.proofs.Words.{JoinsFall, IsJoined}
 use Rattle.safe_machine.proofs.two.Inner.{incarnation, TakesBeginnings, AllTakeBeginnings, OnlyJoinedTake}
 use Rattle.safe_machine.proofs.two.Lone.{Lone, beginning_trans}
 

@@ -1,11 +1,7 @@
 -- The law over all ends that ever stood, with the end before its first opening as number 0 and last of its list.
-use Rattle.std.specs.Prelude.{ℕ, ◌+◌, ◌≡◌, ◌≢◌, ◌≤◌, ◌⊎◌, ◌==◌, Option, Some, None, MatchOption, List, [], ◌∷◌, length, if◌then◌else◌}
-use Rattle.octets.specs.Lists.{IsBeginning}
-use Rattle.safe_machine.specs.declared.ConnectionState.TheVariants.{Closed}
-use Rattle.safe_machine.specs.Made.{units}
-use Rattle.safe_machine.specs.State.{State, unconfirmed}
-use Rattle.safe_machine.specs.World.{Served}
-use Rattle.safe_machine.specs.Law.{JoinsFall, IsJoined, taken_from_il, taken_count}
+use Rattle.safe_machine.proofs.Words.{◌==◌, MatchOption, if◌then◌else◌, IsBeginning, Closed, units, State, unconfirmed, Served, JoinsFall, IsJoined}
+use Rattle.safe_machine.proofs.Words.{taken_from_il, taken_count}
+use Rattle.std.specs.Prelude.{ℕ, ◌+◌, ◌≡◌, ◌≢◌, ◌≤◌, ◌⊎◌, Option, Some, None, List, [], ◌∷◌, length}
 
 -- the incarnation with this number, counted from 0
 abbrev pub incarnation : List State → ℕ → Option State

@@ -1,13 +1,6 @@
 -- What holds of two machines at every moment.
-use Rattle.std.proofs.Common.{◌≡◌, ℕ, ◌+◌, ◌-◌, ◌≤◌, List, [], ◌++◌, length, drop, Bool, true, false}
-use Rattle.safe_pdu.specs.declared.Kind.{Kind}
-use Rattle.safe_pdu.specs.declared.Kind.TheVariants.{ConnReq, ConnResp, DiscReq}
-use Rattle.safe_machine.specs.declared.ConnectionState.{ConnectionState}
-use Rattle.safe_machine.specs.declared.ConnectionState.TheVariants.{Closed, Down, Start, RetrReq as Requesting}
-use Rattle.safe_machine.specs.Numbers.{sn_of}
-use Rattle.safe_pdu.specs.Bodies.{window_of}
-use Rattle.safe_machine.specs.Made.{Made, units, run_of}
-use Rattle.safe_machine.specs.State.{State}
+use Rattle.safe_machine.proofs.Words.{◌≡◌, ℕ, ◌+◌, ◌-◌, ◌≤◌, List, [], ◌++◌, length, drop, Bool, true, false, Kind, ConnReq, ConnResp, DiscReq, ConnectionState}
+use Rattle.safe_machine.proofs.Words.{Closed, Down, Start, Requesting, sn_of, window_of, Made, units, run_of, State}
 use Rattle.safe_machine.proofs.one.Runs.{requests, answers, Every, RequestAt, Numbered}
 
 -- how many requests may be open: requests that the peer has not handled, and answers not yet taken

@@ -1,31 +1,15 @@
 -- The steps in which an end takes nothing: it sends, leaves, tests its guard, or ticks.
-use Rattle.std.proofs.Common.{◌≡◌, ◌≢◌, ◌⊎◌, inl, inr, ℕ, suc, ◌+◌, ◌<◌, ◌≤◌, List, [], ◌∷◌, ◌++◌, length, drop, Bool, true, false, refl, sym, ap, subst, ◌∙◌, arith, append_assoc, length-append}
-use Rattle.std.specs.Prelude.{if◌then◌else◌, ◌&&◌, ◌==◌}
-use Rattle.std.proofs.lemmas.List.{append-nil, drop-drop}
-use Rattle.std.proofs.lemmas.Bool.{false≢true, cond_both}
-use Rattle.octets.specs.Lists.{IsBeginning}
-use Rattle.safe_pdu.specs.declared.Kind.{Kind}
-use Rattle.safe_pdu.specs.declared.Kind.TheVariants.{DiscReq, Heartbeat, Data}
-use Rattle.safe_machine.specs.declared.ConnectionState.{ConnectionState}
-use Rattle.safe_machine.specs.declared.ConnectionState.TheVariants.{Closed, Down}
-use Rattle.safe_pdu.specs.Pdu.{Pdu}
-use Rattle.safe_machine.specs.Made.{Made, units, first_sent, after_pdu, leaving_body}
-use Rattle.safe_machine.specs.Settings.{Settings}
-use Rattle.safe_machine.specs.State.{State, unconfirmed, next_made, make, move_to, leave}
-use Rattle.safe_machine.specs.Decision.{is_stranger, by_connection, by_sender}
-use Rattle.safe_machine.specs.declared.arrival.Decision.TheVariants.{Drops, Nothing}
-use Rattle.safe_machine.specs.declared.DropCause.TheVariants.{Stranger}
-use Rattle.safe_machine.specs.Step.{guard, respond, arrive, carry_out, heartbeat, tick, send}
-use Rattle.safe_machine.specs.World.{Among, GenuineAt}
+use Rattle.safe_machine.proofs.Words.{◌≡◌, ◌≢◌, ◌⊎◌, inl, inr, ℕ, suc, ◌+◌, ◌<◌, ◌≤◌, List, [], ◌∷◌, ◌++◌, length, drop, Bool, true, false, refl, sym, ap}
+use Rattle.safe_machine.proofs.Words.{subst, ◌∙◌, arith, append_assoc, length-append, if◌then◌else◌, ◌&&◌, ◌==◌, append-nil, drop-drop, false≢true, cond_both}
+use Rattle.safe_machine.proofs.Words.{IsBeginning, Kind, DiscReq, Heartbeat, Data, ConnectionState, Closed, Down, Pdu, Made, units, first_sent, after_pdu}
+use Rattle.safe_machine.proofs.Words.{leaving_body, Settings, State, unconfirmed, next_made, make, move_to, leave, is_stranger, by_connection, by_sender, Drops}
+use Rattle.safe_machine.proofs.Words.{Nothing, Stranger, guard, respond, arrive, carry_out, heartbeat, tick, send, Among, GenuineAt, Reason, Detail, is_live}
+use Rattle.safe_machine.proofs.Words.{is_closed, kept_of}
 use Rattle.safe_machine.proofs.one.Runs.{units-append, Every, every-at, every-drop_push}
 use Rattle.safe_machine.proofs.two.Invariant.{is_opening, NotOpening, Sound, Started, Solo, Pair}
 use Rattle.safe_machine.proofs.two.Moves.{pair-leave, pair-beat, pair-sent}
 use Rattle.safe_machine.proofs.two.Receiving.{Incoming, pair-respond}
 use Rattle.safe_machine.proofs.one.Counting.{Bounded, bounded-guard, bounded-respond, bounded-heartbeat, unconfirmed-make}
-use Rattle.safe_machine.specs.declared.Reason.{Reason}
-use Rattle.safe_machine.specs.declared.Detail.{Detail}
-use Rattle.safe_machine.specs.Connections.{is_live, is_closed}
-use Rattle.safe_machine.specs.View.{kept_of}
 use Rattle.safe_machine.proofs.one.StepCases.{leave-cases, guard-cases, heartbeat-cases, send-cases}
 use Rattle.safe_machine.proofs.one.ConnectionFacts.{connected-live, turn-connected, turn-live, closed_or}
 

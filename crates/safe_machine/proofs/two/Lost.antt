@@ -1,15 +1,7 @@
 -- What is neither taken nor unconfirmed was not sent.
-use Rattle.std.proofs.Common.{◌≡◌, ◌≢◌, inl, inr, ℕ, ◌+◌, ◌≤◌, List, [], ◌∷◌, ◌++◌, length, drop, Option, Some, None, Bool, true, refl, sym, ap, ◌∙◌, arith, length-append}
-use Rattle.std.specs.Prelude.{if◌then◌else◌, ◌==◌}
-use Rattle.std.proofs.lemmas.List.{append-nil}
-use Rattle.std.proofs.lemmas.Bool.{eq-eqb}
-use Rattle.safe_pdu.specs.declared.Kind.{Kind}
-use Rattle.safe_pdu.specs.declared.Kind.TheVariants.{Data}
-use Rattle.safe_machine.specs.declared.ConnectionState.TheVariants.{Closed}
-use Rattle.safe_machine.specs.Made.{Made, units, first_sent, run_of}
-use Rattle.safe_machine.specs.State.{State, unconfirmed}
-use Rattle.safe_machine.specs.World.{Served}
-use Rattle.safe_machine.specs.Law.{JoinedBelow, taken_from_il, taken_count}
+use Rattle.safe_machine.proofs.Words.{◌≡◌, ◌≢◌, inl, inr, ℕ, ◌+◌, ◌≤◌, List, [], ◌∷◌, ◌++◌, length, drop, Option, Some, None, Bool, true, refl, sym, ap, ◌∙◌}
+use Rattle.safe_machine.proofs.Words.{arith, length-append, if◌then◌else◌, ◌==◌, append-nil, eq-eqb, Kind, Data, Closed, Made, units, first_sent, run_of, State}
+use Rattle.safe_machine.proofs.Words.{unconfirmed, Served, JoinedBelow, taken_from_il, taken_count}
 use Rattle.safe_machine.proofs.two.Inner.{incarnation, taken_from_fe, LosesNothingOf}
 use Rattle.safe_machine.proofs.one.Runs.{Every, zero_or}
 use Rattle.safe_machine.proofs.two.Invariant.{needs_peer, Half}

@@ -1,11 +1,8 @@
 -- Making a PDU keeps the invariant.
-use Rattle.std.proofs.Common.{◌≡◌, ℕ, ◌+◌, ◌≤◌, List, [], ◌∷◌, ◌++◌, drop, refl, ap, ◌∙◌, arith, length-append}
-use Rattle.std.proofs.lemmas.List.{append-nil, drop-append-le}
-use Rattle.safe_pdu.specs.declared.Kind.{Kind}
-use Rattle.safe_machine.specs.Numbers.{sn_of}
-use Rattle.safe_machine.specs.Made.{units, first_sent, after_pdu, run_of, is_request, is_answer}
-use Rattle.safe_machine.specs.State.{State, next_made, make}
-use Rattle.safe_machine.proofs.one.Runs.{units-append, run_after-append, requests, answers, count-push, count-drop_push, every-push, every-drop_push, RequestAt, numbered-push, first_plain-push}
+use Rattle.safe_machine.proofs.Words.{◌≡◌, ℕ, ◌+◌, ◌≤◌, List, [], ◌∷◌, ◌++◌, drop, refl, ap, ◌∙◌, arith, length-append, append-nil, drop-append-le, Kind, sn_of}
+use Rattle.safe_machine.proofs.Words.{units, first_sent, after_pdu, run_of, is_request, is_answer, State, next_made, make}
+use Rattle.safe_machine.proofs.one.Runs.{units-append, run_after-append, requests, answers, count-push, count-drop_push, every-push, every-drop_push, RequestAt}
+use Rattle.safe_machine.proofs.one.Runs.{numbered-push, first_plain-push}
 use Rattle.safe_machine.proofs.two.Invariant.{room, needs_peer, is_opening, Told, Sound, NotOpening, Started, Solo, HalfWith, Half}
 
 -- The direction in which the end sends. `carried` is the one field that a kind of its own decides.

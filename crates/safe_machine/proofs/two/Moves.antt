@@ -1,19 +1,12 @@
 -- The moves of one end keep the invariant of the pair.
-use Rattle.std.proofs.Common.{◌≡◌, ℕ, ◌+◌, ◌≤◌, List, [], ◌∷◌, ◌++◌, length, drop, Bool, true, refl, sym, ap, ◌∙◌, arith, append_assoc, length-append}
-use Rattle.std.proofs.lemmas.List.{append-nil}
-use Rattle.safe_pdu.specs.declared.Kind.{Kind}
-use Rattle.safe_pdu.specs.declared.Kind.TheVariants.{RetrReq, RetrResp, DiscReq, Heartbeat, Data, RetrData}
-use Rattle.safe_machine.specs.declared.ConnectionState.{ConnectionState}
-use Rattle.safe_machine.specs.declared.ConnectionState.TheVariants.{Closed, Down, Start, RetrReq as Requesting}
-use Rattle.safe_machine.specs.Made.{Made, units, first_sent, after_pdu, run_of, is_request, is_answer, leaving_body}
-use Rattle.safe_machine.specs.State.{State, next_made, make, move_to, unconfirmed, resend, reply, ask, leave}
+use Rattle.safe_machine.proofs.Words.{◌≡◌, ℕ, ◌+◌, ◌≤◌, List, [], ◌∷◌, ◌++◌, length, drop, Bool, true, refl, sym, ap, ◌∙◌, arith, append_assoc, length-append}
+use Rattle.safe_machine.proofs.Words.{append-nil, Kind, RetrReq, RetrResp, DiscReq, Heartbeat, Data, RetrData, ConnectionState, Closed, Down, Start, Requesting}
+use Rattle.safe_machine.proofs.Words.{Made, units, first_sent, after_pdu, run_of, is_request, is_answer, leaving_body, State, next_made, make, move_to}
+use Rattle.safe_machine.proofs.Words.{unconfirmed, resend, reply, ask, leave, Reason, Detail, is_connected}
 use Rattle.safe_machine.proofs.one.Runs.{requests, answers, count-drop_push, every-push, every-drop_push, RequestAt}
 use Rattle.safe_machine.proofs.two.Invariant.{room, needs_peer, is_opening, Told, Started, Solo, Half, PairWith, Pair}
 use Rattle.safe_machine.proofs.two.Making.{make-sends, make-receives, make-solo}
-use Rattle.safe_machine.specs.declared.Reason.{Reason}
-use Rattle.safe_machine.specs.declared.Detail.{Detail}
 use Rattle.safe_machine.proofs.one.Resending.{resend-connection}
-use Rattle.safe_machine.specs.Connections.{is_connected}
 use Rattle.safe_machine.proofs.one.StepCases.{leave-cases}
 
 pub room-le : (connection : ConnectionState) → room connection ≤ 1

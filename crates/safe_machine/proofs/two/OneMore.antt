@@ -1,8 +1,7 @@
 -- One event more, at the end of a list.
-use Rattle.std.proofs.Common.{◌≡◌, ℕ, Bool, true, false, cond, List, [], ◌∷◌, ◌++◌, refl}
-use Rattle.octets.proofs.Choices.{by_test}
-use Rattle.safe_machine.specs.World.{World, Event, happens, run, Genuine, GenuineEvent, Timely, TimelyEvent}
-use Rattle.safe_machine.specs.InOrder.{InOrder, InOrderEvent, heard_by_il, heard_by_fe, all_heard_by_il, all_heard_by_fe, is_close, has_close, OneMoreLaw}
+use Rattle.safe_machine.proofs.Words.{◌≡◌, ℕ, Bool, true, false, cond, List, [], ◌∷◌, ◌++◌, refl, by_test, World, Event, happens, run, Genuine, GenuineEvent}
+use Rattle.safe_machine.proofs.Words.{Timely, TimelyEvent, InOrder, InOrderEvent, heard_by_il, heard_by_fe, all_heard_by_il, all_heard_by_fe, is_close}
+use Rattle.safe_machine.proofs.Words.{has_close, OneMoreLaw}
 
 leads-more : (es : List Event) (e : Event) (w : World) → run (es ++ e ∷ []) w ≡ happens (run es w) e
 leads-more [] e w = refl

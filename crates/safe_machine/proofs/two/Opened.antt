@@ -1,26 +1,18 @@
 -- From the law over all ends that ever stood to that over the incarnations, which are those that were opened.
-use Rattle.std.proofs.Common.{◌≡◌, ◌≢◌, inl, inr, ℕ, zero, suc, ◌+◌, ◌≤◌, ◌==◌, List, [], ◌∷◌, ◌++◌, length, take, drop, Bool, true, false, Option, Some, None, refl, sym, ap, subst, ◌∙◌, arith}
-use Rattle.std.specs.Prelude.{if◌then◌else◌, MatchOption}
-use Rattle.std.proofs.lemmas.Bool.Decides.{nat_tests}
-use Rattle.safe_machine.specs.declared.ConnectionState.TheVariants.{Closed}
-use Rattle.safe_pdu.specs.Pdu.{Pdu}
-use Rattle.safe_machine.specs.Made.{Made, units}
-use Rattle.safe_machine.specs.State.{State, unconfirmed}
-use Rattle.safe_machine.specs.World.{World, Served, Event, unopened, start, run, happens, Genuine, GenuineEvent, GenuineAt, Among, joins, changed, open_il, open_fe, with_il, with_fe}
-use Rattle.safe_machine.specs.World.Side.{Il, Fe}
-use Rattle.safe_machine.specs.World.Event.{Open, Send, Close, Guard, Tick, Arrive}
-use Rattle.safe_machine.specs.Settings.{is_legal}
-use Rattle.safe_machine.specs.Moves.{Move, move, HearsOwn}
-use Rattle.safe_machine.specs.Moves.Move.{Guards, Hears, Ticks, Sends, Leaves}
+use Rattle.safe_machine.proofs.Words.{◌≡◌, ◌≢◌, inl, inr, ℕ, zero, suc, ◌+◌, ◌≤◌, List, [], ◌∷◌, ◌++◌, length, take, drop, Bool, true, false, Option, Some}
+use Rattle.safe_machine.proofs.Words.{None, refl, sym, ap, subst, ◌∙◌, arith, if◌then◌else◌, MatchOption, nat_tests, Closed, Pdu, Made, units, State}
+use Rattle.safe_machine.proofs.Words.{unconfirmed, World, Served, Event, unopened, start, run, happens, Genuine, GenuineEvent, GenuineAt, Among, joins, changed}
+use Rattle.safe_machine.proofs.Words.{open_il, open_fe, with_il, with_fe, Il, Fe, Open, Send, Close, Guard, Tick, Arrive, is_legal, Move, move, HearsOwn}
+use Rattle.safe_machine.proofs.Words.{Guards, Hears, Ticks, Sends, next_bound, JoinsFall, IsJoined, is_number, taken_from_il, taken_count, UnitLaw, LossLaw}
+use Rattle.safe_machine.proofs.Words.{JoinedLaw, cond_both, IsBeginning}
+use Rattle.std.proofs.Common.{◌==◌}
+use Rattle.safe_machine.specs.Moves.Move.{Leaves}
 use Rattle.safe_machine.proofs.one.Leaving.{joins-down}
 use Rattle.safe_machine.proofs.one.MovesLaw.{moves_law_holds}
-use Rattle.safe_machine.specs.Law.{next_bound, JoinsFall, IsJoined, is_number, taken_from_il, taken_count, UnitLaw, LossLaw, JoinedLaw}
-use Rattle.safe_machine.specs.Law as Public
 use Rattle.safe_machine.proofs.two.Inner.{incarnation, TakesBeginnings, AllTakeBeginnings, OnlyJoinedTake, taken_from_fe}
 use Rattle.safe_machine.proofs.two.Worlds.{Inv, inv-run, inv-start}
-use Rattle.std.proofs.lemmas.Bool.{cond_both}
-use Rattle.octets.specs.Lists.{IsBeginning}
 use Rattle.safe_machine.proofs.one.ConnectionFacts.{down≢closed}
+use Rattle.safe_machine.specs.Law as Public
 
 -- a list without its last entry
 length-front : {A : Type 0} (x : A) (xs : List A) → length (take (length xs) (x ∷ xs)) ≡ length xs

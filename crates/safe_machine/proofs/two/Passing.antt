@@ -1,17 +1,11 @@
 -- What an end learns from a PDU of its peer, and how taking it keeps the invariant.
-use Rattle.std.proofs.Common.{◌≡◌, ℕ, ◌+◌, ◌-◌, ◌<◌, ◌≤◌, List, [], ◌∷◌, ◌++◌, length, drop, true, sym, ap, subst, ◌∙◌, arith, append_assoc}
-use Rattle.std.proofs.lemmas.List.{append-nil}
-use Rattle.std.proofs.lemmas.Bool.{ltb-true}
-use Rattle.safe_machine.specs.declared.ConnectionState.{ConnectionState}
-use Rattle.safe_machine.specs.Numbers.{sn_of, ahead}
-use Rattle.safe_machine.specs.Made.{Made, units, after_pdu, run_after, run_of, is_answer}
-use Rattle.safe_machine.specs.State.{State}
-use Rattle.safe_machine.specs.Decision.{cs_fits, distance, cs_step}
+use Rattle.safe_machine.proofs.Words.{◌≡◌, ℕ, ◌+◌, ◌-◌, ◌<◌, ◌≤◌, List, [], ◌∷◌, ◌++◌, length, drop, true, sym, ap, subst, ◌∙◌, arith, append_assoc, append-nil}
+use Rattle.safe_machine.proofs.Words.{ltb-true, ConnectionState, sn_of, ahead, Made, units, after_pdu, run_after, run_of, is_answer, State, cs_fits, distance}
+use Rattle.safe_machine.proofs.Words.{cs_step, confirm_units, kept_of}
 use Rattle.safe_machine.proofs.one.Numbers.{ahead-up, ahead-down, ahead-next}
-use Rattle.safe_machine.proofs.one.Runs.{requests, answers, count-at, run_after-front, run_of-resume, at-length, at-next, every-at, every-weaken, no_requests, numbered-at}
+use Rattle.safe_machine.proofs.one.Runs.{requests, answers, count-at, run_after-front, run_of-resume, at-length, at-next, every-at, every-weaken, no_requests}
+use Rattle.safe_machine.proofs.one.Runs.{numbered-at}
 use Rattle.safe_machine.proofs.two.Invariant.{room, Told, Solo, HalfOf, Half, Few}
-use Rattle.safe_machine.specs.Step.{confirm_units}
-use Rattle.safe_machine.specs.View.{kept_of}
 
 told-more : (first a b : ℕ) → a ≤ b → (m : Made) → Told first a m → Told first b m
 told-more first a b h m t = record { behind = omega (arith, t.behind); cs = t.cs }

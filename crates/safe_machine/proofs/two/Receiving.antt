@@ -1,19 +1,9 @@
 -- The opening of a connection, and every arrival.
-use Rattle.std.proofs.Common.{◌≡◌, ℕ, suc, zero, ◌+◌, ◌≤◌, List, [], ◌∷◌, ◌++◌, length, drop, Bool, true, false, refl, sym, ap, subst, ◌∙◌, arith}
-use Rattle.std.proofs.lemmas.Bool.{false≢true}
-use Rattle.std.proofs.lemmas.List.{append-nil}
-use Rattle.safe_pdu.specs.declared.Kind.TheVariants.{ConnReq, ConnResp, DiscReq}
-use Rattle.safe_machine.specs.declared.ConnectionState.{ConnectionState}
-use Rattle.safe_machine.specs.declared.ConnectionState.TheVariants.{Closed, Down, Start, Up}
-use Rattle.safe_machine.specs.Numbers.{sn_of}
-use Rattle.safe_pdu.specs.Pdu.{Pdu}
-use Rattle.safe_pdu.specs.Bodies.{window_of}
-use Rattle.safe_machine.specs.Made.{Made, units, after_pdu, is_answer, opening_body, leaving_body}
-use Rattle.safe_machine.specs.State.{State, make, move_to, pass, next_made}
-use Rattle.safe_machine.specs.declared.arrival.Decision.{Decision}
-use Rattle.safe_machine.specs.Decision.{cs_fits, distance, decide}
-use Rattle.safe_machine.specs.declared.arrival.Decision.TheVariants.{Nothing, Drops, Shuts, Leaves, Rejects, Accepts, Connects, Takes, Asks, Resumes, AnswersNext, AnswersEarly}
-use Rattle.safe_machine.specs.Step.{tests_passed, carry_out, set_window, respond}
+use Rattle.safe_machine.proofs.Words.{◌≡◌, ℕ, suc, zero, ◌+◌, ◌≤◌, List, [], ◌∷◌, ◌++◌, length, drop, Bool, true, false, refl, sym, ap, subst, ◌∙◌, arith}
+use Rattle.safe_machine.proofs.Words.{false≢true, append-nil, ConnReq, ConnResp, DiscReq, ConnectionState, Closed, Down, Start, Up, sn_of, Pdu, window_of, Made}
+use Rattle.safe_machine.proofs.Words.{units, after_pdu, is_answer, opening_body, leaving_body, State, make, move_to, pass, next_made, Decision, cs_fits}
+use Rattle.safe_machine.proofs.Words.{distance, decide, Nothing, Drops, Shuts, Leaves, Rejects, Accepts, Connects, Takes, Asks, Resumes, AnswersNext}
+use Rattle.safe_machine.proofs.Words.{AnswersEarly, tests_passed, carry_out, set_window, respond, WrongVersion, Unspecified, kept_of}
 use Rattle.safe_machine.proofs.one.Runs.{Every, every-at, every-push, numbered-push}
 use Rattle.safe_machine.proofs.two.Invariant.{room, needs_peer, is_opening, Sound, NotOpening, Started, Solo, Half, Pair, Few}
 use Rattle.safe_machine.proofs.two.Making.{make-sends, make-receives}
@@ -21,9 +11,6 @@ use Rattle.safe_machine.proofs.two.Moves.{room-le, pair-closed, pair-plain, pair
 use Rattle.safe_machine.proofs.two.Passing.{half-take, reach}
 use Rattle.safe_machine.proofs.one.Deciding.{ByTable, Fits, listens, decide-fits}
 use Rattle.safe_machine.proofs.two.Arrivals.{Arrival, arrival-confirm, arrival-take, arrival-resume, arrival-next_request, arrival-early_request}
-use Rattle.safe_machine.specs.declared.Reason.TheVariants.{WrongVersion}
-use Rattle.safe_machine.specs.declared.Detail.TheVariants.{Unspecified}
-use Rattle.safe_machine.specs.View.{kept_of}
 
 -- a ConnReq or a ConnResp is the first PDU that its end made
 opening-first : (i : ℕ) (m : Made) (rest : List Made) (y : State) → Solo y → drop i y.made ≡ m ∷ rest → is_opening m.pdu.kind ≡ 1 → i ≡ 0

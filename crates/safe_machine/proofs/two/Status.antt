@@ -1,27 +1,14 @@
 -- The three ways in which the present incarnations can stand to each other.
-use Rattle.std.proofs.Common.{◌≡◌, ◌≢◌, ◌⊎◌, inl, inr, ℕ, ◌+◌, List, [], ◌∷◌, drop, Option, Some, None, Bool, true, false, refl, sym, ap, subst, ◌∙◌, arith}
-use Rattle.std.proofs.lemmas.Bool.{false≢true}
-use Rattle.safe_pdu.specs.declared.Kind.TheVariants.{DiscReq}
-use Rattle.safe_machine.specs.declared.ConnectionState.{ConnectionState}
-use Rattle.safe_machine.specs.declared.ConnectionState.TheVariants.{Closed, Down, Start}
-use Rattle.safe_pdu.specs.Pdu.{Pdu}
-use Rattle.safe_machine.specs.Made.{Made, units, leaving_body}
-use Rattle.safe_machine.specs.State.{State, next_made, move_to, leave}
-use Rattle.safe_machine.specs.declared.arrival.Decision.{Decision}
-use Rattle.safe_machine.specs.Decision.{decide}
-use Rattle.safe_machine.specs.declared.arrival.Decision.TheVariants.{Nothing, Drops, Shuts, Leaves, Rejects, Accepts, Connects, AnswersNext, AnswersEarly}
-use Rattle.safe_machine.specs.Step.{guard, respond, arrive, carry_out, tick, send}
-use Rattle.safe_machine.specs.World.{Served, GenuineAt}
-use Rattle.safe_machine.specs.Law.{JoinsFall}
+use Rattle.safe_machine.proofs.Words.{◌≡◌, ◌≢◌, ◌⊎◌, inl, inr, ℕ, ◌+◌, List, [], ◌∷◌, drop, Option, Some, None, Bool, true, false, refl, sym, ap, subst, ◌∙◌}
+use Rattle.safe_machine.proofs.Words.{arith, false≢true, DiscReq, ConnectionState, Closed, Down, Start, Pdu, Made, units, leaving_body, State, next_made}
+use Rattle.safe_machine.proofs.Words.{move_to, leave, Decision, decide, Nothing, Drops, Shuts, Leaves, Rejects, Accepts, Connects, AnswersNext, AnswersEarly}
+use Rattle.safe_machine.proofs.Words.{guard, respond, arrive, carry_out, tick, send, Served, GenuineAt, JoinsFall, Reason, Detail, is_live, in_turn}
+use Rattle.safe_machine.proofs.Words.{is_connected, kept_of}
 use Rattle.safe_machine.proofs.one.Runs.{Every, every-at, every-push}
 use Rattle.safe_machine.proofs.two.Invariant.{is_opening, needs_peer, NotOpening, Solo, Half}
 use Rattle.safe_machine.proofs.one.Deciding.{Fits, listens, decide-fits}
 use Rattle.safe_machine.proofs.one.Counting.{Bounded, bounded-guard, bounded-leave, bounded-closed}
 use Rattle.safe_machine.proofs.two.Lone.{Lone, lone-refl, lone-trans, lone-leave, lone-guard, lone-closed, arrive-by, among-dropped}
-use Rattle.safe_machine.specs.declared.Reason.{Reason}
-use Rattle.safe_machine.specs.declared.Detail.{Detail}
-use Rattle.safe_machine.specs.Connections.{is_live, in_turn, is_connected}
-use Rattle.safe_machine.specs.View.{kept_of}
 use Rattle.safe_machine.proofs.one.StepCases.{leave-cases, guard-cases, guard-idle, heartbeat-cases, send-cases}
 use Rattle.safe_machine.proofs.one.ConnectionFacts.{closed≢down}
 

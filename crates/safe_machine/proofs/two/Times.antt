@@ -1,8 +1,7 @@
 -- Times of PDUs: what an end took lately was made upon a PDU that it made lately.
-use Rattle.std.proofs.Common.{◌≡◌, ◌⊎◌, inl, inr, ℕ, suc, zero, ◌+◌, ◌-◌, ◌%◌, ◌<◌, ◌≤◌, List, [], ◌∷◌, ◌++◌, length, drop, sym, ap, subst, ◌∙◌, arith}
-use Rattle.safe_machine.specs.Numbers.{wrap, ahead}
-use Rattle.safe_machine.specs.Made.{Made}
-use Rattle.safe_machine.specs.State.{State}
+use Rattle.safe_machine.proofs.Words.{◌≡◌, ◌⊎◌, inl, inr, ℕ, suc, zero, ◌+◌, ◌-◌, ◌%◌, ◌<◌, ◌≤◌, List, [], ◌∷◌, ◌++◌, length, drop, sym, ap, subst, ◌∙◌, arith}
+use Rattle.safe_machine.proofs.Words.{wrap, Made, State}
+use Rattle.safe_machine.specs.Numbers.{ahead}
 use Rattle.safe_machine.proofs.one.Runs.{Every, every-append, every-at, every-weaken, at-length}
 use Rattle.safe_machine.proofs.two.Invariant.{Told}
 

@@ -1,31 +1,17 @@
 -- Each step of an end keeps the times of the pair.
-use Rattle.std.proofs.Common.{◌≡◌, ℕ, suc, zero, ◌+◌, ◌-◌, ◌%◌, ◌<◌, ◌≤◌, List, [], ◌∷◌, ◌++◌, length, drop, true, refl, sym, ap, subst, ◌∙◌, arith, append_assoc}
-use Rattle.std.proofs.lemmas.List.{append-nil}
-use Rattle.std.proofs.lemmas.Bool.{false≢true}
-use Rattle.safe_machine.specs.Numbers.{wrap, ahead}
-use Rattle.safe_pdu.specs.declared.Kind.{Kind}
-use Rattle.safe_pdu.specs.declared.Kind.TheVariants.{ConnResp, RetrReq, RetrResp, DiscReq, Heartbeat, Data, RetrData}
-use Rattle.safe_machine.specs.declared.ConnectionState.{ConnectionState}
-use Rattle.safe_machine.specs.declared.ConnectionState.TheVariants.{Closed, Start, Up, RetrReq as Requesting, RetrRun}
-use Rattle.safe_pdu.specs.Bodies.{window_of}
-use Rattle.safe_machine.specs.Made.{Made, opening_body, leaving_body}
-use Rattle.safe_machine.specs.State.{State, unconfirmed, next_made, make, move_to, pass, hand_up, note_request, resend, reply, ask, leave}
-use Rattle.safe_machine.specs.declared.arrival.Decision.{Decision}
-use Rattle.safe_machine.specs.Decision.{distance, cts_step}
-use Rattle.safe_machine.specs.declared.arrival.Decision.TheVariants.{Nothing, Drops, Shuts, Leaves, Rejects, Accepts, Connects, Takes, Asks, Resumes, AnswersNext, AnswersEarly}
-use Rattle.safe_machine.specs.Step.{tests_passed, carry_out, set_window, confirm_to, guard, heartbeat, send, confirm_units}
+use Rattle.safe_machine.proofs.Words.{◌≡◌, ℕ, suc, zero, ◌+◌, ◌-◌, ◌%◌, ◌<◌, ◌≤◌, List, [], ◌∷◌, ◌++◌, length, drop, true, refl, sym, ap, subst, ◌∙◌, arith}
+use Rattle.safe_machine.proofs.Words.{append_assoc, append-nil, false≢true, wrap, ahead, Kind, ConnResp, RetrReq, RetrResp, DiscReq, Heartbeat, Data, RetrData}
+use Rattle.safe_machine.proofs.Words.{ConnectionState, Closed, Start, Up, Requesting, RetrRun, window_of, Made, opening_body, leaving_body, State, unconfirmed}
+use Rattle.safe_machine.proofs.Words.{next_made, make, move_to, pass, hand_up, note_request, resend, reply, ask, leave, Decision, distance, cts_step, Nothing}
+use Rattle.safe_machine.proofs.Words.{Drops, Shuts, Leaves, Rejects, Accepts, Connects, Takes, Asks, Resumes, AnswersNext, AnswersEarly, tests_passed}
+use Rattle.safe_machine.proofs.Words.{carry_out, set_window, confirm_to, guard, heartbeat, send, confirm_units, Reason, WrongVersion, Detail, Unspecified}
+use Rattle.safe_machine.proofs.Words.{is_live, kept_of}
 use Rattle.safe_machine.proofs.one.Runs.{Every, every-append, every-at, every-weaken, at-length}
 use Rattle.safe_machine.proofs.two.Invariant.{Told, Sound, needs_peer, is_opening, Started}
 use Rattle.safe_machine.proofs.one.Deciding.{Fits, listens-live}
 use Rattle.safe_machine.proofs.two.Arrivals.{Arrival}
 use Rattle.safe_machine.proofs.two.Receiving.{Incoming, incoming-arrival, incoming-next, first-arrival}
 use Rattle.safe_machine.proofs.two.Times.{Timed, Steps, MadeNow, Stamped, ahead-time}
-use Rattle.safe_machine.specs.declared.Reason.{Reason}
-use Rattle.safe_machine.specs.declared.Reason.TheVariants.{WrongVersion}
-use Rattle.safe_machine.specs.declared.Detail.{Detail}
-use Rattle.safe_machine.specs.declared.Detail.TheVariants.{Unspecified}
-use Rattle.safe_machine.specs.Connections.{is_live}
-use Rattle.safe_machine.specs.View.{kept_of}
 use Rattle.safe_machine.proofs.one.StepCases.{leave-cases, guard-cases, heartbeat-cases, unit-cases, send-cases, early-cases}
 
 -- PDUs are made and nothing else that the times speak of

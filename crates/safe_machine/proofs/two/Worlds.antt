@@ -1,23 +1,12 @@
 -- Every event keeps the law.
-use Rattle.std.proofs.Common.{◌≡◌, ◌≢◌, ◌⊎◌, inl, inr, ℕ, zero, suc, ◌+◌, ◌<◌, ◌≤◌, List, [], ◌∷◌, ◌++◌, length, drop, Option, Some, None, Bool, true, false, refl, sym, ap, subst, ◌∙◌, arith}
-use Rattle.std.specs.Prelude.{if◌then◌else◌}
-use Rattle.std.proofs.lemmas.Bool.{false≢true, cond_both}
-use Rattle.octets.specs.Lists.{IsBeginning}
-use Rattle.safe_machine.specs.World.Side.{Il, Fe}
-use Rattle.safe_pdu.specs.declared.Kind.TheVariants.{RetrResp, DiscReq}
-use Rattle.safe_machine.specs.declared.ConnectionState.{ConnectionState}
-use Rattle.safe_machine.specs.declared.ConnectionState.TheVariants.{Closed, Down, Start}
-use Rattle.safe_pdu.specs.Pdu.{Pdu}
-use Rattle.safe_machine.specs.Made.{Made, units, run_of, leaving_body, is_request}
-use Rattle.safe_machine.specs.Settings.{Settings, is_legal}
-use Rattle.safe_machine.specs.State.{State, next_made, make, move_to, pass, note_request, reply, leave, unconfirmed, opened}
-use Rattle.safe_machine.specs.declared.arrival.Decision.{Decision}
-use Rattle.safe_machine.specs.Decision.{decide, distance}
-use Rattle.safe_machine.specs.declared.arrival.Decision.TheVariants.{Nothing, Drops, Shuts, Leaves, Rejects, Accepts, Connects, Takes, Asks, Resumes, AnswersNext, AnswersEarly}
-use Rattle.safe_machine.specs.Step.{guard, respond, arrive, carry_out, tick, send, tests_passed, confirm_units}
-use Rattle.safe_machine.specs.World.{World, Served, Event, unopened, start, happens, run, Among, GenuineAt, GenuineEvent, Genuine, joins, as_role, open_il, open_fe, with_il, with_fe}
-use Rattle.safe_machine.specs.World.Event.{Open, Send, Close, Guard, Tick, Arrive}
-use Rattle.safe_machine.specs.Law.{next_bound, JoinsFall, taken_from_il}
+use Rattle.safe_machine.proofs.Words.{◌≡◌, ◌≢◌, ◌⊎◌, inl, inr, ℕ, zero, suc, ◌+◌, ◌<◌, ◌≤◌, List, [], ◌∷◌, ◌++◌, length, drop, Option, Some, None, Bool, true}
+use Rattle.safe_machine.proofs.Words.{false, refl, sym, ap, subst, ◌∙◌, arith, if◌then◌else◌, false≢true, cond_both, IsBeginning, Il, Fe, RetrResp, DiscReq}
+use Rattle.safe_machine.proofs.Words.{ConnectionState, Closed, Down, Start, Pdu, Made, units, run_of, leaving_body, is_request, Settings, is_legal, State}
+use Rattle.safe_machine.proofs.Words.{next_made, make, move_to, pass, note_request, reply, leave, unconfirmed, opened, Decision, decide, distance, Nothing}
+use Rattle.safe_machine.proofs.Words.{Drops, Shuts, Leaves, Rejects, Accepts, Connects, Takes, Asks, Resumes, AnswersNext, AnswersEarly, guard, respond, arrive}
+use Rattle.safe_machine.proofs.Words.{carry_out, tick, send, tests_passed, confirm_units, World, Served, Event, unopened, start, happens, run, Among, GenuineAt}
+use Rattle.safe_machine.proofs.Words.{GenuineEvent, Genuine, joins, as_role, open_il, open_fe, with_il, with_fe, Open, Send, Close, Guard, Tick, Arrive}
+use Rattle.safe_machine.proofs.Words.{next_bound, JoinsFall, taken_from_il, WrongVersion, Unspecified, is_live, kept_of}
 use Rattle.safe_machine.proofs.two.Inner.{TakesBeginnings, AllTakeBeginnings, OnlyJoinedTake, LawOf, taken_from_fe, LosesNothingOf}
 use Rattle.safe_machine.proofs.one.Legal.{legal}
 use Rattle.safe_machine.proofs.one.Runs.{requests, answers, count-drop_nil, Every, every-drop_all, no_requests, Numbered, at-length}
@@ -27,16 +16,14 @@ use Rattle.safe_machine.proofs.two.Receiving.{opening_window}
 use Rattle.safe_machine.proofs.one.Deciding.{Fits, listens, decide-fits}
 use Rattle.safe_machine.proofs.one.OneMachine.{closed-arrive}
 use Rattle.safe_machine.proofs.one.Counting.{Bounded, bounded-guard, bounded-leave, bounded-send}
-use Rattle.safe_machine.proofs.two.Lone.{Lone, lone-leave, lone-guard, lone-tick, lone-send, pair-guard, pair-send, pair-tick, pair-arrive, bounded-tick, arrive-by, among-dropped}
+use Rattle.safe_machine.proofs.two.Lone.{Lone, lone-leave, lone-guard, lone-tick, lone-send, pair-guard, pair-send, pair-tick, pair-arrive, bounded-tick}
+use Rattle.safe_machine.proofs.two.Lone.{arrive-by, among-dropped}
 use Rattle.safe_machine.proofs.two.Incarnations.{linked-latest, takes-other, takes-pushed, takes-il_lone, takes-fe_lone, fall-more, all-takes, only-weaken}
-use Rattle.safe_machine.proofs.two.Status.{Settled, JoinedTo, Met, Mute, IlLater, FeLater, Status, Untouched, mute-leave, mute-guard, mute-tick, mute-send, mute-arrive, deaf-arrive, still-arrive}
+use Rattle.safe_machine.proofs.two.Status.{Settled, JoinedTo, Met, Mute, IlLater, FeLater, Status, Untouched, mute-leave, mute-guard, mute-tick, mute-send}
+use Rattle.safe_machine.proofs.two.Status.{mute-arrive, deaf-arrive, still-arrive}
 use Rattle.safe_machine.proofs.two.Lost.{met-loses_nothing, mute-loses_nothing, taken-other, taken-pushed, lone-owes}
 use Rattle.safe_machine.proofs.two.Status.Status.{met, il_later, fe_later}
-use Rattle.safe_machine.specs.declared.Reason.TheVariants.{WrongVersion}
-use Rattle.safe_machine.specs.declared.Detail.TheVariants.{Unspecified}
 use Rattle.safe_machine.proofs.one.Resending.{resend-connection}
-use Rattle.safe_machine.specs.Connections.{is_live}
-use Rattle.safe_machine.specs.View.{kept_of}
 use Rattle.safe_machine.proofs.one.StepCases.{guard-idle, unit-cases, early-cases}
 use Rattle.safe_machine.proofs.one.ConnectionFacts.{connected-up, down_or, closed≢down}
 

@@ -1,0 +1,80 @@
+-- What the lemmas of this crate name of the library, of the layers below and of the crate's own definitions; what they prove they name by its own file.
+pub use Rattle.std.proofs.Common.{Bool, Err, List, None, Ok, Option, Result, Some, [], ap, append_assoc, arith, cond, drop, false, inl, inr, length}
+pub use Rattle.std.proofs.Common.{length-append, refl, subst, suc, sym, take, true, zero, ℕ, ⊎_elim, ◌%◌, ◌*◌, ◌++◌, ◌+◌, ◌-◌, ◌<◌, ◌^◌, ◌∙◌, ◌∷◌, ◌≡◌, ◌≢◌}
+pub use Rattle.std.proofs.Common.{◌≤◌, ◌⊎◌}
+pub use Rattle.std.proofs.Math.Seq.{drop-append_seam, take-append_seam}
+pub use Rattle.std.proofs.lemmas.Bool.{and_parts, cond_both, eq-eqb, eqb-true, false≢true, le-leb, leb-false, leb-true, lt-ltb, ltb-false, ltb-true}
+pub use Rattle.std.proofs.lemmas.Bool.Decides.{eqb_tells, nat_tests}
+pub use Rattle.std.proofs.lemmas.List.{append-nil, append_cancel_right, drop-append-le, drop-drop, drop_all, length-drop, length-map, length-take, map-append}
+pub use Rattle.std.proofs.lemmas.List.{take-append-drop, take_more}
+pub use Rattle.std.proofs.lemmas.List.Elements.{All-cons, All-filter, All-nil, All-push, All-weaker, filter-append}
+pub use Rattle.std.proofs.lemmas.Option.{slice_get-get_or}
+pub use Rattle.std.specs.List.{FoldsTo, list_all}
+pub use Rattle.std.specs.Prelude.{IfSome, MatchOption, get_or, if◌then◌else◌, nat_le, nat_lt, slice_get, ◌&&◌, ◌==◌}
+pub use Rattle.octets.proofs.Choices.{by_cond, by_test}
+pub use Rattle.octets.proofs.Steps.{FoldsTo-append}
+pub use Rattle.octets.specs.Lists.{IsBeginning}
+pub use Rattle.octets.specs.declared.limits.TheConstants.{LEAVING_BODY, REACH, UNIT_MAX, UNIT_MIN}
+pub use Rattle.retrans.proofs.UnitLemmas.{octets-renumbered}
+pub use Rattle.retrans.specs.Units.{Numbered, above, octets_of, renumbered}
+pub use Rattle.safe_pdu.proofs.SafeLemmas.{length-text}
+pub use Rattle.safe_pdu.specs.Bodies.{IsBody, is_digit, is_zero, version_of, window_of}
+pub use Rattle.safe_pdu.specs.Pdu.{Pdu, kind_number}
+pub use Rattle.safe_pdu.specs.Places.{safe_seen}
+pub use Rattle.safe_pdu.specs.SafeText.{HasNumbers}
+pub use Rattle.safe_pdu.specs.declared.CodeLength.TheVariants.{Eight}
+pub use Rattle.safe_pdu.specs.declared.CodeRule.{CodeRule}
+pub use Rattle.safe_pdu.specs.declared.Kind.{Kind}
+pub use Rattle.safe_pdu.specs.declared.Kind.TheVariants.{ConnReq, ConnResp, Data, DiscReq, Heartbeat, RetrData, RetrReq, RetrResp}
+pub use Rattle.safe_pdu.specs.declared.SafeFault.{SafeFault}
+pub use Rattle.safe_pdu.specs.declared.SafeFault.TheVariants.{Short}
+pub use Rattle.safe_machine.specs.Connections.{in_turn, is_closed, is_connected, is_live}
+pub use Rattle.safe_machine.specs.Deadlines.{beat_due, by_guard, overdue}
+pub use Rattle.safe_machine.specs.Decision.{answering, as_client, by_cell, by_connection, by_sender, by_table, cs_fits, cs_step, cts_fits, cts_step, decide}
+pub use Rattle.safe_machine.specs.Decision.{distance, in_down, in_start, is_foreign, is_goodbye, is_ours, is_stranger, tested}
+pub use Rattle.safe_machine.specs.InOrder.{AllThere, AsksNothing, GuardHolds, InOrder, InOrderEvent, KeepsOrder, NextArrival, OneMoreLaw, OrderLaw, StaysLaw}
+pub use Rattle.safe_machine.specs.InOrder.{all_heard_by_fe, all_heard_by_il, client_state, has_close, heard_by_fe, heard_by_il, is_close, server_state}
+pub use Rattle.safe_machine.specs.Law.{AllFresh, Fresh, FreshAtLastLaw, FreshEvent, FreshLaw, IsJoined, JoinedBelow, JoinedLaw, JoinsFall, LossLaw, UnitLaw}
+pub use Rattle.safe_machine.specs.Law.{is_number, next_bound, taken_count, taken_from_il}
+pub use Rattle.safe_machine.specs.Made.{Made, after_pdu, carries, first_sent, is_answer, is_request, last_time, leaving_body, opening_body, run_after, run_of}
+pub use Rattle.safe_machine.specs.Made.{units}
+pub use Rattle.safe_machine.specs.Moves.{AreFrom, AreSoundMoves, ConnectionsLaw, GoesOn, HasText, HaveTexts, HearsNothing, HearsOwn, IdentifiedLaw, IsSoundMove}
+pub use Rattle.safe_machine.specs.Moves.{IsUnitSized, Move, MovesLaw, ReachedLaw, ReachedState, RequestsLaw, SettingsLaw, StrangersLaw, TextsLaw, WaitsLaw}
+pub use Rattle.safe_machine.specs.Moves.{move, moved, sent_by}
+pub use Rattle.safe_machine.specs.Moves.Move.{Guards, Hears, Leaves as LeavesNow, Sends, Ticks}
+pub use Rattle.safe_machine.specs.Numbers.{ahead, sn_of, wrap}
+pub use Rattle.safe_machine.specs.Octets.{arrive_octets, heard, heard_answer, hears, hears_units}
+pub use Rattle.safe_machine.specs.Properties.{HandsIf, IsNextData, IsRecent, StopsOnly, index_step}
+pub use Rattle.safe_machine.specs.Reached.{AreRead, FewLaw, IsReached, IsRead}
+pub use Rattle.safe_machine.specs.Ring.{after_at, after_carrier, carried_again, carried_at, carriers, carriers_from, is_resent, resent, ring_of}
+pub use Rattle.safe_machine.specs.Settings.{Settings, are_two, in_range, is_coded, is_legal}
+pub use Rattle.safe_machine.specs.State.{State, ask, blank, hand_up, leave, make, move_to, next_made, note_request, opened, pass, reply, resend, unconfirmed}
+pub use Rattle.safe_machine.specs.Step.{answered_ahead, arrive, beat, carry_out, confirm_time, confirm_to, confirm_units, guard, heartbeat, may_send, respond}
+pub use Rattle.safe_machine.specs.Step.{send, set_window, take_unit, tests_passed, tick}
+pub use Rattle.safe_machine.specs.Table.{cell, request_row, run_row, start_row, up_row}
+pub use Rattle.safe_machine.specs.Turned.{HasMade, MaySend, OpenedTurn, Tells, Turned, handed, turn}
+pub use Rattle.safe_machine.specs.Turns.{Out, Turn, answers_ahead, arrive_answer, arrives, asks, beats, both_confirmed, carried, carries_out, confirmed_to}
+pub use Rattle.safe_machine.specs.Turns.{counted, goes_on, guards, handed_by, hands, has_room, is_open, leaves, moved_to, opens, passed, renumbers, replies}
+pub use Rattle.safe_machine.specs.Turns.{requested, resends, responds, says, sends, sends_unit, still, takes_unit, units_confirmed, unsaid, windowed}
+pub use Rattle.safe_machine.specs.View.{StandsFor, View, beside, kept_of, text_of, texts}
+pub use Rattle.safe_machine.specs.World.{Among, Event, Genuine, GenuineAt, GenuineEvent, Served, Timely, TimelyEvent, World, as_role, at_end, changed}
+pub use Rattle.safe_machine.specs.World.{event_end, event_time, happens, joins, open_fe, open_il, run, start, unopened, with_fe, with_il}
+pub use Rattle.safe_machine.specs.World.Event.{Arrive, Close, Guard, Open, Send, Tick}
+pub use Rattle.safe_machine.specs.World.Side.{Fe, Il}
+pub use Rattle.safe_machine.specs.declared.ConnectionState.{ConnectionState}
+pub use Rattle.safe_machine.specs.declared.ConnectionState.TheVariants.{Closed, Down, RetrReq as Requesting, RetrRun, Start, Up}
+pub use Rattle.safe_machine.specs.declared.Detail.{Detail}
+pub use Rattle.safe_machine.specs.declared.Detail.TheVariants.{BadUnit, ConfirmedNumber, ConfirmedTimestamp, Limit, NotWellFormed, OutOfOrder, Unspecified}
+pub use Rattle.safe_machine.specs.declared.Detail.TheVariants.{VersionDiffers}
+pub use Rattle.safe_machine.specs.declared.DropCause.TheVariants.{Answered, Below, Fault, NotOpened, Number, Request, Stranger}
+pub use Rattle.safe_machine.specs.declared.Reason.{Reason}
+pub use Rattle.safe_machine.specs.declared.Reason.TheVariants.{ClosedByUser, ProtocolError, RetransmissionImpossible, SequenceError, ServiceNotAllowed, Timeout}
+pub use Rattle.safe_machine.specs.declared.Reason.TheVariants.{UnexpectedPdu, WrongVersion}
+pub use Rattle.safe_machine.specs.declared.Step.TheVariants.{Dropped, Gap, Left, Nothing as NoAnswer, Taken}
+pub use Rattle.safe_machine.specs.declared.arrival.Cell.{Cell}
+pub use Rattle.safe_machine.specs.declared.arrival.Cell.TheVariants.{Answer, Ask, Refuse, Resume, Skip, Take}
+pub use Rattle.safe_machine.specs.declared.arrival.Decision.{Decision}
+pub use Rattle.safe_machine.specs.declared.arrival.Decision.TheVariants.{Accepts, AnswersEarly, AnswersNext, Asks, Connects, Drops, Leaves, Nothing, Rejects}
+pub use Rattle.safe_machine.specs.declared.arrival.Decision.TheVariants.{Resumes, Shuts, Takes}
+pub use Rattle.safe_machine.specs.inner.Allows.{Allows, Passes}
+pub use Rattle.safe_machine.specs.inner.Sound.{AllBelow, AllUnits, Sound}
