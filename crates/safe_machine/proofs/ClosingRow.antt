@@ -44,13 +44,29 @@ closing_events =
     ∷ Close Il ClosedByUser Unspecified 140 ∷ Arrive Fe leaves 5050 ∷ []
 
 pub closing : Genuine closing_events start × Timely closing_events start × InOrder 0 0 closing_events start
-    × (all_heard_by_il closing_events 0 ≡ length (run closing_events start).fe.made) × (all_heard_by_fe closing_events 0 ≡ length (run closing_events start).il.made)
+    × (all_heard_by_il closing_events 0 ≡ length (run closing_events start).fe.made)
+    × (all_heard_by_fe closing_events 0 ≡ length (run closing_events start).il.made)
     × ((run closing_events start).fe.connection ≡ Closed) × ((run closing_events start).il.connection ≡ Closed)
 unfolding sn_of ahead
 closing = (
   (tt, (tt, ((λ on meant. inl refl), ((λ on meant. inl refl), ((λ on meant. inr (inl refl)), (tt, ((λ on meant. inr (inr (inl refl))), tt))))))),
   (omega arith, (omega arith, (omega arith, (omega arith, (omega arith, (omega arith, (omega arith, tt))))))),
-  (refl, (refl, (((λ e. cc), record { made = _; later = _; at = refl; is = refl; ours = refl; holds = refl }), (((λ e. cc), record { made = _; later = _; at = refl; is = refl; ours = refl; holds = refl }), (((λ e. cc), record { made = _; later = _; at = refl; is = refl; ours = refl; holds = refl }), (tt, (((λ e. cc), record { made = _; later = _; at = refl; is = refl; ours = refl; holds = refl }), tt))))))),
+  (
+    refl,
+    (
+      refl,
+      (
+        ((λ e. cc), record { made = _; later = _; at = refl; is = refl; ours = refl; holds = refl }),
+        (
+          ((λ e. cc), record { made = _; later = _; at = refl; is = refl; ours = refl; holds = refl }),
+          (
+            ((λ e. cc), record { made = _; later = _; at = refl; is = refl; ours = refl; holds = refl }),
+            (tt, (((λ e. cc), record { made = _; later = _; at = refl; is = refl; ours = refl; holds = refl }), tt)),
+          ),
+        ),
+      ),
+    ),
+  ),
   refl,
   refl,
   refl,

@@ -5,7 +5,17 @@ use Rattle.safe_machine.proofs.Words.{Genuine, Timely, Open, Send, Close, Arrive
 use Rattle.safe_machine.specs.Numbers.{sn_of, ahead}
 
 set_of : (own peer : ℕ) → Settings
-set_of own peer = record { client = true; own = own; peer = peer; n_sendmax = 20; t_max = 1800; t_h = 300; mwa = 10; pdu_limit = 4294901760; rule = record { length = Eight; initial_value = [] } }
+set_of own peer = record {
+  client = true;
+  own = own;
+  peer = peer;
+  n_sendmax = 20;
+  t_max = 1800;
+  t_h = 300;
+  mwa = 10;
+  pdu_limit = 4294901760;
+  rule = record { length = Eight; initial_value = [] };
+}
 
 i : Kind → ℕ → ℕ → ℕ → List ℕ → Pdu
 i kind sn cs cts body = record { kind = kind; receiver = 2; sender = 1; sn = sn; cs = cs; ts = 100; cts = cts; body = body }

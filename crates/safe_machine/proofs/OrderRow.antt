@@ -43,6 +43,21 @@ unfolding sn_of ahead
 row = (
   (tt, (tt, ((λ on meant. inl refl), ((λ on meant. inl refl), ((λ on meant. inr (inl refl)), (tt, ((λ on meant. inr (inr (inl refl))), tt))))))),
   (omega arith, (omega arith, (omega arith, (omega arith, (omega arith, (omega arith, (omega arith, tt))))))),
-  (refl, (refl, (((λ e. cc), record { made = _; later = _; at = refl; is = refl; ours = refl; holds = refl }), (((λ e. cc), record { made = _; later = _; at = refl; is = refl; ours = refl; holds = refl }), (((λ e. cc), record { made = _; later = _; at = refl; is = refl; ours = refl; holds = refl }), (tt, (((λ e. cc), record { made = _; later = _; at = refl; is = refl; ours = refl; holds = refl }), tt))))))),
+  (
+    refl,
+    (
+      refl,
+      (
+        ((λ e. cc), record { made = _; later = _; at = refl; is = refl; ours = refl; holds = refl }),
+        (
+          ((λ e. cc), record { made = _; later = _; at = refl; is = refl; ours = refl; holds = refl }),
+          (
+            ((λ e. cc), record { made = _; later = _; at = refl; is = refl; ours = refl; holds = refl }),
+            (tt, (((λ e. cc), record { made = _; later = _; at = refl; is = refl; ours = refl; holds = refl }), tt)),
+          ),
+        ),
+      ),
+    ),
+  ),
   refl,
 )

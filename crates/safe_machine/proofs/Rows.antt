@@ -10,10 +10,30 @@ use Rattle.safe_machine.proofs.Words.{Open, Send, Arrive, heard_answer, kept_of}
 use Rattle.safe_machine.specs.Numbers.{sn_of, ahead}
 
 settings : Settings
-settings = record { client = false; own = 2; peer = 1; n_sendmax = 20; t_max = 1800; t_h = 300; mwa = 10; pdu_limit = 4294901760; rule = record { length = Eight; initial_value = [] } }
+settings = record {
+  client = false;
+  own = 2;
+  peer = 1;
+  n_sendmax = 20;
+  t_max = 1800;
+  t_h = 300;
+  mwa = 10;
+  pdu_limit = 4294901760;
+  rule = record { length = Eight; initial_value = [] };
+}
 
 client_settings : Settings
-client_settings = record { client = true; own = 1; peer = 2; n_sendmax = 20; t_max = 1800; t_h = 300; mwa = 10; pdu_limit = 4294901760; rule = record { length = Eight; initial_value = [] } }
+client_settings = record {
+  client = true;
+  own = 1;
+  peer = 2;
+  n_sendmax = 20;
+  t_max = 1800;
+  t_h = 300;
+  mwa = 10;
+  pdu_limit = 4294901760;
+  rule = record { length = Eight; initial_value = [] };
+}
 
 -- PDUs from the interlocking (1) and from the field element (2)
 from_il : Kind → ℕ → ℕ → ℕ → List ℕ → Pdu
@@ -47,14 +67,16 @@ seen : List Made → List (ℕ × ℕ × ℕ)
 seen [] = []
 seen (m ∷ ms) = (kind_number m.pdu.kind, m.pdu.sn, m.pdu.cs) ∷ seen ms
 
-opening_seen : (seen up.made ≡ (6201, 500, 100) ∷ []) × (up.connection ≡ Up) × (starting.connection ≡ Start) × (requesting.connection ≡ Requesting) × (running.connection ≡ RetrRun)
+opening_seen : (seen up.made ≡ (6201, 500, 100) ∷ []) × (up.connection ≡ Up) × (starting.connection ≡ Start) × (requesting.connection ≡ Requesting)
+    × (running.connection ≡ RetrRun)
 unfolding seen up starting requesting running down from_il settings sn_of ahead
 opening_seen = (refl, refl, refl, refl, refl)
 
 -- A row of the table: what is decided on HB, Data, RetrData, RetrReq, RetrResp, ConnReq, ConnResp with this number.
 row : State → ℕ → List Decision
 row s sn =
-    decide (kept_of s) (from_il Heartbeat sn 500 0 []) 0 ∷ decide (kept_of s) (from_il Data sn 500 0 (7 ∷ [])) 0 ∷ decide (kept_of s) (from_il RetrData sn 500 0 (7 ∷ [])) 0
+    decide (kept_of s) (from_il Heartbeat sn 500 0 []) 0 ∷ decide (kept_of s) (from_il Data sn 500 0 (7 ∷ [])) 0 ∷ decide (kept_of s)
+    (from_il RetrData sn 500 0 (7 ∷ [])) 0
     ∷ decide (kept_of s) (from_il RetrReq sn 500 0 []) 0 ∷ decide (kept_of s) (from_il RetrResp sn 500 0 []) 0
     ∷ decide (kept_of s) (from_il ConnReq sn 500 0 (opening_body 20)) 0 ∷ decide (kept_of s) (from_il ConnResp sn 500 0 (opening_body 20)) 0 ∷ []
 
@@ -95,8 +117,10 @@ goodbye_seen = (refl, refl, refl, refl, refl, refl)
 other_version : List ℕ
 other_version = 0x30 ∷ 0x33 ∷ 0x30 ∷ 0x34 ∷ 20 ∷ 0 ∷ 0 ∷ 0 ∷ 0 ∷ 0 ∷ 0 ∷ 0 ∷ 0 ∷ 0 ∷ []
 
-version_seen : (decide (kept_of down) (from_il ConnReq 100 0 0 (opening_body 20)) 0 ≡ Accepts) × (decide (kept_of down) (from_il ConnReq 100 0 0 other_version) 0 ≡ Rejects)
-    × (decide (kept_of client) (from_fe ConnResp 500 100 (opening_body 20)) 0 ≡ Connects) × (decide (kept_of client) (from_fe ConnResp 500 100 other_version) 0 ≡ Leaves WrongVersion Unspecified)
+version_seen : (decide (kept_of down) (from_il ConnReq 100 0 0 (opening_body 20)) 0 ≡ Accepts)
+    × (decide (kept_of down) (from_il ConnReq 100 0 0 other_version) 0 ≡ Rejects)
+    × (decide (kept_of client) (from_fe ConnResp 500 100 (opening_body 20)) 0 ≡ Connects)
+    × (decide (kept_of client) (from_fe ConnResp 500 100 other_version) 0 ≡ Leaves WrongVersion Unspecified)
     × (decide (kept_of client) (from_fe Heartbeat 500 100 []) 0 ≡ unexpected)
     × (seen (arrive (from_il ConnReq 100 0 0 other_version) 0 down).made ≡ (6216, 500, 100) ∷ [])
 unfolding seen unexpected down client other_version from_il from_fe settings client_settings sn_of ahead
@@ -148,7 +172,8 @@ unfolding seen sending after up starting down from_il settings sn_of ahead
 early_seen = (refl, refl, refl)
 
 -- A closed end answers nothing, whoever speaks to it, and octets that read as nothing meet the guard.
-closed_seen : (decide (kept_of (leave ClosedByUser Unspecified 0 up)) (record { kind = Heartbeat; receiver = 2; sender = 9; sn = 102; cs = 500; ts = 0; cts = 0; body = [] }) 0 ≡ Nothing)
+closed_seen : (decide (kept_of (leave ClosedByUser Unspecified 0 up))
+    (record { kind = Heartbeat; receiver = 2; sender = 9; sn = 102; cs = 500; ts = 0; cts = 0; body = [] }) 0 ≡ Nothing)
     × (heard_answer (Err Short) 0 (kept_of (leave ClosedByUser Unspecified 0 up)) ≡ NoAnswer)
     × (heard_answer (Err Short) 0 (kept_of up) ≡ Dropped (Fault Short)) × (heard_answer (Err Short) 1800 (kept_of up) ≡ Left Timeout Unspecified)
 unfolding up starting down from_il settings sn_of ahead
@@ -156,9 +181,20 @@ closed_seen = (refl, refl, refl, refl)
 
 -- Where as many PDUs were made as may be: reason 7, detail 1. (Here the limit is one PDU.)
 short_settings : Settings
-short_settings = record { client = false; own = 2; peer = 1; n_sendmax = 20; t_max = 1800; t_h = 300; mwa = 10; pdu_limit = 1; rule = record { length = Eight; initial_value = [] } }
+short_settings = record {
+  client = false;
+  own = 2;
+  peer = 1;
+  n_sendmax = 20;
+  t_max = 1800;
+  t_h = 300;
+  mwa = 10;
+  pdu_limit = 1;
+  rule = record { length = Eight; initial_value = [] };
+}
 
-limit_seen : arrive_answer (from_il Heartbeat 101 500 0 []) 0 (kept_of (arrive (from_il ConnReq 100 0 0 (opening_body 20)) 0 (opened short_settings 500 0))) ≡ Left ProtocolError Limit
+limit_seen : arrive_answer (from_il Heartbeat 101 500 0 []) 0 (kept_of (arrive (from_il ConnReq 100 0 0 (opening_body 20)) 0 (opened short_settings 500 0)))
+    ≡ Left ProtocolError Limit
 unfolding from_il short_settings sn_of ahead
 limit_seen = refl
 

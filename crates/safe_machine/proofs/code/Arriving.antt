@@ -42,7 +42,8 @@ hands-is p now v o e =
     ∙ ap (handed_behind units) e
 
 -- who is closed by its guard makes nothing of an arrival
-pub arrives-left : (p : Pdu) (now : ℕ) (v : View) (reason : Reason) (detail : Detail) → Some (reason, detail) ≡ overdue now v → arrives p now v ≡ leaves reason detail now v
+pub arrives-left : (p : Pdu) (now : ℕ) (v : View) (reason : Reason) (detail : Detail) → Some (reason, detail) ≡ overdue now v
+    → arrives p now v ≡ leaves reason detail now v
 arrives-left p now v reason detail e =
     let t = leaves reason detail now v in
     ap (λ q. goes_on q (responds p now)) (guards-is now v (Some (reason, detail)) (sym e)) ∙ ap (λ ms. record { left = t.left; made = ms }) (append-nil t.made)

@@ -17,7 +17,8 @@ leave-expected reason detail now s = leave-cases (λ t. t.expected ≡ s.expecte
 unit-expected : (p : Pdu) (now : ℕ) (s : State) → (take_unit p now s).expected ≡ s.expected
 unit-expected p now s = unit-cases (λ t. t.expected ≡ s.expected) p now s (λ _. refl) (λ _ _. refl) (λ _. refl)
 
-near-decided : (p : Pdu) (now : ℕ) (d : Decision) (s : State) → s.settings.n_sendmax ≤ 32 → Fits (kept_of s) p now d → (carry_out p now d s).expected ≤ s.expected + index_step
+near-decided : (p : Pdu) (now : ℕ) (d : Decision) (s : State) → s.settings.n_sendmax ≤ 32 → Fits (kept_of s) p now d → (carry_out p now d s).expected
+    ≤ s.expected + index_step
 near-decided p now (Leaves reason detail) s small f = omega (arith, leave-expected reason detail now s)
 near-decided p now (Takes to) s small f = omega (arith, unit-expected p now (move_to to (pass p 0 (tests_passed p s))))
 near-decided p now Resumes s small f = omega (arith, f.table.near, small)
@@ -51,4 +52,5 @@ reached-near p now v w r e =
 pub reached-still : (now : ℕ) (v w : View) → IsReached v → w ≡ (guards now v).left → w.expected ≡ v.expected
 reached-still now v w r e =
     let t = moved r.moves (opened r.settings r.first r.began) in
-    ap (λ (x : View). x.expected) (e ∙ (turns_law_holds (Guards now) v t tt r.stands).stands) ∙ ((lone-guard now t).expected ∙ sym (ap (λ (x : View). x.expected) r.stands))
+    ap (λ (x : View). x.expected) (e ∙ (turns_law_holds (Guards now) v t tt r.stands).stands)
+    ∙ ((lone-guard now t).expected ∙ sym (ap (λ (x : View). x.expected) r.stands))

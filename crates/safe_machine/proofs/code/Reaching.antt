@@ -37,7 +37,8 @@ pub record Sure (s : State) : Type 0 where
 
 opening-small : (body : List ℕ) → IsBody ConnReq body → window_of body ≤ 32
 opening-small body b =
-    let a = and_parts (length body == 14) (nat_le 1 (window_of body) && (nat_le (window_of body) 32 && (list_all is_digit (version_of body) && list_all is_zero (drop 6 body)))) b in
+    let a = and_parts (length body == 14)
+    (nat_le 1 (window_of body) && (nat_le (window_of body) 32 && (list_all is_digit (version_of body) && list_all is_zero (drop 6 body)))) b in
     let d = and_parts (nat_le 1 (window_of body)) (nat_le (window_of body) 32 && (list_all is_digit (version_of body) && list_all is_zero (drop 6 body))) a.1 in
     leb-true (window_of body) 32 (and_parts (nat_le (window_of body) 32) (list_all is_digit (version_of body) && list_all is_zero (drop 6 body)) d.1).0
 
@@ -69,7 +70,8 @@ waits-reply now s on h =
 
 waits-unit : (p : Pdu) (now : ℕ) (s : State) → is_connected s.connection ≡ true → s.since < s.settings.mwa → Waits (take_unit p now s)
 waits-unit p now s on h =
-    unit-cases Waits p now s (λ _. (λ e. absurd (connected-up s.connection on e), omega (arith, h))) (λ _ few. (λ e. absurd (connected-up s.connection on e), few))
+    unit-cases Waits p now s (λ _. (λ e. absurd (connected-up s.connection on e), omega (arith, h)))
+    (λ _ few. (λ e. absurd (connected-up s.connection on e), few))
     (λ _. (λ e. absurd (connected-up s.connection on e), h))
 
 waits-decided : (p : Pdu) (now : ℕ) (d : Decision) (s : State) → Fits (kept_of s) p now d → Waits s → Waits (carry_out p now d s)
@@ -106,13 +108,15 @@ sure-move (Hears p now) s a h =
     let b = bounded-guard now s h.bounded in
     let w = waits-guard now s (waits s h) in
     arrive-by Sure p now s (sure g b.0 w)
-    (λ _ _. sure (respond p now g) (bounded-respond now p g b.0 b.1 w.0 (opening-window p.kind p.body a.1)) (waits-decided p now (decide (kept_of g) p now) g (decide-fits (kept_of g) p now) w))
+    (λ _ _. sure (respond p now g) (bounded-respond now p g b.0 b.1 w.0 (opening-window p.kind p.body a.1))
+    (waits-decided p now (decide (kept_of g) p now) g (decide-fits (kept_of g) p now) w))
 sure-move (Ticks now) s a h =
     let g = guard now s in
     let b = bounded-guard now s h.bounded in
     sure (heartbeat now g) (bounded-heartbeat now g b.0 b.1) (waits-tick now g (waits-guard now s (waits s h)))
 sure-move (Sends unit now) s a h = sure (send unit now s) (bounded-send unit now s h.bounded) (waits-send unit now s (waits s h))
-sure-move (LeavesNow reason detail now) s a h = sure (leave reason detail now s) (bounded-leave reason detail now s h.bounded) (waits-leave reason detail now s (waits s h))
+sure-move (LeavesNow reason detail now) s a h = sure (leave reason detail now s) (bounded-leave reason detail now s h.bounded)
+    (waits-leave reason detail now s (waits s h))
 
 pub sure-moved : (ms : List Move) (s : State) → AreRead ms → Sure s → Sure (moved ms s)
 sure-moved [] s a h = h
@@ -189,7 +193,8 @@ opened-texts settings first now legal =
 
 opened-legal : (settings : Settings) (first now : ℕ) → is_legal settings ≡ true → is_legal (opened settings first now).settings ≡ true
 opened-legal settings first now legal =
-    cond_both settings.client (make ConnReq (opening_body settings.n_sendmax) now (blank settings first now Start)) (blank settings first now Down) (λ (s : State). is_legal s.settings ≡ true)
+    cond_both settings.client (make ConnReq (opening_body settings.n_sendmax) now (blank settings first now Start)) (blank settings first now Down)
+    (λ (s : State). is_legal s.settings ≡ true)
     (λ _. legal) (λ _. legal)
 
 -- the ring of a state
@@ -201,7 +206,8 @@ below-more : (n m : ℕ) (us : List Numbered) → n ≤ m → AllBelow n us → 
 below-more n m us le h = All-weaker (λ (u : Numbered). u.number < n) (λ (u : Numbered). u.number < m) (λ u k. omega (arith, k, le)) us h
 
 below-push : (n : ℕ) (us : List Numbered) (body : List ℕ) → AllBelow n us → AllBelow (n + 1) (us ++ record { number = n; octets = body } ∷ [])
-below-push n us body h = All-push (λ (u : Numbered). u.number < n + 1) us (record { number = n; octets = body }) (below-more n (n + 1) us (omega arith) h) (omega arith)
+below-push n us body h = All-push (λ (u : Numbered). u.number < n + 1) us (record { number = n; octets = body }) (below-more n (n + 1) us (omega arith) h)
+    (omega arith)
 
 below-after : (kind : Kind) (body : List ℕ) (n : ℕ) (us : List Numbered) → AllBelow n us → AllBelow (n + 1) (after_at kind body n us)
 below-after Data body n us h = below-push n us body h
@@ -211,7 +217,8 @@ below-after _ body n us h = below-more n (n + 1) us (omega arith) h
 
 below-carried : (n end : ℕ) (us : List Numbered) (ms : List Made) → n + length ms ≤ end → AllBelow n us → AllBelow end (carried_at n us ms)
 below-carried n end us [] h k = below-more n end us (omega arith) k
-below-carried n end us (m ∷ ms) h k = below-carried (n + 1) end (after_at m.pdu.kind m.pdu.body n us) ms (omega arith) (below-after m.pdu.kind m.pdu.body n us k)
+below-carried n end us (m ∷ ms) h k = below-carried (n + 1) end (after_at m.pdu.kind m.pdu.body n us) ms (omega arith)
+    (below-after m.pdu.kind m.pdu.body n us k)
 
 le_total : (a b : ℕ) → (a ≤ b) ⊎ (b ≤ a)
 le_total zero b = inl (omega arith)
@@ -222,9 +229,11 @@ below-ring : (s : State) → AllBelow (length s.made) (ring_of s)
 below-ring s =
     ⊎_elim
     (λ (inside : s.confirmed + 1 ≤ length s.made).
-    below-carried (s.confirmed + 1) (length s.made) [] (drop (s.confirmed + 1) s.made) (omega (arith, length-drop (s.confirmed + 1) s.made)) (All-nil (λ (u : Numbered). u.number < s.confirmed + 1)))
+    below-carried (s.confirmed + 1) (length s.made) [] (drop (s.confirmed + 1) s.made) (omega (arith, length-drop (s.confirmed + 1) s.made))
+    (All-nil (λ (u : Numbered). u.number < s.confirmed + 1)))
     (λ (past : length s.made ≤ s.confirmed + 1).
-    subst (AllBelow (length s.made)) (sym (ap (carried_at (s.confirmed + 1) []) (drop_all (s.confirmed + 1) s.made past))) (All-nil (λ (u : Numbered). u.number < length s.made)))
+    subst (AllBelow (length s.made)) (sym (ap (carried_at (s.confirmed + 1) []) (drop_all (s.confirmed + 1) s.made past)))
+    (All-nil (λ (u : Numbered). u.number < length s.made)))
     (le_total (s.confirmed + 1) (length s.made))
 
 pub legal-reached : (v : View) (r : IsReached v) → is_legal (moved r.moves (opened r.settings r.first r.began)).settings ≡ true

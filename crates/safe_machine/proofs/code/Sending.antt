@@ -13,7 +13,8 @@ resends-append (u ∷ a) b now v =
     ap (λ (t : Turn). record { left = t.left; made = next_made v RetrData u now ∷ t.made }) (resends-append a b now (counted now v))
 
 -- every part of what is kept that a PDU made leaves
-resends-keeps : {X : Type 0} (part : View → X) → ((now : ℕ) (v : View) → part (counted now v) ≡ part v) → (us : List (List ℕ)) (now : ℕ) (v : View) → part (resends us now v).left ≡ part v
+resends-keeps : {X : Type 0} (part : View → X) → ((now : ℕ) (v : View) → part (counted now v) ≡ part v) → (us : List (List ℕ)) (now : ℕ) (v : View)
+    → part (resends us now v).left ≡ part v
 resends-keeps part one [] now v = refl
 resends-keeps part one (u ∷ us) now v = resends-keeps part one us now (counted now v) ∙ one now v
 
@@ -25,7 +26,8 @@ pub resends-more : {O : Type 0} (makes : O → List ℕ → O → Type 0) (first
     m ≡ (resends (octets_of (take place first.ring)) now first).left →
     Out makes first.settings.rule a (resends (octets_of (take place first.ring)) now first) b → n ≡ counted now m →
     IfSome (slice_get m.ring place) (λ u. makes b (text_of m.settings.rule (next_made m RetrData u.octets now)) d) →
-    (n ≡ (resends (octets_of (take (place + 1) first.ring)) now first).left) × Out makes first.settings.rule a (resends (octets_of (take (place + 1) first.ring)) now first) d
+    (n ≡ (resends (octets_of (take (place + 1) first.ring)) now first).left) × Out makes first.settings.rule a
+    (resends (octets_of (take (place + 1) first.ring)) now first) d
 resends-more makes first m n a b d now place inside left out counts handed =
     let ring = first.ring in
     let rule = first.settings.rule in
@@ -47,11 +49,13 @@ resends-more makes first m n a b d now place inside left out counts handed =
     let one = next_made t.left RetrData u.octets now in
     subst (λ (q : Turn). (n ≡ q.left) × Out makes rule a q d) (sym more) (
       counts ∙ ap (counted now) left,
-      subst (λ xs. FoldsTo makes a xs d) (sym (map-append (text_of rule) t.made (one ∷ []))) (FoldsTo-append makes (texts rule t.made) (texts rule (one ∷ [])) a b d out (d, at, refl)),
+      subst (λ xs. FoldsTo makes a xs d) (sym (map-append (text_of rule) t.made (one ∷ [])))
+          (FoldsTo-append makes (texts rule t.made) (texts rule (one ∷ [])) a b d out (d, at, refl)),
     )
 
 -- one turn, and then another
-pub out-then : {O : Type 0} (makes : O → List ℕ → O → Type 0) (rule : CodeRule) (t : Turn) (next : View → Turn) (a b c : O) → Out makes rule a t b → Out makes rule b (next t.left) c →
+pub out-then : {O : Type 0} (makes : O → List ℕ → O → Type 0) (rule : CodeRule) (t : Turn) (next : View → Turn) (a b c : O) → Out makes rule a t b
+    → Out makes rule b (next t.left) c →
     Out makes rule a (goes_on t next) c
 out-then makes rule t next a b c h k =
     let more = (next t.left).made in
@@ -61,9 +65,11 @@ pub replies-settings : (now : ℕ) (v : View) → (replies now v).left.settings 
 replies-settings now v = resends-keeps (λ (v : View). v.settings) (λ now v. refl) (octets_of v.ring) now (counted now v)
 
 -- an answer: what is made first, each unit, and the heartbeat
-pub replies-out : {O : Type 0} (makes : O → List ℕ → O → Type 0) (now : ℕ) (v : View) (a b c d : O) → makes a (text_of v.settings.rule (next_made v RetrResp [] now)) b →
+pub replies-out : {O : Type 0} (makes : O → List ℕ → O → Type 0) (now : ℕ) (v : View) (a b c d : O)
+    → makes a (text_of v.settings.rule (next_made v RetrResp [] now)) b →
     Out makes v.settings.rule b (resends (octets_of v.ring) now (counted now v)) c →
-    (let u = (resends (octets_of v.ring) now (counted now v)).left in makes c (text_of u.settings.rule (next_made u Heartbeat [] now)) d) → Out makes v.settings.rule a (replies now v) d
+    (let u = (resends (octets_of v.ring) now (counted now v)).left in makes c (text_of u.settings.rule (next_made u Heartbeat [] now)) d)
+    → Out makes v.settings.rule a (replies now v) d
 replies-out makes now v a b c d first again last =
     let t = resends (octets_of v.ring) now (counted now v) in
     let beaten = subst (λ (x : Settings). makes c (text_of x.rule (next_made t.left Heartbeat [] now)) d) (replies-settings now v) last in

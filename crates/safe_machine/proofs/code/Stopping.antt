@@ -60,7 +60,8 @@ fits-within p s e = ltb-true (cs_step (kept_of s) p) (length s.made - s.confirme
 confirmed-stops : (p : Pdu) (s t : State) → cs_fits (kept_of s) p ≡ true → octets_of (ring_of t) ≡ octets_of (ring_of (confirm_units p s)) → Stops p s t
 confirmed-stops p s t fits e = inr (e ∙ ap octets_of (sym (ring-step p s (fits-within p s fits))))
 
-stops-decided : (p : Pdu) (now : ℕ) (d : Decision) (s : State) → (s.connection ≡ Down → ring_of s ≡ []) → Fits (kept_of s) p now d → Stops p s (carry_out p now d s)
+stops-decided : (p : Pdu) (now : ℕ) (d : Decision) (s : State) → (s.connection ≡ Down → ring_of s ≡ []) → Fits (kept_of s) p now d
+    → Stops p s (carry_out p now d s)
 stops-decided p now Nothing s down f = inl refl
 stops-decided p now (Drops cause) s down f = inl refl
 stops-decided p now Shuts s down f = inl refl
@@ -84,7 +85,8 @@ stops-decided p now AnswersEarly s down f =
     let y = note_request (distance (kept_of s) p) (confirm_units p s) in
     let t = reply now y in
     let same = ring-reply now y (omega (arith, fits-within p s f.cs)) in
-    early-cases (Stops p s) p now s (λ _. confirmed-stops p s (ask now t) f.cs (ap octets_of (plain-ring RetrReq [] now t refl) ∙ same)) (confirmed-stops p s t f.cs same)
+    early-cases (Stops p s) p now s (λ _. confirmed-stops p s (ask now t) f.cs (ap octets_of (plain-ring RetrReq [] now t refl) ∙ same))
+    (confirmed-stops p s t f.cs same)
 
 stops-arrive : (p : Pdu) (now : ℕ) (s : State) → (s.connection ≡ Down → ring_of s ≡ []) → Stops p s (arrive p now s)
 stops-arrive p now s down =
@@ -92,7 +94,8 @@ stops-arrive p now s down =
     let l = lone-guard now s in
     let ring = ring-guard now s in
     let first : g.first ≡ s.first = (first-guard now s) in
-    let step : cs_step (kept_of g) p ≡ cs_step (kept_of s) p = ap (λ (n : ℕ). ahead (sn_of n g.confirmed) p.cs) first ∙ ap (λ (n : ℕ). ahead (sn_of s.first n) p.cs) l.confirmed in
+    let step : cs_step (kept_of g) p ≡ cs_step (kept_of s) p = ap (λ (n : ℕ). ahead (sn_of n g.confirmed) p.cs) first
+    ∙ ap (λ (n : ℕ). ahead (sn_of s.first n) p.cs) l.confirmed in
     let down_g : g.connection ≡ Down → ring_of g ≡ [] =
     λ e. ring ∙ down (elim l.connection [ inl same ↦ sym same ∙ e | inr closed ↦ absurd (closed≢down (sym closed ∙ e)) ]) in
     let number : g.confirmed + cs_step (kept_of g) p ≡ s.confirmed + cs_step (kept_of s) p = omega (arith, step, l.confirmed) in
@@ -109,9 +112,11 @@ reached-stops p now v w r is =
     let down : t.connection ≡ Down → ring_of t ≡ [] =
     λ e. sym (ap (λ (x : View). x.ring) r.stands) ∙ (reached-sound v r).down (ap (λ (x : View). x.connection) r.stands ∙ e) in
     subst (λ (x : View). StopsOnly (x.confirmed + cs_step x p) x w) (sym r.stands)
-    (subst (λ (y : View). StopsOnly (t.confirmed + cs_step (kept_of t) p) (beside (ring_of t) t) y) (sym (is ∙ (turns_law_holds (Hears p now) v t tt r.stands).stands)) (stops-arrive p now t down))
+    (subst (λ (y : View). StopsOnly (t.confirmed + cs_step (kept_of t) p) (beside (ring_of t) t) y)
+    (sym (is ∙ (turns_law_holds (Hears p now) v t tt r.stands).stands)) (stops-arrive p now t down))
 
 pub reached-keeps : (now : ℕ) (v w : View) → IsReached v → w ≡ (guards now v).left → octets_of w.ring ≡ octets_of v.ring
 reached-keeps now v w r is =
     let t = moved r.moves (opened r.settings r.first r.began) in
-    ap octets_of (ap (λ (x : View). x.ring) (is ∙ (turns_law_holds (Guards now) v t tt r.stands).stands) ∙ (ring-guard now t ∙ sym (ap (λ (x : View). x.ring) r.stands)))
+    ap octets_of (ap (λ (x : View). x.ring) (is ∙ (turns_law_holds (Guards now) v t tt r.stands).stands)
+    ∙ (ring-guard now t ∙ sym (ap (λ (x : View). x.ring) r.stands)))

@@ -63,7 +63,8 @@ rises-carried : (low high : ℕ) (cs : List Numbered) (ms : List Made) → Rises
 rises-carried low high cs [] h = subst (λ (n : ℕ). Rises low n cs) (omega arith) h
 rises-carried low high cs (m ∷ ms) h =
     let next = after_at m.pdu.kind m.pdu.body high cs in
-    subst (λ (n : ℕ). Rises low n (carried_at (high + 1) next ms)) (omega arith) (rises-carried low (high + 1) next ms (rises-after low high m.pdu.kind m.pdu.body cs h))
+    subst (λ (n : ℕ). Rises low n (carried_at (high + 1) next ms)) (omega arith)
+    (rises-carried low (high + 1) next ms (rises-after low high m.pdu.kind m.pdu.body cs h))
 
 all-above : (b low high : ℕ) (cs : List Numbered) → Rises low high cs → b < low → above b cs ≡ cs
 all-above b low high [] h less = refl
@@ -128,7 +129,8 @@ new-begins RetrData h = cc
 new-begins _ h = refl
 
 -- what a new PDU carries
-new-carrier : (kind : Kind) (body : List ℕ) (index n : ℕ) (cs : List Numbered) → is_new kind ≡ true → after_carrier kind body index n cs ≡ cs ++ after_at kind body index []
+new-carrier : (kind : Kind) (body : List ℕ) (index n : ℕ) (cs : List Numbered) → is_new kind ≡ true → after_carrier kind body index n cs ≡ cs ++ after_at kind
+    body index []
 new-carrier RetrData body index n cs h = cc
 new-carrier RetrResp body index n cs h = cc
 new-carrier Data body index n cs h = refl
@@ -150,7 +152,8 @@ new-first RetrData body = refl
 new-first _ body = refl
 
 -- the ring after one PDU more
-ring-push : (confirmed : ℕ) (made : List Made) (m : Made) → confirmed < length made → Ring confirmed (made ++ m ∷ []) ≡ after_at m.pdu.kind m.pdu.body (length made) (Ring confirmed made)
+ring-push : (confirmed : ℕ) (made : List Made) (m : Made) → confirmed < length made → Ring confirmed (made ++ m ∷ []) ≡ after_at m.pdu.kind m.pdu.body
+    (length made) (Ring confirmed made)
 ring-push confirmed made m h =
     let behind = drop (confirmed + 1) made in
     let size : length behind ≡ length made - (confirmed + 1) = length-drop (confirmed + 1) made in
@@ -158,7 +161,8 @@ ring-push confirmed made m h =
     ∙ (carried_at-append (confirmed + 1) [] behind (m ∷ [])
     ∙ ap (λ (n : ℕ). after_at m.pdu.kind m.pdu.body n (Ring confirmed made)) (omega arith))
 
-carriers-push : (made : List Made) (m : Made) → is_new m.pdu.kind ≡ true → carriers (made ++ m ∷ []) ≡ carriers made ++ after_at m.pdu.kind m.pdu.body (length made) []
+carriers-push : (made : List Made) (m : Made) → is_new m.pdu.kind ≡ true → carriers (made ++ m ∷ []) ≡ carriers made ++ after_at m.pdu.kind m.pdu.body
+    (length made) []
 carriers-push made m new =
     carriers-append 0 [] made (m ∷ []) (new-begins m.pdu.kind new)
     ∙ (new-carrier m.pdu.kind m.pdu.body (0 + length made) 0 (carriers made) new
@@ -227,13 +231,15 @@ unfolding datas
 resent-datas [] now s m h = ap (λ (t : Bool). if t then 1 else 0) h
 resent-datas (u ∷ us) now s m h = ap suc (resent-datas us now (make RetrData u now s) m h)
 
-carriers-datas : (us : List (List ℕ)) (now index : ℕ) (s : State) (cs : List Numbered) (m : Made) → m.pdu.kind ≡ Heartbeat → carriers_from index cs (datas us now s ++ m ∷ []) ≡ cs
+carriers-datas : (us : List (List ℕ)) (now index : ℕ) (s : State) (cs : List Numbered) (m : Made) → m.pdu.kind ≡ Heartbeat
+    → carriers_from index cs (datas us now s ++ m ∷ []) ≡ cs
 unfolding datas
 carriers-datas [] now index s cs m h = ap (λ kind. after_carrier kind m.pdu.body index 0 cs) h
 carriers-datas (u ∷ us) now index s cs m h = carriers-datas us now (index + 1) (make RetrData u now s) cs m h
 
 -- the last units, carried again
-again : (front ring : List Numbered) (us : List (List ℕ)) (index : ℕ) → octets_of ring ≡ us → carried_again (length us) index (front ++ ring) ≡ front ++ renumbered index us
+again : (front ring : List Numbered) (us : List (List ℕ)) (index : ℕ) → octets_of ring ≡ us → carried_again (length us) index (front ++ ring) ≡ front
+    ++ renumbered index us
 again front ring us index e =
     let size : length us ≡ length ring = sym (ap length e) ∙ octets_of-length ring in
     let at : length (front ++ ring) - length us ≡ length front = omega (arith, length-append front ring) in
@@ -241,9 +247,11 @@ again front ring us index e =
     ∙ (ap (λ cs. cs ++ renumbered index (octets_of (drop (length front) (front ++ ring)))) (take-append_seam front ring)
     ∙ ap (λ cs. front ++ renumbered index cs) (ap octets_of (drop-append_seam front ring) ∙ e))
 
-ring-answer : (confirmed : ℕ) (made : List Made) (m : Made) → m.pdu.kind ≡ RetrResp → (confirmed < length made) ⊎ ((made ≡ []) × (confirmed ≡ 0)) → Ring confirmed (made ++ m ∷ []) ≡ []
+ring-answer : (confirmed : ℕ) (made : List Made) (m : Made) → m.pdu.kind ≡ RetrResp → (confirmed < length made) ⊎ ((made ≡ []) × (confirmed ≡ 0))
+    → Ring confirmed (made ++ m ∷ []) ≡ []
 ring-answer confirmed made m is (inl less) = ring-push confirmed made m less ∙ ap (λ kind. after_at kind m.pdu.body (length made) (Ring confirmed made)) is
-ring-answer confirmed made m is (inr empty) = ap (λ ms. carried_at (confirmed + 1) [] (drop (confirmed + 1) (ms ++ m ∷ []))) empty.0 ∙ ap (λ (n : ℕ). Ring n (m ∷ [])) empty.1
+ring-answer confirmed made m is (inr empty) = ap (λ ms. carried_at (confirmed + 1) [] (drop (confirmed + 1) (ms ++ m ∷ []))) empty.0
+    ∙ ap (λ (n : ℕ). Ring n (m ∷ [])) empty.1
 
 -- the units made end in the unconfirmed ones
 ended : (s : State) (h : Carriers s) → octets_of h.front ++ unconfirmed s ≡ units s.made
@@ -305,7 +313,8 @@ kept-carriers =
       plain = λ kind body now s is fits h. push s.made s.confirmed (next_made s kind body now) (plain-new kind is) h;
       passes = λ p d s a h. h;
       confirms = λ p s fits h.
-          confirm s.made s.confirmed (s.confirmed + cs_step (kept_of s) p) (omega arith) (omega (arith, ltb-true (cs_step (kept_of s) p) (length s.made - s.confirmed) fits)) h;
+          confirm s.made s.confirmed (s.confirmed + cs_step (kept_of s) p) (omega arith)
+          (omega (arith, ltb-true (cs_step (kept_of s) p) (length s.made - s.confirmed) fits)) h;
       accepts = λ now s h.
           let m = next_made s ConnResp (opening_body s.settings.n_sendmax) now in
           let longer : length (s.made ++ m ∷ []) ≡ length s.made + 1 = length-append s.made (m ∷ []) in
@@ -332,11 +341,13 @@ reached s h =
     let all_there : above s.confirmed ring ≡ ring = carried_at-above s.confirmed (s.confirmed + 1) [] (drop (s.confirmed + 1) s.made) (omega arith) in
     record {
       by_carriers =
-          sym (ap octets_of (ap (above s.confirmed) h.is ∙ (above-append s.confirmed h.front ring ∙ (ap (λ cs. cs ++ above s.confirmed ring) h.none ∙ all_there)))
+          sym (ap octets_of (ap (above s.confirmed) h.is
+          ∙ (above-append s.confirmed h.front ring ∙ (ap (λ cs. cs ++ above s.confirmed ring) h.none ∙ all_there)))
           ∙ ring_of-units s);
       confirmed_before = octets_of h.front;
       ends = ended s h;
     }
 
 pub reached_law_holds : ReachedLaw
-reached_law_holds settings first now ms = reached (moved ms (opened settings first now)) (carriers-moved ms (opened settings first now) (carriers-opened settings first now))
+reached_law_holds settings first now ms = reached (moved ms (opened settings first now))
+    (carriers-moved ms (opened settings first now) (carriers-opened settings first now))

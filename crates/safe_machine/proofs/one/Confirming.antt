@@ -31,7 +31,8 @@ was-ahead : (p : Pdu) (s : State) → cs_fits (kept_of s) p ≡ true → IsAhead
 was-ahead p s fits = omega (arith, ltb-true (cs_step (kept_of s) p) (length s.made - s.confirmed) fits)
 
 leave-made : (reason : Reason) (detail : Detail) (now : ℕ) (s : State) → HasMade (kept_of (leave reason detail now s))
-leave-made reason detail now s = leave-cases (λ t. HasMade (kept_of t)) reason detail now s (λ _ turn. absurd (false≢true turn)) (λ _ turn. absurd (false≢true turn))
+leave-made reason detail now s = leave-cases (λ t. HasMade (kept_of t)) reason detail now s (λ _ turn. absurd (false≢true turn))
+    (λ _ turn. absurd (false≢true turn))
 
 by-fit : (p : Pdu) (now : ℕ) (d : Decision) (s : State) → Fits (kept_of s) p now d → cs_fits (kept_of s) p ≡ true → HasMade (kept_of (carry_out p now d s))
 by-fit p now d s f fits turn = kept-decided Anything Anything IsAhead ahead-kept p now d s tt f (was-ahead p s fits)
@@ -54,12 +55,14 @@ move-made : (m : Move) (s : State) → HasMade (kept_of s) → HasMade (kept_of 
 move-made (Guards now) s h = guard-made now s h
 move-made (Hears p now) s h =
     let g = guard now s in
-    arrive-by (λ t. HasMade (kept_of t)) p now s (guard-made now s h) (λ _ _. decided-made p now (decide (kept_of g) p now) g (decide-fits (kept_of g) p now) (guard-made now s h))
+    arrive-by (λ t. HasMade (kept_of t)) p now s (guard-made now s h)
+    (λ _ _. decided-made p now (decide (kept_of g) p now) g (decide-fits (kept_of g) p now) (guard-made now s h))
 move-made (Ticks now) s h =
     let g = guard now s in
     let k = guard-made now s h in
     heartbeat-cases (λ t. HasMade (kept_of t)) now g (λ _ turn. let made = k turn in omega (arith, length-make Heartbeat [] now g)) k
-move-made (Sends unit now) s h = send-cases (λ t. HasMade (kept_of t)) unit now s (λ _ _ turn. let made = h turn in omega (arith, length-make Data unit now s)) h
+move-made (Sends unit now) s h = send-cases (λ t. HasMade (kept_of t)) unit now s (λ _ _ turn. let made = h turn in omega (arith, length-make Data unit now s))
+    h
 move-made (LeavesNow reason detail now) s h = leave-made reason detail now s
 
 -- the same of what is kept

@@ -24,7 +24,8 @@ module _ (p : Pdu) (now : ℕ) (s : State) where
 
   tested-goes : (d : Decision) → Q d → Q (tested (kept_of s) p now d)
   tested-goes d h =
-      cond_both (cs_fits (kept_of s) p) (if cts_fits (kept_of s) p now then d else Leaves ProtocolError ConfirmedTimestamp) (Leaves ProtocolError ConfirmedNumber) Q
+      cond_both (cs_fits (kept_of s) p) (if cts_fits (kept_of s) p now then d else Leaves ProtocolError ConfirmedTimestamp)
+      (Leaves ProtocolError ConfirmedNumber) Q
       (λ _. cond_both (cts_fits (kept_of s) p now) d (Leaves ProtocolError ConfirmedTimestamp) Q (λ _. h) (λ _. inr (inl refl)))
       (λ _. inr (inl refl))
 
@@ -41,7 +42,8 @@ module _ (p : Pdu) (now : ℕ) (s : State) where
 
   client-goes : s.connection ≡ Start → (kind : Kind) → Q (as_client (kept_of s) p now kind)
   client-goes start ConnResp =
-      cond_both (is_ours p.body) (tested (kept_of s) p now Connects) (Leaves WrongVersion Unspecified) Q (λ _. tested-goes Connects (inr (inr (inr (inl (start, refl)))))) (λ _. inr (inl refl))
+      cond_both (is_ours p.body) (tested (kept_of s) p now Connects) (Leaves WrongVersion Unspecified) Q
+      (λ _. tested-goes Connects (inr (inr (inr (inl (start, refl)))))) (λ _. inr (inl refl))
   client-goes start _ = leaves-goes UnexpectedPdu Unspecified
 
   start-goes : s.connection ≡ Start → (next : Bool) (kind : Kind) (d : ℕ) → Q (by_cell (kept_of s) p now d (start_row next kind))
@@ -55,19 +57,23 @@ module _ (p : Pdu) (now : ℕ) (s : State) where
   connected-goes on d Ask good = inr (inr (inr (inr (on, refl))))
   connected-goes on d Answer good =
       let early : Q AnswersEarly =
-      early-cases (λ u. GoesOn s.connection u.connection) p now s (λ _. inr (inr (inr (inr (on, refl))))) (inl (reply-is (note_request (distance (kept_of s) p) (confirm_units p s))))
+      early-cases (λ u. GoesOn s.connection u.connection) p now s (λ _. inr (inr (inr (inr (on, refl)))))
+      (inl (reply-is (note_request (distance (kept_of s) p) (confirm_units p s))))
       in
       let next : Q AnswersNext = inl (reply-is (pass p 0 (note_request 0 (tests_passed p s)))) in
       cond_both (nat_le (s.expected + d) s.answered) (Drops Answered) _ Q (λ _. inl refl)
       (λ _. cond_both (cs_fits (kept_of s) p) _ _ Q
-      (λ _. cond_both ((d == 0) && in_turn s.connection) _ AnswersEarly Q (λ _. cond_both (cts_fits (kept_of s) p now) AnswersNext (Leaves ProtocolError ConfirmedTimestamp) Q (λ _. next) (λ _. inr (inl refl))) (λ _. early))
-      (λ _. cond_both (nat_le 0x8000_0000 (cs_step (kept_of s) p)) (Drops Below) (Leaves RetransmissionImpossible Unspecified) Q (λ _. inl refl) (λ _. inr (inl refl))))
+      (λ _. cond_both ((d == 0) && in_turn s.connection) _ AnswersEarly Q
+      (λ _. cond_both (cts_fits (kept_of s) p now) AnswersNext (Leaves ProtocolError ConfirmedTimestamp) Q (λ _. next) (λ _. inr (inl refl))) (λ _. early))
+      (λ _. cond_both (nat_le 0x8000_0000 (cs_step (kept_of s) p)) (Drops Below) (Leaves RetransmissionImpossible Unspecified) Q (λ _. inl refl)
+      (λ _. inr (inl refl))))
   connected-goes on d Resume good = tested-goes Resumes (inr (inr (inr (inr (on, refl)))))
   connected-goes on d (Refuse reason) good = inr (inl refl)
   connected-goes on d Skip good = inl refl
 
   table-goes : ((d : ℕ) → Q (by_cell (kept_of s) p now d (cell s.connection (d == 0) p.kind))) → (d : ℕ) → Q (by_table (kept_of s) p now d)
-  table-goes h d = cond_both (nat_le d (REACH * s.settings.n_sendmax)) (by_cell (kept_of s) p now d (cell s.connection (d == 0) p.kind)) (Drops Number) Q (λ _. h d) (λ _. inl refl)
+  table-goes h d = cond_both (nat_le d (REACH * s.settings.n_sendmax)) (by_cell (kept_of s) p now d (cell s.connection (d == 0) p.kind)) (Drops Number) Q
+      (λ _. h d) (λ _. inl refl)
 
   on-goes : is_connected s.connection ≡ true → Q (if is_goodbye p.kind then Shuts else by_table (kept_of s) p now (distance (kept_of s) p))
   on-goes on =
@@ -80,7 +86,8 @@ module _ (p : Pdu) (now : ℕ) (s : State) where
   by-goes Start e =
       cond_both (is_goodbye p.kind) Shuts (in_start (kept_of s) p now) Q (λ _. inr (inl refl))
       (λ _. cond_both s.settings.client (as_client (kept_of s) p now p.kind) (by_table (kept_of s) p now (distance (kept_of s) p)) Q (λ _. client-goes e p.kind)
-      (λ _. table-goes (λ d. subst (λ c. Q (by_cell (kept_of s) p now d (cell c (d == 0) p.kind))) (sym e) (start-goes e (d == 0) p.kind d)) (distance (kept_of s) p)))
+      (λ _. table-goes (λ d. subst (λ c. Q (by_cell (kept_of s) p now d (cell c (d == 0) p.kind))) (sym e) (start-goes e (d == 0) p.kind d))
+      (distance (kept_of s) p)))
   by-goes _ e = on-goes (ap is_connected e)
 
   respond-goes : GoesOn s.connection (respond p now s).connection
@@ -95,7 +102,8 @@ connection-goes : (m : Move) (s : State) → GoesOn s.connection (move m s).conn
 connection-goes (Guards now) s = guard-goes now s
 connection-goes (Hears p now) s =
     elim (guarded now s) [
-      | inl closed ↦ inr (inl (ap (λ c. (carry_out p now (if is_closed c then Nothing else by_sender (kept_of (guard now s)) p now) (guard now s)).connection) closed ∙ closed))
+      | inl closed ↦ inr (inl (ap (λ c. (carry_out p now (if is_closed c then Nothing else by_sender (kept_of (guard now s)) p now) (guard now s)).connection)
+          closed ∙ closed))
       | inr same ↦ subst (λ (t : State). GoesOn s.connection (respond p now t).connection) (sym same) (respond-goes p now s)
     ]
 connection-goes (Ticks now) s =

@@ -33,7 +33,8 @@ Bounded s = BoundedOf s.settings s.made s.confirmed s.connection s.window
 abbrev pub Ready : State → Type 0
 Ready s = is_live s.connection ≡ true → length s.made < s.settings.pdu_limit
 
-pub unconfirmed-make : (kind : Kind) (body : List ℕ) (now : ℕ) (s : State) → s.confirmed < length s.made → unconfirmed (make kind body now s) ≡ after_pdu kind body (unconfirmed s)
+pub unconfirmed-make : (kind : Kind) (body : List ℕ) (now : ℕ) (s : State) → s.confirmed < length s.made → unconfirmed (make kind body now s) ≡ after_pdu kind
+    body (unconfirmed s)
 unconfirmed-make kind body now s h =
     let m = next_made s kind body now in
     ap run_of (drop-append-le (s.confirmed + 1) s.made (m ∷ []) (omega arith)) ∙ run_after-append [] (drop (s.confirmed + 1) s.made) (m ∷ [])
@@ -42,7 +43,8 @@ pub length-make : (kind : Kind) (body : List ℕ) (now : ℕ) (s : State) → le
 length-make kind body now s = length-append s.made (next_made s kind body now ∷ [])
 
 -- a longer run before leaves no shorter run after
-after_pdu-longer : (kind : Kind) (body : List ℕ) (us vs : List (List ℕ)) → length us ≤ length vs → length (after_pdu kind body us) ≤ length (after_pdu kind body vs)
+after_pdu-longer : (kind : Kind) (body : List ℕ) (us vs : List (List ℕ)) → length us ≤ length vs → length (after_pdu kind body us)
+    ≤ length (after_pdu kind body vs)
 after_pdu-longer Data body us vs h = omega (arith, length-append us (body ∷ []), length-append vs (body ∷ []))
 after_pdu-longer RetrData body us vs h = omega (arith, length-append us (body ∷ []), length-append vs (body ∷ []))
 after_pdu-longer RetrResp body us vs h = omega arith
@@ -64,9 +66,20 @@ run_of-shrinks a b ms h =
     omega (arith, ap length split, ap (λ ds. length (run_of ds)) same)
 
 bounded-low : (t : State) → t.settings.n_sendmax ≤ 32 → t.settings.pdu_limit ≤ 4294901760 → length t.made ≤ 4294901795 → t.window ≤ 32 →
-    length (unconfirmed t) ≤ t.window → (t.connection ≡ Start → length (unconfirmed t) ≡ 0) → (is_live t.connection ≡ true → t.confirmed < length t.made) → Bounded t
+    length (unconfirmed t) ≤ t.window → (t.connection ≡ Start → length (unconfirmed t) ≡ 0) → (is_live t.connection ≡ true → t.confirmed < length t.made)
+    → Bounded t
 bounded-low t small limit few window in_window none made =
-    record { small = small; limit = limit; few = omega arith; few_live = λ live. omega arith; window_small = window; in_window = in_window; none_in_start = none; confirmed_made = made }
+    record {
+      small = small;
+      limit = limit;
+      few = omega arith;
+      few_live = λ live. omega arith;
+      window_small = window;
+      in_window = in_window;
+      none_in_start =
+          none;
+      confirmed_made = made;
+    }
 
 -- a PDU that carries nothing, made by a live end
 bounded-plain : (kind : Kind) (body : List ℕ) (now : ℕ) (s : State) → Bounded s → length s.made ≤ 4294901794 → s.confirmed < length s.made →
@@ -149,12 +162,14 @@ replied now s h =
           ∙ (resend-unconfirmed us now a a_made ∙ ap (λ run. run ++ us) (unconfirmed-make RetrResp [] now s h));
     }
 
-bounded-replied : (s t : State) → Bounded s → Replied s t → length s.made ≤ 4294901759 → s.confirmed < length s.made → Bounded t × (length t.made ≤ 4294901794) × (t.confirmed < length t.made)
+bounded-replied : (s t : State) → Bounded s → Replied s t → length s.made ≤ 4294901759 → s.confirmed < length s.made → Bounded t × (length t.made ≤ 4294901794)
+    × (t.confirmed < length t.made)
 bounded-replied s t b r few made =
     let us : length (unconfirmed t) ≡ length (unconfirmed s) = ap length r.same in
     let small : length (unconfirmed s) ≤ 32 = omega (arith, b.in_window, b.window_small) in
     let l = r.more in (
-      bounded-low t (omega (arith, b.small, ap (λ (k : Settings). k.n_sendmax) r.settings)) (omega (arith, b.limit, ap (λ (k : Settings). k.pdu_limit) r.settings))
+      bounded-low t (omega (arith, b.small, ap (λ (k : Settings). k.n_sendmax) r.settings))
+          (omega (arith, b.limit, ap (λ (k : Settings). k.pdu_limit) r.settings))
           (omega arith) (omega (arith, b.window_small, r.window)) (omega (arith, b.in_window, r.window))
           (λ start. us ∙ b.none_in_start (sym r.connection ∙ start)) (λ _. omega (arith, r.confirmed)),
       omega arith,
@@ -165,8 +180,10 @@ bounded-replied s t b r few made =
 pub confirmed-made : (x : State) (p : Pdu) → cs_fits (kept_of x) p ≡ true → x.confirmed + cs_step (kept_of x) p < length x.made
 confirmed-made x p fits = omega (arith, ltb-true (cs_step (kept_of x) p) (length x.made - x.confirmed) fits)
 
-bounded-confirmed : (x : State) (p : Pdu) (connection : ConnectionState) (window : ℕ) → Bounded x → length x.made ≤ 4294901795 → cs_fits (kept_of x) p ≡ true → window ≤ 32 →
-    length (unconfirmed x) ≤ window → (connection ≡ Start → length (unconfirmed x) ≡ 0) → BoundedOf x.settings x.made (x.confirmed + cs_step (kept_of x) p) connection window
+bounded-confirmed : (x : State) (p : Pdu) (connection : ConnectionState) (window : ℕ) → Bounded x → length x.made ≤ 4294901795 → cs_fits (kept_of x) p ≡ true
+    → window ≤ 32 →
+    length (unconfirmed x) ≤ window → (connection ≡ Start → length (unconfirmed x) ≡ 0) → BoundedOf x.settings x.made (x.confirmed + cs_step (kept_of x) p)
+    connection window
 bounded-confirmed x p connection window b few fits small in_window none =
     let made = confirmed-made x p fits in
     let shrunk : length (run_of (drop (x.confirmed + cs_step (kept_of x) p + 1) x.made)) ≤ length (run_of (drop (x.confirmed + 1) x.made)) =
@@ -198,7 +215,8 @@ bounded-carry now p x b ready down window Rejects (is_down, is) =
       run_of-shrinks 0 (x.confirmed + 1) (x.made ++ next_made z DiscReq (leaving_body WrongVersion Unspecified) now ∷ []) (omega arith),
       ap (λ ms. length (run_of (ms ++ next_made z DiscReq (leaving_body WrongVersion Unspecified) now ∷ []))) (down is_down),
     ) in
-    bounded-low (move_to Closed (make DiscReq (leaving_body WrongVersion Unspecified) now z)) b.small b.limit (omega arith) b.window_small none (λ start. cc) (λ live. absurd (false≢true live))
+    bounded-low (move_to Closed (make DiscReq (leaving_body WrongVersion Unspecified) now z)) b.small b.limit (omega arith) b.window_small none (λ start. cc)
+    (λ live. absurd (false≢true live))
 bounded-carry now p x b ready down window Accepts (is_down, is) =
     let empty : length x.made ≡ 0 = ap length (down is_down) in
     let z = set_window (window_of p.body) (pass p 0 x) in
@@ -225,12 +243,14 @@ bounded-carry now p x b ready down window (Takes to) f =
     let bz : Bounded z = bounded-confirmed x p to x.window b (omega (arith, b.limit)) f.passed.cs b.window_small b.in_window
     (λ start. absurd (false≢true (sym (ap is_connected start) ∙ f.connected))) in
     let u = hand_up p z in
-    unit-cases Bounded p now z (λ _. bounded-plain Heartbeat [] now u bz (omega (arith, b.limit)) (confirmed-made x p f.passed.cs) (λ run. refl)) (λ _ _. bz) (λ _. bz)
+    unit-cases Bounded p now z (λ _. bounded-plain Heartbeat [] now u bz (omega (arith, b.limit)) (confirmed-made x p f.passed.cs) (λ run. refl)) (λ _ _. bz)
+    (λ _. bz)
 bounded-carry now p x b ready down window Asks f =
     let live = listens-live x.connection x.settings.client f.table.listens_now in
     let few = ready live in
     let bt = bounded-plain RetrReq [] now x b (omega (arith, b.limit)) (b.confirmed_made live) (λ run. refl) in
-    bounded-low (ask now x) b.small b.limit (omega (arith, length-make RetrReq [] now x, b.limit)) b.window_small bt.in_window (λ start. cc) (λ _. bt.confirmed_made live)
+    bounded-low (ask now x) b.small b.limit (omega (arith, length-make RetrReq [] now x, b.limit)) b.window_small bt.in_window (λ start. cc)
+    (λ _. bt.confirmed_made live)
 bounded-carry now p x b ready down window Resumes f =
     let few = ready (listens-live x.connection x.settings.client f.table.listens_now) in
     bounded-confirmed x p RetrRun x.window b (omega (arith, b.limit)) f.passed.cs b.window_small b.in_window (λ start. cc)
@@ -251,13 +271,15 @@ bounded-carry now p x b ready down window AnswersEarly f =
     (λ _. omega (arith, length-make RetrReq [] now t, bt.2)))
     bt.0
 
-pub bounded-respond : (now : ℕ) (p : Pdu) (x : State) → Bounded x → Ready x → (x.connection ≡ Down → x.made ≡ []) → (1 ≤ is_opening p.kind → window_of p.body ≤ 32) → Bounded (respond p now x)
+pub bounded-respond : (now : ℕ) (p : Pdu) (x : State) → Bounded x → Ready x → (x.connection ≡ Down → x.made ≡ [])
+    → (1 ≤ is_opening p.kind → window_of p.body ≤ 32) → Bounded (respond p now x)
 bounded-respond now p x b ready down window = bounded-carry now p x b ready down window (decide (kept_of x) p now) (decide-fits (kept_of x) p now)
 
 -- the guard
 pub bounded-guard : (now : ℕ) (x : State) → Bounded x → Bounded (guard now x) × Ready (guard now x)
 bounded-guard now x b =
-    guard-cases (λ s. Bounded s × Ready s) now x (λ reason detail. (bounded-leave reason detail now x b, λ live. absurd (false≢true live))) (λ holds. (b, λ live. (holds live).1))
+    guard-cases (λ s. Bounded s × Ready s) now x (λ reason detail. (bounded-leave reason detail now x b, λ live. absurd (false≢true live)))
+    (λ holds. (b, λ live. (holds live).1))
 
 -- a heartbeat by time
 pub bounded-heartbeat : (now : ℕ) (x : State) → Bounded x → Ready x → Bounded (heartbeat now x)

@@ -81,11 +81,13 @@ fits-tested v p now e live f =
     (λ cs. cond_both (cts_fits v p now) e (Leaves ProtocolError ConfirmedTimestamp) (Fits v p now) (λ cts. f (record { cs = cs; cts = cts })) (λ _. live))
     (λ _. live)
 
-fits-answering : (v : View) (p : Pdu) (now : ℕ) → ByTable v p → is_live v.connection ≡ true → is_connected v.connection ≡ true → p.kind ≡ RetrReq → Fits v p now (answering v p now (distance v p))
+fits-answering : (v : View) (p : Pdu) (now : ℕ) → ByTable v p → is_live v.connection ≡ true → is_connected v.connection ≡ true → p.kind ≡ RetrReq
+    → Fits v p now (answering v p now (distance v p))
 fits-answering v p now table live connected is =
     let d = distance v p in
     let P = Fits v p now in
-    let inner : Decision = if (d == 0) && in_turn v.connection then (if cts_fits v p now then AnswersNext else Leaves ProtocolError ConfirmedTimestamp) else AnswersEarly in
+    let inner : Decision = if (d == 0) && in_turn v.connection then (if cts_fits v p now then AnswersNext else Leaves ProtocolError ConfirmedTimestamp)
+    else AnswersEarly in
     let refused : Decision = if nat_le 0x8000_0000 (cs_step v p) then Drops Below else Leaves RetransmissionImpossible Unspecified in
     let fits : v.answered < v.expected + d → cs_fits v p ≡ true → AnswerFits v p =
     λ new cs. record { table = table; connected = connected; request = is; new = new; cs = cs } in
@@ -103,10 +105,20 @@ fits-answering v p now table live connected is =
     (λ _. fits new cs))
     (λ _. cond_both (nat_le 0x8000_0000 (cs_step v p)) (Drops Below) (Leaves RetransmissionImpossible Unspecified) P (λ _. tt) (λ _. live)))
 
-fits-cell : (v : View) (p : Pdu) (now : ℕ) → ByTable v p → is_live v.connection ≡ true → (c : Cell) → Allowed v.connection (distance v p == 0) p.kind c → Fits v p now (by_cell v p now (distance v p) c)
+fits-cell : (v : View) (p : Pdu) (now : ℕ) → ByTable v p → is_live v.connection ≡ true → (c : Cell) → Allowed v.connection (distance v p == 0) p.kind c
+    → Fits v p now (by_cell v p now (distance v p) c)
 fits-cell v p now table live (Take to) (next, quiet, connected, plain, needs) =
     fits-tested v p now (Takes to) live
-    (λ passed. record { table = table; next = eqb-true (distance v p) 0 next; quiet = quiet; connected = connected; plain = plain; needs = needs; passed = passed })
+    (λ passed. record {
+      table = table;
+      next = eqb-true (distance v p) 0 next;
+      quiet = quiet;
+      connected = connected;
+      plain = plain;
+      needs = needs;
+      passed =
+          passed;
+    })
 fits-cell v p now table live Ask (quiet, connected, needs) = record { table = table; quiet = quiet; needs = needs; connected = connected }
 fits-cell v p now table live Answer (connected, is) = fits-answering v p now table live connected is
 fits-cell v p now table live Resume (connected, is, needs) =
@@ -116,9 +128,11 @@ fits-cell v p now table live Skip h = tt
 
 fits-table : (v : View) (p : Pdu) (now : ℕ) → listens v.connection v.settings.client ≡ true → Fits v p now (by_table v p now (distance v p))
 fits-table v p now l =
-    cond_both (nat_le (distance v p) (10 * v.settings.n_sendmax)) (by_cell v p now (distance v p) (cell v.connection (distance v p == 0) p.kind)) (Drops Number) (Fits v p now)
+    cond_both (nat_le (distance v p) (10 * v.settings.n_sendmax)) (by_cell v p now (distance v p) (cell v.connection (distance v p == 0) p.kind)) (Drops Number)
+    (Fits v p now)
     (λ near.
-    fits-cell v p now (record { listens_now = l; near = leb-true (distance v p) (10 * v.settings.n_sendmax) near }) (listens-live v.connection v.settings.client l)
+    fits-cell v p now (record { listens_now = l; near = leb-true (distance v p) (10 * v.settings.n_sendmax) near })
+    (listens-live v.connection v.settings.client l)
     (cell v.connection (distance v p == 0) p.kind) (cell-allowed v.connection (distance v p == 0) p.kind))
     (λ _. tt)
 
@@ -126,7 +140,8 @@ fits-down : (v : View) (p : Pdu) (now : ℕ) → v.connection ≡ Down → (kind
 fits-down v p now down ConnReq is = cond_both (is_ours p.body) Accepts Rejects (Fits v p now) (λ _. (down, is)) (λ _. (down, is))
 fits-down v p now down _ is = tt
 
-fits-client : (v : View) (p : Pdu) (now : ℕ) → v.connection ≡ Start → is_live v.connection ≡ true → v.settings.client ≡ true → (kind : Kind) → p.kind ≡ kind → Fits v p now (as_client v p now kind)
+fits-client : (v : View) (p : Pdu) (now : ℕ) → v.connection ≡ Start → is_live v.connection ≡ true → v.settings.client ≡ true → (kind : Kind) → p.kind ≡ kind
+    → Fits v p now (as_client v p now kind)
 fits-client v p now start live client ConnResp is =
     cond_both (is_ours p.body) (tested v p now Connects) (Leaves WrongVersion Unspecified) (Fits v p now)
     (λ _. fits-tested v p now Connects live (λ passed. (start, client, is, passed))) (λ _. live)
@@ -151,4 +166,5 @@ fits-connection v p now _ is = fits-listens v p now (ap (λ c. listens c v.setti
 pub decide-fits : (v : View) (p : Pdu) (now : ℕ) → Fits v p now (decide v p now)
 decide-fits v p now =
     cond_both (is_closed v.connection) Nothing (by_sender v p now) (Fits v p now) (λ _. tt)
-    (λ _. cond_both (is_foreign v.settings p) (Drops Stranger) (by_connection v p now v.connection) (Fits v p now) (λ _. tt) (λ _. fits-connection v p now v.connection refl))
+    (λ _. cond_both (is_foreign v.settings p) (Drops Stranger) (by_connection v p now v.connection) (Fits v p now) (λ _. tt)
+    (λ _. fits-connection v p now v.connection refl))

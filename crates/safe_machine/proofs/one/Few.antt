@@ -13,7 +13,8 @@ use Rattle.safe_machine.proofs.one.ConnectionFacts.{turn-live}
 
 few-leave : (reason : Reason) (detail : Detail) (now : ℕ) (s : State) → length (leave reason detail now s).made ≤ length s.made + 1
 few-leave reason detail now s =
-    leave-cases (λ t. length t.made ≤ length s.made + 1) reason detail now s (λ _. omega (arith, length-make DiscReq (leaving_body reason detail) now s)) (λ _. omega arith)
+    leave-cases (λ t. length t.made ≤ length s.made + 1) reason detail now s (λ _. omega (arith, length-make DiscReq (leaving_body reason detail) now s))
+    (λ _. omega arith)
 
 few-guard : (now : ℕ) (s : State) → length (guard now s).made ≤ length s.made + 1
 few-guard now s = guard-cases (λ t. length t.made ≤ length s.made + 1) now s (λ reason detail. few-leave reason detail now s) (λ _. omega arith)
@@ -35,7 +36,8 @@ few-carry p now Accepts s h = omega (arith, length-make ConnResp (opening_body s
 few-carry p now Connects s h = omega (arith, length-make Heartbeat [] now (set_window (window_of p.body) (pass p 0 (tests_passed p s))))
 few-carry p now (Takes to) s h =
     let y = move_to to (pass p 0 (tests_passed p s)) in
-    unit-cases (λ t. length t.made ≤ length s.made + 35) p now y (λ _. omega (arith, length-make Heartbeat [] now (hand_up p y))) (λ _ _. omega arith) (λ _. omega arith)
+    unit-cases (λ t. length t.made ≤ length s.made + 35) p now y (λ _. omega (arith, length-make Heartbeat [] now (hand_up p y))) (λ _ _. omega arith)
+    (λ _. omega arith)
 few-carry p now Asks s h = omega (arith, length-make RetrReq [] now s)
 few-carry p now AnswersNext s h =
     let y = pass p 0 (note_request 0 (tests_passed p s)) in

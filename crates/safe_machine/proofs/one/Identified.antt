@@ -19,7 +19,8 @@ settings_law_holds m s =
     }
     m s (anything m) refl
 
-from-push : (settings : Settings) (ms : List Made) (m : Made) → AreFrom settings ms → (m.pdu.receiver ≡ settings.peer) × (m.pdu.sender ≡ settings.own) → AreFrom settings (ms ++ m ∷ [])
+from-push : (settings : Settings) (ms : List Made) (m : Made) → AreFrom settings ms → (m.pdu.receiver ≡ settings.peer) × (m.pdu.sender ≡ settings.own)
+    → AreFrom settings (ms ++ m ∷ [])
 from-push settings [] m h k = (k, tt)
 from-push settings (x ∷ xs) m h k = (h.0, from-push settings xs m h.1 k)
 
@@ -42,7 +43,8 @@ from-kept =
       confirms = λ p s fits h. h;
       accepts = λ now s h. from-make ConnResp (opening_body s.settings.n_sendmax) now s h;
       sends = λ unit now s a h. from-make Data unit now s h;
-      replies = λ now s h. from-make Heartbeat [] now (resend (unconfirmed s) now (make RetrResp [] now s)) (from-resend (unconfirmed s) now (make RetrResp [] now s) (from-make RetrResp [] now s h));
+      replies = λ now s h. from-make Heartbeat [] now (resend (unconfirmed s) now (make RetrResp [] now s))
+          (from-resend (unconfirmed s) now (make RetrResp [] now s) (from-make RetrResp [] now s h));
     }
 
 moved-settings : (ms : List Move) (s : State) → (moved ms s).settings ≡ s.settings
@@ -54,7 +56,8 @@ from-moved [] s h = h
 from-moved (m ∷ ms) s h = from-moved ms (move m s) (kept-move Anything Anything IsFrom from-kept m s (anything m) h)
 
 opened-from : (settings : Settings) (first now : ℕ) → IsFrom (opened settings first now) × ((opened settings first now).settings ≡ settings)
-opened-from settings first now = cond_both settings.client _ _ (λ (s : State). IsFrom s × (s.settings ≡ settings)) (λ _. (((refl, refl), tt), refl)) (λ _. (tt, refl))
+opened-from settings first now = cond_both settings.client _ _ (λ (s : State). IsFrom s × (s.settings ≡ settings)) (λ _. (((refl, refl), tt), refl))
+    (λ _. (tt, refl))
 
 pub identified_law_holds : IdentifiedLaw
 identified_law_holds settings first now ms =

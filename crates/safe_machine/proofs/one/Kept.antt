@@ -68,11 +68,13 @@ module _ (A : Pdu → Type 0) (U : List ℕ → Type 0) (P : State → Type 0) (
   kept-decided p now (Leaves reason detail) s a f h = kept-leave reason detail now s h
   kept-decided p now Rejects s a f h =
       let m = make DiscReq (leaving_body WrongVersion Unspecified) now (pass p 0 s) in
-      k.silent m (move_to Closed m) (refl, refl, refl, refl, refl) (k.plain DiscReq (leaving_body WrongVersion Unspecified) now (pass p 0 s) refl refl (k.passes p 0 s a h))
+      k.silent m (move_to Closed m) (refl, refl, refl, refl, refl)
+      (k.plain DiscReq (leaving_body WrongVersion Unspecified) now (pass p 0 s) refl refl (k.passes p 0 s a h))
   kept-decided p now Accepts s a f h =
       let y = set_window (window_of p.body) (pass p 0 s) in
       let z = confirm_to (length s.made) now (make ConnResp (opening_body s.settings.n_sendmax) now y) in
-      k.silent z (move_to Start z) (refl, refl, refl, refl, refl) (k.accepts now y (k.silent (pass p 0 s) y (refl, refl, refl, refl, refl) (k.passes p 0 s a h)))
+      k.silent z (move_to Start z) (refl, refl, refl, refl, refl)
+      (k.accepts now y (k.silent (pass p 0 s) y (refl, refl, refl, refl, refl) (k.passes p 0 s a h)))
   kept-decided p now Connects s a f h =
       let t = tests_passed p s in
       let y = set_window (window_of p.body) (pass p 0 t) in

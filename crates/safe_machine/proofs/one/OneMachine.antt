@@ -44,7 +44,8 @@ send-connection unit now s = send-cases (λ t. t.connection ≡ s.connection) un
 pub plain-leave : (reason : Reason) (detail : Detail) (now : ℕ) (s : State) → Plain s (leave reason detail now s)
 plain-leave reason detail now s =
     leave-cases (Plain s) reason detail now s
-    (λ _. let h = plain-make DiscReq (leaving_body reason detail) now s refl in record { taken = h.taken; sent = h.sent }) (λ _. record { taken = refl; sent = refl })
+    (λ _. let h = plain-make DiscReq (leaving_body reason detail) now s refl in record { taken = h.taken; sent = h.sent })
+    (λ _. record { taken = refl; sent = refl })
 
 pub plain-guard : (now : ℕ) (s : State) → Plain s (guard now s)
 plain-guard now s = guard-cases (Plain s) now s (λ reason detail. plain-leave reason detail now s) (λ _. plain-refl s)
@@ -57,13 +58,15 @@ plain-tick now s =
 
 plain-resend : (us : List (List ℕ)) (now : ℕ) (s : State) → Plain s (resend us now s)
 plain-resend [] now s = plain-refl s
-plain-resend (u ∷ us) now s = plain-then s (make RetrData u now s) (resend us now (make RetrData u now s)) (plain-make RetrData u now s refl) (plain-resend us now (make RetrData u now s))
+plain-resend (u ∷ us) now s = plain-then s (make RetrData u now s) (resend us now (make RetrData u now s)) (plain-make RetrData u now s refl)
+    (plain-resend us now (make RetrData u now s))
 
 pub plain-reply : (now : ℕ) (s : State) → Plain s (reply now s)
 plain-reply now s =
     let a = make RetrResp [] now s in
     let c = resend (unconfirmed s) now a in
-    plain-then s c (reply now s) (plain-then s a c (plain-make RetrResp [] now s refl) (plain-resend (unconfirmed s) now a)) (plain-make Heartbeat [] now c refl)
+    plain-then s c (reply now s) (plain-then s a c (plain-make RetrResp [] now s refl) (plain-resend (unconfirmed s) now a))
+    (plain-make Heartbeat [] now c refl)
 
 takes-none : (p : Pdu) (s t : State) → Plain s t → Takes1 p s t
 takes-none p s t h = record { more = []; one = inl refl; taken = h.taken ∙ sym (append-nil s.taken); sent = h.sent }
@@ -74,28 +77,34 @@ takes-carried p now (Drops cause) s = takes-none p s s (plain-refl s)
 takes-carried p now Shuts s = takes-none p s (move_to Closed s) (record { taken = refl; sent = refl })
 takes-carried p now (Leaves reason detail) s = takes-none p s (leave reason detail now s) (plain-leave reason detail now s)
 takes-carried p now Rejects s =
-    let h = plain-make DiscReq (leaving_body WrongVersion Unspecified) now (pass p 0 s) refl in takes-none p s (carry_out p now Rejects s) (record { taken = h.taken; sent = h.sent })
+    let h = plain-make DiscReq (leaving_body WrongVersion Unspecified) now (pass p 0 s) refl in takes-none p s (carry_out p now Rejects s)
+    (record { taken = h.taken; sent = h.sent })
 takes-carried p now Accepts s =
-    let h = plain-make ConnResp (opening_body s.settings.n_sendmax) now (set_window (window_of p.body) (pass p 0 s)) refl in takes-none p s (carry_out p now Accepts s) (record { taken = h.taken; sent = h.sent })
+    let h = plain-make ConnResp (opening_body s.settings.n_sendmax) now (set_window (window_of p.body) (pass p 0 s)) refl in takes-none p s
+    (carry_out p now Accepts s) (record { taken = h.taken; sent = h.sent })
 takes-carried p now Connects s =
-    let h = plain-make Heartbeat [] now (set_window (window_of p.body) (pass p 0 (tests_passed p s))) refl in takes-none p s (carry_out p now Connects s) (record { taken = h.taken; sent = h.sent })
+    let h = plain-make Heartbeat [] now (set_window (window_of p.body) (pass p 0 (tests_passed p s))) refl in takes-none p s (carry_out p now Connects s)
+    (record { taken = h.taken; sent = h.sent })
 takes-carried p now (Takes to) s =
     let y = move_to to (pass p 0 (tests_passed p s)) in
     let h = plain-make Heartbeat [] now (hand_up p y) refl in
     unit-cases (Takes1 p s) p now y
-    (λ _. record { more = p.body ∷ []; one = inr refl; taken = refl; sent = h.sent }) (λ _ _. record { more = p.body ∷ []; one = inr refl; taken = refl; sent = refl })
+    (λ _. record { more = p.body ∷ []; one = inr refl; taken = refl; sent = h.sent })
+    (λ _ _. record { more = p.body ∷ []; one = inr refl; taken = refl; sent = refl })
     (λ _. takes-none p s y (record { taken = refl; sent = refl }))
 takes-carried p now Asks s = let h = plain-make RetrReq [] now s refl in takes-none p s (ask now s) (record { taken = h.taken; sent = h.sent })
 takes-carried p now Resumes s = takes-none p s (carry_out p now Resumes s) (record { taken = refl; sent = refl })
 takes-carried p now AnswersNext s =
-    let h = plain-reply now (pass p 0 (note_request 0 (tests_passed p s))) in takes-none p s (carry_out p now AnswersNext s) (record { taken = h.taken; sent = h.sent })
+    let h = plain-reply now (pass p 0 (note_request 0 (tests_passed p s))) in takes-none p s (carry_out p now AnswersNext s)
+    (record { taken = h.taken; sent = h.sent })
 takes-carried p now AnswersEarly s =
     let u = note_request (distance (kept_of s) p) (confirm_units p s) in
     let t = reply now u in
     let h = plain-reply now u in
     let k = plain-make RetrReq [] now t refl in
     early-cases (Takes1 p s) p now s
-    (λ _. takes-none p s (ask now t) (record { taken = k.taken ∙ h.taken; sent = k.sent ∙ h.sent })) (takes-none p s t (record { taken = h.taken; sent = h.sent }))
+    (λ _. takes-none p s (ask now t) (record { taken = k.taken ∙ h.taken; sent = k.sent ∙ h.sent }))
+    (takes-none p s t (record { taken = h.taken; sent = h.sent }))
 
 pub takes-arrive : (p : Pdu) (now : ℕ) (s : State) → Takes1 p s (arrive p now s)
 takes-arrive p now s =

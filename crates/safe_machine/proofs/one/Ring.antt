@@ -10,7 +10,8 @@ octets_of-append = map-append (λ (c : Numbered). c.octets)
 pub octets_of-length : (cs : List Numbered) → length (octets_of cs) ≡ length cs
 octets_of-length cs = length-map cs (λ (c : Numbered). c.octets)
 
-after_at-units : (kind : Kind) (body : List ℕ) (index : ℕ) (run : List Numbered) → octets_of (after_at kind body index run) ≡ after_pdu kind body (octets_of run)
+after_at-units : (kind : Kind) (body : List ℕ) (index : ℕ) (run : List Numbered) → octets_of (after_at kind body index run) ≡ after_pdu kind body
+    (octets_of run)
 after_at-units Data body index run = octets_of-append run (record { number = index; octets = body } ∷ [])
 after_at-units RetrData body index run = octets_of-append run (record { number = index; octets = body } ∷ [])
 after_at-units _ body index run = refl
@@ -25,7 +26,8 @@ carried_at-units index run (m ∷ ms) =
 pub ring_of-units : (s : State) → octets_of (ring_of s) ≡ unconfirmed s
 ring_of-units s = carried_at-units (s.confirmed + 1) [] (drop (s.confirmed + 1) s.made)
 
-pub carried_at-append : (index : ℕ) (run : List Numbered) (a b : List Made) → carried_at index run (a ++ b) ≡ carried_at (index + length a) (carried_at index run a) b
+pub carried_at-append : (index : ℕ) (run : List Numbered) (a b : List Made) → carried_at index run (a ++ b) ≡ carried_at (index + length a)
+    (carried_at index run a) b
 carried_at-append index run [] b = ap (λ (n : ℕ). carried_at n run b) (omega arith)
 carried_at-append index run (m ∷ a) b =
     let next = after_at m.pdu.kind m.pdu.body index run in
@@ -44,7 +46,8 @@ below-one index p unit h =
     ap (λ (t : Bool). if t then record { number = p; octets = unit } ∷ [] else []) no_more
 
 -- beyond the index confirmed every unit is kept
-after_at-above : (kind : Kind) (body : List ℕ) (index p : ℕ) (run : List Numbered) → index < p → above index (after_at kind body p run) ≡ after_at kind body p (above index run)
+after_at-above : (kind : Kind) (body : List ℕ) (index p : ℕ) (run : List Numbered) → index < p → above index (after_at kind body p run) ≡ after_at kind body p
+    (above index run)
 after_at-above Data body index p run h =
     above-append index run (record { number = p; octets = body } ∷ []) ∙ ap (λ cs. above index run ++ cs) (above-one index p body h)
 after_at-above RetrData body index p run h =
@@ -58,21 +61,26 @@ carried_at-above index p run (m ∷ ms) h =
     ∙ ap (λ cs. carried_at (p + 1) cs ms) (after_at-above m.pdu.kind m.pdu.body index p run h)
 
 -- and up to it none
-after_at-below : (kind : Kind) (body : List ℕ) (index p : ℕ) (run : List Numbered) → p ≤ index → above index run ≡ [] → above index (after_at kind body p run) ≡ []
+after_at-below : (kind : Kind) (body : List ℕ) (index p : ℕ) (run : List Numbered) → p ≤ index → above index run ≡ [] → above index (after_at kind body p run)
+    ≡ []
 after_at-below Data body index p run h e =
-    above-append index run (record { number = p; octets = body } ∷ []) ∙ (ap (λ cs. cs ++ above index (record { number = p; octets = body } ∷ [])) e ∙ below-one index p body h)
+    above-append index run (record { number = p; octets = body } ∷ [])
+    ∙ (ap (λ cs. cs ++ above index (record { number = p; octets = body } ∷ [])) e ∙ below-one index p body h)
 after_at-below RetrData body index p run h e =
-    above-append index run (record { number = p; octets = body } ∷ []) ∙ (ap (λ cs. cs ++ above index (record { number = p; octets = body } ∷ [])) e ∙ below-one index p body h)
+    above-append index run (record { number = p; octets = body } ∷ [])
+    ∙ (ap (λ cs. cs ++ above index (record { number = p; octets = body } ∷ [])) e ∙ below-one index p body h)
 after_at-below RetrResp body index p run h e = refl
 after_at-below _ body index p run h e = e
 
-carried_at-below : (index p : ℕ) (run : List Numbered) (ms : List Made) → p + length ms ≤ index + 1 → above index run ≡ [] → above index (carried_at p run ms) ≡ []
+carried_at-below : (index p : ℕ) (run : List Numbered) (ms : List Made) → p + length ms ≤ index + 1 → above index run ≡ [] → above index (carried_at p run ms)
+    ≡ []
 carried_at-below index p run [] h e = e
 carried_at-below index p run (m ∷ ms) h e =
     carried_at-below index (p + 1) (after_at m.pdu.kind m.pdu.body p run) ms (omega arith) (after_at-below m.pdu.kind m.pdu.body index p run (omega arith) e)
 
 -- `confirm` up to a index leaves the ring of a state that has this index confirmed
-pub ring-confirm : (a b : ℕ) (ms : List Made) → a ≤ b → b < length ms → above b (carried_at (a + 1) [] (drop (a + 1) ms)) ≡ carried_at (b + 1) [] (drop (b + 1) ms)
+pub ring-confirm : (a b : ℕ) (ms : List Made) → a ≤ b → b < length ms → above b (carried_at (a + 1) [] (drop (a + 1) ms)) ≡ carried_at (b + 1) []
+    (drop (b + 1) ms)
 ring-confirm a b ms h l =
     let front = take (b - a) (drop (a + 1) ms) in
     let back = drop (b - a) (drop (a + 1) ms) in
@@ -87,7 +95,8 @@ ring-confirm a b ms h l =
     ∙ (ap (λ (n : ℕ). carried_at n [] back) index ∙ ap (carried_at (b + 1) []) rest)))
 
 -- units resent stand at consecutive indices
-pub ring-resend : (us : List (List ℕ)) (now : ℕ) (s : State) → s.confirmed < length s.made → ring_of (resend us now s) ≡ ring_of s ++ renumbered (length s.made) us
+pub ring-resend : (us : List (List ℕ)) (now : ℕ) (s : State) → s.confirmed < length s.made → ring_of (resend us now s) ≡ ring_of s ++ renumbered (length s.made)
+    us
 ring-resend [] now s h = sym (append-nil (ring_of s))
 ring-resend (u ∷ us) now s h =
     let m = next_made s RetrData u now in

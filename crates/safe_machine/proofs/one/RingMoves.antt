@@ -34,7 +34,8 @@ leaves-after Data body index run e = cc
 leaves-after RetrData body index run e = cc
 leaves-after _ body index run e = refl
 
-plain-carried : (n index : ℕ) (ms : List Made) (m : Made) → leaves_units m.pdu.kind ≡ true → carried_at index [] (drop n (ms ++ m ∷ [])) ≡ carried_at index [] (drop n ms)
+plain-carried : (n index : ℕ) (ms : List Made) (m : Made) → leaves_units m.pdu.kind ≡ true → carried_at index [] (drop n (ms ++ m ∷ [])) ≡ carried_at index []
+    (drop n ms)
 plain-carried zero index ms m e =
     carried_at-append index [] ms (m ∷ []) ∙ leaves-after m.pdu.kind m.pdu.body (index + length ms) (carried_at index [] ms) e
 plain-carried (suc zero) index [] m e = refl
@@ -45,7 +46,8 @@ pub plain-ring : (kind : Kind) (body : List ℕ) (now : ℕ) (s : State) → lea
 plain-ring kind body now s e = plain-carried (s.confirmed + 1) (s.confirmed + 1) s.made (next_made s kind body now) e
 
 -- a unit that is sent stands last in the ring
-pub data-ring : (unit : List ℕ) (now : ℕ) (s : State) → s.confirmed < length s.made → ring_of (make Data unit now s) ≡ ring_of s ++ record { number = length s.made; octets = unit } ∷ []
+pub data-ring : (unit : List ℕ) (now : ℕ) (s : State) → s.confirmed < length s.made → ring_of (make Data unit now s) ≡ ring_of s
+    ++ record { number = length s.made; octets = unit } ∷ []
 data-ring unit now s h =
     let m = next_made s Data unit now in
     let size : length (drop (s.confirmed + 1) s.made) ≡ length s.made - (s.confirmed + 1) = length-drop (s.confirmed + 1) s.made in
@@ -55,7 +57,8 @@ data-ring unit now s h =
     ∙ ap (λ (n : ℕ). ring_of s ++ record { number = n; octets = unit } ∷ []) index)
 
 -- what a PDU confirms
-pub ring-step : (p : Pdu) (s : State) → cs_step (kept_of s) p < length s.made - s.confirmed → above (s.confirmed + cs_step (kept_of s) p) (ring_of s) ≡ ring_of (confirm_units p s)
+pub ring-step : (p : Pdu) (s : State) → cs_step (kept_of s) p < length s.made - s.confirmed → above (s.confirmed + cs_step (kept_of s) p) (ring_of s)
+    ≡ ring_of (confirm_units p s)
 ring-step p s h = ring-confirm s.confirmed (s.confirmed + cs_step (kept_of s) p) s.made (omega arith) (omega arith)
 
 -- an answer begins the unconfirmed units anew

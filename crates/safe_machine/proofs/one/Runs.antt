@@ -29,7 +29,8 @@ count-append sort [] b = omega arith
 count-append sort (m ∷ a) b = omega (arith, count-append sort a b)
 
 -- a PDU that is no RetrResp leaves what was carried before it in front
-pub after_pdu-front : (kind : Kind) (body : List ℕ) (front run : List (List ℕ)) → is_answer kind ≡ 0 → after_pdu kind body (front ++ run) ≡ front ++ after_pdu kind body run
+pub after_pdu-front : (kind : Kind) (body : List ℕ) (front run : List (List ℕ)) → is_answer kind ≡ 0 → after_pdu kind body (front ++ run) ≡ front
+    ++ after_pdu kind body run
 after_pdu-front Data body front run e = append_assoc front run (body ∷ [])
 after_pdu-front RetrData body front run e = append_assoc front run (body ∷ [])
 after_pdu-front RetrResp body front run e = cc
@@ -79,14 +80,16 @@ split_at r i ms m rest h e =
     ∙ ap (λ b. take (i - r) (drop r ms) ++ b) (drop-drop (i - r) r ms ∙ (ap (λ k. drop k ms) same ∙ e))
 
 -- what is carried from r on is what is carried after a RetrResp at i or later
-pub run_of-resume : (r i : ℕ) (ms : List Made) (m : Made) (rest : List Made) → r ≤ i → drop i ms ≡ m ∷ rest → 1 ≤ is_answer m.pdu.kind → run_of (drop r ms) ≡ run_of (drop (i + 1) ms)
+pub run_of-resume : (r i : ℕ) (ms : List Made) (m : Made) (rest : List Made) → r ≤ i → drop i ms ≡ m ∷ rest → 1 ≤ is_answer m.pdu.kind
+    → run_of (drop r ms) ≡ run_of (drop (i + 1) ms)
 run_of-resume r i ms m rest h e a =
     ap run_of (split_at r i ms m rest h e)
     ∙ (run_after-append [] (take (i - r) (drop r ms)) (m ∷ rest)
     ∙ (ap (λ us. run_after us rest) (after_answer m.pdu.kind m.pdu.body (run_of (take (i - r) (drop r ms))) a)
     ∙ ap run_of (sym (at-next i ms m rest e))))
 
-pub count-at : (sort : Kind → ℕ) (r i : ℕ) (ms : List Made) (m : Made) (rest : List Made) → r ≤ i → drop i ms ≡ m ∷ rest → sort m.pdu.kind + count sort (drop (i + 1) ms) ≤ count sort (drop r ms)
+pub count-at : (sort : Kind → ℕ) (r i : ℕ) (ms : List Made) (m : Made) (rest : List Made) → r ≤ i → drop i ms ≡ m ∷ rest
+    → sort m.pdu.kind + count sort (drop (i + 1) ms) ≤ count sort (drop r ms)
 count-at sort r i ms m rest h e =
     let parts : count sort (drop r ms) ≡ count sort (take (i - r) (drop r ms)) + (sort m.pdu.kind + count sort rest) =
     ap (count sort) (split_at r i ms m rest h e) ∙ count-append sort (take (i - r) (drop r ms)) (m ∷ rest) in
@@ -184,7 +187,8 @@ every-drop_all P [] = tt
 every-drop_all P (m ∷ ms) = every-drop_all P ms
 
 -- the first PDU of a list carries nothing
-pub first_plain-push : (ms : List Made) (m : Made) → run_of ms ≡ run_of (drop 1 ms) → (ms ≡ [] → after_pdu m.pdu.kind m.pdu.body [] ≡ []) → run_of (ms ++ m ∷ []) ≡ run_of (drop 1 (ms ++ m ∷ []))
+pub first_plain-push : (ms : List Made) (m : Made) → run_of ms ≡ run_of (drop 1 ms) → (ms ≡ [] → after_pdu m.pdu.kind m.pdu.body [] ≡ [])
+    → run_of (ms ++ m ∷ []) ≡ run_of (drop 1 (ms ++ m ∷ []))
 first_plain-push [] m h plain = plain refl
 first_plain-push (x ∷ xs) m h plain =
     run_after-append [] (x ∷ xs) (m ∷ []) ∙ (ap (after_pdu m.pdu.kind m.pdu.body) h ∙ sym (run_after-append [] xs (m ∷ [])))

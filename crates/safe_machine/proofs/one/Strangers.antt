@@ -14,11 +14,13 @@ use Rattle.safe_machine.proofs.one.StepCases.{guard-cases}
 strange-drops : (p : Pdu) (now : ℕ) (s : State) → is_stranger s p ≡ true → respond p now s ≡ s
 strange-drops p now s strange =
     cond_both (is_closed s.connection) Nothing (by_sender (kept_of s) p now) (λ d. carry_out p now d s ≡ s) (λ _. refl)
-    (λ _. cond_both (is_stranger s p) (Drops Stranger) (by_connection (kept_of s) p now s.connection) (λ d. carry_out p now d s ≡ s) (λ _. refl) (λ meant. let no : true ≡ false = sym strange ∙ meant in cc))
+    (λ _. cond_both (is_stranger s p) (Drops Stranger) (by_connection (kept_of s) p now s.connection) (λ d. carry_out p now d s ≡ s) (λ _. refl)
+    (λ meant. let no : true ≡ false = sym strange ∙ meant in cc))
 
 pub strangers_law_holds : StrangersLaw
 strangers_law_holds p now s strange =
-    strange-drops p now (guard now s) (ap (λ (c : Settings). if (p.receiver == c.own) && (p.sender == c.peer) then false else true) (settings_law_holds (Guards now) s) ∙ strange)
+    strange-drops p now (guard now s)
+    (ap (λ (c : Settings). if (p.receiver == c.own) && (p.sender == c.peer) then false else true) (settings_law_holds (Guards now) s) ∙ strange)
 
 module _ (p : Pdu) (now : ℕ) (s : State) where
   -- what it decides takes nothing
@@ -30,7 +32,8 @@ module _ (p : Pdu) (now : ℕ) (s : State) where
 
   tested-quiet : (d : Decision) → Q d → Q (tested (kept_of s) p now d)
   tested-quiet d h =
-      cond_both (cs_fits (kept_of s) p) (if cts_fits (kept_of s) p now then d else Leaves ProtocolError ConfirmedTimestamp) (Leaves ProtocolError ConfirmedNumber) Q
+      cond_both (cs_fits (kept_of s) p) (if cts_fits (kept_of s) p now then d else Leaves ProtocolError ConfirmedTimestamp)
+      (Leaves ProtocolError ConfirmedNumber) Q
       (λ _. cond_both (cts_fits (kept_of s) p now) d (Leaves ProtocolError ConfirmedTimestamp) Q (λ _. h) (λ _. leaves-quiet ProtocolError ConfirmedTimestamp))
       (λ _. leaves-quiet ProtocolError ConfirmedNumber)
 
@@ -39,7 +42,8 @@ module _ (p : Pdu) (now : ℕ) (s : State) where
   down-quiet _ = refl
 
   client-quiet : (kind : Kind) → Q (as_client (kept_of s) p now kind)
-  client-quiet ConnResp = cond_both (is_ours p.body) (tested (kept_of s) p now Connects) (Leaves WrongVersion Unspecified) Q (λ _. tested-quiet Connects refl) (λ _. leaves-quiet WrongVersion Unspecified)
+  client-quiet ConnResp = cond_both (is_ours p.body) (tested (kept_of s) p now Connects) (Leaves WrongVersion Unspecified) Q (λ _. tested-quiet Connects refl)
+      (λ _. leaves-quiet WrongVersion Unspecified)
   client-quiet _ = leaves-quiet UnexpectedPdu Unspecified
 
   heartbeat-quiet : p.kind ≡ Heartbeat → Q (Takes Up)
@@ -61,7 +65,8 @@ module _ (p : Pdu) (now : ℕ) (s : State) where
   start-quiet : s.connection ≡ Start → Q (by_connection (kept_of s) p now Start)
   start-quiet start =
       cond_both (is_goodbye p.kind) Shuts (in_start (kept_of s) p now) Q (λ _. refl)
-      (λ _. cond_both s.settings.client (as_client (kept_of s) p now p.kind) (by_table (kept_of s) p now (distance (kept_of s) p)) Q (λ _. client-quiet p.kind) (λ _. table-quiet start (distance (kept_of s) p)))
+      (λ _. cond_both s.settings.client (as_client (kept_of s) p now p.kind) (by_table (kept_of s) p now (distance (kept_of s) p)) Q (λ _. client-quiet p.kind)
+      (λ _. table-quiet start (distance (kept_of s) p)))
 
   meant-quiet : (s.connection ≡ Down) ⊎ (s.connection ≡ Start) → Q (by_connection (kept_of s) p now s.connection)
   meant-quiet (inl down) = subst (λ c. Q (by_connection (kept_of s) p now c)) (sym down) (down-quiet p.kind)

@@ -34,7 +34,8 @@ own-legal s e =
       peer = l.peer;
       window =
           ap (λ (w : ℕ). nat_le 1 w && (nat_le w 32 && true)) says
-          ∙ (ap (λ (x : Bool). x && (nat_le s.n_sendmax 32 && true)) (le-leb 1 s.n_sendmax l.window_least) ∙ ap (λ (x : Bool). x && true) (le-leb s.n_sendmax 32 l.window_most));
+          ∙ (ap (λ (x : Bool). x && (nat_le s.n_sendmax 32 && true)) (le-leb 1 s.n_sendmax l.window_least)
+          ∙ ap (λ (x : Bool). x && true) (le-leb s.n_sendmax 32 l.window_most));
     }
 
 -- what is known of the PDUs made, and of what the next one will confirm
@@ -89,7 +90,8 @@ sized-after _ body run k h = h
 
 pub sized-run : (run : List (List ℕ)) (ms : List Made) → HaveTexts ms → AllSized run → AllSized (run_after run ms)
 sized-run run [] h k = k
-sized-run run (m ∷ ms) h k = sized-run (after_pdu m.pdu.kind m.pdu.body run) ms h.1 (sized-after m.pdu.kind m.pdu.body run (h.0 (record { length = Eight; initial_value = [] })).body k)
+sized-run run (m ∷ ms) h k = sized-run (after_pdu m.pdu.kind m.pdu.body run) ms h.1
+    (sized-after m.pdu.kind m.pdu.body run (h.0 (record { length = Eight; initial_value = [] })).body k)
 
 pub texts-drop : (n : ℕ) (ms : List Made) → HaveTexts ms → HaveTexts (drop n ms)
 texts-drop zero ms h = h

@@ -30,12 +30,14 @@ Follows t s u = FollowsAt (ring_of u) t s u
 stays : (s : State) → Follows (still (kept_of s)) s s
 stays s = (refl, sym (append-nil s.made))
 
-then-at : (end : List Numbered) (ring : List Numbered) (t : Turn) (next : View → Turn) (s u w : State) → FollowsAt ring t s u → FollowsAt end (next (beside ring u)) u w → FollowsAt end (goes_on t next) s w
+then-at : (end : List Numbered) (ring : List Numbered) (t : Turn) (next : View → Turn) (s u w : State) → FollowsAt ring t s u
+    → FollowsAt end (next (beside ring u)) u w → FollowsAt end (goes_on t next) s w
 then-at end ring t next s u w h k =
     let q = subst (λ v. FollowsAt end (next v) u w) (sym h.0) k in
     (q.0, q.1 ∙ (ap (λ ms. ms ++ (next t.left).made) h.1 ∙ append_assoc s.made t.made (next t.left).made))
 
-choose : (b : Bool) (t r : Turn) (s u w : State) → (b ≡ true → Follows t s u) → (b ≡ false → Follows r s w) → Follows (if b then t else r) s (if b then u else w)
+choose : (b : Bool) (t r : Turn) (s u w : State) → (b ≡ true → Follows t s u) → (b ≡ false → Follows r s w)
+    → Follows (if b then t else r) s (if b then u else w)
 choose true t r s u w h k = h refl
 choose false t r s u w h k = k refl
 
@@ -43,23 +45,29 @@ moved : (connection : ConnectionState) (t : Turn) (s u : State) → Follows t s 
 moved connection t s u h = (ap (λ (v : View). record v { connection = connection }) h.0, h.1)
 
 -- a PDU is made beside any units, and beside its own where it leaves them
-said-at : (ring : List Numbered) (kind : Kind) (body : List ℕ) (now : ℕ) (s : State) → FollowsAt ring (says kind body now (beside ring s)) s (make kind body now s)
+said-at : (ring : List Numbered) (kind : Kind) (body : List ℕ) (now : ℕ) (s : State) → FollowsAt ring (says kind body now (beside ring s)) s
+    (make kind body now s)
 said-at ring kind body now s = (made-beside ring kind body now s, refl)
 
-said : (kind : Kind) (body : List ℕ) (now : ℕ) (s : State) → ring_of (make kind body now s) ≡ ring_of s → Follows (says kind body now (kept_of s)) s (make kind body now s)
+said : (kind : Kind) (body : List ℕ) (now : ℕ) (s : State) → ring_of (make kind body now s) ≡ ring_of s
+    → Follows (says kind body now (kept_of s)) s (make kind body now s)
 said kind body now s same = (made-beside (ring_of s) kind body now s ∙ ap (λ r. beside r (make kind body now s)) (sym same), refl)
 
 leaves-follows : (reason : Reason) (detail : Detail) (now : ℕ) (s : State) → Follows (leaves reason detail now (kept_of s)) s (leave reason detail now s)
 leaves-follows reason detail now s =
     let body = leaving_body reason detail in
-    moved Closed (if is_live s.connection then says DiscReq body now (kept_of s) else still (kept_of s)) s (if is_live s.connection then make DiscReq body now s else s)
+    moved Closed (if is_live s.connection then says DiscReq body now (kept_of s) else still (kept_of s)) s
+    (if is_live s.connection then make DiscReq body now s else s)
     (choose (is_live s.connection) (says DiscReq body now (kept_of s)) (still (kept_of s)) s (make DiscReq body now s) s
     (λ _. said DiscReq body now s (plain-ring DiscReq body now s refl)) (λ _. stays s))
 
 -- two answers of the guard
-pub by_guard-two : {A B : Type 0} (R : A → B → Type 0) (now : ℕ) (v : View) (leaves_a : Reason → Detail → A) (goes_a : A) (leaves_b : Reason → Detail → B) (goes_b : B) →
-    ((reason : Reason) (detail : Detail) → R (leaves_a reason detail) (leaves_b reason detail)) → R goes_a goes_b → R (by_guard now v leaves_a goes_a) (by_guard now v leaves_b goes_b)
-by_guard-two R now v leaves_a goes_a leaves_b goes_b left on = go (is_live v.connection) (nat_le (v.confirmed_at + v.settings.t_max) now) (nat_le v.settings.pdu_limit v.made)
+pub by_guard-two : {A B : Type 0} (R : A → B → Type 0) (now : ℕ) (v : View) (leaves_a : Reason → Detail → A) (goes_a : A) (leaves_b : Reason → Detail → B)
+    (goes_b : B) →
+    ((reason : Reason) (detail : Detail) → R (leaves_a reason detail) (leaves_b reason detail)) → R goes_a goes_b
+    → R (by_guard now v leaves_a goes_a) (by_guard now v leaves_b goes_b)
+by_guard-two R now v leaves_a goes_a leaves_b goes_b left on = go (is_live v.connection) (nat_le (v.confirmed_at + v.settings.t_max) now)
+    (nat_le v.settings.pdu_limit v.made)
   where
     go : (live late full : Bool) →
         R (if live then (if late then leaves_a Timeout Unspecified else if full then leaves_a ProtocolError Limit else goes_a) else goes_a)
@@ -71,7 +79,8 @@ by_guard-two R now v leaves_a goes_a leaves_b goes_b left on = go (is_live v.con
 
 guards-follows : (now : ℕ) (s : State) → Follows (guards now (kept_of s)) s (guard now s)
 guards-follows now s =
-    by_guard-two (λ t u. Follows t s u) now (kept_of s) (λ reason detail. leaves reason detail now (kept_of s)) (still (kept_of s)) (λ reason detail. leave reason detail now s) s
+    by_guard-two (λ t u. Follows t s u) now (kept_of s) (λ reason detail. leaves reason detail now (kept_of s)) (still (kept_of s))
+    (λ reason detail. leave reason detail now s) s
     (λ reason detail. leaves-follows reason detail now s) (stays s)
 
 -- what was confirmed
@@ -88,7 +97,8 @@ both-kept p s e = ap (λ r. beside r (tests_passed p s)) (ring-step p s (within 
 unit-follows : (p : Pdu) (now : ℕ) (s : State) → Follows (takes_unit p now (kept_of s)) s (take_unit p now s)
 unit-follows p now s =
     let u = hand_up p s in
-    choose (carries p.kind) (if nat_le s.settings.mwa u.since then says Heartbeat [] now (kept_of u) else still (kept_of u)) (still (kept_of s)) s (beat now u) s
+    choose (carries p.kind) (if nat_le s.settings.mwa u.since then says Heartbeat [] now (kept_of u) else still (kept_of u)) (still (kept_of s)) s (beat now u)
+    s
     (λ _. choose (nat_le s.settings.mwa u.since) (says Heartbeat [] now (kept_of u)) (still (kept_of u)) s (make Heartbeat [] now u) u
     (λ _. said Heartbeat [] now u (plain-ring Heartbeat [] now u refl)) (λ _. stays u))
     (λ _. stays s)
@@ -101,7 +111,8 @@ resends-at : (ring : List Numbered) (units : List (List ℕ)) (now : ℕ) (s : S
 resends-at ring [] now s = (refl, sym (append-nil s.made))
 resends-at ring (unit ∷ units) now s =
     let u = make RetrData unit now s in
-    then-at ring ring (says RetrData unit now (beside ring s)) (resends units now) s u (resend units now u) (said-at ring RetrData unit now s) (resends-at ring units now u)
+    then-at ring ring (says RetrData unit now (beside ring s)) (resends units now) s u (resend units now u) (said-at ring RetrData unit now s)
+    (resends-at ring units now u)
 
 replies-follows : (now : ℕ) (s : State) → s.confirmed < length s.made → Follows (replies now (kept_of s)) s (reply now s)
 replies-follows now s inside =
@@ -113,7 +124,8 @@ replies-follows now s inside =
     let first = length s.made + 1 in
     let long : length a.made ≡ first = length-append s.made (next_made s RetrResp [] now ∷ []) in
     let rung : ring_of b ≡ renumbered first units =
-    ring-resend units now a (omega (arith, long)) ∙ (ap (λ cs. cs ++ renumbered (length a.made) units) (answer-ring now s inside) ∙ ap (λ n. renumbered n units) long) in
+    ring-resend units now a (omega (arith, long))
+    ∙ (ap (λ cs. cs ++ renumbered (length a.made) units) (answer-ring now s inside) ∙ ap (λ n. renumbered n units) long) in
     let last : View → Turn = λ u. says Heartbeat [] now (renumbers first u) in
     let beaten : Follows (says Heartbeat [] now (kept_of b)) b c = said Heartbeat [] now b (plain-ring Heartbeat [] now b refl) in
     let behind : Follows (last (beside ring b)) b c = subst (λ r. Follows (says Heartbeat [] now (beside r b)) b c) rung beaten in
@@ -158,7 +170,8 @@ decision-follows p now Accepts s f = accepts-follows p now s
 decision-follows p now Connects s f =
     let y = set_window (window_of p.body) (pass p 0 (tests_passed p s)) in
     let h = moved Up (says Heartbeat [] now (kept_of y)) s (make Heartbeat [] now y) (said Heartbeat [] now y (plain-ring Heartbeat [] now y refl)) in
-    subst (λ v. Follows (moved_to Up (says Heartbeat [] now (windowed (window_of p.body) (passed p 0 v)))) s (carry_out p now Connects s)) (sym (both-kept p s f.3.cs)) h
+    subst (λ v. Follows (moved_to Up (says Heartbeat [] now (windowed (window_of p.body) (passed p 0 v)))) s (carry_out p now Connects s))
+    (sym (both-kept p s f.3.cs)) h
 decision-follows p now (Takes to) s f =
     let h = unit-follows p now (move_to to (pass p 0 (tests_passed p s))) in
     subst (λ v. Follows (takes_unit p now (record (passed p 0 v) { connection = to })) s (carry_out p now (Takes to) s)) (sym (both-kept p s f.passed.cs)) h
@@ -175,7 +188,8 @@ decision-follows p now AnswersEarly s f =
     let u = answered_ahead p now s in
     let t = answers_ahead p now (kept_of s) in
     let h = ahead-follows p now s f.cs in
-    choose (in_turn s.connection) (goes_on t (asks now)) t s (ask now u) u (λ _. then-at (ring_of (ask now u)) (ring_of u) t (asks now) s u (ask now u) h (asks-follows now u)) (λ _. h)
+    choose (in_turn s.connection) (goes_on t (asks now)) t s (ask now u) u
+    (λ _. then-at (ring_of (ask now u)) (ring_of u) t (asks now) s u (ask now u) h (asks-follows now u)) (λ _. h)
 
 responds-follows : (p : Pdu) (now : ℕ) (s : State) → Follows (responds p now (kept_of s)) s (respond p now s)
 responds-follows p now s = decision-follows p now (decide (kept_of s) p now) s (decide-fits (kept_of s) p now)
@@ -195,7 +209,8 @@ room-kept s = ap (λ (n : ℕ). is_open s.connection n s.window) (count-kept s)
 pub tells_law_holds : (v : View) (s : State) → StandsFor v s → Tells v s
 tells_law_holds v s h = subst (λ w. Tells w s) (sym h) (record { awaiting = count-kept s; room = room-kept s })
 
-sends-follows : (unit : List ℕ) (now : ℕ) (s : State) → (in_turn s.connection ≡ true → s.confirmed < length s.made) → Follows (sends unit now (kept_of s)) s (send unit now s)
+sends-follows : (unit : List ℕ) (now : ℕ) (s : State) → (in_turn s.connection ≡ true → s.confirmed < length s.made)
+    → Follows (sends unit now (kept_of s)) s (send unit now s)
 sends-follows unit now s made =
     let u = make Data unit now s in
     let keep : View → View = λ v. record v { ring = ring_of s ++ record { number = length s.made; octets = unit } ∷ [] } in
@@ -209,7 +224,8 @@ sends-follows unit now s made =
 arrives-follows : (p : Pdu) (now : ℕ) (s : State) → Follows (arrives p now (kept_of s)) s (arrive p now s)
 arrives-follows p now s =
     let g = guard now s in
-    then-at (ring_of (arrive p now s)) (ring_of g) (guards now (kept_of s)) (responds p now) s g (arrive p now s) (guards-follows now s) (responds-follows p now g)
+    then-at (ring_of (arrive p now s)) (ring_of g) (guards now (kept_of s)) (responds p now) s g (arrive p now s) (guards-follows now s)
+    (responds-follows p now g)
 
 -- what is handed up
 same-taken : (s t : State) → t.taken ≡ s.taken → t.taken ≡ s.taken ++ []
@@ -238,8 +254,10 @@ decided-taken p now _ s = sym (append-nil s.taken)
 
 arrive-taken : (p : Pdu) (now : ℕ) (s : State) → (arrive p now s).taken ≡ s.taken ++ hands p now (kept_of s)
 arrive-taken p now s =
-    by_guard-two (λ (g : State) (us : List (List ℕ)). (respond p now g).taken ≡ s.taken ++ us) now (kept_of s) (λ reason detail. leave reason detail now s) s (λ reason detail. [])
-    (handed_by (decide (kept_of s) p now) p) (λ reason detail. leave-taken reason detail now s ∙ sym (append-nil s.taken)) (decided-taken p now (decide (kept_of s) p now) s)
+    by_guard-two (λ (g : State) (us : List (List ℕ)). (respond p now g).taken ≡ s.taken ++ us) now (kept_of s) (λ reason detail. leave reason detail now s) s
+    (λ reason detail. [])
+    (handed_by (decide (kept_of s) p now) p) (λ reason detail. leave-taken reason detail now s ∙ sym (append-nil s.taken))
+    (decided-taken p now (decide (kept_of s) p now) s)
 
 turned-of : (m : Move) (s : State) → MaySend m (kept_of s) → Turned (turn m (kept_of s)) (handed m (kept_of s)) s (move m s)
 turned-of (Guards now) s may =
@@ -264,11 +282,13 @@ pub turns_law_holds : (m : Move) (v : View) (s : State) → MaySend m v → Stan
 turns_law_holds m v s may h = subst (λ w. Turned (turn m w) (handed m w) s (move m s)) (sym h) (turned-of m s (subst (MaySend m) h may))
 
 -- what octets read as is no sending
-heard-turns : (read : Result Pdu SafeFault) (now : ℕ) (v : View) (s : State) → StandsFor v s → Turned (turn (heard read now) v) (handed (heard read now) v) s (move (heard read now) s)
+heard-turns : (read : Result Pdu SafeFault) (now : ℕ) (v : View) (s : State) → StandsFor v s → Turned (turn (heard read now) v) (handed (heard read now) v) s
+    (move (heard read now) s)
 heard-turns (Ok p) now v s h = turns_law_holds (Hears p now) v s tt h
 heard-turns (Err fault) now v s h = turns_law_holds (Guards now) v s tt h
 
-pub octets_law_holds : (octets : List ℕ) (now : ℕ) (v : View) (s : State) → StandsFor v s → Turned (hears octets now v) (hears_units octets now v) s (arrive_octets octets now s)
+pub octets_law_holds : (octets : List ℕ) (now : ℕ) (v : View) (s : State) → StandsFor v s → Turned (hears octets now v) (hears_units octets now v) s
+    (arrive_octets octets now s)
 octets_law_holds octets now v s h =
     subst (λ (w : View). Turned (hears octets now v) (hears_units octets now v) s (move (heard (safe_seen w.settings.rule octets) now) s)) h
     (heard-turns (safe_seen v.settings.rule octets) now v s h)
@@ -278,7 +298,9 @@ opening_law_holds settings first now =
     let body = opening_body settings.n_sendmax in
     let begun = blank settings first now Start in
     let waits = blank settings first now Down in
-    let asked : Follows (says ConnReq body now (kept_of begun)) begun (make ConnReq body now begun) = said ConnReq body now begun (plain-ring ConnReq body now begun refl) in
+    let asked : Follows (says ConnReq body now (kept_of begun)) begun (make ConnReq body now begun) = said ConnReq body now begun
+    (plain-ring ConnReq body now begun refl) in
     let h : Follows (opens settings first now) begun (opened settings first now) =
-    choose settings.client (says ConnReq body now (unsaid settings first now Start)) (still (unsaid settings first now Down)) begun (make ConnReq body now begun) waits (λ _. asked) (λ _. stays waits) in
+    choose settings.client (says ConnReq body now (unsaid settings first now Start)) (still (unsaid settings first now Down)) begun
+    (make ConnReq body now begun) waits (λ _. asked) (λ _. stays waits) in
     record { stands = h.0; made = h.1 }

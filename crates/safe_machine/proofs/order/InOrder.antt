@@ -7,7 +7,8 @@ use Rattle.safe_machine.proofs.two.Invariant.{Told, Solo, Half, Few}
 use Rattle.safe_machine.proofs.two.Times.{Timed}
 use Rattle.safe_machine.proofs.two.Timing.{Coming, basis}
 
-pub next-distance : (m : Made) (rest : List Made) (x y : State) → Solo y → Half y x → 1 ≤ x.expected → drop x.expected y.made ≡ m ∷ rest → distance (kept_of x) m.pdu ≡ 0
+pub next-distance : (m : Made) (rest : List Made) (x y : State) → Solo y → Half y x → 1 ≤ x.expected → drop x.expected y.made ≡ m ∷ rest
+    → distance (kept_of x) m.pdu ≡ 0
 next-distance m rest x y solo h late at =
     let sn : m.pdu.sn ≡ sn_of y.first x.expected = numbered-at y.first 0 x.expected y.made m rest solo.numbered at ∙ ap (sn_of y.first) (omega arith) in
     let back : x.expected - 1 + 1 ≡ x.expected = omega arith in
@@ -17,14 +18,17 @@ next-distance m rest x y solo h late at =
     ∙ (ap (λ n. ahead (sn_of y.first n) m.pdu.sn) back ∙ (ap (ahead (sn_of y.first x.expected)) sn ∙ (zero_step ∙ omega arith))))
 
 -- where it was made with more behind than what is confirmed
-pub next-cs : (i : ℕ) (m : Made) (rest : List Made) (x y : State) → Half x y → Few x → drop i y.made ≡ m ∷ rest → x.confirmed + 1 ≤ m.behind → cs_fits (kept_of x) m.pdu ≡ true
+pub next-cs : (i : ℕ) (m : Made) (rest : List Made) (x y : State) → Half x y → Few x → drop i y.made ≡ m ∷ rest → x.confirmed + 1 ≤ m.behind
+    → cs_fits (kept_of x) m.pdu ≡ true
 next-cs i m rest x y h few at more =
     let told = every-at (Told x.first y.expected) 0 i y.made m rest h.told (omega arith) at in
     let step : cs_step (kept_of x) m.pdu ≡ m.behind - 1 - x.confirmed =
-    ap (ahead (sn_of x.first x.confirmed)) (told.cs (omega arith)) ∙ ahead-up x.first x.confirmed (m.behind - 1) (omega arith) (omega (arith, told.behind, h.within)) in
+    ap (ahead (sn_of x.first x.confirmed)) (told.cs (omega arith)) ∙ ahead-up x.first x.confirmed (m.behind - 1) (omega arith)
+    (omega (arith, told.behind, h.within)) in
     lt-ltb (cs_step (kept_of x) m.pdu) (length x.made - x.confirmed) (omega (arith, told.behind, h.within))
 
-pub next-cts : (clock now i : ℕ) (m : Made) (rest : List Made) (x y : State) → clock ≤ now → now < x.confirmed_at + 60000 → Timed clock x y → Coming i m rest x y → cts_fits (kept_of x) m.pdu now ≡ true
+pub next-cts : (clock now i : ℕ) (m : Made) (rest : List Made) (x y : State) → clock ≤ now → now < x.confirmed_at + 60000 → Timed clock x y
+    → Coming i m rest x y → cts_fits (kept_of x) m.pdu now ≡ true
 next-cts clock now i m rest x y later guarded h c =
     let b = basis clock now i m rest x y later guarded h c in
     le-leb (cts_step (kept_of x) m.pdu) (now - x.confirmed_at) (omega (arith, b.3, b.4, b.5))

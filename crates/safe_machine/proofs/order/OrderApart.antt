@@ -32,7 +32,8 @@ first-kept [] new m rest h e = absurd (omega arith)
 first-kept (a ∷ ms) new m rest h e = let here : a ≡ m = cc in (ms, ap (λ (b : Made). b ∷ ms) here)
 
 -- a step of the interlocking in which it takes nothing
-pub apart-il : (n k now : ℕ) (il t fe : State) (fe_before : List Served) (dead_il : ℕ) → Lone il t → Makes now il t → Mute t → Apart n k il fe fe_before dead_il → Apart n k t fe fe_before dead_il
+pub apart-il : (n k now : ℕ) (il t fe : State) (fe_before : List Served) (dead_il : ℕ) → Lone il t → Makes now il t → Mute t → Apart n k il fe fe_before dead_il
+    → Apart n k t fe fe_before dead_il
 apart-il n k now il t fe fe_before dead_il l makes mute h =
     record {
       mute = mute;
@@ -55,7 +56,8 @@ apart-il n k now il t fe fe_before dead_il l makes mute h =
       dead = λ on. l.opening dead_il (h.dead on);
     }
 
-pub apart-fe : (n k : ℕ) (il fe t : State) (fe_before : List Served) (dead_il : ℕ) → Lone fe t → Apart n k il fe fe_before dead_il → Apart n k il t fe_before dead_il
+pub apart-fe : (n k : ℕ) (il fe t : State) (fe_before : List Served) (dead_il : ℕ) → Lone fe t → Apart n k il fe fe_before dead_il
+    → Apart n k il t fe_before dead_il
 apart-fe n k il fe t fe_before dead_il l h =
     let still = still-lone fe t l h.still in
     let before : t.connection ≢ Closed → fe.connection ≢ Closed = λ on. λ e. on (ap (λ (v : State). v.connection) (l.closed e) ∙ e) in
@@ -73,11 +75,13 @@ apart-fe n k il fe t fe_before dead_il l h =
     }
 
 -- nothing comes to the interlocking
-pub apart-silent : {P : Type 0} (n k now : ℕ) (p : Pdu) (il fe : State) (fe_before : List Served) (dead_il : ℕ) → Apart n k il fe fe_before dead_il → NextArrival il p now n fe.made → P
+pub apart-silent : {P : Type 0} (n k now : ℕ) (p : Pdu) (il fe : State) (fe_before : List Served) (dead_il : ℕ) → Apart n k il fe fe_before dead_il
+    → NextArrival il p now n fe.made → P
 apart-silent n k now p il fe fe_before dead_il h a = no_index n fe.made a.made a.later h.made a.at
 
 -- What comes to the field element in order is the ConnReq, which is dead: so it is closed.
-pub apart-deaf : (n k now : ℕ) (p : Pdu) (il fe : State) (fe_before : List Served) (dead_il : ℕ) → Apart n k il fe fe_before dead_il → GenuineAt fe p (drop dead_il il.made) →
+pub apart-deaf : (n k now : ℕ) (p : Pdu) (il fe : State) (fe_before : List Served) (dead_il : ℕ) → Apart n k il fe fe_before dead_il
+    → GenuineAt fe p (drop dead_il il.made) →
     NextArrival fe p now k il.made → fe.connection ≢ Closed → ⊥
 apart-deaf n k now p il fe fe_before dead_il h genuine a on =
     let at_first : il.made ≡ a.made ∷ a.later = subst (λ (j : ℕ). drop j il.made ≡ a.made ∷ a.later) (h.heard on) a.at in
@@ -87,7 +91,8 @@ apart-deaf n k now p il fe fe_before dead_il h genuine a on =
     omega arith
 
 -- What comes to the field element in order is the ConnReq, which is dead, or the field element is closed.
-pub apart-arrive : (n k now : ℕ) (p : Pdu) (il fe : State) (fe_before : List Served) (dead_il : ℕ) → Apart n k il fe fe_before dead_il → fe_before ≢ [] → GenuineAt fe p (drop dead_il il.made) →
+pub apart-arrive : (n k now : ℕ) (p : Pdu) (il fe : State) (fe_before : List Served) (dead_il : ℕ) → Apart n k il fe fe_before dead_il → fe_before ≢ []
+    → GenuineAt fe p (drop dead_il il.made) →
     NextArrival fe p now k il.made → Apart n (k + 1) il (arrive p now fe) fe_before dead_il
 apart-arrive n k now p il fe fe_before dead_il h opened genuine a =
     elim (closed_or fe.connection) [

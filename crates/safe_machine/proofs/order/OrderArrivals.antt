@@ -35,7 +35,8 @@ next-arrival client n k clock now m rest x y h =
     record { pair = h.pair; peer = h.peer; few = h.few; at = subst (λ (j : ℕ). drop j y.made ≡ m ∷ rest) same h.at }
 
 -- It passes the confirmation tests, and stands where its number says.
-pub next-tests : (client : Bool) (n k clock now : ℕ) (m : Made) (rest : List Made) (x y : State) → NextIn client n k clock now m rest x y → is_live x.connection ≡ true → needs_peer m.pdu.kind ≡ 1 →
+pub next-tests : (client : Bool) (n k clock now : ℕ) (m : Made) (rest : List Made) (x y : State) → NextIn client n k clock now m rest x y
+    → is_live x.connection ≡ true → needs_peer m.pdu.kind ≡ 1 →
     (cs_fits (kept_of x) m.pdu ≡ true) × (cts_fits (kept_of x) m.pdu now ≡ true)
 next-tests client n k clock now m rest x y h live needs =
     let a = next-arrival client n k clock now m rest x y h in
@@ -45,7 +46,8 @@ next-tests client n k clock now m rest x y h live needs =
       next-cts clock now (x.expected + 0) m rest x y h.later (h.guarded live) h.timed c,
     )
 
-pub next-passes : (client : Bool) (n k clock now : ℕ) (m : Made) (rest : List Made) (x y : State) → NextIn client n k clock now m rest x y → is_live x.connection ≡ true → 1 ≤ n → needs_peer m.pdu.kind ≡ 1 →
+pub next-passes : (client : Bool) (n k clock now : ℕ) (m : Made) (rest : List Made) (x y : State) → NextIn client n k clock now m rest x y
+    → is_live x.connection ≡ true → 1 ≤ n → needs_peer m.pdu.kind ≡ 1 →
     Passes x m.pdu now
 next-passes client n k clock now m rest x y h live one needs =
     let t = next-tests client n k clock now m rest x y h live needs in
@@ -56,11 +58,13 @@ next-passes client n k clock now m rest x y h live one needs =
       cts = t.1;
     }
 
-next-behind : (client : Bool) (n k clock now : ℕ) (m : Made) (rest : List Made) (x y : State) → NextIn client n k clock now m rest x y → y.confirmed ≤ x.expected + 0 + 1 - 1
+next-behind : (client : Bool) (n k clock now : ℕ) (m : Made) (rest : List Made) (x y : State) → NextIn client n k clock now m rest x y
+    → y.confirmed ≤ x.expected + 0 + 1 - 1
 next-behind client n k clock now m rest x y h = omega (arith, h.pair.2.confirmed_behind)
 
 -- It is taken.
-next-takes : (client : Bool) (n k clock now : ℕ) (m : Made) (rest : List Made) (x y : State) → NextIn client n k clock now m rest x y → 1 ≤ n → 1 ≤ length x.made →
+next-takes : (client : Bool) (n k clock now : ℕ) (m : Made) (rest : List Made) (x y : State) → NextIn client n k clock now m rest x y → 1 ≤ n
+    → 1 ≤ length x.made →
     (client ≡ true → 2 ≤ length x.made) → needs_peer m.pdu.kind ≡ 1 → is_live x.connection ≡ true → Up ≡ state_of client (n + 1) →
     Ends client (n + 1) k (carry_out m.pdu now (Takes Up) x) y
 next-takes client n k clock now m rest x y h one some grown needs live state =
@@ -73,19 +77,23 @@ next-takes client n k clock now m rest x y h one some grown needs live state =
     let taken : Ends client (n + 1) k z y = record { own = own; peer = h.ends.peer; grown = λ c up. grown c; grown_peer = h.ends.grown_peer } in
     let up : Ends client (n + 1) k u y = record { own = own; peer = h.ends.peer; grown = λ c up. grown c; grown_peer = h.ends.grown_peer } in
     unit-cases (λ t. Ends client (n + 1) k t y) m.pdu now z
-    (λ _. ends-make client (n + 1) k Heartbeat [] now u y (next-behind client n k clock now m rest x y h) (good-bare client x.settings.n_sendmax (length x.made) (next_made u Heartbeat [] now) some refl) up)
+    (λ _. ends-make client (n + 1) k Heartbeat [] now u y (next-behind client n k clock now m rest x y h)
+    (good-bare client x.settings.n_sendmax (length x.made) (next_made u Heartbeat [] now) some refl) up)
     (λ _ _. up) (λ _. taken)
 
-next-shuts-or-takes : (client : Bool) (n k clock now : ℕ) (m : Made) (rest : List Made) (x y : State) → NextIn client n k clock now m rest x y → 1 ≤ n → 1 ≤ length x.made →
+next-shuts-or-takes : (client : Bool) (n k clock now : ℕ) (m : Made) (rest : List Made) (x y : State) → NextIn client n k clock now m rest x y → 1 ≤ n
+    → 1 ≤ length x.made →
     (client ≡ true → 2 ≤ length x.made) → is_live x.connection ≡ true → Up ≡ state_of client (n + 1) → (d : Decision) → ShutsOrTakes x m.pdu d →
     Ends client (n + 1) k (carry_out m.pdu now d x) y
 next-shuts-or-takes client n k clock now m rest x y h one some grown live state d (inl shuts) =
     subst (λ (e : Decision). Ends client (n + 1) k (carry_out m.pdu now e x) y) (sym shuts) (ends-close client n (n + 1) k x y h.ends)
 next-shuts-or-takes client n k clock now m rest x y h one some grown live state d (inr takes) =
-    subst (λ (e : Decision). Ends client (n + 1) k (carry_out m.pdu now e x) y) (sym takes.0) (next-takes client n k clock now m rest x y h one some grown takes.1 live state)
+    subst (λ (e : Decision). Ends client (n + 1) k (carry_out m.pdu now e x) y) (sym takes.0)
+    (next-takes client n k clock now m rest x y h one some grown takes.1 live state)
 
 -- A ConnResp comes in at the client.
-next-connects : (n k clock now : ℕ) (m : Made) (rest : List Made) (x y : State) → NextIn true n k clock now m rest x y → x.connection ≡ Start → m.pdu.kind ≡ ConnResp →
+next-connects : (n k clock now : ℕ) (m : Made) (rest : List Made) (x y : State) → NextIn true n k clock now m rest x y → x.connection ≡ Start
+    → m.pdu.kind ≡ ConnResp →
     m.pdu.body ≡ opening_body y.settings.n_sendmax → 1 ≤ length x.made → Ends true (n + 1) k (respond m.pdu now x) y
 next-connects n k clock now m rest x y h start is body some =
     let a = next-arrival true n k clock now m rest x y h in
@@ -106,7 +114,8 @@ next-connects n k clock now m rest x y h start is body some =
     subst (λ (d : Decision). Ends true (n + 1) k (carry_out m.pdu now d x) y) (sym e) after
 
 -- A ConnReq comes in at the server.
-next-accepts : (k clock now : ℕ) (m : Made) (rest : List Made) (x y : State) → NextIn false 0 k clock now m rest x y → x.connection ≡ Down → m.pdu.kind ≡ ConnReq →
+next-accepts : (k clock now : ℕ) (m : Made) (rest : List Made) (x y : State) → NextIn false 0 k clock now m rest x y → x.connection ≡ Down
+    → m.pdu.kind ≡ ConnReq →
     m.pdu.body ≡ opening_body y.settings.n_sendmax → x.made ≡ [] → Ends false 1 k (respond m.pdu now x) y
 next-accepts k clock now m rest x y h down is body empty =
     let e = decide-accepts x m.pdu now y.settings.n_sendmax down h.meant is body in
@@ -135,7 +144,8 @@ up-started : (x : State) → Solo x → x.connection ≡ Up → 1 ≤ length x.m
 up-started x solo up = (subst (λ (c : ConnectionState). Started c x.settings.client x.expected x.made) up solo.started).1
 
 -- Whatever it is.
-pub next-ends : (client : Bool) (n k clock now : ℕ) (m : Made) (rest : List Made) (x y : State) → NextIn client n k clock now m rest x y → Ends client (n + 1) k (respond m.pdu now x) y
+pub next-ends : (client : Bool) (n k clock now : ℕ) (m : Made) (rest : List Made) (x y : State) → NextIn client n k clock now m rest x y
+    → Ends client (n + 1) k (respond m.pdu now x) y
 next-ends true zero k clock now m rest x y h =
     let start : x.connection ≡ Start = h.ends.own.state h.on in
     let good : GoodAt false y.settings.n_sendmax 0 m = h.ends.peer.kinds 0 m rest h.at in
@@ -146,7 +156,8 @@ next-ends true (suc n) k clock now m rest x y h =
     let good : is_plain m.pdu.kind ≡ true = h.ends.peer.kinds (suc n) m rest h.at in
     let live = ap is_live up in
     let state : Up ≡ state_of true (suc n + 1) = let later : suc (suc n) ≡ suc n + 1 = omega arith in ap client_state later in
-    next-shuts-or-takes true (suc n) k clock now m rest x y h (omega arith) (up-started x h.pair.0 up) (λ c. h.ends.grown c up) live state (decide (kept_of x) m.pdu now)
+    next-shuts-or-takes true (suc n) k clock now m rest x y h (omega arith) (up-started x h.pair.0 up) (λ c. h.ends.grown c up) live state
+    (decide (kept_of x) m.pdu now)
     (decide-up x m.pdu now up h.meant good (next-passes true (suc n) k clock now m rest x y h live (omega arith)))
 next-ends false zero k clock now m rest x y h =
     let down : x.connection ≡ Down = h.ends.own.state h.on in
@@ -159,11 +170,13 @@ next-ends false (suc zero) k clock now m rest x y h =
     let live = ap is_live start in
     let s = subst (λ (c : ConnectionState). Started c x.settings.client x.expected x.made) start h.pair.0.started in
     next-shuts-or-takes false 1 k clock now m rest x y h (omega arith) s.2 (λ c. absurd (false≢true c)) live refl (decide (kept_of x) m.pdu now)
-    (decide-granted x m.pdu now start h.ends.own.role_is h.meant good (bare-plain m.pdu.kind good) (next-passes false 1 k clock now m rest x y h live (omega arith)))
+    (decide-granted x m.pdu now start h.ends.own.role_is h.meant good (bare-plain m.pdu.kind good)
+    (next-passes false 1 k clock now m rest x y h live (omega arith)))
 next-ends false (suc (suc n)) k clock now m rest x y h =
     let up : x.connection ≡ Up = h.ends.own.state h.on in
     let good : is_plain m.pdu.kind ≡ true = h.ends.peer.kinds (suc (suc n)) m rest h.at in
     let live = ap is_live up in
     let state : Up ≡ state_of false (suc (suc n) + 1) = let later : suc (suc (suc n)) ≡ suc (suc n) + 1 = omega arith in ap server_state later in
-    next-shuts-or-takes false (suc (suc n)) k clock now m rest x y h (omega arith) (up-started x h.pair.0 up) (λ c. absurd (false≢true c)) live state (decide (kept_of x) m.pdu now)
+    next-shuts-or-takes false (suc (suc n)) k clock now m rest x y h (omega arith) (up-started x h.pair.0 up) (λ c. absurd (false≢true c)) live state
+    (decide (kept_of x) m.pdu now)
     (decide-up x m.pdu now up h.meant good (next-passes false (suc (suc n)) k clock now m rest x y h live (omega arith)))

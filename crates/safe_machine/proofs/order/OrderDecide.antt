@@ -15,7 +15,8 @@ decided s p now connection e meant =
     ∙ ap (λ (b : Bool). if is_closed connection then Nothing else if b then Drops Stranger else by_connection (kept_of s) p now connection) meant
 
 -- both confirmation tests pass
-tested-passed : (s : State) (p : Pdu) (now : ℕ) (d : Decision) → cs_fits (kept_of s) p ≡ true → cts_fits (kept_of s) p now ≡ true → tested (kept_of s) p now d ≡ d
+tested-passed : (s : State) (p : Pdu) (now : ℕ) (d : Decision) → cs_fits (kept_of s) p ≡ true → cts_fits (kept_of s) p now ≡ true
+    → tested (kept_of s) p now d ≡ d
 tested-passed s p now d cs cts =
     ap (λ (b : Bool). if b then if cts_fits (kept_of s) p now then d else Leaves ProtocolError ConfirmedTimestamp else Leaves ProtocolError ConfirmedNumber) cs
     ∙ ap (λ (b : Bool). if b then d else Leaves ProtocolError ConfirmedTimestamp) cts
@@ -26,7 +27,8 @@ pub record Passes (s : State) (p : Pdu) (now : ℕ) : Type 0 where
   pub cs : cs_fits (kept_of s) p ≡ true
   pub cts : cts_fits (kept_of s) p now ≡ true
 
-pub table-takes : (s : State) (p : Pdu) (now : ℕ) → Passes s p now → cell s.connection true p.kind ≡ Take Up → by_table (kept_of s) p now (distance (kept_of s) p) ≡ Takes Up
+pub table-takes : (s : State) (p : Pdu) (now : ℕ) → Passes s p now → cell s.connection true p.kind ≡ Take Up
+    → by_table (kept_of s) p now (distance (kept_of s) p) ≡ Takes Up
 table-takes s p now h e =
     let near : nat_le 0 (10 * s.settings.n_sendmax) ≡ true = le-leb 0 (10 * s.settings.n_sendmax) (omega arith) in
     ap (λ d. by_table (kept_of s) p now d) h.next
@@ -38,14 +40,23 @@ abbrev pub ShutsOrTakes : State → Pdu → Decision → Type 0
 ShutsOrTakes s p d = (d ≡ Shuts) ⊎ ((d ≡ Takes Up) × (needs_peer p.kind ≡ 1))
 
 table-next : (s : State) (p : Pdu) (now : ℕ) (kind : Kind) → p.kind ≡ kind → is_plain kind ≡ true → (needs_peer p.kind ≡ 1 → Passes s p now) →
-    (is_goodbye kind ≡ false → cell s.connection true kind ≡ Take Up) → ShutsOrTakes s p (if is_goodbye p.kind then Shuts else by_table (kept_of s) p now (distance (kept_of s) p))
+    (is_goodbye kind ≡ false → cell s.connection true kind ≡ Take Up)
+    → ShutsOrTakes s p (if is_goodbye p.kind then Shuts else by_table (kept_of s) p now (distance (kept_of s) p))
 table-next s p now DiscReq is plain h e = inl (ap (λ k. if is_goodbye k then Shuts else by_table (kept_of s) p now (distance (kept_of s) p)) is)
 table-next s p now Heartbeat is plain h e =
     let needs : needs_peer p.kind ≡ 1 = ap needs_peer is in
-    inr (ap (λ k. if is_goodbye k then Shuts else by_table (kept_of s) p now (distance (kept_of s) p)) is ∙ table-takes s p now (h needs) (ap (λ k. cell s.connection true k) is ∙ e refl), needs)
+    inr (
+      ap (λ k. if is_goodbye k then Shuts else by_table (kept_of s) p now (distance (kept_of s) p)) is
+          ∙ table-takes s p now (h needs) (ap (λ k. cell s.connection true k) is ∙ e refl),
+      needs,
+    )
 table-next s p now Data is plain h e =
     let needs : needs_peer p.kind ≡ 1 = ap needs_peer is in
-    inr (ap (λ k. if is_goodbye k then Shuts else by_table (kept_of s) p now (distance (kept_of s) p)) is ∙ table-takes s p now (h needs) (ap (λ k. cell s.connection true k) is ∙ e refl), needs)
+    inr (
+      ap (λ k. if is_goodbye k then Shuts else by_table (kept_of s) p now (distance (kept_of s) p)) is
+          ∙ table-takes s p now (h needs) (ap (λ k. cell s.connection true k) is ∙ e refl),
+      needs,
+    )
 table-next s p now _ is plain h e = cc
 
 -- what is plain is taken in Up, and what is bare in Start
@@ -59,19 +70,22 @@ start-cell Heartbeat bare e = refl
 start-cell _ bare e = cc
 
 -- In Up.
-pub decide-up : (s : State) (p : Pdu) (now : ℕ) → s.connection ≡ Up → is_stranger s p ≡ false → is_plain p.kind ≡ true → (needs_peer p.kind ≡ 1 → Passes s p now) →
+pub decide-up : (s : State) (p : Pdu) (now : ℕ) → s.connection ≡ Up → is_stranger s p ≡ false → is_plain p.kind ≡ true
+    → (needs_peer p.kind ≡ 1 → Passes s p now) →
     ShutsOrTakes s p (decide (kept_of s) p now)
 decide-up s p now up meant plain h =
     subst (ShutsOrTakes s p) (sym (decided s p now Up up meant))
     (table-next s p now p.kind refl plain h (λ e. ap (λ c. cell c true p.kind) up ∙ up-cell p.kind plain e))
 
 -- A server in Start.
-pub decide-granted : (s : State) (p : Pdu) (now : ℕ) → s.connection ≡ Start → s.settings.client ≡ false → is_stranger s p ≡ false → is_bare p.kind ≡ true → is_plain p.kind ≡ true →
+pub decide-granted : (s : State) (p : Pdu) (now : ℕ) → s.connection ≡ Start → s.settings.client ≡ false → is_stranger s p ≡ false → is_bare p.kind ≡ true
+    → is_plain p.kind ≡ true →
     (needs_peer p.kind ≡ 1 → Passes s p now) → ShutsOrTakes s p (decide (kept_of s) p now)
 decide-granted s p now start server meant bare plain h =
     let table = by_table (kept_of s) p now (distance (kept_of s) p) in
     let whole : decide (kept_of s) p now ≡ (if is_goodbye p.kind then Shuts else table) =
-    decided s p now Start start meant ∙ ap (λ (b : Bool). if is_goodbye p.kind then Shuts else if b then as_client (kept_of s) p now p.kind else table) server in
+    decided s p now Start start meant ∙ ap (λ (b : Bool). if is_goodbye p.kind then Shuts else if b then as_client (kept_of s) p now p.kind else table) server
+    in
     subst (ShutsOrTakes s p) (sym whole)
     (table-next s p now p.kind refl plain h (λ e. ap (λ c. cell c true p.kind) start ∙ start-cell p.kind bare e))
 
@@ -79,7 +93,8 @@ opening-ours : (n : ℕ) → is_ours (opening_body n) ≡ true
 opening-ours n = refl
 
 -- A client in Start, and a server in Down.
-pub decide-connects : (s : State) (p : Pdu) (now n : ℕ) → s.connection ≡ Start → s.settings.client ≡ true → is_stranger s p ≡ false → p.kind ≡ ConnResp → p.body ≡ opening_body n →
+pub decide-connects : (s : State) (p : Pdu) (now n : ℕ) → s.connection ≡ Start → s.settings.client ≡ true → is_stranger s p ≡ false → p.kind ≡ ConnResp
+    → p.body ≡ opening_body n →
     cs_fits (kept_of s) p ≡ true → cts_fits (kept_of s) p now ≡ true → decide (kept_of s) p now ≡ Connects
 decide-connects s p now n start client meant is body cs cts =
     let table = by_table (kept_of s) p now (distance (kept_of s) p) in
@@ -89,6 +104,7 @@ decide-connects s p now n start client meant is body cs cts =
     ∙ (ap (λ (b : Bool). if b then tested (kept_of s) p now Connects else Leaves WrongVersion Unspecified) (ap is_ours body ∙ opening-ours n)
     ∙ tested-passed s p now Connects cs cts)))
 
-pub decide-accepts : (s : State) (p : Pdu) (now n : ℕ) → s.connection ≡ Down → is_stranger s p ≡ false → p.kind ≡ ConnReq → p.body ≡ opening_body n → decide (kept_of s) p now ≡ Accepts
+pub decide-accepts : (s : State) (p : Pdu) (now n : ℕ) → s.connection ≡ Down → is_stranger s p ≡ false → p.kind ≡ ConnReq → p.body ≡ opening_body n
+    → decide (kept_of s) p now ≡ Accepts
 decide-accepts s p now n down meant is body =
     decided s p now Down down meant ∙ (ap (in_down p) is ∙ ap (λ (b : Bool). if b then Accepts else Rejects) (ap is_ours body ∙ opening-ours n))

@@ -22,7 +22,8 @@ abbrev pub Beyond : ℕ → Made → Type 0
 Beyond confirmed m = 1 ≤ m.behind → confirmed + 1 ≤ m.behind
 
 -- an end in this role, to which n PDUs came: `back` is what the peer has made
-pub record EndOf (client : Bool) (n : ℕ) (role : Bool) (own : ℕ) (connection : ConnectionState) (made : List Made) (expected confirmed window peer : ℕ) (back : List Made) : Type 0 where
+pub record EndOf (client : Bool) (n : ℕ) (role : Bool) (own : ℕ) (connection : ConnectionState) (made : List Made) (expected confirmed window peer : ℕ)
+    (back : List Made) : Type 0 where
   pub role_is : role ≡ client
   pub state : connection ≢ Closed → connection ≡ state_of client n
   pub count : connection ≢ Closed → expected ≡ n
@@ -44,7 +45,8 @@ pub record Ends (client : Bool) (n k : ℕ) (x y : State) : Type 0 where
   pub grown_peer : Grown (opposite client) y
 
 -- A PDU is made: what it says of its maker, and of the peer.
-pub end-make : (client : Bool) (n : ℕ) (kind : Kind) (body : List ℕ) (now : ℕ) (x y : State) → GoodAt client x.settings.n_sendmax (length x.made) (next_made x kind body now) →
+pub end-make : (client : Bool) (n : ℕ) (kind : Kind) (body : List ℕ) (now : ℕ) (x y : State) → GoodAt client x.settings.n_sendmax (length x.made)
+    (next_made x kind body now) →
     End client n x y → End client n (make kind body now x) y
 end-make client n kind body now x y good h =
     record {
@@ -115,7 +117,8 @@ ends-closed client n n' k x y e h =
     }
 
 -- what comes after a PDU confirms no less than it
-pub beyond-later : (i c : ℕ) (m : Made) (rest ms : List Made) → Rises behind_of ms → drop i ms ≡ m ∷ rest → c + 1 ≤ m.behind → Every (Beyond c) (drop (i + 1) ms)
+pub beyond-later : (i c : ℕ) (m : Made) (rest ms : List Made) → Rises behind_of ms → drop i ms ≡ m ∷ rest → c + 1 ≤ m.behind
+    → Every (Beyond c) (drop (i + 1) ms)
 beyond-later i c m rest ms rises at more =
     every-from (Beyond c) (drop (i + 1) ms)
     (λ j a ra e.
@@ -124,9 +127,11 @@ beyond-later i c m rest ms rises at more =
     λ one. omega arith)
 
 -- the end after it took the next PDU, in its new state
-pub end-take : (client : Bool) (n : ℕ) (to : ConnectionState) (window : ℕ) (m : Made) (rest : List Made) (x y : State) → Arrival 0 m rest x y → End client n x y → Rises behind_of y.made →
+pub end-take : (client : Bool) (n : ℕ) (to : ConnectionState) (window : ℕ) (m : Made) (rest : List Made) (x y : State) → Arrival 0 m rest x y → End client n x y
+    → Rises behind_of y.made →
     x.connection ≢ Closed → needs_peer m.pdu.kind ≡ 1 → cs_fits (kept_of x) m.pdu ≡ true → to ≡ state_of client (n + 1) → window ≡ y.settings.n_sendmax →
-    EndOf client (n + 1) x.settings.client x.settings.n_sendmax to x.made (x.expected + 0 + 1) (x.confirmed + cs_step (kept_of x) m.pdu) window y.settings.n_sendmax y.made
+    EndOf client (n + 1) x.settings.client x.settings.n_sendmax to x.made (x.expected + 0 + 1) (x.confirmed + cs_step (kept_of x) m.pdu) window
+    y.settings.n_sendmax y.made
 end-take client n to window m rest x y a h rises on needs fits state same =
     let index = arrival-index 0 m rest x y a needs fits in
     record {

@@ -108,7 +108,8 @@ ordinary-run run (m ∷ ms) h =
     ap (λ us. run_after us ms) (ordinary-after m.pdu.kind m.pdu.body run h.0) ∙ (ordinary-run (run ++ sent) ms h.1 ∙ append_assoc run sent (units ms))
 
 -- What was taken are the units of the PDUs before the expected one.
-pub taken-so_far : (taken : List (List ℕ)) (n : ℕ) (ms : List Made) → Every Ordinary ms → taken ++ (run_of (drop n ms) ++ []) ≡ units ms → taken ≡ units (take n ms)
+pub taken-so_far : (taken : List (List ℕ)) (n : ℕ) (ms : List Made) → Every Ordinary ms → taken ++ (run_of (drop n ms) ++ []) ≡ units ms
+    → taken ≡ units (take n ms)
 taken-so_far taken n ms h e =
     let later : run_of (drop n ms) ≡ units (drop n ms) = ordinary-run [] (drop n ms) (every-drop Ordinary n ms h) in
     let whole : units ms ≡ units (take n ms) ++ units (drop n ms) = ap units (sym (take-append-drop n ms)) ∙ units-append (take n ms) (drop n ms) in

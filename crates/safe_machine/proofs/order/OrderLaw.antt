@@ -28,19 +28,22 @@ abbrev pub StandsAt : (n k : ℕ) → World → (il_clock fe_clock : ℕ) → Ty
 StandsAt n k w il_clock fe_clock = Standing n k w.il w.il_before w.fe w.fe_before w.dead_il il_clock fe_clock
 
 -- a step of the interlocking or of the field element, where the two have met and where they have not
-il-stands : (n n' k : ℕ) (w : World) (ci cf now : ℕ) (t : State) → (Two true n k ci cf w.il w.fe → Two true n' k now cf t w.fe) → (Apart n k w.il w.fe w.fe_before w.dead_il → Apart n' k t w.fe w.fe_before w.dead_il) →
+il-stands : (n n' k : ℕ) (w : World) (ci cf now : ℕ) (t : State) → (Two true n k ci cf w.il w.fe → Two true n' k now cf t w.fe)
+    → (Apart n k w.il w.fe w.fe_before w.dead_il → Apart n' k t w.fe w.fe_before w.dead_il) →
     StandsAt n k w ci cf → Standing n' k t w.il_before w.fe w.fe_before w.dead_il now cf
 il-stands n n' k w ci cf now t two one (joint h il_opened fe_opened) = joint (two h) il_opened fe_opened
 il-stands n n' k w ci cf now t two one (apart h) = apart (one h)
 
-fe-stands : (n k k' : ℕ) (w : World) (ci cf now : ℕ) (t : State) → (Two false k n cf ci w.fe w.il → Two false k' n now ci t w.il) → (Apart n k w.il w.fe w.fe_before w.dead_il → Apart n k' w.il t w.fe_before w.dead_il) →
+fe-stands : (n k k' : ℕ) (w : World) (ci cf now : ℕ) (t : State) → (Two false k n cf ci w.fe w.il → Two false k' n now ci t w.il)
+    → (Apart n k w.il w.fe w.fe_before w.dead_il → Apart n k' w.il t w.fe_before w.dead_il) →
     StandsAt n k w ci cf → Standing n k' w.il w.il_before t w.fe_before w.dead_il ci now
 fe-stands n k k' w ci cf now t two one (joint h il_opened fe_opened) =
     joint (two-swap false k' n now ci t w.il (two (two-swap true n k ci cf w.il w.fe h))) il_opened fe_opened
 fe-stands n k k' w ci cf now t two one (apart h) = apart (one h)
 
 -- openings
-ends-opened : (settings : Settings) (first now : ℕ) (fe : State) → fe.connection ≡ Down → Untouched fe → Ends true 0 0 (opened (as_role true settings) first now) fe
+ends-opened : (settings : Settings) (first now : ℕ) (fe : State) → fe.connection ≡ Down → Untouched fe
+    → Ends true 0 0 (opened (as_role true settings) first now) fe
 ends-opened settings first now fe down u =
     let il = opened (as_role true settings) first now in
     let m = next_made (blank (as_role true settings) first now Start) ConnReq (opening_body settings.n_sendmax) now in
@@ -67,7 +70,8 @@ ends-opened settings first now fe down u =
     start≢up : Start ≡ Up → ⊥
     start≢up e = cc
 
-two-opened : (n k : ℕ) (settings : Settings) (first now cf : ℕ) (fe : State) → is_legal settings ≡ true → fe.connection ≡ Down → Untouched fe → fe.confirmed_at ≤ cf → n ≡ 0 → k ≡ 0 →
+two-opened : (n k : ℕ) (settings : Settings) (first now cf : ℕ) (fe : State) → is_legal settings ≡ true → fe.connection ≡ Down → Untouched fe
+    → fe.confirmed_at ≤ cf → n ≡ 0 → k ≡ 0 →
     Two true n k now cf (opened (as_role true settings) first now) fe
 two-opened n k settings first now cf fe legal down u past none_il none_fe =
     let il = opened (as_role true settings) first now in
@@ -84,14 +88,16 @@ two-opened n k settings first now cf fe legal down u past none_il none_fe =
 some-before : (A : Type 0) (a : A) (before : List A) → a ∷ before ≢ []
 some-before A a before e = cc
 
-stands-open_il : (n k : ℕ) (settings : Settings) (first now : ℕ) (w : World) (ci cf : ℕ) → TInv w ci cf → is_legal settings ≡ true → w.il_before ≡ [] → StandsAt n k w ci cf →
+stands-open_il : (n k : ℕ) (settings : Settings) (first now : ℕ) (w : World) (ci cf : ℕ) → TInv w ci cf → is_legal settings ≡ true → w.il_before ≡ []
+    → StandsAt n k w ci cf →
     StandsAt n k (open_il settings first now w) now cf
 stands-open_il n k settings first now w ci cf t legal first_time (joint h il_opened fe_opened) = absurd (il_opened first_time)
 stands-open_il n k settings first now w ci cf t legal first_time (apart h) =
     elim (down_or w.fe.connection) [
       | inl down ↦
           let on : w.fe.connection ≢ Closed = λ e. down≢closed (sym down ∙ e) in
-          joint (two-opened n k settings first now cf w.fe legal down (t.inv.idle down).0 (fe-past w ci cf t down) h.none (h.heard on)) (some-before State w.il w.il_before) (h.opened on)
+          joint (two-opened n k settings first now cf w.fe legal down (t.inv.idle down).0 (fe-past w ci cf t down) h.none (h.heard on))
+          (some-before State w.il w.il_before) (h.opened on)
       | inr not_down ↦
           let closed : w.fe.connection ≡ Closed = elim h.still [ inl down ↦ absurd (not_down down) | inr e ↦ e ] in
           apart (record {
@@ -109,7 +115,8 @@ stands-open_il n k settings first now w ci cf t legal first_time (apart h) =
           })
     ]
 
-stands-open_fe : (n k : ℕ) (settings : Settings) (first now : ℕ) (w : World) (ci cf : ℕ) → w.fe_before ≡ [] → StandsAt n k w ci cf → StandsAt n k (open_fe settings first now w) ci now
+stands-open_fe : (n k : ℕ) (settings : Settings) (first now : ℕ) (w : World) (ci cf : ℕ) → w.fe_before ≡ [] → StandsAt n k w ci cf
+    → StandsAt n k (open_fe settings first now w) ci now
 stands-open_fe n k settings first now w ci cf first_time (joint h il_opened fe_opened) = absurd (fe_opened first_time)
 stands-open_fe n k settings first now w ci cf first_time (apart h) =
     apart (record {
@@ -126,7 +133,8 @@ stands-open_fe n k settings first now w ci cf first_time (apart h) =
     })
 
 -- Every event keeps it.
-pub stands-event : (n k : ℕ) (w : World) (e : Event) (ci cf : ℕ) → TInv w ci cf → GenuineEvent w e → at_end (event_end e) ci cf ≤ event_time e → InOrderEvent n k w e → StandsAt n k w ci cf →
+pub stands-event : (n k : ℕ) (w : World) (e : Event) (ci cf : ℕ) → TInv w ci cf → GenuineEvent w e → at_end (event_end e) ci cf ≤ event_time e
+    → InOrderEvent n k w e → StandsAt n k w ci cf →
     StandsAt (heard_by_il e n) (heard_by_fe e k) (changed w e) (at_end (event_end e) (event_time e) ci) (at_end (event_end e) cf (event_time e))
 stands-event n k w (Open Il settings first now) ci cf t g later o h =
     cond_both (is_legal settings) (open_il settings first now w) w (λ v. StandsAt n k v now cf)
@@ -138,13 +146,15 @@ stands-event n k w (Open Fe settings first now) ci cf t g later o h =
     (λ _. fe-stands n k k w ci cf now w.fe (two-later false k n cf ci now w.fe w.il later) (λ a. a) h)
 stands-event n k w (Send Il unit now) ci cf t g later o h =
     il-stands n n k w ci cf now (send unit now w.il) (two-send true n k ci cf unit now w.il w.fe later)
-    (λ a. apart-il n k now w.il (send unit now w.il) w.fe w.fe_before w.dead_il (lone-send unit now w.il t.inv.bounded_il) (makes-send unit now w.il) (mute-send unit now w.il a.mute) a) h
+    (λ a. apart-il n k now w.il (send unit now w.il) w.fe w.fe_before w.dead_il (lone-send unit now w.il t.inv.bounded_il) (makes-send unit now w.il)
+    (mute-send unit now w.il a.mute) a) h
 stands-event n k w (Send Fe unit now) ci cf t g later o h =
     fe-stands n k k w ci cf now (send unit now w.fe) (two-send false k n cf ci unit now w.fe w.il later)
     (apart-fe n k w.il w.fe (send unit now w.fe) w.fe_before w.dead_il (lone-send unit now w.fe t.inv.bounded_fe)) h
 stands-event n k w (Close Il reason detail now) ci cf t g later o h =
     il-stands n n k w ci cf now (leave reason detail now w.il) (two-leave true n k ci cf reason detail now w.il w.fe later)
-    (λ a. apart-il n k now w.il (leave reason detail now w.il) w.fe w.fe_before w.dead_il (lone-leave reason detail now w.il) (makes-leave reason detail now w.il) (mute-leave reason detail now w.il a.mute) a) h
+    (λ a. apart-il n k now w.il (leave reason detail now w.il) w.fe w.fe_before w.dead_il (lone-leave reason detail now w.il)
+    (makes-leave reason detail now w.il) (mute-leave reason detail now w.il a.mute) a) h
 stands-event n k w (Close Fe reason detail now) ci cf t g later o h =
     fe-stands n k k w ci cf now (leave reason detail now w.fe) (two-leave false k n cf ci reason detail now w.fe w.il later)
     (apart-fe n k w.il w.fe (leave reason detail now w.fe) w.fe_before w.dead_il (lone-leave reason detail now w.fe)) h
@@ -156,7 +166,8 @@ stands-event n k w (Guard Fe now) ci cf t g later o h =
     (apart-fe n k w.il w.fe (guard now w.fe) w.fe_before w.dead_il (lone-guard now w.fe)) h
 stands-event n k w (Tick Il now) ci cf t g later o h =
     il-stands n n k w ci cf now (tick now w.il) (two-tick true n k ci cf now w.il w.fe later o)
-    (λ a. apart-il n k now w.il (tick now w.il) w.fe w.fe_before w.dead_il (lone-tick now w.il t.inv.bounded_il) (makes-tick now w.il) (mute-tick now w.il a.mute) a) h
+    (λ a. apart-il n k now w.il (tick now w.il) w.fe w.fe_before w.dead_il (lone-tick now w.il t.inv.bounded_il) (makes-tick now w.il)
+    (mute-tick now w.il a.mute) a) h
 stands-event n k w (Tick Fe now) ci cf t g later o h =
     fe-stands n k k w ci cf now (tick now w.fe) (two-tick false k n cf ci now w.fe w.il later o)
     (apart-fe n k w.il w.fe (tick now w.fe) w.fe_before w.dead_il (lone-tick now w.fe t.inv.bounded_fe)) h
@@ -219,15 +230,18 @@ record BothUp (n k : ℕ) (il fe : State) : Type 0 where
   some_il : 1 ≤ n
   some_fe : 1 ≤ k
 
-both-up : (n k ci cf : ℕ) (il fe : State) → Two true n k ci cf il fe → il.connection ≢ Closed → fe.connection ≢ Closed → n ≡ length fe.made → k ≡ length il.made → BothUp n k il fe
+both-up : (n k ci cf : ℕ) (il fe : State) → Two true n k ci cf il fe → il.connection ≢ Closed → fe.connection ≢ Closed → n ≡ length fe.made → k ≡ length il.made
+    → BothUp n k il fe
 both-up n k ci cf il fe h on on_fe all_il all_fe =
     let client = h.ends.own.state on in
     let server = h.ends.peer.state on_fe in
     let made_il : 1 ≤ length il.made =
-    client-some n il.settings.client il.expected il.made (subst (λ (c : ConnectionState). Started c il.settings.client il.expected il.made) client h.pair.0.started) in
+    client-some n il.settings.client il.expected il.made
+    (subst (λ (c : ConnectionState). Started c il.settings.client il.expected il.made) client h.pair.0.started) in
     let some_k : 1 ≤ k = omega arith in
     let made_fe : 1 ≤ length fe.made =
-    server-some k fe.settings.client fe.expected fe.made some_k (subst (λ (c : ConnectionState). Started c fe.settings.client fe.expected fe.made) server h.peer.started) in
+    server-some k fe.settings.client fe.expected fe.made some_k
+    (subst (λ (c : ConnectionState). Started c fe.settings.client fe.expected fe.made) server h.peer.started) in
     let some_n : 1 ≤ n = omega arith in
     let il_up : il.connection ≡ Up = client ∙ client-up n some_n in
     let two : 2 ≤ k = omega (arith, h.ends.grown refl il_up) in
@@ -257,7 +271,8 @@ stands-keeps : (n k : ℕ) (w : World) (ci cf : ℕ) → TInv w ci cf → Stands
 stands-keeps n k w ci cf t (joint h il_opened fe_opened) = joint-keeps n k w ci cf h
 stands-keeps n k w ci cf t (apart h) = apart-keeps n k w ci cf t h
 
-order-run : (events : List Event) (n k : ℕ) (w : World) → TInv w w.clock_il w.clock_fe → Genuine events w → Timely events w → InOrder n k events w → StandsAt n k w w.clock_il w.clock_fe →
+order-run : (events : List Event) (n k : ℕ) (w : World) → TInv w w.clock_il w.clock_fe → Genuine events w → Timely events w → InOrder n k events w
+    → StandsAt n k w w.clock_il w.clock_fe →
     KeepsOrder (all_heard_by_il events n) (all_heard_by_fe events k) (run events w)
 order-run [] n k w t g later o h = stands-keeps n k w w.clock_il w.clock_fe t h
 order-run (e ∷ es) n k w t g later o h =

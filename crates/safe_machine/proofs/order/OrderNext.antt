@@ -35,13 +35,15 @@ plain-needs Heartbeat plain e = refl
 plain-needs Data plain e = refl
 plain-needs _ plain e = cc
 
-decide-takes : (s : State) (p : Pdu) (now : ℕ) → s.connection ≡ Up → is_stranger s p ≡ false → is_plain p.kind ≡ true → is_goodbye p.kind ≡ false → Passes s p now → decide (kept_of s) p now ≡ Takes Up
+decide-takes : (s : State) (p : Pdu) (now : ℕ) → s.connection ≡ Up → is_stranger s p ≡ false → is_plain p.kind ≡ true → is_goodbye p.kind ≡ false
+    → Passes s p now → decide (kept_of s) p now ≡ Takes Up
 decide-takes s p now up meant plain stays h =
     decided s p now Up up meant
     ∙ (ap (λ (b : Bool). if b then Shuts else by_table (kept_of s) p now (distance (kept_of s) p)) stays
     ∙ table-takes s p now h (ap (λ c. cell c true p.kind) up ∙ up-cell p.kind plain stays))
 
-decide-starts : (s : State) (p : Pdu) (now : ℕ) → s.connection ≡ Start → s.settings.client ≡ false → is_stranger s p ≡ false → is_bare p.kind ≡ true → is_goodbye p.kind ≡ false → Passes s p now → decide (kept_of s) p now ≡ Takes Up
+decide-starts : (s : State) (p : Pdu) (now : ℕ) → s.connection ≡ Start → s.settings.client ≡ false → is_stranger s p ≡ false → is_bare p.kind ≡ true
+    → is_goodbye p.kind ≡ false → Passes s p now → decide (kept_of s) p now ≡ Takes Up
 decide-starts s p now start server meant bare stays h =
     let table = by_table (kept_of s) p now (distance (kept_of s) p) in
     decided s p now Start start meant
@@ -53,7 +55,8 @@ by-takes : (x : State) (p : Pdu) (now : ℕ) → decide (kept_of x) p now ≡ Ta
 by-takes x p now e h = subst (λ d. IsOpen (carry_out p now d x)) (sym e) (takes-open p now x h)
 
 -- the next PDU in order, that is no DiscReq, leaves an open end open
-pub next-open : (client : Bool) (n k clock now : ℕ) (m : Made) (rest : List Made) (x y : State) → NextIn client n k clock now m rest x y → Remains m → Every Remains x.made →
+pub next-open : (client : Bool) (n k clock now : ℕ) (m : Made) (rest : List Made) (x y : State) → NextIn client n k clock now m rest x y → Remains m
+    → Every Remains x.made →
     IsOpen (respond m.pdu now x)
 next-open true zero k clock now m rest x y h stays made =
     let start : x.connection ≡ Start = h.ends.own.state h.on in
@@ -66,22 +69,26 @@ next-open true zero k clock now m rest x y h stays made =
 next-open true (suc n) k clock now m rest x y h stays made =
     let up : x.connection ≡ Up = h.ends.own.state h.on in
     let good : is_plain m.pdu.kind ≡ true = h.ends.peer.kinds (suc n) m rest h.at in
-    by-takes x m.pdu now (decide-takes x m.pdu now up h.meant good stays (next-passes true (suc n) k clock now m rest x y h (ap is_live up) (omega arith) (plain-needs m.pdu.kind good stays))) (h.on, made)
+    by-takes x m.pdu now (decide-takes x m.pdu now up h.meant good stays
+    (next-passes true (suc n) k clock now m rest x y h (ap is_live up) (omega arith) (plain-needs m.pdu.kind good stays))) (h.on, made)
 next-open false zero k clock now m rest x y h stays made =
     let down : x.connection ≡ Down = h.ends.own.state h.on in
     let good : GoodAt true y.settings.n_sendmax 0 m = h.ends.peer.kinds 0 m rest h.at in
     let e = decide-accepts x m.pdu now y.settings.n_sendmax down h.meant good.0 good.1 in
     let z = set_window (window_of m.pdu.body) (pass m.pdu 0 x) in
-    let after : IsOpen (carry_out m.pdu now Accepts x) = (start≢closed, every-push Remains x.made (next_made z ConnResp (opening_body x.settings.n_sendmax) now) made refl) in
+    let after : IsOpen (carry_out m.pdu now Accepts x) =
+    (start≢closed, every-push Remains x.made (next_made z ConnResp (opening_body x.settings.n_sendmax) now) made refl) in
     subst (λ d. IsOpen (carry_out m.pdu now d x)) (sym e) after
 next-open false (suc zero) k clock now m rest x y h stays made =
     let start : x.connection ≡ Start = h.ends.own.state h.on in
     let good : is_bare m.pdu.kind ≡ true = h.ends.peer.kinds 1 m rest h.at in
     by-takes x m.pdu now
-    (decide-starts x m.pdu now start h.ends.own.role_is h.meant good stays (next-passes false 1 k clock now m rest x y h (ap is_live start) (omega arith) (plain-needs m.pdu.kind (bare-plain m.pdu.kind good) stays)))
+    (decide-starts x m.pdu now start h.ends.own.role_is h.meant good stays
+    (next-passes false 1 k clock now m rest x y h (ap is_live start) (omega arith) (plain-needs m.pdu.kind (bare-plain m.pdu.kind good) stays)))
     (h.on, made)
 next-open false (suc (suc n)) k clock now m rest x y h stays made =
     let up : x.connection ≡ Up = h.ends.own.state h.on in
     let good : is_plain m.pdu.kind ≡ true = h.ends.peer.kinds (suc (suc n)) m rest h.at in
-    by-takes x m.pdu now (decide-takes x m.pdu now up h.meant good stays (next-passes false (suc (suc n)) k clock now m rest x y h (ap is_live up) (omega arith) (plain-needs m.pdu.kind good stays)))
+    by-takes x m.pdu now (decide-takes x m.pdu now up h.meant good stays
+    (next-passes false (suc (suc n)) k clock now m rest x y h (ap is_live up) (omega arith) (plain-needs m.pdu.kind good stays)))
     (h.on, made)

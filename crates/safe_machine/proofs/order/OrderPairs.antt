@@ -42,7 +42,8 @@ two-swap false n k clock other x y h =
     }
 
 -- a step in which PDUs are made
-two-makes : (client : Bool) (n k clock other now : ℕ) (x t y : State) → clock ≤ now → Two client n k clock other x y → Pair t y → Makes now x t → Ends client n k t y → Two client n k now other t y
+two-makes : (client : Bool) (n k clock other now : ℕ) (x t y : State) → clock ≤ now → Two client n k clock other x y → Pair t y → Makes now x t
+    → Ends client n k t y → Two client n k now other t y
 two-makes client n k clock other now x t y later h pair makes ends =
     record { pair = pair; peer = h.peer; both = both-makes clock other now x t y later h.pair.1 h.pair.2 h.both makes; ends = ends }
 
@@ -74,13 +75,15 @@ ends-send client n k unit now x y pair h =
     h
 
 -- an end that says goodbye has made something
-goodbye-started : (connection : ConnectionState) (client : Bool) (expected : ℕ) (made : List Made) → is_live connection ≡ true → Started connection client expected made → 1 ≤ length made
+goodbye-started : (connection : ConnectionState) (client : Bool) (expected : ℕ) (made : List Made) → is_live connection ≡ true
+    → Started connection client expected made → 1 ≤ length made
 goodbye-started Start client expected made says h = h.2
 goodbye-started Closed client expected made says h = cc
 goodbye-started Down client expected made says h = cc
 goodbye-started _ client expected made says h = h.1
 
-ends-leave : (client : Bool) (n k : ℕ) (reason : Reason) (detail : Detail) (now : ℕ) (x y : State) → Pair x y → Ends client n k x y → Ends client n k (leave reason detail now x) y
+ends-leave : (client : Bool) (n k : ℕ) (reason : Reason) (detail : Detail) (now : ℕ) (x y : State) → Pair x y → Ends client n k x y
+    → Ends client n k (leave reason detail now x) y
 ends-leave client n k reason detail now x y pair h =
     let body = leaving_body reason detail in
     let said = make DiscReq body now x in
@@ -88,7 +91,8 @@ ends-leave client n k reason detail now x y pair h =
     (λ says.
     let some = goodbye-started x.connection x.settings.client x.expected x.made says pair.0.started in
     ends-close client n n k said y
-    (ends-make client n k DiscReq body now x y pair.2.confirmed_behind (good-bare client x.settings.n_sendmax (length x.made) (next_made x DiscReq body now) some refl) h))
+    (ends-make client n k DiscReq body now x y pair.2.confirmed_behind
+    (good-bare client x.settings.n_sendmax (length x.made) (next_made x DiscReq body now) some refl) h))
     (λ _. ends-close client n n k x y h)
 
 ends-heartbeat : (client : Bool) (n k now : ℕ) (x y : State) → Pair x y → Ends client n k x y → Ends client n k (heartbeat now x) y
@@ -96,31 +100,39 @@ ends-heartbeat client n k now x y pair h =
     heartbeat-cases (λ t. Ends client n k t y) now x
     (λ connected.
     let some = (started-parts x.connection x.settings.client x.expected x.made connected pair.0.started).1 in
-    ends-make client n k Heartbeat [] now x y pair.2.confirmed_behind (good-bare client x.settings.n_sendmax (length x.made) (next_made x Heartbeat [] now) some refl) h)
+    ends-make client n k Heartbeat [] now x y pair.2.confirmed_behind
+    (good-bare client x.settings.n_sendmax (length x.made) (next_made x Heartbeat [] now) some refl) h)
     h
 
 -- The steps.
-pub two-send : (client : Bool) (n k clock other : ℕ) (unit : List ℕ) (now : ℕ) (x y : State) → clock ≤ now → Two client n k clock other x y → Two client n k now other (send unit now x) y
+pub two-send : (client : Bool) (n k clock other : ℕ) (unit : List ℕ) (now : ℕ) (x y : State) → clock ≤ now → Two client n k clock other x y
+    → Two client n k now other (send unit now x) y
 two-send client n k clock other unit now x y later h =
-    two-makes client n k clock other now x (send unit now x) y later h (pair-send unit now x y h.pair) (makes-send unit now x) (ends-send client n k unit now x y h.pair h.ends)
+    two-makes client n k clock other now x (send unit now x) y later h (pair-send unit now x y h.pair) (makes-send unit now x)
+    (ends-send client n k unit now x y h.pair h.ends)
 
-pub two-leave : (client : Bool) (n k clock other : ℕ) (reason : Reason) (detail : Detail) (now : ℕ) (x y : State) → clock ≤ now → Two client n k clock other x y →
+pub two-leave : (client : Bool) (n k clock other : ℕ) (reason : Reason) (detail : Detail) (now : ℕ) (x y : State) → clock ≤ now → Two client n k clock other x y
+    →
     Two client n k now other (leave reason detail now x) y
 two-leave client n k clock other reason detail now x y later h =
     two-makes client n k clock other now x (leave reason detail now x) y later h (pair-leave reason detail now x y h.pair) (makes-leave reason detail now x)
     (ends-leave client n k reason detail now x y h.pair h.ends)
 
-pub two-guard : (client : Bool) (n k clock other now : ℕ) (x y : State) → clock ≤ now → GuardHolds x now → Two client n k clock other x y → Two client n k now other (guard now x) y
+pub two-guard : (client : Bool) (n k clock other now : ℕ) (x y : State) → clock ≤ now → GuardHolds x now → Two client n k clock other x y
+    → Two client n k now other (guard now x) y
 two-guard client n k clock other now x y later holds h =
-    two-makes client n k clock other now x (guard now x) y later h (pair-guard now x y h.pair) (makes-guard now x) (subst (λ (t : State). Ends client n k t y) (sym holds) h.ends)
+    two-makes client n k clock other now x (guard now x) y later h (pair-guard now x y h.pair) (makes-guard now x)
+    (subst (λ (t : State). Ends client n k t y) (sym holds) h.ends)
 
-pub two-tick : (client : Bool) (n k clock other now : ℕ) (x y : State) → clock ≤ now → GuardHolds x now → Two client n k clock other x y → Two client n k now other (tick now x) y
+pub two-tick : (client : Bool) (n k clock other now : ℕ) (x y : State) → clock ≤ now → GuardHolds x now → Two client n k clock other x y
+    → Two client n k now other (tick now x) y
 two-tick client n k clock other now x y later holds h =
     two-makes client n k clock other now x (tick now x) y later h (pair-tick now x y h.pair) (makes-tick now x)
     (subst (λ (t : State). Ends client n k (heartbeat now t) y) (sym holds) (ends-heartbeat client n k now x y h.pair h.ends))
 
 -- the next PDU in order, as it comes to an end that is not closed
-pub next-in : (client : Bool) (n k clock other now : ℕ) (p : Pdu) (x y : State) → clock ≤ now → Two client n k clock other x y → Bounded x → Bounded y → x.settings.t_max ≤ 60000 →
+pub next-in : (client : Bool) (n k clock other now : ℕ) (p : Pdu) (x y : State) → clock ≤ now → Two client n k clock other x y → Bounded x → Bounded y
+    → x.settings.t_max ≤ 60000 →
     (a : NextArrival x p now n y.made) → x.connection ≢ Closed → NextIn client n k clock now a.made a.later x y
 next-in client n k clock other now p x y later h bounded bounded_peer short a on =
     let early : is_live x.connection ≡ true → now < x.confirmed_at + x.settings.t_max =
@@ -139,7 +151,8 @@ next-in client n k clock other now p x y later h bounded bounded_peer short a on
       on = on;
     }
 
-ends-arrive : (client : Bool) (n k clock other now : ℕ) (p : Pdu) (x y : State) → clock ≤ now → Two client n k clock other x y → Bounded x → Bounded y → x.settings.t_max ≤ 60000 →
+ends-arrive : (client : Bool) (n k clock other now : ℕ) (p : Pdu) (x y : State) → clock ≤ now → Two client n k clock other x y → Bounded x → Bounded y
+    → x.settings.t_max ≤ 60000 →
     NextArrival x p now n y.made → Ends client (n + 1) k (arrive p now x) y
 ends-arrive client n k clock other now p x y later h bounded bounded_peer short a =
     elim (closed_or x.connection) [
@@ -151,7 +164,8 @@ ends-arrive client n k clock other now p x y later h bounded bounded_peer short 
           subst (λ (t : State). Ends client (n + 1) k (respond p now t) y) (sym a.holds) received
     ]
 
-pub two-arrive : (client : Bool) (n k clock other now dead : ℕ) (p : Pdu) (x y : State) → clock ≤ now → Two client n k clock other x y → Bounded x → Bounded y → x.settings.t_max ≤ 60000 →
+pub two-arrive : (client : Bool) (n k clock other now dead : ℕ) (p : Pdu) (x y : State) → clock ≤ now → Two client n k clock other x y → Bounded x → Bounded y
+    → x.settings.t_max ≤ 60000 →
     GenuineAt x p (drop dead y.made) → NextArrival x p now n y.made → Two client (n + 1) k now other (arrive p now x) y
 two-arrive client n k clock other now dead p x y later h bounded bounded_peer short genuine a =
     record {
@@ -162,7 +176,8 @@ two-arrive client n k clock other now dead p x y later h bounded bounded_peer sh
     }
 
 -- With all arrived at an end that is up.
-pub two-all_there : (client : Bool) (n k clock other : ℕ) (x y : State) → Two client n k clock other x y → x.connection ≡ Up → 1 ≤ n → n ≡ length y.made → AllThere x y
+pub two-all_there : (client : Bool) (n k clock other : ℕ) (x y : State) → Two client n k clock other x y → x.connection ≡ Up → 1 ≤ n → n ≡ length y.made
+    → AllThere x y
 two-all_there client n k clock other x y h up one all =
     let on : x.connection ≢ Closed = turn-open x.connection (ap in_turn up) in
     record {
@@ -171,6 +186,7 @@ two-all_there client n k clock other x y h up one all =
       window = h.ends.own.window_is on one;
       full =
           λ no.
-          let open_turn : may_send x ≡ nat_lt (length (unconfirmed x)) x.window = ap (λ (c : ConnectionState). in_turn c && nat_lt (length (unconfirmed x)) x.window) up in
+          let open_turn : may_send x ≡ nat_lt (length (unconfirmed x)) x.window =
+          ap (λ (c : ConnectionState). in_turn c && nat_lt (length (unconfirmed x)) x.window) up in
           ltb-false (length (unconfirmed x)) x.window (sym open_turn ∙ no);
     }

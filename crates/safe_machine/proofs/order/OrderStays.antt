@@ -35,7 +35,8 @@ open-opened true settings first now = (start≢closed, (refl, tt))
 open-opened false settings first now = (down≢closed, tt)
 
 -- the next PDU of an open peer comes to an open end
-open-arrive : (client : Bool) (n k clock other now : ℕ) (p : Pdu) (x y : State) → clock ≤ now → Two client n k clock other x y → Bounded x → Bounded y → x.settings.t_max ≤ 60000 →
+open-arrive : (client : Bool) (n k clock other now : ℕ) (p : Pdu) (x y : State) → clock ≤ now → Two client n k clock other x y → Bounded x → Bounded y
+    → x.settings.t_max ≤ 60000 →
     NextArrival x p now n y.made → IsOpen x → IsOpen y → IsOpen (arrive p now x)
 open-arrive client n k clock other now p x y later h bounded bounded_peer short a own peer =
     let next = next-in client n k clock other now p x y later h bounded bounded_peer short a own.0 in
@@ -44,17 +45,21 @@ open-arrive client n k clock other now p x y later h bounded bounded_peer short 
     subst (λ (q : Pdu). IsOpen (respond q now x)) a.is (next-open client n k clock now a.made a.later x y next stays own.1) in
     subst (λ (t : State). IsOpen (respond p now t)) (sym a.holds) received
 
-open-arrive_il : (n k now : ℕ) (p : Pdu) (w : World) (ci cf : ℕ) → TInv w ci cf → ci ≤ now → (w.il_before ≢ []) × NextArrival w.il p now n w.fe.made → StandsAt n k w ci cf → OpenBoth w → IsOpen (arrive p now w.il)
+open-arrive_il : (n k now : ℕ) (p : Pdu) (w : World) (ci cf : ℕ) → TInv w ci cf → ci ≤ now → (w.il_before ≢ []) × NextArrival w.il p now n w.fe.made
+    → StandsAt n k w ci cf → OpenBoth w → IsOpen (arrive p now w.il)
 open-arrive_il n k now p w ci cf t later o (joint two il_opened fe_opened) h =
     open-arrive true n k ci cf now p w.il w.fe later two t.inv.bounded_il t.inv.bounded_fe t.short_il o.1 (h.il il_opened) (h.fe fe_opened)
 open-arrive_il n k now p w ci cf t later o (apart a) h = apart-silent n k now p w.il w.fe w.fe_before w.dead_il a o.1
 
-open-arrive_fe : (n k now : ℕ) (p : Pdu) (w : World) (ci cf : ℕ) → TInv w ci cf → cf ≤ now → GenuineEvent w (Arrive Fe p now) → (w.fe_before ≢ []) × NextArrival w.fe p now k w.il.made → StandsAt n k w ci cf → OpenBoth w → IsOpen (arrive p now w.fe)
+open-arrive_fe : (n k now : ℕ) (p : Pdu) (w : World) (ci cf : ℕ) → TInv w ci cf → cf ≤ now → GenuineEvent w (Arrive Fe p now)
+    → (w.fe_before ≢ []) × NextArrival w.fe p now k w.il.made → StandsAt n k w ci cf → OpenBoth w → IsOpen (arrive p now w.fe)
 open-arrive_fe n k now p w ci cf t later g o (joint two il_opened fe_opened) h =
-    open-arrive false k n cf ci now p w.fe w.il later (two-swap true n k ci cf w.il w.fe two) t.inv.bounded_fe t.inv.bounded_il t.short_fe o.1 (h.fe fe_opened) (h.il il_opened)
+    open-arrive false k n cf ci now p w.fe w.il later (two-swap true n k ci cf w.il w.fe two) t.inv.bounded_fe t.inv.bounded_il t.short_fe o.1 (h.fe fe_opened)
+    (h.il il_opened)
 open-arrive_fe n k now p w ci cf t later g o (apart a) h = absurd (apart-deaf n k now p w.il w.fe w.fe_before w.dead_il a g o.1 (h.fe o.0).0)
 
-open-event : (n k : ℕ) (w : World) (e : Event) (ci cf : ℕ) → TInv w ci cf → GenuineEvent w e → at_end (event_end e) ci cf ≤ event_time e → InOrderEvent n k w e → is_close e ≡ false → StandsAt n k w ci cf → OpenBoth w →
+open-event : (n k : ℕ) (w : World) (e : Event) (ci cf : ℕ) → TInv w ci cf → GenuineEvent w e → at_end (event_end e) ci cf ≤ event_time e → InOrderEvent n k w e
+    → is_close e ≡ false → StandsAt n k w ci cf → OpenBoth w →
     OpenBoth (changed w e)
 open-event n k w (Open Il settings first now) ci cf t g later o none s h =
     cond_both (is_legal settings) (open_il settings first now w) w OpenBoth (λ _. record { il = λ _. open-opened true settings first now; fe = h.fe }) (λ _. h)
@@ -76,7 +81,8 @@ no-close : (b c : Bool) → (if b then true else c) ≡ false → (b ≡ false) 
 no-close true c h = cc
 no-close false c h = (refl, h)
 
-open-run : (events : List Event) (n k : ℕ) (w : World) → TInv w w.clock_il w.clock_fe → Genuine events w → Timely events w → InOrder n k events w → has_close events ≡ false → StandsAt n k w w.clock_il w.clock_fe → OpenBoth w →
+open-run : (events : List Event) (n k : ℕ) (w : World) → TInv w w.clock_il w.clock_fe → Genuine events w → Timely events w → InOrder n k events w
+    → has_close events ≡ false → StandsAt n k w w.clock_il w.clock_fe → OpenBoth w →
     OpenBoth (run events w)
 open-run [] n k w t g later o none s h = h
 open-run (e ∷ es) n k w t g later o none s h =
@@ -88,5 +94,6 @@ open-run (e ∷ es) n k w t g later o none s h =
 -- The law.
 pub stays_law_holds : StaysLaw
 stays_law_holds events genuine timely order none =
-    let h = open-run events 0 0 start t-start genuine timely order none stands-start (record { il = λ some. absurd (some refl); fe = λ some. absurd (some refl) }) in
+    let h = open-run events 0 0 start t-start genuine timely order none stands-start
+    (record { il = λ some. absurd (some refl); fe = λ some. absurd (some refl) }) in
     record { il = λ some. (h.il some).0; fe = λ some. (h.fe some).0 }

@@ -18,7 +18,8 @@ pub record Arrival (d : ℕ) (m : Made) (rest : List Made) (x y : State) : Type 
   pub few : Few x
   pub at : drop (x.expected + d) y.made ≡ m ∷ rest
 
-solo-at : (connection : ConnectionState) (expected : ℕ) (x : State) → Solo x → Started connection x.settings.client expected x.made → SoloOf x.first x.made expected connection x.settings.client
+solo-at : (connection : ConnectionState) (expected : ℕ) (x : State) → Solo x → Started connection x.settings.client expected x.made
+    → SoloOf x.first x.made expected connection x.settings.client
 solo-at connection expected x h s = record { numbered = h.numbered; opening = h.opening; sound = h.sound; started = s }
 
 -- the index confirmed, where the PDU needs a peer
@@ -30,7 +31,8 @@ arrival-index d m rest x y a needs fits =
     let late : 1 ≤ m.behind = sound.late (omega arith) in
     (confirm-index (x.expected + d) m rest x y a.pair.1 a.few a.at late fits, late, told.behind)
 
-pub arrival-confirm : (d : ℕ) (m : Made) (rest : List Made) (x y : State) → Arrival d m rest x y → needs_peer m.pdu.kind ≡ 1 → cs_fits (kept_of x) m.pdu ≡ true →
+pub arrival-confirm : (d : ℕ) (m : Made) (rest : List Made) (x y : State) → Arrival d m rest x y → needs_peer m.pdu.kind ≡ 1 → cs_fits (kept_of x) m.pdu ≡ true
+    →
     Half (confirm_units m.pdu x) y
 arrival-confirm d m rest x y a needs fits =
     let p = arrival-index d m rest x y a needs fits in
@@ -44,7 +46,8 @@ pub arrival-take : (now : ℕ) (to : ConnectionState) (m : Made) (rest : List Ma
 arrival-take now to m rest x y a closed connected plain needs fits some =
     let p = m.pdu in
     let z = move_to to (pass p 0 (tests_passed p x)) in
-    let started : Started to x.settings.client (x.expected + 0 + 1) x.made = started-from to x.settings.client (x.expected + 0 + 1) x.made connected (omega arith) some in
+    let started : Started to x.settings.client (x.expected + 0 + 1) x.made = started-from to x.settings.client (x.expected + 0 + 1) x.made connected
+    (omega arith) some in
     let solo = solo-at to (x.expected + 0 + 1) x a.pair.0 started in
     let sends = arrival-confirm 0 m rest x y a needs fits in
     let unit : carries p.kind ≡ true → Pair (hand_up p z) y =
@@ -74,7 +77,8 @@ asked : (d : ℕ) (m : Made) (rest : List Made) (x y : State) → Arrival d m re
     x.answered < x.expected + d → cs_fits (kept_of x) m.pdu ≡ true → Asked d m x y
 asked d m rest x y a is needs new fits =
     let p = arrival-index d m rest x y a needs fits in
-    let behind : m.behind ≡ y.expected = every-at (RequestAt y.expected) (x.answered + 1) (x.expected + d) y.made m rest a.pair.1.requests_at (omega arith) a.at (omega arith) in
+    let behind : m.behind ≡ y.expected = every-at (RequestAt y.expected) (x.answered + 1) (x.expected + d) y.made m rest a.pair.1.requests_at (omega arith) a.at
+    (omega arith) in
     let counted : is_request m.pdu.kind + requests (drop (x.expected + d + 1) y.made) ≤ requests (drop (x.answered + 1) y.made) =
     count-at is_request (x.answered + 1) (x.expected + d) y.made m rest (omega arith) a.at in
     let open_now : requests (drop (x.answered + 1) y.made) + answers (drop y.expected x.made) ≤ room y.connection = a.pair.1.open_requests in
@@ -105,7 +109,8 @@ arrival-next_request now m rest x y a is new turn fits some =
     let before : Pair z y = (
       solo-at x.connection (x.expected + 0 + 1) x a.pair.0 (started-from x.connection x.settings.client (x.expected + 0 + 1) x.made r.1 (omega arith) some),
       half-noted 0 m x y a.pair.1 k,
-      half-take [] x.taken x.connection m rest x y a.peer a.pair.2 r.0 a.at (ap is_answer is) (ap (λ kind. after_pdu kind m.pdu.body []) is) (sym (append-nil x.taken)),
+      half-take [] x.taken x.connection m rest x y a.peer a.pair.2 r.0 a.at (ap is_answer is) (ap (λ kind. after_pdu kind m.pdu.body []) is)
+          (sym (append-nil x.taken)),
     ) in
     pair-reply now z y r.1 before k.none k.one k.all
 

@@ -90,7 +90,8 @@ pub record Arrived (clock other now : ℕ) (p : Pdu) (x t y : State) : Type 0 wh
   pub both : Both now other t y
   pub fresh : t.taken ≢ x.taken → Fresh x p now y.made
 
-pub met-arrive : (clock other now n : ℕ) (p : Pdu) (x y : State) → clock ≤ now → Pair x y → Solo y → Bounded x → Bounded y → x.settings.t_max ≤ 60000 → Both clock other x y →
+pub met-arrive : (clock other now n : ℕ) (p : Pdu) (x y : State) → clock ≤ now → Pair x y → Solo y → Bounded x → Bounded y → x.settings.t_max ≤ 60000
+    → Both clock other x y →
     GenuineAt x p (drop n y.made) → Arrived clock other now p x (arrive p now x) y
 met-arrive clock other now n p x y later h peer bounded bounded_peer short both genuine =
     let s = guard now x in
@@ -108,14 +109,16 @@ met-arrive clock other now n p x y later h peer bounded bounded_peer short both 
     record { pair = hs; peer = peer; few = omega (arith, bs.0.few); few_peer = omega (arith, bounded_peer.few); small = bs.0.small; at = r.3 } in
     let fits = decide-fits (kept_of s) m.pdu now in
     let steps : Steps now s (respond m.pdu now s) y =
-    steps-carry now other now r.0 m r.2 s y (omega arith) (λ live. omega (arith, guarded live)) incoming both_s.receives both_s.sends (decide (kept_of s) m.pdu now) fits in
+    steps-carry now other now r.0 m r.2 s y (omega arith) (λ live. omega (arith, guarded live)) incoming both_s.receives both_s.sends
+    (decide (kept_of s) m.pdu now) fits in
     subst (λ (q : Pdu). Arrived clock other now q x (respond q now s) y) r.4
     (record {
       both = both-step now other now s (respond m.pdu now s) y (omega arith) hs.1 hs.2 both_s steps;
       fresh = took_fresh clock now r.0 m r.2 x y incoming lone.taken short_s guarded both_s.receives (decide (kept_of s) m.pdu now) fits;
     }))
   where
-    took_fresh : (clock now i : ℕ) (m : Made) (rest : List Made) (x y : State) → Incoming i m rest (guard now x) y → (guard now x).taken ≡ x.taken → (guard now x).settings.t_max ≤ 60000 →
+    took_fresh : (clock now i : ℕ) (m : Made) (rest : List Made) (x y : State) → Incoming i m rest (guard now x) y → (guard now x).taken ≡ x.taken
+        → (guard now x).settings.t_max ≤ 60000 →
         (is_live (guard now x).connection ≡ true → now < (guard now x).confirmed_at + (guard now x).settings.t_max) → Timed now (guard now x) y →
         (e : Decision) → Fits (kept_of (guard now x)) m.pdu now e → (carry_out m.pdu now e (guard now x)).taken ≢ x.taken → Fresh x m.pdu now y.made
     took_fresh clock now i m rest x y a same short guarded h e f new =
@@ -178,7 +181,8 @@ data Now (w : World) (il_clock fe_clock : ℕ) : Type 0 where
 now_of : (w : World) (il_clock fe_clock : ℕ) → TInv w il_clock fe_clock → Now w il_clock fe_clock
 now_of w il_clock fe_clock h = go h.times h.inv.status
   where
-    go : TimesOf w.il w.fe w.dead_il w.dead_fe il_clock fe_clock → Status (length w.il_before) w.il w.fe w.joined w.fe_before w.dead_il w.dead_fe → Now w il_clock fe_clock
+    go : TimesOf w.il w.fe w.dead_il w.dead_fe il_clock fe_clock → Status (length w.il_before) w.il w.fe w.joined w.fe_before w.dead_il w.dead_fe
+        → Now w il_clock fe_clock
     go (together b) (met m) = at_met m b
     go (together b) (il_later s) = at_il (record { mute = s.mute; started = s.started; dead = s.dead })
     go (together b) (fe_later s) = at_fe (record { connection = s.connection; made = s.made; dead = s.dead; past = b.sends.confirmed_past })
@@ -189,7 +193,8 @@ swapped : (clock other : ℕ) (x y : State) → Both clock other x y → Both ot
 swapped clock other x y b = record { receives = b.sends; sends = b.receives }
 
 -- a step of the interlocking without a taking
-il-lone_times : (w : World) (ci cf now : ℕ) (t : State) → ci ≤ now → TInv w ci cf → Lone w.il t → Makes now w.il t → (Mute w.il → Mute t) → TimesOf t w.fe w.dead_il w.dead_fe now cf
+il-lone_times : (w : World) (ci cf now : ℕ) (t : State) → ci ≤ now → TInv w ci cf → Lone w.il t → Makes now w.il t → (Mute w.il → Mute t)
+    → TimesOf t w.fe w.dead_il w.dead_fe now cf
 il-lone_times w ci cf now t later h l m mute = go (now_of w ci cf h)
   where
     go : Now w ci cf → TimesOf t w.fe w.dead_il w.dead_fe now cf
@@ -203,7 +208,8 @@ fe-lone_times w ci cf now t later h l m = go (now_of w ci cf h)
     go : Now w ci cf → TimesOf w.il t w.dead_il w.dead_fe ci now
     go (at_met s b) = together (swapped now ci t w.il (both-makes cf ci now w.fe t w.il later s.fe_sends s.il_sends (swapped ci cf w.il w.fe b) m))
     go (at_il s) = apart_il (record { mute = s.mute; started = on-lone w.fe t l s.started; dead = l.opening w.dead_fe s.dead })
-    go (at_fe s) = let k = still-lone w.fe t l s.connection in apart_fe (record { connection = k.0; made = k.1 ∙ s.made; dead = s.dead; past = omega (arith, m.confirmed_at, s.past) })
+    go (at_fe s) = let k = still-lone w.fe t l s.connection in apart_fe
+        (record { connection = k.0; made = k.1 ∙ s.made; dead = s.dead; past = omega (arith, m.confirmed_at, s.past) })
 
 -- arrivals
 il-arrive_times : (w : World) (ci cf now : ℕ) (p : Pdu) → ci ≤ now → TInv w ci cf → GenuineAt w.il p (drop w.dead_fe w.fe.made) →
@@ -212,7 +218,8 @@ il-arrive_times w ci cf now p later h genuine = go (now_of w ci cf h)
   where
     go : Now w ci cf → TimesOf (arrive p now w.il) w.fe w.dead_il w.dead_fe now cf × ((arrive p now w.il).taken ≢ w.il.taken → Fresh w.il p now w.fe.made)
     go (at_met s b) =
-        let r = met-arrive ci cf now w.dead_fe p w.il w.fe later (s.solo_il, s.il_sends, s.fe_sends) s.solo_fe h.inv.bounded_il h.inv.bounded_fe h.short_il b genuine in
+        let r = met-arrive ci cf now w.dead_fe p w.il w.fe later (s.solo_il, s.il_sends, s.fe_sends) s.solo_fe h.inv.bounded_il h.inv.bounded_fe h.short_il b
+        genuine in
         (together r.both, r.fresh)
     go (at_il s) =
         let r = mute-arrive now w.dead_fe p w.il w.fe.made s.mute h.inv.bounded_il s.dead genuine in
@@ -228,7 +235,8 @@ fe-arrive_times w ci cf now p later h genuine = go (now_of w ci cf h)
   where
     go : Now w ci cf → TimesOf w.il (arrive p now w.fe) w.dead_il w.dead_fe ci now × ((arrive p now w.fe).taken ≢ w.fe.taken → Fresh w.fe p now w.il.made)
     go (at_met s b) =
-        let r = met-arrive cf ci now w.dead_il p w.fe w.il later (s.solo_fe, s.fe_sends, s.il_sends) s.solo_il h.inv.bounded_fe h.inv.bounded_il h.short_fe (swapped ci cf w.il w.fe b) genuine in
+        let r = met-arrive cf ci now w.dead_il p w.fe w.il later (s.solo_fe, s.fe_sends, s.il_sends) s.solo_il h.inv.bounded_fe h.inv.bounded_il h.short_fe
+        (swapped ci cf w.il w.fe b) genuine in
         (together (swapped now ci (arrive p now w.fe) w.il r.both), r.fresh)
     go (at_il s) =
         let r = deaf-arrive now w.dead_il p w.fe w.il.made s.started h.inv.bounded_fe s.mute.quiet genuine in
@@ -245,7 +253,8 @@ only_index : (k : ℕ) (m b : Made) (rb : List Made) → drop k (m ∷ []) ≡ b
 only_index zero m b rb e = (cc, refl)
 only_index (suc k) m b rb e = no_index k [] b rb refl e
 
-pub opened-times : (settings : Settings) (first now cf : ℕ) (fe : State) → Untouched fe → fe.confirmed_at ≤ cf → Both now cf (opened (as_role true settings) first now) fe
+pub opened-times : (settings : Settings) (first now cf : ℕ) (fe : State) → Untouched fe → fe.confirmed_at ≤ cf
+    → Both now cf (opened (as_role true settings) first now) fe
 opened-times settings first now cf fe k past =
     let il = opened (as_role true settings) first now in
     record {
@@ -276,13 +285,15 @@ opened-times settings first now cf fe k past =
     first_made : Settings → ℕ → ℕ → Made
     first_made settings first now = next_made (blank (as_role true settings) first now Start) ConnReq (opening_body settings.n_sendmax) now
 
-    rise : (i j : ℕ) (a b : Made) (ra rb : List Made) → drop i (opened (as_role true settings) first now).made ≡ a ∷ ra → drop j (opened (as_role true settings) first now).made ≡ b ∷ rb → a.time ≤ b.time
+    rise : (i j : ℕ) (a b : Made) (ra rb : List Made) → drop i (opened (as_role true settings) first now).made ≡ a ∷ ra
+        → drop j (opened (as_role true settings) first now).made ≡ b ∷ rb → a.time ≤ b.time
     rise i j a b ra rb ea eb =
         let x = only_index i (first_made settings first now) a ra ea in
         let y = only_index j (first_made settings first now) b rb eb in
         omega (arith, ap (λ (m : Made). m.time) x.0, ap (λ (m : Made). m.time) y.0)
 
-    rise_behind : (i j : ℕ) (a b : Made) (ra rb : List Made) → drop i (opened (as_role true settings) first now).made ≡ a ∷ ra → drop j (opened (as_role true settings) first now).made ≡ b ∷ rb → a.behind ≤ b.behind
+    rise_behind : (i j : ℕ) (a b : Made) (ra rb : List Made) → drop i (opened (as_role true settings) first now).made ≡ a ∷ ra
+        → drop j (opened (as_role true settings) first now).made ≡ b ∷ rb → a.behind ≤ b.behind
     rise_behind i j a b ra rb ea eb =
         let x = only_index i (first_made settings first now) a ra ea in
         let y = only_index j (first_made settings first now) b rb eb in
@@ -297,7 +308,8 @@ il-later_times il fe di df ci cf now later (apart_fe s) = apart_fe s
 fe-later_times : (il fe : State) (di df ci cf now : ℕ) → cf ≤ now → TimesOf il fe di df ci cf → TimesOf il fe di df ci now
 fe-later_times il fe di df ci cf now later (together b) = together (record { receives = b.receives; sends = timed-later cf now fe il later b.sends })
 fe-later_times il fe di df ci cf now later (apart_il s) = apart_il s
-fe-later_times il fe di df ci cf now later (apart_fe s) = apart_fe (record { connection = s.connection; made = s.made; dead = s.dead; past = omega (arith, s.past) })
+fe-later_times il fe di df ci cf now later (apart_fe s) =
+    apart_fe (record { connection = s.connection; made = s.made; dead = s.dead; past = omega (arith, s.past) })
 
 pub fe-past : (w : World) (ci cf : ℕ) → TInv w ci cf → w.fe.connection ≡ Down → w.fe.confirmed_at ≤ cf
 fe-past w ci cf h down = go (now_of w ci cf h)
@@ -307,7 +319,8 @@ fe-past w ci cf h down = go (now_of w ci cf h)
     go (at_il s) = absurd (s.started down)
     go (at_fe s) = s.past
 
-t-open_il : (settings : Settings) (first now : ℕ) (w : World) (ci cf : ℕ) → ci ≤ now → TInv w ci cf → is_legal settings ≡ true → TInv (open_il settings first now w) now cf
+t-open_il : (settings : Settings) (first now : ℕ) (w : World) (ci cf : ℕ) → ci ≤ now → TInv w ci cf → is_legal settings ≡ true
+    → TInv (open_il settings first now w) now cf
 t-open_il settings first now w ci cf later h legal =
     record {
       inv = inv-open_il settings first now w h.inv legal;
@@ -320,7 +333,8 @@ t-open_il settings first now w ci cf later h legal =
           ];
     }
 
-t-open_fe : (settings : Settings) (first now : ℕ) (w : World) (ci cf : ℕ) → cf ≤ now → TInv w ci cf → is_legal settings ≡ true → TInv (open_fe settings first now w) ci now
+t-open_fe : (settings : Settings) (first now : ℕ) (w : World) (ci cf : ℕ) → cf ≤ now → TInv w ci cf → is_legal settings ≡ true
+    → TInv (open_fe settings first now w) ci now
 t-open_fe settings first now w ci cf later h legal =
     record {
       inv = inv-open_fe settings first now w h.inv legal;
@@ -332,13 +346,16 @@ t-open_fe settings first now w ci cf later h legal =
 short-same : (s t : State) → t.settings ≡ s.settings → s.settings.t_max ≤ 60000 → t.settings.t_max ≤ 60000
 short-same s t e h = omega (arith, ap (λ (k : Settings). k.t_max) e)
 
-t-il : (w : World) (ci cf now : ℕ) (t : State) → TInv w ci cf → Inv (with_il t w) → t.settings ≡ w.il.settings → TimesOf t w.fe w.dead_il w.dead_fe now cf → TInv (with_il t w) now cf
+t-il : (w : World) (ci cf now : ℕ) (t : State) → TInv w ci cf → Inv (with_il t w) → t.settings ≡ w.il.settings → TimesOf t w.fe w.dead_il w.dead_fe now cf
+    → TInv (with_il t w) now cf
 t-il w ci cf now t h inv same times = record { inv = inv; short_il = short-same w.il t same h.short_il; short_fe = h.short_fe; times = times }
 
-t-fe : (w : World) (ci cf now : ℕ) (t : State) → TInv w ci cf → Inv (with_fe t w) → t.settings ≡ w.fe.settings → TimesOf w.il t w.dead_il w.dead_fe ci now → TInv (with_fe t w) ci now
+t-fe : (w : World) (ci cf now : ℕ) (t : State) → TInv w ci cf → Inv (with_fe t w) → t.settings ≡ w.fe.settings → TimesOf w.il t w.dead_il w.dead_fe ci now
+    → TInv (with_fe t w) ci now
 t-fe w ci cf now t h inv same times = record { inv = inv; short_il = h.short_il; short_fe = short-same w.fe t same h.short_fe; times = times }
 
-t-il_lone : (w : World) (ci cf now : ℕ) (t : State) → ci ≤ now → TInv w ci cf → Inv (with_il t w) → Lone w.il t → Makes now w.il t → (Mute w.il → Mute t) → TInv (with_il t w) now cf
+t-il_lone : (w : World) (ci cf now : ℕ) (t : State) → ci ≤ now → TInv w ci cf → Inv (with_il t w) → Lone w.il t → Makes now w.il t → (Mute w.il → Mute t)
+    → TInv (with_il t w) now cf
 t-il_lone w ci cf now t later h inv l m mute = t-il w ci cf now t h inv l.settings (il-lone_times w ci cf now t later h l m mute)
 
 t-fe_lone : (w : World) (ci cf now : ℕ) (t : State) → cf ≤ now → TInv w ci cf → Inv (with_fe t w) → Lone w.fe t → Makes now w.fe t → TInv (with_fe t w) ci now
@@ -362,20 +379,35 @@ t-changed w (Open Fe settings first now) ci cf h g later = (
       (λ _. record { inv = h.inv; short_il = h.short_il; short_fe = h.short_fe; times = fe-later_times w.il w.fe w.dead_il w.dead_fe ci cf now later h.times }),
   tt,
 )
-t-changed w (Send Il unit now) ci cf h g later =
-    (t-il_lone w ci cf now (send unit now w.il) later h (inv-event w (Send Il unit now) h.inv g) (lone-send unit now w.il h.inv.bounded_il) (makes-send unit now w.il) (mute-send unit now w.il), tt)
-t-changed w (Send Fe unit now) ci cf h g later =
-    (t-fe_lone w ci cf now (send unit now w.fe) later h (inv-event w (Send Fe unit now) h.inv g) (lone-send unit now w.fe h.inv.bounded_fe) (makes-send unit now w.fe), tt)
-t-changed w (Close Il reason detail now) ci cf h g later =
-    (t-il_lone w ci cf now (leave reason detail now w.il) later h (inv-event w (Close Il reason detail now) h.inv g) (lone-leave reason detail now w.il) (makes-leave reason detail now w.il) (mute-leave reason detail now w.il), tt)
-t-changed w (Close Fe reason detail now) ci cf h g later =
-    (t-fe_lone w ci cf now (leave reason detail now w.fe) later h (inv-event w (Close Fe reason detail now) h.inv g) (lone-leave reason detail now w.fe) (makes-leave reason detail now w.fe), tt)
+t-changed w (Send Il unit now) ci cf h g later = (
+  t-il_lone w ci cf now (send unit now w.il) later h (inv-event w (Send Il unit now) h.inv g) (lone-send unit now w.il h.inv.bounded_il)
+      (makes-send unit now w.il) (mute-send unit now w.il),
+  tt,
+)
+t-changed w (Send Fe unit now) ci cf h g later = (
+  t-fe_lone w ci cf now (send unit now w.fe) later h (inv-event w (Send Fe unit now) h.inv g) (lone-send unit now w.fe h.inv.bounded_fe)
+      (makes-send unit now w.fe),
+  tt,
+)
+t-changed w (Close Il reason detail now) ci cf h g later = (
+  t-il_lone w ci cf now (leave reason detail now w.il) later h (inv-event w (Close Il reason detail now) h.inv g) (lone-leave reason detail now w.il)
+      (makes-leave reason detail now w.il) (mute-leave reason detail now w.il),
+  tt,
+)
+t-changed w (Close Fe reason detail now) ci cf h g later = (
+  t-fe_lone w ci cf now (leave reason detail now w.fe) later h (inv-event w (Close Fe reason detail now) h.inv g) (lone-leave reason detail now w.fe)
+      (makes-leave reason detail now w.fe),
+  tt,
+)
 t-changed w (Guard Il now) ci cf h g later =
     (t-il_lone w ci cf now (guard now w.il) later h (inv-event w (Guard Il now) h.inv g) (lone-guard now w.il) (makes-guard now w.il) (mute-guard now w.il), tt)
 t-changed w (Guard Fe now) ci cf h g later =
     (t-fe_lone w ci cf now (guard now w.fe) later h (inv-event w (Guard Fe now) h.inv g) (lone-guard now w.fe) (makes-guard now w.fe), tt)
-t-changed w (Tick Il now) ci cf h g later =
-    (t-il_lone w ci cf now (tick now w.il) later h (inv-event w (Tick Il now) h.inv g) (lone-tick now w.il h.inv.bounded_il) (makes-tick now w.il) (mute-tick now w.il), tt)
+t-changed w (Tick Il now) ci cf h g later = (
+  t-il_lone w ci cf now (tick now w.il) later h (inv-event w (Tick Il now) h.inv g) (lone-tick now w.il h.inv.bounded_il) (makes-tick now w.il)
+      (mute-tick now w.il),
+  tt,
+)
 t-changed w (Tick Fe now) ci cf h g later =
     (t-fe_lone w ci cf now (tick now w.fe) later h (inv-event w (Tick Fe now) h.inv g) (lone-tick now w.fe h.inv.bounded_fe) (makes-tick now w.fe), tt)
 t-changed w (Arrive Il p now) ci cf h g later =

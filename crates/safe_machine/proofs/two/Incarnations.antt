@@ -26,17 +26,20 @@ linked-of : (il fe : State) (before : List State) → TakesBeginnings (il ∷ be
 linked-of il fe before h = subst (λ (o : Option State). MatchOption o ⊥ (λ g. Linked fe g)) (latest il before) h
 
 -- an earlier joined does not depend on what is the latest
-pub takes-other : (s t : State) (before : List State) (fe : State) (p : Option ℕ) → JoinedBelow (length before) p → TakesBeginnings (s ∷ before) fe p → TakesBeginnings (t ∷ before) fe p
+pub takes-other : (s t : State) (before : List State) (fe : State) (p : Option ℕ) → JoinedBelow (length before) p → TakesBeginnings (s ∷ before) fe p
+    → TakesBeginnings (t ∷ before) fe p
 takes-other s t before fe None below h = h
 takes-other s t before fe (Some number) below h =
     subst (λ (o : Option State). MatchOption o ⊥ (λ g. Linked fe g)) (earlier s before number below ∙ sym (earlier t before number below)) h
 
-pub takes-pushed : (t : State) (ils : List State) (fe : State) (p : Option ℕ) → JoinedBelow (length ils) p → TakesBeginnings ils fe p → TakesBeginnings (t ∷ ils) fe p
+pub takes-pushed : (t : State) (ils : List State) (fe : State) (p : Option ℕ) → JoinedBelow (length ils) p → TakesBeginnings ils fe p
+    → TakesBeginnings (t ∷ ils) fe p
 takes-pushed t ils fe None below h = h
 takes-pushed t ils fe (Some number) below h = subst (λ (o : Option State). MatchOption o ⊥ (λ g. Linked fe g)) (sym (earlier t ils number below)) h
 
 -- the interlocking takes nothing and sends more
-pub takes-il_lone : (s t : State) (before : List State) (fe : State) (p : Option ℕ) → JoinedBelow (length before + 1) p → Lone s t → TakesBeginnings (s ∷ before) fe p → TakesBeginnings (t ∷ before) fe p
+pub takes-il_lone : (s t : State) (before : List State) (fe : State) (p : Option ℕ) → JoinedBelow (length before + 1) p → Lone s t
+    → TakesBeginnings (s ∷ before) fe p → TakesBeginnings (t ∷ before) fe p
 takes-il_lone s t before fe None below l h = h
 takes-il_lone s t before fe (Some number) below l h =
     elim (eqb_tells number (length before)) [
@@ -44,7 +47,11 @@ takes-il_lone s t before fe (Some number) below l h =
           let at_latest : TakesBeginnings (s ∷ before) fe (Some (length before)) = subst (λ (n : ℕ). TakesBeginnings (s ∷ before) fe (Some n)) same.1 h in
           let k = linked-of s fe before at_latest in
           let after : TakesBeginnings (t ∷ before) fe (Some (length before)) =
-          linked-latest t fe before (beginning_trans fe.taken (units s.made) (units t.made) k.0 l.longer, subst (λ us. IsBeginning us (units fe.made)) (sym l.taken) k.1) in
+          linked-latest t fe before (
+            beginning_trans fe.taken (units s.made) (units t.made) k.0 l.longer,
+            subst (λ us. IsBeginning us (units fe.made))
+                (sym l.taken) k.1,
+          ) in
           subst (λ (n : ℕ). TakesBeginnings (t ∷ before) fe (Some n)) (sym same.1) after
       | inr other ↦ takes-other s t before fe (Some number) (omega (arith, other.1)) h
     ]
@@ -85,7 +92,8 @@ all-takes ils ils' bound (e ∷ es) fall f h =
     (f e.machine e.joined fall.0 h.0, all-takes ils ils' bound es rest f h.1)
 
 -- joined ones that stay joined ones
-pub only-weaken : (fes fes' : List Served) (ils : List State) → ((number : ℕ) → IsJoined number fes → IsJoined number fes') → OnlyJoinedTake fes ils → OnlyJoinedTake fes' ils
+pub only-weaken : (fes fes' : List Served) (ils : List State) → ((number : ℕ) → IsJoined number fes → IsJoined number fes') → OnlyJoinedTake fes ils
+    → OnlyJoinedTake fes' ils
 only-weaken fes fes' [] f h = tt
 only-weaken fes fes' (s ∷ before) f h =
     (elim h.0 [ inl none ↦ inl none | inr is ↦ inr (f (length before) is) ], only-weaken fes fes' before f h.1)

@@ -33,5 +33,6 @@ taken_from_fe ils None = 0
 taken_from_fe ils (Some number) = taken_count (incarnation ils number)
 
 pub record LosesNothingOf (il : State) (il_before : List State) (fe : State) (joined : Option ℕ) (fe_before : List Served) : Type 0 where
-  pub from_il : il.connection ≢ Closed → length (units il.made) ≤ taken_from_il (length il_before) (record { machine = fe; joined = joined } ∷ fe_before) + length (unconfirmed il)
+  pub from_il : il.connection ≢ Closed → length (units il.made) ≤ taken_from_il (length il_before) (record { machine = fe; joined = joined } ∷ fe_before)
+      + length (unconfirmed il)
   pub from_fe : fe.connection ≢ Closed → length (units fe.made) ≤ taken_from_fe (il ∷ il_before) joined + length (unconfirmed fe)

@@ -52,7 +52,8 @@ Solo s = SoloOf s.first s.made s.expected s.connection s.settings.client
 
 -- One direction. The sender has made `made` and is told that `confirmed` of it was taken; the receiver has `expected`
 -- of it behind, has taken `taken`, and has made `back`. `pending` are units that the sender is about to make anew.
-pub record HalfOf (first : ℕ) (made : List Made) (confirmed answered : ℕ) (pending : List (List ℕ)) (back : List Made) (expected : ℕ) (taken : List (List ℕ)) (connection : ConnectionState) (last_sn : ℕ) : Type 0 where
+pub record HalfOf (first : ℕ) (made : List Made) (confirmed answered : ℕ) (pending : List (List ℕ)) (back : List Made) (expected : ℕ) (taken : List (List ℕ))
+    (connection : ConnectionState) (last_sn : ℕ) : Type 0 where
   -- what was taken, with what is carried from the expected index on, is what was first sent
   pub carried : taken ++ (run_of (drop expected made) ++ pending) ≡ units made
   pub within : expected ≤ length made

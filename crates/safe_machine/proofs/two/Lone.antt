@@ -167,7 +167,8 @@ among-index p [] h = absurd h
 among-index p (m ∷ ms) (inl e) = (0, m, ms, refl, e)
 among-index p (m ∷ ms) (inr h) = let r = among-index p ms h in (suc r.0, r.1, r.2, r.3, r.4)
 
-pub among-dropped : (p : Pdu) (n : ℕ) (ms : List Made) → Among p (drop n ms) → (i : ℕ) × (m : Made) × (rest : List Made) × (drop i ms ≡ m ∷ rest) × (m.pdu ≡ p) × (n ≤ i)
+pub among-dropped : (p : Pdu) (n : ℕ) (ms : List Made) → Among p (drop n ms) → (i : ℕ) × (m : Made) × (rest : List Made) × (drop i ms ≡ m ∷ rest) × (m.pdu ≡ p)
+    × (n ≤ i)
 among-dropped p n ms h = let r = among-index p (drop n ms) h in (n + r.0, r.1, r.2, sym (drop-drop r.0 n ms) ∙ r.3, r.4, omega arith)
 
 -- An arrival that is genuine keeps the invariant of the pair, and the counts.

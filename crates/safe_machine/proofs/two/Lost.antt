@@ -35,7 +35,8 @@ quiet-units [] h = refl
 quiet-units (m ∷ ms) h = ap (λ us. us ++ units ms) (quiet-none m.pdu.kind m.pdu.body h.0) ∙ quiet-units ms h.1
 
 -- where the two have met
-pub met-loses_nothing : (il : State) (before : List State) (fe : State) (joined : Option ℕ) (fe_before : List Served) → Met (length before) il fe joined fe_before → LosesNothingOf il before fe joined fe_before
+pub met-loses_nothing : (il : State) (before : List State) (fe : State) (joined : Option ℕ) (fe_before : List Served)
+    → Met (length before) il fe joined fe_before → LosesNothingOf il before fe joined fe_before
 met-loses_nothing il before fe None fe_before m =
     record {
       from_il = λ on. omega (arith, half-owes il fe m.il_sends, ap length m.joined_to.2);
@@ -53,7 +54,8 @@ met-loses_nothing il before fe (Some number) fe_before m =
     }
 
 -- an earlier joined does not depend on the latest
-pub taken-other : (s t : State) (before : List State) (p : Option ℕ) → JoinedBelow (length before) p → taken_from_fe (s ∷ before) p ≡ taken_from_fe (t ∷ before) p
+pub taken-other : (s t : State) (before : List State) (p : Option ℕ) → JoinedBelow (length before) p → taken_from_fe (s ∷ before) p ≡ taken_from_fe (t ∷ before)
+    p
 taken-other s t before None below = refl
 taken-other s t before (Some number) below = ap taken_count (earlier s before number below ∙ sym (earlier t before number below))
 
@@ -62,7 +64,8 @@ taken-pushed t ils None below = refl
 taken-pushed t ils (Some number) below = ap taken_count (sym (earlier t ils number below))
 
 -- a step in which nothing is taken
-pub lone-owes : (s t : State) (n : ℕ) → Lone s t → (s.connection ≢ Closed → length (units s.made) ≤ n + length (unconfirmed s)) → t.connection ≢ Closed → length (units t.made) ≤ n + length (unconfirmed t)
+pub lone-owes : (s t : State) (n : ℕ) → Lone s t → (s.connection ≢ Closed → length (units s.made) ≤ n + length (unconfirmed s)) → t.connection ≢ Closed
+    → length (units t.made) ≤ n + length (unconfirmed t)
 lone-owes s t n l h on =
     let before : s.connection ≢ Closed = λ e. on (ap (λ (v : State). v.connection) (l.closed e) ∙ e) in
     omega (arith, h before, l.owes on)

@@ -54,7 +54,8 @@ make-receives kind body now x y h none =
     }
 
 pub make-solo : (kind : Kind) (body : List ℕ) (now : ℕ) (x : State) → Solo x →
-    is_opening kind ≡ 0 → (1 ≤ needs_peer kind → 1 ≤ x.expected) → Started x.connection x.settings.client x.expected (x.made ++ next_made x kind body now ∷ []) →
+    is_opening kind ≡ 0 → (1 ≤ needs_peer kind → 1 ≤ x.expected) → Started x.connection x.settings.client x.expected (x.made ++ next_made x kind body now ∷ [])
+    →
     Solo (make kind body now x)
 make-solo kind body now x h plain late started =
     let m = next_made x kind body now in

@@ -51,13 +51,15 @@ pair-leave reason detail now x y h =
     leave-cases (λ s. Pair s y) reason detail now x (λ _. said) (λ _. closed)
 
 -- an end that is connected has taken something and made something
-pub started-parts : (connection : ConnectionState) (client : Bool) (expected : ℕ) (made : List Made) → is_connected connection ≡ true → Started connection client expected made → (1 ≤ expected) × (1 ≤ length made)
+pub started-parts : (connection : ConnectionState) (client : Bool) (expected : ℕ) (made : List Made) → is_connected connection ≡ true
+    → Started connection client expected made → (1 ≤ expected) × (1 ≤ length made)
 started-parts Closed client expected made c h = cc
 started-parts Down client expected made c h = cc
 started-parts Start client expected made c h = cc
 started-parts _ client expected made c h = h
 
-pub started-from : (connection : ConnectionState) (client : Bool) (expected : ℕ) (made : List Made) → is_connected connection ≡ true → 1 ≤ expected → 1 ≤ length made → Started connection client expected made
+pub started-from : (connection : ConnectionState) (client : Bool) (expected : ℕ) (made : List Made) → is_connected connection ≡ true → 1 ≤ expected
+    → 1 ≤ length made → Started connection client expected made
 started-from Closed client expected made c e m = cc
 started-from Down client expected made c e m = cc
 started-from Start client expected made c e m = cc
@@ -67,7 +69,8 @@ pub some-push : (ms : List Made) (m : Made) → 1 ≤ length (ms ++ m ∷ [])
 some-push ms m = omega (arith, length-append ms (m ∷ []))
 
 -- a connected end is started also with one PDU more
-pub started-push : (kind : Kind) (body : List ℕ) (now : ℕ) (x : State) → is_connected x.connection ≡ true → Solo x → Started x.connection x.settings.client x.expected (x.made ++ next_made x kind body now ∷ [])
+pub started-push : (kind : Kind) (body : List ℕ) (now : ℕ) (x : State) → is_connected x.connection ≡ true → Solo x
+    → Started x.connection x.settings.client x.expected (x.made ++ next_made x kind body now ∷ [])
 started-push kind body now x c h =
     started-from x.connection x.settings.client x.expected (x.made ++ next_made x kind body now ∷ []) c
     (started-parts x.connection x.settings.client x.expected x.made c h.started).0 (some-push x.made (next_made x kind body now))
@@ -78,7 +81,8 @@ nonempty x c h e =
     let some = (started-parts x.connection x.settings.client x.expected x.made c h.started).1 in
     absurd (omega (arith, ap length e))
 
-pub pair-beat : (now : ℕ) (pending : List (List ℕ)) (x y : State) → is_connected x.connection ≡ true → PairWith pending x y → PairWith pending (make Heartbeat [] now x) y
+pub pair-beat : (now : ℕ) (pending : List (List ℕ)) (x y : State) → is_connected x.connection ≡ true → PairWith pending x y
+    → PairWith pending (make Heartbeat [] now x) y
 pair-beat now pending x y c h =
     pair-plain Heartbeat [] now pending x y h (λ run. refl) refl refl refl refl
     (λ one. (started-parts x.connection x.settings.client x.expected x.made c h.0.started).0) (started-push Heartbeat [] now x c h.0)
@@ -91,7 +95,8 @@ pair-sent unit now x y c h =
     let after : y.taken ++ ((run ++ unit ∷ []) ++ []) ≡ units x.made ++ unit ∷ [] =
     ap (λ us. y.taken ++ us) (append-nil (run ++ unit ∷ []))
     ∙ (sym (append_assoc y.taken run (unit ∷ [])) ∙ ap (λ us. us ++ unit ∷ []) before) in (
-      make-solo Data unit now x h.0 refl (λ one. (started-parts x.connection x.settings.client x.expected x.made c h.0.started).0) (started-push Data unit now x c h.0),
+      make-solo Data unit now x h.0 refl (λ one. (started-parts x.connection x.settings.client x.expected x.made c h.0.started).0)
+          (started-push Data unit now x c h.0),
       make-sends Data unit now [] [] x y h.1 (omega (arith, h.1.open_requests)) after (nonempty x c h.0),
       make-receives Data unit now x y h.2 refl,
     )
@@ -102,9 +107,16 @@ pair-ask now x y c none h =
     let m = next_made x RetrReq [] now in
     let late : 1 ≤ x.expected = (started-parts x.connection x.settings.client x.expected x.made c h.0.started).0 in
     let solo : Solo (ask now x) = make-solo RetrReq [] now (move_to Requesting x)
-    (record { numbered = h.0.numbered; opening = h.0.opening; sound = h.0.sound; started = started-parts x.connection x.settings.client x.expected x.made c h.0.started })
+    (record {
+      numbered = h.0.numbered;
+      opening = h.0.opening;
+      sound = h.0.sound;
+      started = started-parts x.connection x.settings.client x.expected x.made c
+          h.0.started;
+    })
     refl (λ one. late) (late, some-push x.made m) in
-    let sends : Half (ask now x) y = make-sends RetrReq [] now [] [] x y h.1 (omega (arith, h.1.open_requests)) (h.1.carried ∙ sym (append-nil (units x.made))) (λ e. refl) in
+    let sends : Half (ask now x) y = make-sends RetrReq [] now [] [] x y h.1 (omega (arith, h.1.open_requests)) (h.1.carried ∙ sym (append-nil (units x.made)))
+    (λ e. refl) in
     let old = h.2 in
     let told_m : Told y.first x.expected m = record { behind = omega arith; cs = old.last } in (
       solo,
@@ -132,7 +144,8 @@ pair-resend (u ∷ us) now x y c h =
     let after : y.taken ++ ((run ++ u ∷ []) ++ us) ≡ units x.made ++ [] =
     ap (λ vs. y.taken ++ vs) (append_assoc run (u ∷ []) us) ∙ (h.1.carried ∙ sym (append-nil (units x.made))) in
     pair-resend us now (make RetrData u now x) y c (
-      make-solo RetrData u now x h.0 refl (λ one. (started-parts x.connection x.settings.client x.expected x.made c h.0.started).0) (started-push RetrData u now x c h.0),
+      make-solo RetrData u now x h.0 refl (λ one. (started-parts x.connection x.settings.client x.expected x.made c h.0.started).0)
+          (started-push RetrData u now x c h.0),
       make-sends RetrData u now (u ∷ us) us x y h.1 (omega (arith, h.1.open_requests)) after (nonempty x c h.0),
       make-receives RetrData u now x y h.2 refl,
     )
@@ -147,7 +160,8 @@ pair-reply now x y c h none one same =
     let after : y.taken ++ ([] ++ us) ≡ units x.made ++ [] =
     ap (λ vs. y.taken ++ vs) (sym run ∙ sym (append-nil (run_of (drop y.expected x.made)))) ∙ (h.1.carried ∙ sym (append-nil (units x.made))) in
     let begun : PairWith us (make RetrResp [] now x) y = (
-      make-solo RetrResp [] now x h.0 refl (λ k. (started-parts x.connection x.settings.client x.expected x.made c h.0.started).0) (started-push RetrResp [] now x c h.0),
+      make-solo RetrResp [] now x h.0 refl (λ k. (started-parts x.connection x.settings.client x.expected x.made c h.0.started).0)
+          (started-push RetrResp [] now x c h.0),
       make-sends RetrResp [] now [] us x y h.1 (omega (arith, none, one)) after (λ e. refl),
       make-receives RetrResp [] now x y h.2 refl,
     ) in

@@ -15,7 +15,8 @@ timely-more : (es : List Event) (e : Event) (w : World) → Timely es w → Time
 timely-more [] e w h t = (t, tt)
 timely-more (d ∷ es) e w h t = (h.0, timely-more es e (happens w d) h.1 t)
 
-in_order-more : (es : List Event) (e : Event) (il fe : ℕ) (w : World) → InOrder il fe es w → InOrderEvent (all_heard_by_il es il) (all_heard_by_fe es fe) (run es w) e
+in_order-more : (es : List Event) (e : Event) (il fe : ℕ) (w : World) → InOrder il fe es w → InOrderEvent (all_heard_by_il es il) (all_heard_by_fe es fe)
+    (run es w) e
     → InOrder il fe (es ++ e ∷ []) w
 in_order-more [] e il fe w h k = (k, tt)
 in_order-more (d ∷ es) e il fe w h k = (h.0, in_order-more es e (heard_by_il d il) (heard_by_fe d fe) (happens w d) h.1 k)
@@ -34,7 +35,8 @@ one-close false = refl
 
 closes-more : (es : List Event) (e : Event) → has_close (es ++ e ∷ []) ≡ cond (has_close es) true (is_close e)
 closes-more [] e = one-close (is_close e)
-closes-more (d ∷ es) e = by_test (λ b. cond b true (has_close (es ++ e ∷ [])) ≡ cond (cond b true (has_close es)) true (is_close e)) (is_close d) (λ _. refl) (λ _. closes-more es e)
+closes-more (d ∷ es) e = by_test (λ b. cond b true (has_close (es ++ e ∷ [])) ≡ cond (cond b true (has_close es)) true (is_close e)) (is_close d) (λ _. refl)
+    (λ _. closes-more es e)
 
 pub one_more_law_holds : OneMoreLaw
 one_more_law_holds es e =

@@ -39,12 +39,14 @@ abbrev pub AllLate : List Served → Type 0
 AllLate [] = Unit {0}
 AllLate (f ∷ fs) = Late f.joined × AllLate fs
 
-takes : (x : State) (xs : List State) (fe : State) (joined : Option ℕ) → Late joined → TakesBeginnings (x ∷ xs) fe joined → Public.TakesBeginnings (take (length xs) (x ∷ xs)) fe joined
+takes : (x : State) (xs : List State) (fe : State) (joined : Option ℕ) → Late joined → TakesBeginnings (x ∷ xs) fe joined
+    → Public.TakesBeginnings (take (length xs) (x ∷ xs)) fe joined
 takes x xs fe None late h = h
 takes x xs fe (Some number) late h =
     subst (λ o. MatchOption o ⊥ (λ il. IsBeginning fe.taken (units il.made) × IsBeginning il.taken (units fe.made))) (found x xs number late) h
 
-all-takes : (x : State) (xs : List State) (fs : List Served) (n : ℕ) → AllLate fs → AllTakeBeginnings (x ∷ xs) fs → Public.AllTakeBeginnings (take (length xs) (x ∷ xs)) (take n fs)
+all-takes : (x : State) (xs : List State) (fs : List Served) (n : ℕ) → AllLate fs → AllTakeBeginnings (x ∷ xs) fs
+    → Public.AllTakeBeginnings (take (length xs) (x ∷ xs)) (take n fs)
 all-takes x xs [] zero late h = tt
 all-takes x xs [] (suc n) late h = tt
 all-takes x xs (f ∷ fs) zero late h = tt
@@ -73,7 +75,8 @@ is-joined number f [] last (inr h) = absurd h
 is-joined number f (g ∷ gs) last (inl e) = inl e
 is-joined number f (g ∷ gs) last (inr h) = inr (is-joined number g gs last h)
 
-only : (f : Served) (fs : List Served) (x : State) (xs : List State) → LastFe f fs → OnlyJoinedTake (f ∷ fs) (x ∷ xs) → Public.OnlyJoinedTake (take (length fs) (f ∷ fs)) (take (length xs) (x ∷ xs))
+only : (f : Served) (fs : List Served) (x : State) (xs : List State) → LastFe f fs → OnlyJoinedTake (f ∷ fs) (x ∷ xs)
+    → Public.OnlyJoinedTake (take (length fs) (f ∷ fs)) (take (length xs) (x ∷ xs))
 only f fs x [] last h = tt
 only f fs x (y ∷ ys) last h =
     let count : length (y ∷ ys) ≡ length (take (length ys) (y ∷ ys)) + 1 = omega (arith, length-front y ys) in (
@@ -88,7 +91,8 @@ taken-same : (number : ℕ) (f : Served) (fs : List Served) → LastFe f fs → 
 taken-same number f [] last = ap (λ o. if is_number number o then length f.machine.taken else 0) last.1
 taken-same number f (g ∷ gs) last = ap (λ (n : ℕ). if is_number number f.joined then length f.machine.taken else n) (taken-same number g gs last)
 
-taken-found : (x : State) (xs : List State) (joined : Option ℕ) → Late joined → taken_from_fe (x ∷ xs) joined ≡ Public.taken_from_fe (take (length xs) (x ∷ xs)) joined
+taken-found : (x : State) (xs : List State) (joined : Option ℕ) → Late joined → taken_from_fe (x ∷ xs) joined ≡ Public.taken_from_fe (take (length xs) (x ∷ xs))
+    joined
 taken-found x xs None late = refl
 taken-found x xs (Some number) late = ap taken_count (found x xs number late)
 
@@ -120,7 +124,8 @@ shaped-losses w h s =
           ∙ ap (λ (n : ℕ). taken_from_il n (take (length w.fe_before) (entry w ∷ w.fe_before))) (sym (length-front w.il w.il_before)))
           (h.loses_nothing.from_il on);
       from_fe = λ on.
-          subst (λ (n : ℕ). length (units w.fe.made) ≤ n + length (unconfirmed w.fe)) (taken-found w.il w.il_before w.joined s.late.0) (h.loses_nothing.from_fe on);
+          subst (λ (n : ℕ). length (units w.fe.made) ≤ n + length (unconfirmed w.fe)) (taken-found w.il w.il_before w.joined s.late.0)
+          (h.loses_nothing.from_fe on);
     }
 
 il-moved : (m : Move) (s : State) (before : List State) → LastIl s before → LastIl (move m s) before
@@ -220,7 +225,8 @@ among-drop (suc n) p (m ∷ ms) h = inr (among-drop n p ms h)
 
 joins-event : (w : World) (e : Event) → GenuineEvent w e → Public.JoinsEvent w e
 joins-event w (Arrive Fe p now) g =
-    λ down begun. among-drop w.dead_il p w.il.made (g (λ closed. absurd (down≢closed (sym down ∙ closed))) ((moves_law_holds (Hears p now) w.fe).starts down begun))
+    λ down begun. among-drop w.dead_il p w.il.made
+    (g (λ closed. absurd (down≢closed (sym down ∙ closed))) ((moves_law_holds (Hears p now) w.fe).starts down begun))
 joins-event w _ g = tt
 
 pub joined_law_holds : JoinedLaw

@@ -29,11 +29,13 @@ half-pass d taken connection m rest x y solo h at no_request no_answer carried =
           λ one.
           numbered-at y.first 0 (x.expected + d) y.made m rest solo.numbered at
           ∙ ap (sn_of y.first) (omega arith);
-      told = every-weaken (Told y.first x.expected) (Told y.first (x.expected + d + 1)) x.made (told-more y.first x.expected (x.expected + d + 1) (omega arith)) h.told;
+      told = every-weaken (Told y.first x.expected) (Told y.first (x.expected + d + 1)) x.made (told-more y.first x.expected (x.expected + d + 1) (omega arith))
+          h.told;
     }
 
 -- the next PDU, which carries these units, where no request is open
-pub half-take : (up taken : List (List ℕ)) (connection : ConnectionState) (m : Made) (rest : List Made) (x y : State) → Solo y → Half y x → room x.connection ≡ 0 →
+pub half-take : (up taken : List (List ℕ)) (connection : ConnectionState) (m : Made) (rest : List Made) (x y : State) → Solo y → Half y x
+    → room x.connection ≡ 0 →
     drop (x.expected + 0) y.made ≡ m ∷ rest →
     is_answer m.pdu.kind ≡ 0 → after_pdu m.pdu.kind m.pdu.body [] ≡ up → taken ≡ x.taken ++ up →
     HalfOf y.first y.made y.confirmed y.answered [] x.made (x.expected + 0 + 1) taken connection m.pdu.sn

@@ -20,7 +20,8 @@ opening-first (suc i) m rest y h at is =
     absurd (omega arith)
 
 -- the first PDU of the peer, which carries nothing, where nothing was taken before
-pub first-arrival : (i : ℕ) (m : Made) (rest : List Made) (x y : State) → Pair x y → Solo y → Few x → drop i y.made ≡ m ∷ rest → is_opening m.pdu.kind ≡ 1 → x.expected ≡ 0 →
+pub first-arrival : (i : ℕ) (m : Made) (rest : List Made) (x y : State) → Pair x y → Solo y → Few x → drop i y.made ≡ m ∷ rest → is_opening m.pdu.kind ≡ 1
+    → x.expected ≡ 0 →
     Arrival 0 m rest x y
 first-arrival i m rest x y h peer few at is none =
     let first : i ≡ 0 = opening-first i m rest y peer at is in
@@ -28,7 +29,8 @@ first-arrival i m rest x y h peer few at is none =
     record { pair = h; peer = peer; few = few; at = subst (λ (n : ℕ). drop n y.made ≡ m ∷ rest) same at }
 
 -- the client takes a ConnResp
-connected : (now i : ℕ) (m : Made) (rest : List Made) (x y : State) → Pair x y → Solo y → Few x → drop i y.made ≡ m ∷ rest → m.pdu.kind ≡ ConnResp → x.expected ≡ 0 →
+connected : (now i : ℕ) (m : Made) (rest : List Made) (x y : State) → Pair x y → Solo y → Few x → drop i y.made ≡ m ∷ rest → m.pdu.kind ≡ ConnResp
+    → x.expected ≡ 0 →
     room x.connection ≡ 0 → 1 ≤ length x.made → cs_fits (kept_of x) m.pdu ≡ true →
     Pair (carry_out m.pdu now Connects x) y
 connected now i m rest x y h peer few at is none closed some fits =
@@ -42,7 +44,8 @@ connected now i m rest x y h peer few at is none closed some fits =
     pair-beat now [] z y refl before
 
 -- the server takes a ConnReq of another version
-rejected : (now i : ℕ) (m : Made) (rest : List Made) (x y : State) → Pair x y → Solo y → Few x → drop i y.made ≡ m ∷ rest → m.pdu.kind ≡ ConnReq → x.expected ≡ 0 → room x.connection ≡ 0 →
+rejected : (now i : ℕ) (m : Made) (rest : List Made) (x y : State) → Pair x y → Solo y → Few x → drop i y.made ≡ m ∷ rest → m.pdu.kind ≡ ConnReq
+    → x.expected ≡ 0 → room x.connection ≡ 0 →
     Pair (carry_out m.pdu now Rejects x) y
 rejected now i m rest x y h peer few at is none closed =
     let a = first-arrival i m rest x y h peer few at (ap is_opening is) none in
@@ -59,7 +62,8 @@ pub opening_window : (n : ℕ) → n ≤ 32 → window_of (opening_body n) ≡ n
 opening_window n small = omega (arith, small)
 
 -- the server takes a ConnReq
-accepted : (now i : ℕ) (m : Made) (rest : List Made) (x y : State) → Pair x y → Solo y → Few x → drop i y.made ≡ m ∷ rest → m.pdu.kind ≡ ConnReq → x.expected ≡ 0 →
+accepted : (now i : ℕ) (m : Made) (rest : List Made) (x y : State) → Pair x y → Solo y → Few x → drop i y.made ≡ m ∷ rest → m.pdu.kind ≡ ConnReq
+    → x.expected ≡ 0 →
     x.connection ≡ Down → x.made ≡ [] → x.settings.client ≡ false → x.settings.n_sendmax ≤ 32 →
     Pair (carry_out m.pdu now Accepts x) y
 accepted now i m rest x y h peer few at is none down empty server small =
@@ -68,7 +72,8 @@ accepted now i m rest x y h peer few at is none down empty server small =
     let body = opening_body x.settings.n_sendmax in
     let made = next_made z ConnResp body now in
     let takes : Half y z =
-    half-take [] x.taken Start m rest x y peer h.2 (ap room down) a.at (ap is_answer is) (ap (λ kind. after_pdu kind m.pdu.body []) is) (sym (append-nil x.taken)) in
+    half-take [] x.taken Start m rest x y peer h.2 (ap room down) a.at (ap is_answer is) (ap (λ kind. after_pdu kind m.pdu.body []) is)
+    (sym (append-nil x.taken)) in
     let sends : Half (make ConnResp body now z) y =
     make-sends ConnResp body now [] [] z y h.1 (omega (arith, h.1.open_requests)) (h.1.carried ∙ sym (append-nil (units x.made))) (λ e. refl) in
     let one : x.made ++ made ∷ [] ≡ made ∷ [] = ap (λ ms. ms ++ made ∷ []) empty in
@@ -102,7 +107,8 @@ pub record Incoming (i : ℕ) (m : Made) (rest : List Made) (x y : State) : Type
   pub at : drop i y.made ≡ m ∷ rest
 
 -- an end that the table decides for has taken something and made something
-listens-started : (connection : ConnectionState) (client : Bool) (expected : ℕ) (made : List Made) → listens connection client ≡ true → Started connection client expected made → (1 ≤ expected) × (1 ≤ length made)
+listens-started : (connection : ConnectionState) (client : Bool) (expected : ℕ) (made : List Made) → listens connection client ≡ true
+    → Started connection client expected made → (1 ≤ expected) × (1 ≤ length made)
 listens-started Start false expected made l h = (h.1 refl, h.2)
 listens-started Start true expected made l h = cc
 listens-started Closed client expected made l h = cc
@@ -113,17 +119,20 @@ pub by_table-started : (x : State) (p : Pdu) → Solo x → ByTable (kept_of x) 
 by_table-started x p h t = listens-started x.connection x.settings.client x.expected x.made t.listens_now h.started
 
 -- and the PDU lies where its number says
-pub incoming-arrival : (i : ℕ) (m : Made) (rest : List Made) (x y : State) → Incoming i m rest x y → ByTable (kept_of x) m.pdu → Arrival (distance (kept_of x) m.pdu) m rest x y
+pub incoming-arrival : (i : ℕ) (m : Made) (rest : List Made) (x y : State) → Incoming i m rest x y → ByTable (kept_of x) m.pdu
+    → Arrival (distance (kept_of x) m.pdu) m rest x y
 incoming-arrival i m rest x y a t =
     let s = by_table-started x m.pdu a.pair.0 t in
     let same : i ≡ x.expected + distance (kept_of x) m.pdu = sym (reach i m rest x y a.peer a.pair.2 a.few_peer s.0 a.at (omega (arith, t.near, a.small))) in
     record { pair = a.pair; peer = a.peer; few = a.few; at = subst (λ (n : ℕ). drop n y.made ≡ m ∷ rest) same a.at }
 
-pub incoming-next : (i : ℕ) (m : Made) (rest : List Made) (x y : State) → Incoming i m rest x y → ByTable (kept_of x) m.pdu → distance (kept_of x) m.pdu ≡ 0 → Arrival 0 m rest x y
+pub incoming-next : (i : ℕ) (m : Made) (rest : List Made) (x y : State) → Incoming i m rest x y → ByTable (kept_of x) m.pdu → distance (kept_of x) m.pdu ≡ 0
+    → Arrival 0 m rest x y
 incoming-next i m rest x y a t none = subst (λ (n : ℕ). Arrival n m rest x y) none (incoming-arrival i m rest x y a t)
 
 -- Each decision keeps the invariant.
-pair-carry : (now i : ℕ) (m : Made) (rest : List Made) (x y : State) → Incoming i m rest x y → (e : Decision) → Fits (kept_of x) m.pdu now e → Pair (carry_out m.pdu now e x) y
+pair-carry : (now i : ℕ) (m : Made) (rest : List Made) (x y : State) → Incoming i m rest x y → (e : Decision) → Fits (kept_of x) m.pdu now e
+    → Pair (carry_out m.pdu now e x) y
 pair-carry now i m rest x y a Nothing f = a.pair
 pair-carry now i m rest x y a (Drops cause) f = a.pair
 pair-carry now i m rest x y a Shuts f = pair-closed x y a.pair
@@ -138,12 +147,15 @@ pair-carry now i m rest x y a Connects (start, client, is, passed) =
     let s = subst (λ (c : ConnectionState). Started c x.settings.client x.expected x.made) start a.pair.0.started in
     connected now i m rest x y a.pair a.peer a.few a.at is (s.0 client) (ap room start) s.2 passed.cs
 pair-carry now i m rest x y a (Takes to) f =
-    arrival-take now to m rest x y (incoming-next i m rest x y a f.table f.next) f.quiet f.connected f.plain f.needs f.passed.cs (by_table-started x m.pdu a.pair.0 f.table).1
+    arrival-take now to m rest x y (incoming-next i m rest x y a f.table f.next) f.quiet f.connected f.plain f.needs f.passed.cs
+    (by_table-started x m.pdu a.pair.0 f.table).1
 pair-carry now i m rest x y a Asks f = pair-ask now x y f.connected f.quiet a.pair
 pair-carry now i m rest x y a Resumes f =
-    arrival-resume now m rest x y (incoming-arrival i m rest x y a f.table) (room-le x.connection) f.answer f.needs f.passed.cs (by_table-started x m.pdu a.pair.0 f.table).1
+    arrival-resume now m rest x y (incoming-arrival i m rest x y a f.table) (room-le x.connection) f.answer f.needs f.passed.cs
+    (by_table-started x m.pdu a.pair.0 f.table).1
 pair-carry now i m rest x y a AnswersNext (f, none, turn, cts) =
-    arrival-next_request now m rest x y (incoming-next i m rest x y a f.table none) f.request (omega (arith, f.new)) turn f.cs (by_table-started x m.pdu a.pair.0 f.table).1
+    arrival-next_request now m rest x y (incoming-next i m rest x y a f.table none) f.request (omega (arith, f.new)) turn f.cs
+    (by_table-started x m.pdu a.pair.0 f.table).1
 pair-carry now i m rest x y a AnswersEarly f =
     arrival-early_request now m rest x y (incoming-arrival i m rest x y a f.table) f.request f.new f.connected f.cs
 

@@ -77,7 +77,8 @@ mute-deaf Down client c h = refl
 mute-deaf _ client c (inl h) = cc
 mute-deaf _ client c (inr h) = cc
 
-mute-not_connected : (connection : ConnectionState) → (connection ≡ Start) ⊎ (connection ≡ Closed) → (is_connected connection ≡ false) × (in_turn connection ≡ false)
+mute-not_connected : (connection : ConnectionState) → (connection ≡ Start) ⊎ (connection ≡ Closed) → (is_connected connection ≡ false)
+    × (in_turn connection ≡ false)
 mute-not_connected Start h = (refl, refl)
 mute-not_connected Closed h = (refl, refl)
 mute-not_connected Down h = (refl, refl)
@@ -87,7 +88,12 @@ mute-not_connected _ (inr h) = cc
 pub mute-leave : (reason : Reason) (detail : Detail) (now : ℕ) (s : State) → Mute s → Mute (leave reason detail now s)
 mute-leave reason detail now s h =
     leave-cases Mute reason detail now s
-    (λ _. record { client = h.client; connection = inr refl; taken = h.taken; quiet = every-push Quiet s.made (next_made s DiscReq (leaving_body reason detail) now) h.quiet refl })
+    (λ _. record {
+      client = h.client;
+      connection = inr refl;
+      taken = h.taken;
+      quiet = every-push Quiet s.made (next_made s DiscReq (leaving_body reason detail) now) h.quiet refl;
+    })
     (λ _. record { client = h.client; connection = inr refl; taken = h.taken; quiet = h.quiet })
 
 pub mute-guard : (now : ℕ) (s : State) → Mute s → Mute (guard now s)
@@ -121,14 +127,18 @@ mute-arrive now n p il made h b dead genuine =
         Mute (carry_out p now e s) × Lone il (carry_out p now e s) × Bounded (carry_out p now e s)
     mute-carry p now il s plain h l b Nothing f = (h, l, b)
     mute-carry p now il s plain h l b (Drops cause) f = (h, l, b)
-    mute-carry p now il s plain h l b Shuts f =
-        (record { client = h.client; connection = inr refl; taken = h.taken; quiet = h.quiet }, lone-trans il s (move_to Closed s) l (lone-closed s), bounded-closed s b)
+    mute-carry p now il s plain h l b Shuts f = (
+      record { client = h.client; connection = inr refl; taken = h.taken; quiet = h.quiet },
+      lone-trans il s (move_to Closed s) l (lone-closed s),
+      bounded-closed s b,
+    )
     mute-carry p now il s plain h l b (Leaves reason detail) f =
         (mute-leave reason detail now s h, lone-trans il s (leave reason detail now s) l (lone-leave reason detail now s), bounded-leave reason detail now s b)
     mute-carry p now il s plain h l b Rejects f = absurd (omega (arith, ap is_opening f.1, plain))
     mute-carry p now il s plain h l b Accepts f = absurd (omega (arith, ap is_opening f.1, plain))
     mute-carry p now il s plain h l b Connects f = absurd (omega (arith, ap is_opening f.2, plain))
-    mute-carry p now il s plain h l b AnswersNext f = absurd (false≢true (sym (mute-deaf s.connection s.settings.client h.client h.connection) ∙ f.0.table.listens_now))
+    mute-carry p now il s plain h l b AnswersNext f =
+        absurd (false≢true (sym (mute-deaf s.connection s.settings.client h.client h.connection) ∙ f.0.table.listens_now))
     mute-carry p now il s plain h l b _ f = absurd (false≢true (sym (mute-deaf s.connection s.settings.client h.client h.connection) ∙ f.table.listens_now))
 
 -- a field element that is on, and hears only what a mute interlocking says
@@ -146,7 +156,8 @@ deaf-arrive now n p fe made on_fe b quiet genuine =
     let plain : needs_peer p.kind ≡ 0 = ap (λ (q : Pdu). needs_peer q.kind) (sym r.4) ∙ every-at Quiet 0 r.0 made r.1 r.2 quiet (omega arith) r.3 in
     deaf-carry p now fe s plain on_s ls bs (decide (kept_of s) p now) (decide-fits (kept_of s) p now))
   where
-    deaf-carry : (p : Pdu) (now : ℕ) (fe s : State) → needs_peer p.kind ≡ 0 → s.connection ≢ Down → Lone fe s → Bounded s → (e : Decision) → Fits (kept_of s) p now e →
+    deaf-carry : (p : Pdu) (now : ℕ) (fe s : State) → needs_peer p.kind ≡ 0 → s.connection ≢ Down → Lone fe s → Bounded s → (e : Decision)
+        → Fits (kept_of s) p now e →
         ((carry_out p now e s).connection ≢ Down) × Lone fe (carry_out p now e s) × Bounded (carry_out p now e s)
     deaf-carry p now fe s plain on l b Nothing f = (on, l, b)
     deaf-carry p now fe s plain on l b (Drops cause) f = (on, l, b)
@@ -161,18 +172,22 @@ deaf-arrive now n p fe made on_fe b quiet genuine =
     deaf-carry p now fe s plain on l b _ f = absurd (omega (arith, f.needs, plain))
 
 -- a field element in Down or Closed that hears no opening
-still_deaf : (connection : ConnectionState) (client : Bool) → (connection ≡ Down) ⊎ (connection ≡ Closed) → (listens connection client ≡ false) × (is_live connection ≡ false)
+still_deaf : (connection : ConnectionState) (client : Bool) → (connection ≡ Down) ⊎ (connection ≡ Closed) → (listens connection client ≡ false)
+    × (is_live connection ≡ false)
 still_deaf Down client h = (refl, refl)
 still_deaf Closed client h = (refl, refl)
 still_deaf _ client (inl h) = cc
 still_deaf _ client (inr h) = cc
 
-pub still-arrive : (now n : ℕ) (p : Pdu) (fe : State) (made : List Made) → (fe.connection ≡ Down) ⊎ (fe.connection ≡ Closed) → Bounded fe → Every NotOpening (drop n made) → GenuineAt fe p (drop n made) →
-    Lone fe (arrive p now fe) × Bounded (arrive p now fe) × (((arrive p now fe).connection ≡ Down) ⊎ ((arrive p now fe).connection ≡ Closed)) × ((arrive p now fe).made ≡ fe.made) × ((arrive p now fe).confirmed_at ≡ fe.confirmed_at)
+pub still-arrive : (now n : ℕ) (p : Pdu) (fe : State) (made : List Made) → (fe.connection ≡ Down) ⊎ (fe.connection ≡ Closed) → Bounded fe
+    → Every NotOpening (drop n made) → GenuineAt fe p (drop n made) →
+    Lone fe (arrive p now fe) × Bounded (arrive p now fe) × (((arrive p now fe).connection ≡ Down) ⊎ ((arrive p now fe).connection ≡ Closed))
+    × ((arrive p now fe).made ≡ fe.made) × ((arrive p now fe).confirmed_at ≡ fe.confirmed_at)
 still-arrive now n p fe made still b dead genuine =
     let s = guard now fe in
     let same : s ≡ fe = guard-idle now fe (still_deaf fe.connection fe.settings.client still).1 in
-    let P : State → Type 0 = λ t. Lone fe t × Bounded t × ((t.connection ≡ Down) ⊎ (t.connection ≡ Closed)) × (t.made ≡ fe.made) × (t.confirmed_at ≡ fe.confirmed_at) in
+    let P : State → Type 0 = λ t. Lone fe t × Bounded t × ((t.connection ≡ Down) ⊎ (t.connection ≡ Closed)) × (t.made ≡ fe.made)
+    × (t.confirmed_at ≡ fe.confirmed_at) in
     let here : P fe = (lone-refl fe, b, still, refl, refl) in
     arrive-by P p now fe (subst P (sym same) here)
     (λ on meant.
@@ -180,8 +195,10 @@ still-arrive now n p fe made still b dead genuine =
     let plain : is_opening p.kind ≡ 0 = ap (λ (q : Pdu). is_opening q.kind) (sym r.4) ∙ every-at NotOpening n r.0 made r.1 r.2 dead r.5 r.3 in
     subst (λ t. P (respond p now t)) (sym same) (still-carry p now fe plain still b (decide (kept_of fe) p now) (decide-fits (kept_of fe) p now)))
   where
-    still-carry : (p : Pdu) (now : ℕ) (s : State) → is_opening p.kind ≡ 0 → (s.connection ≡ Down) ⊎ (s.connection ≡ Closed) → Bounded s → (e : Decision) → Fits (kept_of s) p now e →
-        Lone s (carry_out p now e s) × Bounded (carry_out p now e s) × (((carry_out p now e s).connection ≡ Down) ⊎ ((carry_out p now e s).connection ≡ Closed)) × ((carry_out p now e s).made ≡ s.made) × ((carry_out p now e s).confirmed_at ≡ s.confirmed_at)
+    still-carry : (p : Pdu) (now : ℕ) (s : State) → is_opening p.kind ≡ 0 → (s.connection ≡ Down) ⊎ (s.connection ≡ Closed) → Bounded s → (e : Decision)
+        → Fits (kept_of s) p now e →
+        Lone s (carry_out p now e s) × Bounded (carry_out p now e s) × (((carry_out p now e s).connection ≡ Down) ⊎ ((carry_out p now e s).connection ≡ Closed))
+        × ((carry_out p now e s).made ≡ s.made) × ((carry_out p now e s).confirmed_at ≡ s.confirmed_at)
     still-carry p now s plain h b Nothing f = (lone-refl s, b, h, refl, refl)
     still-carry p now s plain h b (Drops cause) f = (lone-refl s, b, h, refl, refl)
     still-carry p now s plain h b Shuts f = (lone-closed s, bounded-closed s b, inr refl, refl, refl)

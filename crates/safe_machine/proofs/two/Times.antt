@@ -15,7 +15,8 @@ pub record Older (i : ℕ) (ms : List Made) (m : Made) : Type 0 where
   pub rest : List Made
   pub at : drop i ms ≡ m ∷ rest
 
-pub at-append : (P : Made → Type 0) (i : ℕ) (ms new : List Made) (m : Made) (rest : List Made) → Every P new → drop i (ms ++ new) ≡ m ∷ rest → Older i ms m ⊎ ((length ms ≤ i) × P m)
+pub at-append : (P : Made → Type 0) (i : ℕ) (ms new : List Made) (m : Made) (rest : List Made) → Every P new → drop i (ms ++ new) ≡ m ∷ rest
+    → Older i ms m ⊎ ((length ms ≤ i) × P m)
 at-append P i [] new m rest h e = inr (omega arith, every-at P 0 i new m rest h (omega arith) e)
 at-append P zero (x ∷ ms) new m rest h e =
     let here : x ≡ m = cc in
@@ -87,22 +88,26 @@ pub record Steps (now : ℕ) (x t y : State) : Type 0 where
   pub further : x.expected ≤ t.expected
   pub last : (k : ℕ) (b : Made) (rb : List Made) → drop k y.made ≡ b ∷ rb → k + 1 ≡ t.expected → t.last_ts ≡ b.time % wrap
   pub confirmed_past : t.confirmed_at ≤ now
-  pub based : (i k : ℕ) (m b : Made) (rm rb : List Made) → t.expected ≤ i → drop i y.made ≡ m ∷ rm → drop k x.made ≡ b ∷ rb → k + 1 ≡ m.behind → t.confirmed_at ≤ b.time
+  pub based : (i k : ℕ) (m b : Made) (rm rb : List Made) → t.expected ≤ i → drop i y.made ≡ m ∷ rm → drop k x.made ≡ b ∷ rb → k + 1 ≡ m.behind
+      → t.confirmed_at ≤ b.time
   pub ahead_of : (k : ℕ) (b : Made) (rb : List Made) → drop k x.made ≡ b ∷ rb → y.expected ≤ k + 1 → t.confirmed_at ≤ b.time
 
 fresh-time : (now : ℕ) (t : State) (new : List Made) → Every (MadeNow now t) new → Every (λ m. m.time ≡ now) new
 fresh-time now t new h = every-weaken (MadeNow now t) (λ m. m.time ≡ now) new (λ m k. k.time) h
 
 -- the receiver after its step
-pub timed-receiver : (clock now : ℕ) (x t y : State) → clock ≤ now → Timed clock x y → Steps now x t y → Every (Told x.first y.expected) y.made → y.expected ≤ length x.made → Timed now t y
+pub timed-receiver : (clock now : ℕ) (x t y : State) → clock ≤ now → Timed clock x y → Steps now x t y → Every (Told x.first y.expected) y.made
+    → y.expected ≤ length x.made → Timed now t y
 timed-receiver clock now x t y later h s told within =
     subst (λ ms. TimedOf now ms t.expected t.confirmed_at y.made y.expected y.last_ts) (sym s.made)
     (record {
-      rises = rises-append time_of now x.made s.new h.rises (every-weaken (λ m. m.time ≤ clock) (λ m. m.time ≤ now) x.made (λ m k. omega arith) h.past) (fresh-time now t s.new s.fresh);
+      rises = rises-append time_of now x.made s.new h.rises (every-weaken (λ m. m.time ≤ clock) (λ m. m.time ≤ now) x.made (λ m k. omega arith) h.past)
+          (fresh-time now t s.new s.fresh);
       past = every-append (λ m. m.time ≤ now) x.made s.new (every-weaken (λ m. m.time ≤ clock) (λ m. m.time ≤ now) x.made (λ m k. omega arith) h.past)
           (every-weaken (MadeNow now t) (λ m. m.time ≤ now) s.new (λ m k. omega (arith, k.time)) s.fresh);
       confirmed_past = s.confirmed_past;
-      stamped = every-append Stamped x.made s.new h.stamped (every-weaken (MadeNow now t) Stamped s.new (λ m k. k.stamp ∙ ap (λ (n : ℕ). n % wrap) (sym k.time)) s.fresh);
+      stamped = every-append Stamped x.made s.new h.stamped
+          (every-weaken (MadeNow now t) Stamped s.new (λ m k. k.stamp ∙ ap (λ (n : ℕ). n % wrap) (sym k.time)) s.fresh);
       behind_rises = h.behind_rises;
       cts =
           λ i k m b rm rb em eb e.

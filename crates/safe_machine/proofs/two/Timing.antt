@@ -43,7 +43,8 @@ makes-then now s t u a b =
       new = a.new ++ b.new;
       made = b.made ∙ (ap (λ ms. ms ++ b.new) a.made ∙ append_assoc s.made a.new b.new);
       fresh = every-append (MadeNow now u) a.new b.new
-          (every-weaken (MadeNow now t) (MadeNow now u) a.new (λ m k. record { time = k.time; stamp = k.stamp; behind = k.behind ∙ sym b.expected; cts = k.cts ∙ sym b.last_ts }) a.fresh)
+          (every-weaken (MadeNow now t) (MadeNow now u) a.new
+          (λ m k. record { time = k.time; stamp = k.stamp; behind = k.behind ∙ sym b.expected; cts = k.cts ∙ sym b.last_ts }) a.fresh)
           b.fresh;
       expected = b.expected ∙ a.expected;
       last_ts = b.last_ts ∙ a.last_ts;
@@ -56,7 +57,8 @@ makes-moved now connection s t a =
     record {
       new = a.new;
       made = a.made;
-      fresh = every-weaken (MadeNow now t) (MadeNow now (move_to connection t)) a.new (λ m k. record { time = k.time; stamp = k.stamp; behind = k.behind; cts = k.cts }) a.fresh;
+      fresh = every-weaken (MadeNow now t) (MadeNow now (move_to connection t)) a.new
+          (λ m k. record { time = k.time; stamp = k.stamp; behind = k.behind; cts = k.cts }) a.fresh;
       expected = a.expected;
       last_ts = a.last_ts;
       confirmed_at = a.confirmed_at;
@@ -78,7 +80,8 @@ makes-reply : (now : ℕ) (s : State) → Makes now s (reply now s)
 makes-reply now s =
     let a = make RetrResp [] now s in
     let b = resend (unconfirmed s) now a in
-    makes-then now s a (make Heartbeat [] now b) (makes-one RetrResp [] now s) (makes-then now a b (make Heartbeat [] now b) (makes-resend (unconfirmed s) now a) (makes-one Heartbeat [] now b))
+    makes-then now s a (make Heartbeat [] now b) (makes-one RetrResp [] now s)
+    (makes-then now a b (make Heartbeat [] now b) (makes-resend (unconfirmed s) now a) (makes-one Heartbeat [] now b))
 
 makes-ask : (now : ℕ) (s : State) → Makes now s (ask now s)
 makes-ask now s = makes-moved now Requesting s (make RetrReq [] now s) (makes-one RetrReq [] now s)
@@ -112,7 +115,8 @@ steps-then now x z t y s a =
       new = s.new ++ a.new;
       made = a.made ∙ (ap (λ ms. ms ++ a.new) s.made ∙ append_assoc x.made s.new a.new);
       fresh = every-append (MadeNow now t) s.new a.new
-          (every-weaken (MadeNow now z) (MadeNow now t) s.new (λ m k. record { time = k.time; stamp = k.stamp; behind = k.behind ∙ sym a.expected; cts = k.cts ∙ sym a.last_ts }) s.fresh)
+          (every-weaken (MadeNow now z) (MadeNow now t) s.new
+          (λ m k. record { time = k.time; stamp = k.stamp; behind = k.behind ∙ sym a.expected; cts = k.cts ∙ sym a.last_ts }) s.fresh)
           a.fresh;
       further = omega (arith, s.further, a.expected);
       last = λ k b rb e f. a.last_ts ∙ s.last k b rb e (f ∙ a.expected);
@@ -140,7 +144,8 @@ pub record Coming (i : ℕ) (m : Made) (rest : List Made) (x y : State) : Type 0
 
 -- The basis of what comes was made at the time that its CTS stands for, which is no less than the time last confirmed.
 pub basis : (clock now i : ℕ) (m : Made) (rest : List Made) (x y : State) → clock ≤ now → now < x.confirmed_at + 60000 → Timed clock x y → Coming i m rest x y →
-    (b : Made) × (rb : List Made) × (drop (m.behind - 1) x.made ≡ b ∷ rb) × (x.confirmed_at ≤ b.time) × (x.confirmed_at + cts_step (kept_of x) m.pdu ≡ b.time) × (b.time ≤ now)
+    (b : Made) × (rb : List Made) × (drop (m.behind - 1) x.made ≡ b ∷ rb) × (x.confirmed_at ≤ b.time) × (x.confirmed_at + cts_step (kept_of x) m.pdu ≡ b.time)
+    × (b.time ≤ now)
 basis clock now i m rest x y later guarded h c =
     let e = exists-at (m.behind - 1) x.made (omega (arith, c.late, c.told, c.within)) in
     let b = e.0 in
@@ -151,7 +156,8 @@ basis clock now i m rest x y later guarded h c =
     let step : cts_step (kept_of x) m.pdu ≡ b.time - x.confirmed_at = ap (ahead x.confirmed_at) cts ∙ ahead-time x.confirmed_at b.time low (omega arith) in
     (b, e.1, e.2, low, omega arith, omega arith)
 
-steps-passed : (clock other now i : ℕ) (m : Made) (rest : List Made) (x z y : State) → clock ≤ now → now < x.confirmed_at + 60000 → Timed clock x y → Timed other y x → Coming i m rest x y →
+steps-passed : (clock other now i : ℕ) (m : Made) (rest : List Made) (x z y : State) → clock ≤ now → now < x.confirmed_at + 60000 → Timed clock x y
+    → Timed other y x → Coming i m rest x y →
     z.made ≡ x.made → z.expected ≡ i + 1 → z.last_ts ≡ m.pdu.ts → z.confirmed_at ≡ x.confirmed_at + cts_step (kept_of x) m.pdu → Steps now x z y
 steps-passed clock other now i m rest x z y later guarded h g c made expected ts confirmed =
     let b0 = basis clock now i m rest x y later guarded h c in
@@ -181,7 +187,8 @@ steps-passed clock other now i m rest x z y later guarded h g c made expected ts
     }
 
 -- a PDU is behind the end without a test of its timestamp
-steps-over : (clock other now i : ℕ) (m : Made) (rest : List Made) (x z y : State) → clock ≤ now → Timed clock x y → Timed other y x → x.expected ≤ i → drop i y.made ≡ m ∷ rest →
+steps-over : (clock other now i : ℕ) (m : Made) (rest : List Made) (x z y : State) → clock ≤ now → Timed clock x y → Timed other y x → x.expected ≤ i
+    → drop i y.made ≡ m ∷ rest →
     z.made ≡ x.made → z.expected ≡ i + 1 → z.last_ts ≡ m.pdu.ts → z.confirmed_at ≡ x.confirmed_at → Steps now x z y
 steps-over clock other now i m rest x z y later h g beyond at made expected ts confirmed =
     record {
@@ -210,7 +217,8 @@ arrival-coming d m rest x y a needs =
     let told = every-at (Told x.first y.expected) 0 (x.expected + d) y.made m rest a.pair.1.told (omega arith) a.at in
     record { at = a.at; beyond = omega arith; late = sound.late (omega arith); told = told.behind; within = a.pair.1.within }
 
-pub steps-carry : (clock other now i : ℕ) (m : Made) (rest : List Made) (x y : State) → clock ≤ now → (is_live x.connection ≡ true → now < x.confirmed_at + 60000) →
+pub steps-carry : (clock other now i : ℕ) (m : Made) (rest : List Made) (x y : State) → clock ≤ now
+    → (is_live x.connection ≡ true → now < x.confirmed_at + 60000) →
     Incoming i m rest x y → Timed clock x y → Timed other y x → (e : Decision) → Fits (kept_of x) m.pdu now e → Steps now x (carry_out m.pdu now e x) y
 steps-carry clock other now i m rest x y later guarded a h g Nothing f = steps-none clock other now x y later h g
 steps-carry clock other now i m rest x y later guarded a h g (Drops cause) f = steps-none clock other now x y later h g
@@ -232,7 +240,8 @@ steps-carry clock other now i m rest x y later guarded a h g Accepts (down, is) 
     let body = opening_body x.settings.n_sendmax in
     let made = make ConnResp body now z in
     let t = move_to Start (confirm_to (length x.made) now made) in
-    let k = steps-then now x z made y (steps-over clock other now (x.expected + 0) m rest x z y later h g (omega arith) r.at refl refl refl refl) (makes-one ConnResp body now z) in
+    let k = steps-then now x z made y (steps-over clock other now (x.expected + 0) m rest x z y later h g (omega arith) r.at refl refl refl refl)
+    (makes-one ConnResp body now z) in
     record {
       new = k.new;
       made = k.made;
@@ -248,43 +257,52 @@ steps-carry clock other now i m rest x y later guarded a h g Connects (start, cl
     let r = first-arrival i m rest x y a.pair a.peer a.few a.at (ap is_opening is) (s.0 client) in
     let z = set_window (window_of m.pdu.body) (pass m.pdu 0 (tests_passed m.pdu x)) in
     steps-then now x z (move_to Up (make Heartbeat [] now z)) y
-    (steps-passed clock other now (x.expected + 0) m rest x z y later (guarded (ap is_live start)) h g (arrival-coming 0 m rest x y r (ap needs_peer is)) refl refl refl refl)
+    (steps-passed clock other now (x.expected + 0) m rest x z y later (guarded (ap is_live start)) h g (arrival-coming 0 m rest x y r (ap needs_peer is)) refl
+    refl refl refl)
     (makes-moved now Up z (make Heartbeat [] now z) (makes-one Heartbeat [] now z))
 steps-carry clock other now i m rest x y later guarded a h g (Takes to) f =
     let r = incoming-next i m rest x y a f.table f.next in
     let z = move_to to (pass m.pdu 0 (tests_passed m.pdu x)) in
     let k : Steps now x z y =
-    steps-passed clock other now (x.expected + 0) m rest x z y later (guarded (listens-live x.connection x.settings.client f.table.listens_now)) h g (arrival-coming 0 m rest x y r f.needs) refl refl refl refl in
+    steps-passed clock other now (x.expected + 0) m rest x z y later (guarded (listens-live x.connection x.settings.client f.table.listens_now)) h g
+    (arrival-coming 0 m rest x y r f.needs) refl refl refl refl in
     let u = hand_up m.pdu z in
     unit-cases (λ t. Steps now x t y) m.pdu now z
-    (λ _. steps-then now x z (make Heartbeat [] now u) y k (makes-then now z u (make Heartbeat [] now u) (makes-same now z u refl refl refl refl) (makes-one Heartbeat [] now u)))
+    (λ _. steps-then now x z (make Heartbeat [] now u) y k
+    (makes-then now z u (make Heartbeat [] now u) (makes-same now z u refl refl refl refl) (makes-one Heartbeat [] now u)))
     (λ _ _. steps-then now x z u y k (makes-same now z u refl refl refl refl)) (λ _. k)
-steps-carry clock other now i m rest x y later guarded a h g Asks f = steps-then now x x (ask now x) y (steps-none clock other now x y later h g) (makes-ask now x)
+steps-carry clock other now i m rest x y later guarded a h g Asks f = steps-then now x x (ask now x) y (steps-none clock other now x y later h g)
+    (makes-ask now x)
 steps-carry clock other now i m rest x y later guarded a h g Resumes f =
     let d = distance (kept_of x) m.pdu in
     let r = incoming-arrival i m rest x y a f.table in
     let z = move_to RetrRun (pass m.pdu d (tests_passed m.pdu x)) in
-    steps-passed clock other now (x.expected + d) m rest x z y later (guarded (listens-live x.connection x.settings.client f.table.listens_now)) h g (arrival-coming d m rest x y r f.needs) refl refl refl refl
+    steps-passed clock other now (x.expected + d) m rest x z y later (guarded (listens-live x.connection x.settings.client f.table.listens_now)) h g
+    (arrival-coming d m rest x y r f.needs) refl refl refl refl
 steps-carry clock other now i m rest x y later guarded a h g AnswersNext (f, none, turn, cts) =
     let r = incoming-next i m rest x y a f.table none in
     let z = pass m.pdu 0 (note_request 0 (tests_passed m.pdu x)) in
     steps-then now x z (reply now z) y
-    (steps-passed clock other now (x.expected + 0) m rest x z y later (guarded (listens-live x.connection x.settings.client f.table.listens_now)) h g (arrival-coming 0 m rest x y r (ap needs_peer f.request)) refl refl refl refl)
+    (steps-passed clock other now (x.expected + 0) m rest x z y later (guarded (listens-live x.connection x.settings.client f.table.listens_now)) h g
+    (arrival-coming 0 m rest x y r (ap needs_peer f.request)) refl refl refl refl)
     (makes-reply now z)
 steps-carry clock other now i m rest x y later guarded a h g AnswersEarly f =
     let z = note_request (distance (kept_of x) m.pdu) (confirm_units m.pdu x) in
     let k = steps-then now x x z y (steps-none clock other now x y later h g) (makes-same now x z refl refl refl refl) in
     let t = reply now z in
-    early-cases (λ u. Steps now x u y) m.pdu now x (λ _. steps-then now x z (ask now t) y k (makes-then now z t (ask now t) (makes-reply now z) (makes-ask now t)))
+    early-cases (λ u. Steps now x u y) m.pdu now x
+    (λ _. steps-then now x z (ask now t) y k (makes-then now z t (ask now t) (makes-reply now z) (makes-ask now t)))
     (steps-then now x z t y k (makes-reply now z))
 
 -- what a live end passes the guard with
 pub guard-passed : (now : ℕ) (s : State) → is_live (guard now s).connection ≡ true → now < (guard now s).confirmed_at + (guard now s).settings.t_max
 guard-passed now s =
-    guard-cases (λ t. is_live t.connection ≡ true → now < t.confirmed_at + t.settings.t_max) now s (λ _ _ live. absurd (false≢true live)) (λ holds live. (holds live).0)
+    guard-cases (λ t. is_live t.connection ≡ true → now < t.confirmed_at + t.settings.t_max) now s (λ _ _ live. absurd (false≢true live))
+    (λ holds live. (holds live).0)
 
 -- A unit that is taken was carried by a PDU whose basis this end made less than t_max before.
-pub fresh-take : (clock now i : ℕ) (m : Made) (rest : List Made) (x y : State) (to : ConnectionState) → clock ≤ now → now < x.confirmed_at + x.settings.t_max → x.settings.t_max ≤ 60000 →
+pub fresh-take : (clock now i : ℕ) (m : Made) (rest : List Made) (x y : State) (to : ConnectionState) → clock ≤ now → now < x.confirmed_at + x.settings.t_max
+    → x.settings.t_max ≤ 60000 →
     Incoming i m rest x y → Timed clock x y → Fits (kept_of x) m.pdu now (Takes to) →
     (b : Made) × (rb : List Made) × (1 ≤ m.behind) × (drop (m.behind - 1) x.made ≡ b ∷ rb) × (now < b.time + x.settings.t_max)
 fresh-take clock now i m rest x y to later guarded short a h f =

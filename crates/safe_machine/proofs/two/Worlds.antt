@@ -53,9 +53,17 @@ met-law : (s il : State) (before : List State) (fe : State) (joined : Option ℕ
 met-law s il before fe None fe_before old m takes only more =
     let il_none : il.taken ≡ [] = nothing-left il.taken (run_of (drop il.expected fe.made) ++ []) (m.fe_sends.carried ∙ m.joined_to.1) in
     record {
-      beginnings = (m.joined_to.2, all-takes (s ∷ before) (il ∷ before) (length before) fe_before m.falls (λ f p below h. takes-other s il before f p below h) takes);
+      beginnings = (
+        m.joined_to.2,
+        all-takes (s ∷ before) (il ∷ before) (length before) fe_before m.falls (λ f p below h. takes-other s il before f p below h)
+            takes,
+      );
       joins_fall = (tt, fall-more (length before) (length (il ∷ before)) fe_before (omega arith) m.falls);
-      only_joined = (inl il_none, only-weaken (old ∷ fe_before) (record { machine = fe; joined = None } ∷ fe_before) before (λ number is. elim is [ inl e ↦ inl (more number e) | inr e ↦ inr e ]) only);
+      only_joined = (
+        inl il_none,
+        only-weaken (old ∷ fe_before) (record { machine = fe; joined = None } ∷ fe_before) before
+            (λ number is. elim is [ inl e ↦ inl (more number e) | inr e ↦ inr e ]) only,
+      );
     }
 met-law s il before fe (Some number) fe_before old m takes only more =
     let here : number ≡ length before = m.joined_to in
@@ -69,7 +77,8 @@ met-law s il before fe (Some number) fe_before old m takes only more =
       joins_fall = (omega arith, subst (λ (n : ℕ). JoinsFall n fe_before) (sym here) m.falls);
       only_joined = (
         inr (inl (ap Some here)),
-        only-weaken (old ∷ fe_before) (record { machine = fe; joined = Some number } ∷ fe_before) before (λ n is. elim is [ inl e ↦ inl (more n e) | inr e ↦ inr e ]) only,
+        only-weaken (old ∷ fe_before) (record { machine = fe; joined = Some number } ∷ fe_before) before
+            (λ n is. elim is [ inl e ↦ inl (more n e) | inr e ↦ inr e ]) only,
       );
     }
 
@@ -103,11 +112,13 @@ il-met w t h m pair b =
       bounded_fe = h.bounded_fe;
       idle = h.idle;
       status = met after;
-      law = met-law w.il t w.il_before w.fe w.joined w.fe_before (record { machine = w.fe; joined = w.joined }) after h.law.beginnings.1 h.law.only_joined.1 (λ number e. e);
+      law = met-law w.il t w.il_before w.fe w.joined w.fe_before (record { machine = w.fe; joined = w.joined }) after h.law.beginnings.1 h.law.only_joined.1
+          (λ number e. e);
       loses_nothing = met-loses_nothing t w.il_before w.fe w.joined w.fe_before after;
     }
 
-il-later : (w : World) (t : State) → Inv w → IlLater (length w.il_before) w.il w.fe w.joined w.fe_before w.dead_fe → Mute t → Lone w.il t → Bounded t → Inv (with_il t w)
+il-later : (w : World) (t : State) → Inv w → IlLater (length w.il_before) w.il w.fe w.joined w.fe_before w.dead_fe → Mute t → Lone w.il t → Bounded t
+    → Inv (with_il t w)
 il-later w t h s mute l b =
     record {
       bounded_il = b;
@@ -121,13 +132,21 @@ il-later w t h s mute l b =
       };
     }
 
-il-fe_later : (w : World) (t : State) → Inv w → FeLater (length w.il_before) w.il w.fe w.joined w.fe_before w.dead_il → Lone w.il t → Bounded t → Inv (with_il t w)
+il-fe_later : (w : World) (t : State) → Inv w → FeLater (length w.il_before) w.il w.fe w.joined w.fe_before w.dead_il → Lone w.il t → Bounded t
+    → Inv (with_il t w)
 il-fe_later w t h s l b =
     record {
       bounded_il = b;
       bounded_fe = h.bounded_fe;
       idle = h.idle;
-      status = fe_later (record { connection = s.connection; made = s.made; taken = s.taken; dead = l.opening w.dead_il s.dead; none = s.none; falls = s.falls });
+      status = fe_later (record {
+        connection = s.connection;
+        made = s.made;
+        taken = s.taken;
+        dead = l.opening w.dead_il s.dead;
+        none = s.none;
+        falls = s.falls;
+      });
       law = il_lone-law w.il t w.il_before (record { machine = w.fe; joined = w.joined } ∷ w.fe_before) l h.law;
       loses_nothing = record {
         from_il = lone-owes w.il t (taken_from_il (length w.il_before) (record { machine = w.fe; joined = w.joined } ∷ w.fe_before)) l h.loses_nothing.from_il;
@@ -226,7 +245,8 @@ fe-met w t p h m pair b idle joined more =
       loses_nothing = met-loses_nothing w.il w.il_before t p w.fe_before after;
     }
 
-fe-il_later : (w : World) (t : State) → Inv w → IlLater (length w.il_before) w.il w.fe w.joined w.fe_before w.dead_fe → t.connection ≢ Down → Lone w.fe t → Bounded t →
+fe-il_later : (w : World) (t : State) → Inv w → IlLater (length w.il_before) w.il w.fe w.joined w.fe_before w.dead_fe → t.connection ≢ Down → Lone w.fe t
+    → Bounded t →
     InvOf w.il w.il_before t w.joined w.fe_before w.dead_il w.dead_fe
 fe-il_later w t h s on l b =
     record {
@@ -253,13 +273,16 @@ fe-fe_later w t h s still same l b =
       law = fe_lone-law (w.il ∷ w.il_before) w.fe t w.joined w.fe_before l h.law;
       loses_nothing = record {
         from_il =
-            subst (λ (p : Option ℕ). w.il.connection ≢ Closed → length (units w.il.made) ≤ taken_from_il (length w.il_before) (record { machine = t; joined = p } ∷ w.fe_before) + length (unconfirmed w.il)) (sym s.none)
-            (subst (λ (p : Option ℕ). w.il.connection ≢ Closed → length (units w.il.made) ≤ taken_from_il (length w.il_before) (record { machine = w.fe; joined = p } ∷ w.fe_before) + length (unconfirmed w.il)) s.none h.loses_nothing.from_il);
+            subst (λ (p : Option ℕ). w.il.connection ≢ Closed → length (units w.il.made) ≤ taken_from_il (length w.il_before)
+            (record { machine = t; joined = p } ∷ w.fe_before) + length (unconfirmed w.il)) (sym s.none)
+            (subst (λ (p : Option ℕ). w.il.connection ≢ Closed → length (units w.il.made) ≤ taken_from_il (length w.il_before)
+            (record { machine = w.fe; joined = p } ∷ w.fe_before) + length (unconfirmed w.il)) s.none h.loses_nothing.from_il);
         from_fe = λ on. omega (arith, ap (λ ms. length (units ms)) (same ∙ s.made));
       };
     }
 
-pub still-lone : (s t : State) → Lone s t → (s.connection ≡ Down) ⊎ (s.connection ≡ Closed) → ((t.connection ≡ Down) ⊎ (t.connection ≡ Closed)) × (t.made ≡ s.made)
+pub still-lone : (s t : State) → Lone s t → (s.connection ≡ Down) ⊎ (s.connection ≡ Closed) → ((t.connection ≡ Down) ⊎ (t.connection ≡ Closed))
+    × (t.made ≡ s.made)
 still-lone s t l (inl down) = (elim l.connection [ inl same ↦ inl (same ∙ down) | inr closed ↦ inr closed ], l.down down)
 still-lone s t l (inr closed) = let e = l.closed closed in (inr (ap (λ (v : State). v.connection) e ∙ closed), ap (λ (v : State). v.made) e)
 
@@ -268,7 +291,8 @@ on-lone s t l on = λ e. elim l.connection [ inl same ↦ on (sym same ∙ e) | 
 
 fe-step : (w : World) (t : State) → Inv w → Lone w.fe t → Bounded t → (Pair w.fe w.il → Pair t w.il) → Inv (with_fe t w)
 fe-step w t h l b pair =
-    subst (λ (p : Option ℕ). InvOf w.il w.il_before t p w.fe_before w.dead_il w.dead_fe) (sym (kept w t (joins-same w.fe.connection t.connection l.connection))) (go h.status)
+    subst (λ (p : Option ℕ). InvOf w.il w.il_before t p w.fe_before w.dead_il w.dead_fe) (sym (kept w t (joins-same w.fe.connection t.connection l.connection)))
+    (go h.status)
   where
     go : Status (length w.il_before) w.il w.fe w.joined w.fe_before w.dead_il w.dead_fe → InvOf w.il w.il_before t w.joined w.fe_before w.dead_il w.dead_fe
     go (met m) =
@@ -316,14 +340,17 @@ AfterDown index s t =
 
 after-down : (index : ℕ) (s t : State) → joins s.connection t.connection ≡ false → Settled t → (t.connection ≡ Down → Untouched t) → AfterDown index s t
 after-down index s t apart settled untouched =
-    subst (λ (b : Bool). JoinedTo index t (if b then Some index else None) × Idle t (if b then Some index else None)) (sym apart) (settled, λ e. (untouched e, refl))
+    subst (λ (b : Bool). JoinedTo index t (if b then Some index else None) × Idle t (if b then Some index else None)) (sym apart)
+    (settled, λ e. (untouched e, refl))
 
 down-deaf : (s : State) → s.connection ≡ Down → (listens s.connection s.settings.client ≡ false) × (is_live s.connection ≡ false)
 down-deaf s e = (ap (λ (c : ConnectionState). listens c s.settings.client) e, ap is_live e)
 
-down-carry : (index : ℕ) (p : Pdu) (now : ℕ) (s : State) → s.connection ≡ Down → Untouched s → (e : Decision) → Fits (kept_of s) p now e → AfterDown index s (carry_out p now e s)
+down-carry : (index : ℕ) (p : Pdu) (now : ℕ) (s : State) → s.connection ≡ Down → Untouched s → (e : Decision) → Fits (kept_of s) p now e
+    → AfterDown index s (carry_out p now e s)
 down-carry index p now s down k Nothing f = after-down index s s (joins-same s.connection s.connection (inl refl)) (inl down, ap units k.made, k.taken) (λ e. k)
-down-carry index p now s down k (Drops cause) f = after-down index s s (joins-same s.connection s.connection (inl refl)) (inl down, ap units k.made, k.taken) (λ e. k)
+down-carry index p now s down k (Drops cause) f = after-down index s s (joins-same s.connection s.connection (inl refl)) (inl down, ap units k.made, k.taken)
+    (λ e. k)
 down-carry index p now s down k Shuts f =
     after-down index s (move_to Closed s) (joins-same s.connection Closed (inr refl)) (inr refl, ap units k.made, k.taken) (λ e. absurd (closed≢down e))
 down-carry index p now s down k (Leaves reason detail) f = absurd (false≢true (sym (down-deaf s down).1 ∙ f))
@@ -331,7 +358,8 @@ down-carry index p now s down k Rejects f =
     let z = pass p 0 s in
     let m = next_made z DiscReq (leaving_body WrongVersion Unspecified) now in
     let none : units (s.made ++ m ∷ []) ≡ [] = ap (λ ms. units (ms ++ m ∷ [])) k.made in
-    after-down index s (move_to Closed (make DiscReq (leaving_body WrongVersion Unspecified) now z)) (joins-same s.connection Closed (inr refl)) (inr refl, none, k.taken) (λ e. absurd (closed≢down e))
+    after-down index s (move_to Closed (make DiscReq (leaving_body WrongVersion Unspecified) now z)) (joins-same s.connection Closed (inr refl))
+    (inr refl, none, k.taken) (λ e. absurd (closed≢down e))
 down-carry index p now s down k Accepts f =
     let yes : joins s.connection Start ≡ true = ap (λ (c : ConnectionState). joins c Start) down in
     let t = carry_out p now Accepts s in
@@ -349,7 +377,8 @@ down-carry index p now s down k AnswersEarly f = absurd (false≢true (sym (down
 none_some : (number : ℕ) (o : Option ℕ) → o ≡ None → o ≡ Some number → ⊥
 none_some number o a b = cc
 
-fe-arrive_met : (w : World) (p : Pdu) (now : ℕ) → Inv w → Met (length w.il_before) w.il w.fe w.joined w.fe_before → GenuineAt w.fe p (drop w.dead_il w.il.made) → Inv (with_fe (arrive p now w.fe) w)
+fe-arrive_met : (w : World) (p : Pdu) (now : ℕ) → Inv w → Met (length w.il_before) w.il w.fe w.joined w.fe_before → GenuineAt w.fe p (drop w.dead_il w.il.made)
+    → Inv (with_fe (arrive p now w.fe) w)
 fe-arrive_met w p now h m genuine = elim (down_or w.fe.connection) [ inl down ↦ in_down down | inr on ↦ while_on on ]
   where
     in_down : w.fe.connection ≡ Down → Inv (with_fe (arrive p now w.fe) w)
@@ -358,11 +387,14 @@ fe-arrive_met w p now h m genuine = elim (down_or w.fe.connection) [ inl down �
         let k = h.idle down in
         let same : guard now w.fe ≡ w.fe = guard-idle now w.fe (ap is_live down) in
         let c = down-carry (length w.il_before) p now w.fe down k.0 (decide (kept_of w.fe) p now) (decide-fits (kept_of w.fe) p now) in
-        let after : AfterDown (length w.il_before) w.fe (arrive p now w.fe) = subst (λ (s : State). AfterDown (length w.il_before) w.fe (respond p now s)) (sym same) c in
+        let after : AfterDown (length w.il_before) w.fe (arrive p now w.fe) = subst (λ (s : State). AfterDown (length w.il_before) w.fe (respond p now s))
+        (sym same) c in
         let joined : JoinedTo (length w.il_before) (arrive p now w.fe) (joined_after w (arrive p now w.fe)) =
-        subst (λ (q : Option ℕ). JoinedTo (length w.il_before) (arrive p now w.fe) (if joins w.fe.connection (arrive p now w.fe).connection then Some (length w.il_before) else q)) (sym k.1) after.0 in
+        subst (λ (q : Option ℕ). JoinedTo (length w.il_before) (arrive p now w.fe)
+        (if joins w.fe.connection (arrive p now w.fe).connection then Some (length w.il_before) else q)) (sym k.1) after.0 in
         let idle : Idle (arrive p now w.fe) (joined_after w (arrive p now w.fe)) =
-        subst (λ (q : Option ℕ). Idle (arrive p now w.fe) (if joins w.fe.connection (arrive p now w.fe).connection then Some (length w.il_before) else q)) (sym k.1) after.1 in
+        subst (λ (q : Option ℕ). Idle (arrive p now w.fe) (if joins w.fe.connection (arrive p now w.fe).connection then Some (length w.il_before) else q))
+        (sym k.1) after.1 in
         fe-met w (arrive p now w.fe) (joined_after w (arrive p now w.fe)) h m r.0 r.1 idle joined
         (λ number e. absurd (none_some number w.joined k.1 e))
 
@@ -370,7 +402,8 @@ fe-arrive_met w p now h m genuine = elim (down_or w.fe.connection) [ inl down �
     while_on on =
         let r = pair-arrive now w.dead_il p w.fe w.il (m.solo_fe, m.fe_sends, m.il_sends) m.solo_il h.bounded_fe h.bounded_il genuine in
         let still_on = on-arrive p now w.fe on in
-        subst (λ (q : Option ℕ). InvOf w.il w.il_before (arrive p now w.fe) q w.fe_before w.dead_il w.dead_fe) (sym (kept w (arrive p now w.fe) (joins-on w.fe.connection (arrive p now w.fe).connection on)))
+        subst (λ (q : Option ℕ). InvOf w.il w.il_before (arrive p now w.fe) q w.fe_before w.dead_il w.dead_fe)
+        (sym (kept w (arrive p now w.fe) (joins-on w.fe.connection (arrive p now w.fe).connection on)))
         (fe-met w (arrive p now w.fe) w.joined h m r.0 r.1 (λ e. absurd (still_on e)) (joined w.joined m.joined_to) (λ number e. e))
       where
         joined : (q : Option ℕ) → JoinedTo (length w.il_before) w.fe q → JoinedTo (length w.il_before) (arrive p now w.fe) q
@@ -386,11 +419,13 @@ fe-arrive w p now h genuine = go h.status
     go (met m) = fe-arrive_met w p now h m genuine
     go (il_later s) =
         let r = deaf-arrive now w.dead_il p w.fe w.il.made s.started h.bounded_fe s.mute.quiet genuine in
-        subst (λ (q : Option ℕ). InvOf w.il w.il_before (arrive p now w.fe) q w.fe_before w.dead_il w.dead_fe) (sym (kept w (arrive p now w.fe) (joins-on w.fe.connection (arrive p now w.fe).connection s.started)))
+        subst (λ (q : Option ℕ). InvOf w.il w.il_before (arrive p now w.fe) q w.fe_before w.dead_il w.dead_fe)
+        (sym (kept w (arrive p now w.fe) (joins-on w.fe.connection (arrive p now w.fe).connection s.started)))
         (fe-il_later w (arrive p now w.fe) h s r.0 r.1 r.2)
     go (fe_later s) =
         let r = still-arrive now w.dead_il p w.fe w.il.made s.connection h.bounded_fe s.dead genuine in
-        subst (λ (q : Option ℕ). InvOf w.il w.il_before (arrive p now w.fe) q w.fe_before w.dead_il w.dead_fe) (sym (kept w (arrive p now w.fe) (joins-same w.fe.connection (arrive p now w.fe).connection r.0.connection)))
+        subst (λ (q : Option ℕ). InvOf w.il w.il_before (arrive p now w.fe) q w.fe_before w.dead_il w.dead_fe)
+        (sym (kept w (arrive p now w.fe) (joins-same w.fe.connection (arrive p now w.fe).connection r.0.connection)))
         (fe-fe_later w (arrive p now w.fe) h s r.2 r.3 r.0 r.1)
 
 -- Openings.
@@ -427,7 +462,10 @@ solo-il s first now e =
     record {
       numbered = (refl, tt);
       opening = tt;
-      sound = (record { late = λ one. absurd (omega arith); window = λ one. rw (opening_window s.n_sendmax (legal s e).window_most) (legal s e).window_most }, tt);
+      sound = (
+        record { late = λ one. absurd (omega arith); window = λ one. rw (opening_window s.n_sendmax (legal s e).window_most) (legal s e).window_most },
+        tt,
+      );
       started = ((λ client. refl), (λ server. absurd (false≢true (sym server))), omega arith);
     }
 
@@ -512,7 +550,12 @@ inv-open_il settings first now w h legal =
             bounded_il = bounded-il settings first now legal;
             bounded_fe = h.bounded_fe;
             idle = h.idle;
-            status = il_later (record { mute = mute-il settings first now; started = on; dead = every-drop_all NotOpening w.fe.made; falls = h.law.joins_fall });
+            status = il_later (record {
+              mute = mute-il settings first now;
+              started = on;
+              dead = every-drop_all NotOpening w.fe.made;
+              falls = h.law.joins_fall;
+            });
             law = record {
               beginnings = pushed;
               joins_fall = fall-more (length ils) (length (il ∷ ils)) (entry ∷ w.fe_before) (omega arith) h.law.joins_fall;
@@ -586,15 +629,21 @@ inv-event w (Open Il settings first now) h g =
     cond_both (is_legal settings) (open_il settings first now w) w Inv (λ legal. inv-open_il settings first now w h legal) (λ _. h)
 inv-event w (Open Fe settings first now) h g =
     cond_both (is_legal settings) (open_fe settings first now w) w Inv (λ legal. inv-open_fe settings first now w h legal) (λ _. h)
-inv-event w (Send Il unit now) h g = il-step w (send unit now w.il) h (lone-send unit now w.il h.bounded_il) (bounded-send unit now w.il h.bounded_il) (pair-send unit now w.il w.fe) (mute-send unit now w.il)
-inv-event w (Send Fe unit now) h g = fe-step w (send unit now w.fe) h (lone-send unit now w.fe h.bounded_fe) (bounded-send unit now w.fe h.bounded_fe) (pair-send unit now w.fe w.il)
+inv-event w (Send Il unit now) h g = il-step w (send unit now w.il) h (lone-send unit now w.il h.bounded_il) (bounded-send unit now w.il h.bounded_il)
+    (pair-send unit now w.il w.fe) (mute-send unit now w.il)
+inv-event w (Send Fe unit now) h g = fe-step w (send unit now w.fe) h (lone-send unit now w.fe h.bounded_fe) (bounded-send unit now w.fe h.bounded_fe)
+    (pair-send unit now w.fe w.il)
 inv-event w (Close Il reason detail now) h g =
-    il-step w (leave reason detail now w.il) h (lone-leave reason detail now w.il) (bounded-leave reason detail now w.il h.bounded_il) (pair-leave reason detail now w.il w.fe) (mute-leave reason detail now w.il)
+    il-step w (leave reason detail now w.il) h (lone-leave reason detail now w.il) (bounded-leave reason detail now w.il h.bounded_il)
+    (pair-leave reason detail now w.il w.fe) (mute-leave reason detail now w.il)
 inv-event w (Close Fe reason detail now) h g =
-    fe-step w (leave reason detail now w.fe) h (lone-leave reason detail now w.fe) (bounded-leave reason detail now w.fe h.bounded_fe) (pair-leave reason detail now w.fe w.il)
-inv-event w (Guard Il now) h g = il-step w (guard now w.il) h (lone-guard now w.il) (bounded-guard now w.il h.bounded_il).0 (pair-guard now w.il w.fe) (mute-guard now w.il)
+    fe-step w (leave reason detail now w.fe) h (lone-leave reason detail now w.fe) (bounded-leave reason detail now w.fe h.bounded_fe)
+    (pair-leave reason detail now w.fe w.il)
+inv-event w (Guard Il now) h g = il-step w (guard now w.il) h (lone-guard now w.il) (bounded-guard now w.il h.bounded_il).0 (pair-guard now w.il w.fe)
+    (mute-guard now w.il)
 inv-event w (Guard Fe now) h g = fe-step w (guard now w.fe) h (lone-guard now w.fe) (bounded-guard now w.fe h.bounded_fe).0 (pair-guard now w.fe w.il)
-inv-event w (Tick Il now) h g = il-step w (tick now w.il) h (lone-tick now w.il h.bounded_il) (bounded-tick now w.il h.bounded_il) (pair-tick now w.il w.fe) (mute-tick now w.il)
+inv-event w (Tick Il now) h g = il-step w (tick now w.il) h (lone-tick now w.il h.bounded_il) (bounded-tick now w.il h.bounded_il) (pair-tick now w.il w.fe)
+    (mute-tick now w.il)
 inv-event w (Tick Fe now) h g = fe-step w (tick now w.fe) h (lone-tick now w.fe h.bounded_fe) (bounded-tick now w.fe h.bounded_fe) (pair-tick now w.fe w.il)
 inv-event w (Arrive Il p now) h g = il-arrive w p now h g
 inv-event w (Arrive Fe p now) h g = fe-arrive w p now h g

@@ -21,7 +21,8 @@ returns-in-Some-clause-taken g c =
     (sym (hands-left (pdu_of c.args.pdu.now) c.args.now c.args.self.now c.in-Some.reason c.in-Some.detail c.in-Some.ensures)) refl
 
 pub returns-clause-left : goal.returns-clause-left
-returns-clause-left g c = c.respond.ensures.left ∙ ap (λ (t : Turn). t.left) (sym (arrives-goes (pdu_of c.args.pdu.now) c.args.now c.args.self.now c.in_default.ensures))
+returns-clause-left g c = c.respond.ensures.left
+    ∙ ap (λ (t : Turn). t.left) (sym (arrives-goes (pdu_of c.args.pdu.now) c.args.now c.args.self.now c.in_default.ensures))
 
 pub returns-clause-made : goal.returns-clause-made
 returns-clause-made g c =

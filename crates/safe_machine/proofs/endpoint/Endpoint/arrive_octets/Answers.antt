@@ -22,7 +22,8 @@ arrive_fault-requires g c = record { few = omega (arith, (reached-sound c.args.s
 
 pub returns-in-Ok-clause-reached : goal.returns-in-Ok-clause-reached
 returns-in-Ok-clause-reached g c =
-    reached-turn (Hears (pdu_of c.in-Ok.pdu) c.args.now) c.args.self.now c.arrive.new.self c.requires.reached (c.in-Ok.ensures.found.numbers, c.in-Ok.ensures.found.body)
+    reached-turn (Hears (pdu_of c.in-Ok.pdu) c.args.now) c.args.self.now c.arrive.new.self c.requires.reached
+    (c.in-Ok.ensures.found.numbers, c.in-Ok.ensures.found.body)
     c.arrive.ensures.left
 
 pub returns-in-Err-clause-reached : goal.returns-in-Err-clause-reached

@@ -10,8 +10,10 @@ pub loop-place-preserved : goal.loop-place-preserved
 loop-place-preserved g c =
     let before = c.loop-place.invariant in
     let more =
-    resends-more g.O.PduOut.makes c.args.self.now c.loop-place.self c.resend_at.new.self c.args.out.now c.loop-place.out c.resend_at.new.out c.args.now c.loop-place.place
-    (omega (arith, c.loop-place-test.true, c.len-place-end.ensures.len, ap (λ (v : View). length v.ring) c.self.view_is)) before.left before.made c.resend_at.ensures.left
+    resends-more g.O.PduOut.makes c.args.self.now c.loop-place.self c.resend_at.new.self c.args.out.now c.loop-place.out c.resend_at.new.out c.args.now
+    c.loop-place.place
+    (omega (arith, c.loop-place-test.true, c.len-place-end.ensures.len, ap (λ (v : View). length v.ring) c.self.view_is)) before.left before.made
+    c.resend_at.ensures.left
     c.resend_at.ensures.made in
     record {
       few = omega (arith, ap (λ (v : View). v.made) c.resend_at.ensures.left, before.few);
@@ -32,5 +34,6 @@ returns-clause-made g c =
     let v : View = c.args.self.now in
     let long : length v.ring ≤ c.loop-place.place =
     omega (arith, c.loop-place-test.false, c.len-place-end.ensures.len, ap (λ (v : View). length v.ring) c.self.view_is) in
-    subst (λ us. Out g.O.PduOut.makes v.settings.rule c.args.out.now (resends (octets_of us) c.args.now v) c.loop-place.out) (take_all c.loop-place.place v.ring long)
+    subst (λ us. Out g.O.PduOut.makes v.settings.rule c.args.out.now (resends (octets_of us) c.args.now v) c.loop-place.out)
+    (take_all c.loop-place.place v.ring long)
     c.loop-place.invariant.made
