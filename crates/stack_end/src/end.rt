@@ -117,8 +117,7 @@ impl<C: Channels, A: Allocator> End<C, A> {
         // The time of an end is that of its last accepted call.
         ensures time { self.new.time ≡ now }
     {
-        self.layers.arrive(octets, now, taker);
-        self.time = now;
+        self.take_datagram(octets, now, taker);
     }
 
     /// Time passes: the deadlines of the safety machine and of the redundancy layer.
@@ -167,9 +166,7 @@ impl<C: Channels, A: Allocator> End<C, A> {
             (λ _. put_answer kind payload.now (inside self.old).upper ≡ None)
             (λ fault. put_answer kind payload.now (inside self.old).upper ≡ Some fault) }
     {
-        self.layers.put(kind, payload, now)?;
-        self.time = now;
-        Ok(())
+        self.put_behind(kind, payload, now)
     }
 
     /// The application of a field element has put in its initial status: the end of the initialisation is sent behind it.

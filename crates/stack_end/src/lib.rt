@@ -3,6 +3,7 @@
 //! RaSTA after DIN VDE V 0831-200:2015 with an SCI session above it, in this project's profile.
 #![tactic(auto)]
 
+mod calls;
 mod end;
 mod judging;
 mod law;

@@ -4,7 +4,7 @@ use Rattle.stack_end.specs.Fields.{fields_of}
 use Rattle.stack_end.specs.Outstanding.{PutOut}
 use Rattle.stack_end.specs.Turns.{Inside, can_pack}
 use Rattle.stack_end.proofs.Packing.{puts-empties, puts-out}
-use Rattle.stack_end.proofs.end.End.put.Goals as goal
+use Rattle.stack_end.proofs.end.End.put_behind.Goals as goal
 
 pub returns-clause-packs : goal.returns-clause-packs
 returns-clause-packs g c =

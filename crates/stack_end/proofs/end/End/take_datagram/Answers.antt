@@ -7,7 +7,7 @@ use Rattle.stack_end.specs.Recent.{DatagramRecent}
 use Rattle.stack_end.specs.Turns.{Inside, arrives, can_pack, turn}
 use Rattle.stack_end.proofs.Ending.{layers-turn}
 use Rattle.stack_end.proofs.Taking.{arrives-empties, datagram-recent, has-heard, takes-part}
-use Rattle.stack_end.proofs.end.End.arrive.Goals as goal
+use Rattle.stack_end.proofs.end.End.take_datagram.Goals as goal
 
 pub returns-clause-turns : goal.returns-clause-turns
 returns-clause-turns g c =
