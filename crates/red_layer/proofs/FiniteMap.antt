@@ -122,6 +122,17 @@ has-none n (e ∷ es) h =
 pub take_out-none : {T : Type 0} (n : ℕ) (es : List (ℕ × T)) → part_under n es ≡ None → take_out n es ≡ es
 take_out-none n es h = take_out-absent n es (has-none n es h)
 
+-- taking out what is there leaves one less
+pub length-take_out : {T : Type 0} (n : ℕ) (es : List (ℕ × T)) (x : T) → part_under n es ≡ Some x → length es ≡ length (take_out n es) + 1
+length-take_out n [] x h = absurd (cc)
+length-take_out n (e ∷ es) x h =
+    ⊎_elim (λ (same : (eqb e.0 n ≡ true) × (e.0 ≡ n)). rw same.0 (omega arith))
+    (λ (other : (eqb e.0 n ≡ false) × (e.0 ≢ n)).
+    let later : part_under n es ≡ Some x = rw other.0 at h in
+    let rest : length es ≡ length (take_out n es) + 1 = length-take_out n es x later in
+    rw other.0 (omega (arith, rest)))
+    (eqb_tells e.0 n)
+
 -- nothing is under a number below all of them
 pub part-below : {T : Type 0} (n low : ℕ) (es : List (ℕ × T)) → n < low → Rises low es → part_under n es ≡ None
 part-below n low [] lt r = refl

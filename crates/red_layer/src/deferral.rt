@@ -3,7 +3,7 @@
 //!
 //! The deferral queue of the redundancy layer of DIN VDE V 0831-200:2015.
 
-ghost use Rattle.std.specs.Prelude.{◌≡◌, ◌<◌, ◌≤◌, ◌↔◌, ◌⊎◌, [], length, IsTrue, IsSome, IsNone, IfOk, IsErr, IfErr, OnOk, OnErr, IfSome, IfNone, is_some, All};
+ghost use Rattle.std.specs.Prelude.{◌≡◌, ◌<◌, ◌≤◌, ◌↔◌, ◌⊎◌, [], length, IsTrue, IsSome, IsNone, IfOk, IsErr, IfErr, OnOk, OnErr, IfSome, IfNone, is_some, All, vec_len};
 ghost use Rattle.std.specs.List.{HoldsAt};
 ghost use Rattle.red_layer.specs.declared.deferral.DeferralFault.TheVariants.{Memory};
 ghost use Rattle.red_layer.specs.FiniteMap.{Rises, put_in, take_out, part_under, has_number, least_of, entries_of, IsUnder};
@@ -18,17 +18,19 @@ use std::marker::Model;
 pub struct Deferral<T, A: Allocator = Global> {
     /// The places, each empty or with a part under its number.
     places: Vec<Option<(u32, T)>, A>,
+    /// How many of them hold a part, so that an empty table is not looked through.
+    count: usize,
 }
 
 impl<T, A: Allocator> Model for Deferral<T, A> {
-    ghost use Rattle.std.specs.Prelude.{vec_len};
+    ghost use Rattle.std.specs.Prelude.{◌≡◌, length, vec_len};
     ghost use Rattle.red_layer.specs.FiniteMap.{Table, entries_of, Rises};
 
     ghost Value = { Table T };
 
     ghost view = { λ d. record { room = vec_len d.places; waiting = entries_of d.places.items } };
 
-    ghost invariant = { λ d. Rises 0 (entries_of d.places.items) };
+    ghost invariant = { λ d. Rises 0 (entries_of d.places.items) × (d.count ≡ length (entries_of d.places.items)) };
 }
 
 /// Why a table was not made.
@@ -57,7 +59,7 @@ impl<T: Drop, A: Allocator> Deferral<T, A> {
         for _ in 0..q {
             places.push(None).map_err(AllocError::from)?;
         }
-        Ok(Deferral { places })
+        Ok(Deferral { places, count: 0 })
     }
 
     /// Puts a part in under its number, or gives it back where every place is taken or the number
@@ -77,7 +79,16 @@ impl<T: Drop, A: Allocator> Deferral<T, A> {
         // After `put` no more parts wait than there are places.
         ensures bounded { length self.new.waiting ≤ self.new.room }
     {
-        put_at(&mut self.places, seq, part)
+        if self.count == self.places.len() {
+            return Err(part);
+        }
+        match put_among(&mut self.places, seq, part) {
+            Ok(()) => {
+                self.count += 1;
+                Ok(())
+            }
+            Err(part) => Err(part),
+        }
     }
 
     /// Tells whether a part waits under the number.
@@ -96,7 +107,16 @@ impl<T: Drop, A: Allocator> Deferral<T, A> {
         ensures rest { self.new
             ≡ record { room = self.old.room; waiting = take_out seq self.old.waiting } }
     {
-        take_at(&mut self.places, seq)
+        if self.count == 0 {
+            return None;
+        }
+        match take_from(&mut self.places, seq) {
+            Some(part) => {
+                self.count -= 1;
+                Some(part)
+            }
+            None => None,
+        }
     }
 
     /// The least number under which a part waits.
@@ -104,8 +124,41 @@ impl<T: Drop, A: Allocator> Deferral<T, A> {
         // `least` answers the least number, and none where the map is empty.
         ensures { result ≡ least_of self.now.waiting }
     {
+        if self.count == 0 {
+            return None;
+        }
         least_number(&self.places)
     }
+}
+
+/// Puts a part into a free place of a table, or gives it back.
+fn put_among<T: Drop, A: Allocator>(
+    places: &mut Vec<Option<(u32, T)>, A>,
+    seq: u32,
+    part: T,
+) -> Result<(), T>
+    requires { Rises 0 (entries_of places.old.items) }
+    ensures variant { IsErr result ↔ ((length (entries_of places.old.items) ≡ vec_len places.old)
+        ⊎ IsTrue (has_number seq (entries_of places.old.items))) }
+    ensures rises { Rises 0 (entries_of places.new.items) }
+    ensures ok { OnOk result (entries_of places.new.items ≡ put_in seq part (entries_of places.old.items)) }
+    ensures err { OnErr result (places.new.items ≡ places.old.items) }
+    ensures given_back { IfErr result (λ back. back ≡ part) }
+    ensures room { vec_len places.new ≡ vec_len places.old }
+    ensures bounded { length (entries_of places.new.items) ≤ vec_len places.new }
+{
+    put_at(places, seq, part)
+}
+
+/// Empties the place of a number in a table, and answers what it held.
+fn take_from<T: Drop, A: Allocator>(places: &mut Vec<Option<(u32, T)>, A>, seq: u32) -> Option<T>
+    requires { Rises 0 (entries_of places.old.items) }
+    ensures rises { Rises 0 (entries_of places.new.items) }
+    ensures part { result ≡ part_under seq (entries_of places.old.items) }
+    ensures rest { entries_of places.new.items ≡ take_out seq (entries_of places.old.items) }
+    ensures room { vec_len places.new ≡ vec_len places.old }
+{
+    take_at(places, seq)
 }
 
 /// Puts a part into a free place, or gives it back.

@@ -6,7 +6,7 @@
 //! Contracts: a deferral queue is a finite map from numbers to parts, with a number of places.
 #![tactic(auto)]
 
-ghost use Rattle.std.specs.Prelude.{◌≡◌, ℕ, ◌+◌, ◌*◌, ◌%◌, ◌^◌, ◌<◌, ◌≤◌, List, ◌∷◌, length, IfOk, IsSome, Ok, Err, MatchResult};
+ghost use Rattle.std.specs.Prelude.{◌≡◌, ℕ, ◌+◌, ◌*◌, ◌%◌, ◌^◌, ◌<◌, ◌≤◌, List, [], ◌∷◌, length, IfOk, IsSome, Ok, Err, MatchResult};
 ghost use Rattle.std.specs.List.{FoldsTo};
 ghost use Rattle.octets.specs.declared.limits.TheConstants.{SAFE_PDU_MAX};
 ghost use Rattle.red_layer.specs.FiniteMap.{Rises, take_out, part_under};
@@ -203,6 +203,33 @@ impl<A: Allocator> RedLayer<A> {
 
     /// Hands up the run from a number on, and expects the number behind it.
     fn follow<U: Upward>(&mut self, from: u64, now: u64, up: &mut U)
+        requires now { now ≤ 2 ^ 62 }
+        requires in_range { from ≤ 2 ^ 32 }
+        requires rises { Rises from self.old.waiting }
+        requires ready { U.ready up.old from }
+        ensures left { self.new ≡ follow now from self.old }
+        ensures passed { FoldsTo U.passes up.old (run_from from self.old.waiting) up.new }
+        ensures ready { U.ready up.new self.new.expected }
+    {
+        // Mostly nothing waits, and no room is made for a part then.
+        if self.waiting.least().is_none() {
+            self.expect(from);
+        } else {
+            self.follow_run(from, now, up);
+        }
+    }
+
+    /// Expects a number next, where nothing waits.
+    fn expect(&mut self, next: u64)
+        requires in_range { next ≤ 2 ^ 32 }
+        requires empty { self.old.waiting ≡ [] }
+        ensures { self.new ≡ record self.old { expected = next } }
+    {
+        self.expected = next;
+    }
+
+    /// Hands up the run from a number on where something waits, and expects the number behind it.
+    fn follow_run<U: Upward>(&mut self, from: u64, now: u64, up: &mut U)
         requires now { now ≤ 2 ^ 62 }
         requires in_range { from ≤ 2 ^ 32 }
         requires rises { Rises from self.old.waiting }

@@ -1,11 +1,8 @@
 -- Units with rising numbers: what is sent stands behind, what is confirmed in front, and how numbers are written anew.
-use Rattle.std.proofs.Common.{◌≡◌, ◌<◌, ◌≤◌, ℕ, zero, suc, ◌+◌, true, false, Bool, List, [], ◌∷◌, ◌++◌, take, drop, nat_lt, nat_le, refl, ap, arith, Some, None, Result, Ok, Err}
+use Rattle.std.proofs.Common.{◌≡◌, ◌<◌, ◌≤◌, ℕ, zero, suc, ◌+◌, true, false, Bool, List, [], ◌∷◌, ◌++◌, take, drop, nat_lt, nat_le, refl, ap, arith, Some, None}
 use Rattle.std.specs.List.{All, slice_get, slice_set}
-use Rattle.std.specs.Result.{OnOk, IfErr}
-use Rattle.circular_buffer.specs.Buffer.{Buffer, buffer}
 use Rattle.std.proofs.lemmas.Bool.{lt-ltb}
 use Rattle.std.proofs.lemmas.Bool.Decides.{nat_tests}
-use Rattle.std.proofs.lemmas.List.{map-append}
 use Rattle.std.proofs.lemmas.List.Elements.{All-nil, All-cons, All-head, All-tail}
 use Rattle.std.proofs.lemmas.List.Kept.{AllPairs-cons, AllPairs-filter}
 use Rattle.std.proofs.lemmas.List.Quantifiers.{all_pairs_push}
@@ -114,15 +111,3 @@ one_renumbered (suc place) number (v ∷ us) u w e is = ap (λ vs. shown v ∷ v
 pub none_left : (number : ℕ) (us : List Stored) → slice_get us 0 ≡ None → all_shown us ≡ above number (all_shown us)
 none_left number [] e = refl
 none_left number (u ∷ us) e = absurd cc
-
--- what a place past the end is read as
-abbrev pub no_unit : Stored
-no_unit = (0, record { items = [] })
-
--- whether there was room or not
-pub tried_rises : {U : Type 0} (r : Result U Stored) (old new : Buffer Stored) (u : Stored) (units : List Numbered) → all_shown old.items ≡ units
-    → OnOk r (new ≡ buffer (old.items ++ u ∷ []) old.capacity) → IfErr r (λ x. (x ≡ u) × (new ≡ old)) → Rises units
-    → All (λ (v : Numbered). v.number < u.0) units → Rises (all_shown new.items)
-tried_rises (Ok done) old new u units same ok err h below =
-    rw (ok, map-append shown old.items (u ∷ []), same) (Rises-sent units (shown u) h below)
-tried_rises (Err back) old new u units same ok err h below = rw (err.1, same) h

@@ -1,5 +1,5 @@
 -- The units that were sent and are not confirmed, as a list with rising numbers (safety and retransmission layer).
-use Rattle.std.specs.Prelude.{ℕ, ◌+◌, ◌<◌, nat_lt, nat_le, List, [], ◌∷◌, map, filter, Option, Some, None}
+use Rattle.std.specs.Prelude.{◌≡◌, ◌⊎◌, ℕ, zero, suc, ◌+◌, ◌<◌, ◌≤◌, ◌==◌, nat_lt, nat_le, if◌then◌else◌, List, [], ◌∷◌, length, map, filter, slice_index_or, Option, Some, None}
 use Rattle.std.specs.List.{AllPairs}
 use Rattle.std.specs.Borrow.{Bor}
 use Rattle.arrayvec.specs.ArrayVec.{ArrayVec}
@@ -44,6 +44,28 @@ shown u = record { number = u.0; octets = u.1.items }
 
 abbrev pub all_shown : List Stored → List Numbered
 all_shown units = map shown units
+
+-- what a place past the end is read as
+abbrev pub no_unit : Stored
+no_unit = (0, record { items = [] })
+
+-- the place behind one, in a ring of n places
+abbrev pub place_behind : ℕ → ℕ → ℕ
+place_behind n place = if place + 1 == n then 0 else place + 1
+
+-- so many units may stand from a place on: there are places for them, and this is one
+abbrev pub IsRing : ℕ → ℕ → ℕ → Type 0
+IsRing places first count = (count ≤ places) × (0 < places → first < places)
+
+-- a place is so far behind the first one
+abbrev pub IsFar : ℕ → ℕ → ℕ → ℕ → Type 0
+IsFar places first far place = (place < places) × ((place ≡ first + far) ⊎ (place + places ≡ first + far))
+
+-- so many units from a place on, round the ring of places
+abbrev pub units_from : List Stored → ℕ → ℕ → List Stored
+units_from places place zero = []
+units_from places place (suc count) =
+    slice_index_or places place no_unit ∷ units_from places (place_behind (length places) place) count
 
 -- an answer, without where it lies in memory
 abbrev pub seen_of : Option (Bor Stored) → Option Numbered

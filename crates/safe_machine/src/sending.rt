@@ -11,7 +11,6 @@ ghost use Rattle.safe_machine.specs.Deadlines.{deadline_of, timeout_of, beat_due
 
 use super::endpoint::Endpoint;
 use super::{Detail, PduOut, Reason};
-use octets::copy_of;
 use octets::limits::UNIT_MAX;
 use safe_pdu::Kind;
 use std::alloc::Allocator;
@@ -61,7 +60,7 @@ impl<A: Allocator> Endpoint<A> {
         ensures { self.new
             ≡ record self.old { ring = self.old.ring ++ record { number = number; octets = unit.now } ∷ [] } }
     {
-        let _kept = self.ring.sent(number, copy_of(unit));
+        self.ring.keep(number, unit);
     }
 
     /// The guard, and then a heartbeat where one is due by time.

@@ -1,23 +1,23 @@
-use Rattle.std.proofs.Common.{◌≡◌, ◌+◌, ◌<◌, ◌∙◌, Some, arith, get_or, length, refl, slice_get, slice_set, suc}
-use Rattle.std.proofs.lemmas.Option.{slice_get-get_or}
+use Rattle.std.proofs.Common.{◌<◌, ◌≤◌, ◌+◌, ◌∙◌, arith, length, sym}
 use Rattle.std.proofs.lemmas.List.{length-set}
-use Rattle.circular_buffer.specs.Buffer.{buffer}
-use Rattle.retrans.specs.Units.{Stored}
-use Rattle.retrans.proofs.UnitLemmas.{no_unit, one_renumbered}
+use Rattle.retrans.specs.Units.{IsFar, all_shown, units_from}
+use Rattle.retrans.proofs.RingLemmas.{all_renumbered, length-shown_from, step_renumbered}
 use Rattle.retrans.proofs.unconfirmed.renumber_all.Goals as goal
 
-pub loop-place-preserved : goal.loop-place-preserved
-loop-place-preserved g c =
-    let inside : c.loop-place.place < length c.loop-place.ring.items = omega (arith, c.loop-place.invariant.long, c.len-place-end.ensures.len) in
-    let u : Stored = get_or c.loop-place.ring.items c.loop-place.place no_unit in
-    let there : slice_get c.loop-place.ring.items c.loop-place.place ≡ Some u = slice_get-get_or c.loop-place.ring.items c.loop-place.place no_unit inside in
-    let w : Stored = (c.args.first + c.loop-place.place, u.1) in
-    let written : c.set_number.new.ring ≡ buffer (slice_set c.loop-place.ring.items c.loop-place.place w) c.loop-place.ring.capacity = rw there at c.set_number.ensures in
-    let next : c.args.first + (c.loop-place.place + 1) ≡ c.args.first + c.loop-place.place + 1 = omega arith in
-    let one_more : c.loop-place.place + 1 ≡ suc c.loop-place.place = omega arith in
-    rw (written, next, one_more)
-    (record {
-      numbers = one_renumbered c.loop-place.place (c.args.first + c.loop-place.place) c.loop-place.ring.items u w there refl ∙ c.loop-place.invariant.numbers;
-      long = length-set c.loop-place.ring.items c.loop-place.place w ∙ c.loop-place.invariant.long;
-      room = c.loop-place.invariant.room;
-    })
+pub loop-far-preserved : goal.loop-far-preserved
+loop-far-preserved c =
+    let first : c.args.first < length c.loop-far.places = omega (arith, c.loop-far.invariant.long, c.requires.ring.0, c.requires.ring.1 (omega (arith, c.requires.ring.0))) in
+    let many : c.args.count ≤ length c.loop-far.places = omega (arith, c.loop-far.invariant.long, c.requires.ring.0) in
+    let far : IsFar (length c.loop-far.places) c.args.first c.loop-far.far c.place_at-place.result = c.place_at-place.ensures in
+    record {
+      numbers =
+          step_renumbered c.loop-far.places c.args.first c.loop-far.far c.place_at-place.result c.args.count c.args.number c.index-places-place.result _ _ first
+          c.loop-far-test.true many far c.index-places-place.is (sym c.index-places-place.is) c.loop-far.invariant.numbers;
+      long = length-set c.loop-far.places c.place_at-place.result _ ∙ c.loop-far.invariant.long;
+    }
+
+pub returns-clause-numbers : goal.returns-clause-numbers
+returns-clause-numbers c =
+    all_renumbered (all_shown (units_from c.loop-far.places c.args.first c.args.count)) c.loop-far.far (c.args.number + c.loop-far.far)
+    (omega (arith, length-shown_from c.loop-far.places c.args.first c.args.count))
+    ∙ c.loop-far.invariant.numbers

@@ -1,5 +1,20 @@
+use Rattle.std.proofs.Common.{ap, arith, length, subst, sym}
+use Rattle.retrans.specs.Units.{IsRing, Kept}
+use Rattle.retrans.proofs.RingLemmas.{length-shown_from}
 use Rattle.retrans.proofs.UnitLemmas.{Rises-renumbered}
 use Rattle.retrans.proofs.unconfirmed.Unconfirmed.renumber.Goals as goal
 
+pub renumber_in-requires-clause-numbers : goal.renumber_in-requires-clause-numbers
+renumber_in-requires-clause-numbers g c =
+    omega (
+      arith,
+      c.requires,
+      ap (λ (k : Kept). length k.units) c.self.view_is,
+      length-shown_from c.self.inside.places.items c.self.inside.first c.self.inside.count,
+    )
+
 pub invariant_of-self : goal.invariant_of-self
-invariant_of-self g c = rw c.renumber_all.ensures.numbers (Rises-renumbered c.args.first _)
+invariant_of-self g c = (
+  subst (λ n. IsRing n c.self.inside.first c.self.inside.count) (sym c.renumber_in.ensures.room) c.self.invariant.0,
+  rw c.renumber_in.ensures.numbers (Rises-renumbered c.args.first _),
+)

@@ -2,7 +2,7 @@ use Rattle.std.proofs.Common.{length, ap, arith, sym, subst, ◌∙◌}
 use Rattle.red_layer.specs.FiniteMap.{Rises}
 use Rattle.red_layer.specs.Parts.{map_parts}
 use Rattle.red_layer.proofs.Views.{Rises-unmap, length-after_run, length-map_parts}
-use Rattle.red_layer.proofs.RedLayer.follow.Goals as goal
+use Rattle.red_layer.proofs.RedLayer.follow_run.Goals as goal
 
 pub pass_run-self-inside-requires-clause-rises : goal.pass_run-self-inside-requires-clause-rises
 pass_run-self-inside-requires-clause-rises g c =
