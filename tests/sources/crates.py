@@ -7,7 +7,7 @@ TYPE = re.compile(r'^pub (?:struct|enum|trait|type) (\w+)', re.M)
 USE = re.compile(r'^ *(?:pub )?use ([^;]*);', re.M)
 EXPORTED = re.compile(r'^pub use (\w+)::(?:(\w+)|\{([^}]*)\});', re.M)
 DEFINED = re.compile(r'^(?:pub (?:record|data)|\w+ pub) (\w+)', re.M)
-GHOST_USE = re.compile(r'ghost use Rattle\.(\w+)\.specs\.(\w+)(?:\.\{([^}]*)\}| as (\w+));')
+GHOST_USE = re.compile(r'ghost use Rattle\.(\w+)\.specs\.([\w.]+?)(?:\.\{([^}]*)\}| as (\w+));')
 EDIT = re.compile(r'^file: (.*)\nold: (.*)$', re.M)
 
 
@@ -15,9 +15,10 @@ def mark_public(crate, items, traits):
     """Tells which functions are reached from outside the crate; of a program, the `pub fn`s of its modules are."""
     is_program = os.path.exists(os.path.join(TOP, 'crates', crate, 'src', 'main.rt'))
     root = code_of(read('crates', crate, 'src', 'main.rt' if is_program else 'lib.rt'))
-    names = {name.strip() for found in EXPORTED.findall(root) for name in (found[1] or found[2]).split(',')}
     open_modules = {'lib', *re.findall(r'^pub mod (\w+);', root, re.M)}
-    types = {*names, *TYPE.findall(root)}
+    heads = [root, *(code_of(read('crates', crate, 'src', f'{name}.rt')) for name in open_modules - {'lib'})]
+    names = {name.strip() for head in heads for found in EXPORTED.findall(head) for name in (found[1] or found[2]).split(',')}
+    types = {*names, *(name for head in heads for name in TYPE.findall(head))}
     for item in items:
         if item.trait:
             item.is_public = item.owner in types and item.trait in traits
@@ -41,7 +42,7 @@ class Crate:
 
     def __init__(self, name, traits):
         apart = [file for file in listed('crates', '*_tests', 'src', '*_*.rt') if tested_in(file) == name]
-        files = listed('crates', name, 'src', '*.rt') + apart
+        files = listed('crates', name, 'src', '**', '*.rt') + apart
         code = {file: code_of(read(file)) for file in files}
         is_test = {file for file in files if file.endswith('tests.rt')} | set(apart)
         self.name = name
@@ -109,7 +110,7 @@ def read_crates():
     """Every crate, in the order in which docs/ARCHITECTURE.md names their READMEs; those that it does not name come last."""
     names = [path.split('/')[1] for path in listed('crates', '*', 'src')]
     layers = re.findall(r'\]\(\.\./crates/(\w+)/README\.md\)', read('docs', 'ARCHITECTURE.md'))
-    traits = {name for path in listed('crates', '*', 'src', '*.rt') for name in re.findall(r'^pub trait (\w+)', read(path), re.M)}
+    traits = {name for path in listed('crates', '*', 'src', '**', '*.rt') for name in re.findall(r'^pub trait (\w+)', read(path), re.M)}
     ordered = [name for name in layers if name in names] + [name for name in names if name not in layers]
     crates = {name: Crate(name, traits) for name in ordered}
     items = [item for crate in crates.values() for item in crate.items]
@@ -125,9 +126,9 @@ def meanings_in(file):
     found = {}
     for crate, module, names, alias in GHOST_USE.findall(read(file)):
         if alias:
-            found[alias] = (crate, module, '')
+            found[alias] = (crate, module.replace('.', '/'), '')
         for name in filter(None, map(str.strip, names.split(','))):
-            found[name.split()[-1]] = (crate, module, name.split()[0])
+            found[name.split()[-1]] = (crate, module.replace('.', '/'), name.split()[0])
     return found
 
 
@@ -135,7 +136,7 @@ class Definitions:
     """The definitions of the crates' specs, and which of them the clauses of a function name."""
 
     def __init__(self):
-        self.names = {path: set(DEFINED.findall(read(path))) for path in listed('crates', '*', 'specs', '*.antt')}
+        self.names = {path: set(DEFINED.findall(read(path))) for path in listed('crates', '*', 'specs', '**', '*.antt')}
         self.all = set().union(*self.names.values())
         self.of_files = {}  # those of all spec files of one name
         for path, names in self.names.items():

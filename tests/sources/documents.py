@@ -1,4 +1,4 @@
-"""The names of functions, clauses, definitions and cases in README.md, docs/ and the READMEs of crates, and which of them are not there."""
+"""The names of functions, clauses, definitions and cases in README.md, docs/ and the pages of crates, and which of them are not there."""
 import os
 import re
 from functions import listed, read
@@ -9,7 +9,7 @@ DEFINITION = re.compile(r'`([A-Z]\w*)\.(\w+)`')
 
 
 class Documents:
-    """What README.md, docs/ and the READMEs of crates name, and what of it is not there."""
+    """What README.md, docs/ and the pages of crates name, and what of it is not there."""
 
     def __init__(self, crates, definitions):
         self.crates = crates
@@ -21,11 +21,11 @@ class Documents:
         self.cases.update(os.path.basename(path)[:-4] for path in listed('tests', 'scripts', '*.sim') + listed('examples', '*.sim'))
         for path in listed('tests', 'model', '*.py'):
             self.cases.update(re.findall(r"'(\w+)'", read(path)))
-        self.types = {(crate, name) for crate in crates for path in listed('crates', crate, 'src', '*.rt')
-                      for name in re.findall(r'\b(?:struct|enum|trait|type) (\w+)', read(path))}
+        self.types = {(step, name) for crate in crates for path in listed('crates', crate, 'src', '**', '*.rt')
+                      for name in re.findall(r'\b(?:struct|enum|trait|type) (\w+)', read(path)) for step in (crate, *path[:-3].split('/')[3:])}
 
     def problems(self):
-        for path in ['README.md', *listed('docs', '*.md'), *listed('crates', '*', 'README.md')]:
+        for path in ['README.md', *listed('docs', '*.md'), *listed('crates', '*', 'README.md'), *listed('crates', '*', 'CHOICES.md')]:
             for at, problem in [*self.of_forms(read(path)), *self.of_names(read(path))]:
                 yield f'{path}:{at}: {problem}'
             yield from self.of_columns(path)
@@ -33,7 +33,7 @@ class Documents:
     def items_named(self, name, items, owner=''):
         """The functions that a name may mean, all those of a type or trait; none where nothing has the name."""
         head, _, last = name.rpartition('::')
-        found = [item for item in items if item.name == last and head in ('', item.owner, item.module(), item.crate)]
+        found = [item for item in items if item.name == last and head in ('', item.owner, *item.modules(), item.crate)]
         near = [item for item in found if owner and not head and item.owner == owner]
         return near or found or [item for item in items if item.owner == name]
 

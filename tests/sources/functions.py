@@ -42,6 +42,10 @@ class Item:
     def module(self):
         return os.path.basename(self.file)[:-3]
 
+    def modules(self):
+        """The modules on the way to it, `lib` for the crate's root."""
+        return self.file[:-3].split('/')[3:]
+
     def has_contract(self):
         return any(kind == 'ensures' for item in (self, self.declared) if item for kind, _, _ in item.clauses)
 

@@ -66,7 +66,7 @@ pub extern "C" fn bekr_open(
     if slot.is_open() {
         return ALREADY_OPEN;
     }
-    match opened(alloc, settings, now) {
+    match open_station(alloc, settings, now) {
         Ok(station) => {
             slot.put(station);
             OK
@@ -76,7 +76,7 @@ pub extern "C" fn bekr_open(
 }
 
 /// The station of an end that was opened by these settings, or the answer of the refusal.
-fn opened(alloc: Global, settings: &PlainSettings, now: u64) -> Result<Box<Station>, i32>
+fn open_station(alloc: Global, settings: &PlainSettings, now: u64) -> Result<Box<Station>, i32>
     ensures answer { MatchResult result (λ _. code_to_open settings.now now ≡ OK) (λ code. (code ≡ code_to_open settings.now now)
         ⊎ ((code_to_open settings.now now ≡ OK) × (code ≡ NO_MEMORY))) }
     ensures stands { IfOk result (λ station. IsOpened settings.now now (Some station.value)) }

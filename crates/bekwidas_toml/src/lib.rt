@@ -179,15 +179,15 @@ fn tell(alloc: Global, fault: &Unread, row: &mut [u8], length: &mut usize) -> i3
 {
     match fault {
         Unread::Memory => NO_MEMORY,
-        Unread::NotText => told("no UTF-8 text", row, length),
+        Unread::NotText => write_told("no UTF-8 text", row, length),
         Unread::Settings(fault) => match format!(in alloc; "{fault}") {
-            Ok(text) => told(text.as_str(), row, length),
+            Ok(text) => write_told(text.as_str(), row, length),
             Err(_) => NO_MEMORY,
         },
     }
 }
 
-fn told(text: &str, row: &mut [u8], length: &mut usize) -> i32
+fn write_told(text: &str, row: &mut [u8], length: &mut usize) -> i32
     ensures { result ≡ NO_SETTINGS }
 {
     let octets = text.as_bytes();

@@ -8,8 +8,8 @@ use channels::{ChannelFault, Channels};
 use end_settings::{Checksum, EndConfig, Side, Versions};
 use linked_list_allocator::LocalHeap;
 use octets::limits::RED_PDU_MAX;
+use pdi_session::telegram::{Name, OwnedName};
 use pdi_session::{Phase, Taker};
-use sci_telegram::{Name, OwnedName};
 use stack_end::End;
 use std::alloc::{Allocator, Global};
 

@@ -58,12 +58,12 @@ fn rule_of(code: u32) -> CodeRule {
 }
 
 fn payload_octets(datagram: &[u8], rule: &CodeRule) -> Option<u32> {
-    let red = red_pdu::decode(datagram).ok()?;
+    let red = red_layer::pdu::decode(datagram).ok()?;
     let safe = safe_pdu::decode(red.upper, rule).ok()?;
-    let messages = packing::unpack(safe.body).ok()?;
+    let messages = pdi_session::packing::unpack(safe.body).ok()?;
     let mut octets = 0u32;
     for message in messages.as_slice() {
-        let telegram = sci_telegram::decode(message).ok()?;
+        let telegram = pdi_session::telegram::decode(message).ok()?;
         octets = octets.wrapping_add(telegram.payload.len() as u32);
     }
     Some(octets)

@@ -7,7 +7,7 @@ use Rattle.std.proofs.lemmas.List.Quantifiers.{position-Some}
 use Rattle.capture.specs.declared.connections.Connection.{Connection}
 use Rattle.capture.specs.declared.connections.TheConstants.{CONNECTIONS}
 use Rattle.capture.specs.declared.direction.Direction.{Direction}
-use Rattle.capture.specs.declared.direction.Opening.{Opening}
+use Rattle.capture.specs.declared.direction.SessionOpening.{SessionOpening}
 use Rattle.capture.specs.declared.direction.Place.{Place}
 use Rattle.capture.specs.declared.following.Totals.{Totals}
 use Rattle.capture.specs.declared.heard.Header.{Header}
@@ -29,7 +29,7 @@ weight c = datagrams_in c.from_low.together + datagrams_in c.from_high.together
 abbrev pub weights : List Connection → ℕ
 weights cs = sum_by weight cs
 
-opened_same : (b : Bool) (d : Direction) (o : Option Opening) (time : ℕ)
+opened_same : (b : Bool) (d : Direction) (o : Option SessionOpening) (time : ℕ)
     → datagrams_in (opened_as b d o time).together ≡ datagrams_in d.together
 opened_same true d o time = refl
 opened_same false d o time = refl

@@ -9,7 +9,7 @@ use Rattle.capture.specs.declared.window.Judged.{Judged}
 use Rattle.capture.specs.declared.window.Judged.TheVariants.{Differs, Late, Repeat, Stale}
 use Rattle.capture.specs.declared.direction.TheConstants.{CHANNELS}
 use Rattle.capture.specs.declared.direction.Direction.{Direction}
-use Rattle.capture.specs.declared.direction.Opening.{Opening}
+use Rattle.capture.specs.declared.direction.SessionOpening.{SessionOpening}
 use Rattle.capture.specs.declared.direction.Place.{Place}
 use Rattle.capture.specs.declared.direction.Remarks.{Remarks}
 use Rattle.capture.specs.declared.direction.Tally.{Tally}
@@ -97,26 +97,26 @@ is_request ConnReq = true
 is_request _ = false
 
 -- the sequence number follows directly on that of the last opening, and that was a ConnReq
-abbrev pub is_behind_request : Option Opening → ℕ → Bool
+abbrev pub is_behind_request : Option SessionOpening → ℕ → Bool
 is_behind_request None sn = false
 is_behind_request (Some opening) sn = is_request opening.kind && (ahead opening.sn sn == 1)
 
 -- a ConnReq confirms nothing, nor does the DiscReq of an end that sent nothing but its ConnReq before
-abbrev pub confirms_nothing : Option Opening → Kind → ℕ → Bool
+abbrev pub confirms_nothing : Option SessionOpening → Kind → ℕ → Bool
 confirms_nothing opening ConnReq sn = true
 confirms_nothing opening DiscReq sn = is_behind_request opening sn
 confirms_nothing opening _ sn = false
 
-abbrev pub age_of : Option Opening → Option ℕ → Header → Option ℕ
+abbrev pub age_of : Option SessionOpening → Option ℕ → Header → Option ℕ
 age_of opening stamp h = if confirms_nothing opening h.kind h.sn then None else age_at stamp h.cts
 
 -- a ConnReq or ConnResp opens
-abbrev pub opening_as : Kind → Opening → Option Opening
+abbrev pub opening_as : Kind → SessionOpening → Option SessionOpening
 opening_as ConnReq opening = Some opening
 opening_as ConnResp opening = Some opening
 opening_as _ opening = None
 
-abbrev pub opening_of : Header → Option Opening
+abbrev pub opening_of : Header → Option SessionOpening
 opening_of h = opening_as h.kind (record { kind = h.kind; sn = h.sn })
 
 abbrev pub is_repeat : Judged → Bool
@@ -137,7 +137,7 @@ abbrev pub is_copy : Direction → ℕ → ℕ → ℕ → Bool
 is_copy d channel seq octets = is_repeat (judged d.together seq octets) && not (has_gone_on d.channels channel seq)
 
 -- it begins the numbers anew, unless it is such a copy: so behind other PDUs of its end it opens, whatever its numbers
-abbrev pub is_opened : Direction → Option Opening → ℕ → ℕ → ℕ → Bool
+abbrev pub is_opened : Direction → Option SessionOpening → ℕ → ℕ → ℕ → Bool
 is_opened d None channel seq octets = false
 is_opened d (Some opening) channel seq octets = not (is_copy d channel seq octets)
 
@@ -145,7 +145,7 @@ abbrev pub tally_opened : Tally → ℕ → Tally
 tally_opened t time = record t { openings = counted t.openings 1; last = 0; leaving = None; opened = time }
 
 -- what is kept once an opening came: what was counted, but for the reason of a leaving before
-abbrev pub opened_as : Bool → Direction → Option Opening → ℕ → Direction
+abbrev pub opened_as : Bool → Direction → Option SessionOpening → ℕ → Direction
 opened_as true d opening time =
     record d {
       channels = map reopened d.channels;

@@ -1,7 +1,7 @@
 -- What a datagram says, by the definitions of its decoders.
 use Rattle.std.specs.Prelude.{ℕ, ◌+◌, ◌*◌, ◌%◌, ◌^◌, List, fold, Option, Some, None, Result, Ok, Err}
-use Rattle.red_pdu.specs.declared.RedFault.{RedFault}
-use Rattle.red_pdu.specs.RedText.{red_seen}
+use Rattle.red_layer.specs.declared.pdu.RedFault.{RedFault}
+use Rattle.red_layer.specs.pdu.RedText.{red_seen}
 use Rattle.safe_pdu.specs.declared.CodeRule.{CodeRule}
 use Rattle.safe_pdu.specs.declared.Kind.{Kind}
 use Rattle.safe_pdu.specs.declared.Kind.TheVariants.{DiscReq}

@@ -7,3 +7,8 @@ pub mod Connecting
 pub mod Whole
 pub mod Laws
 pub mod Ports
+pub mod Places
+pub mod Packets
+pub mod Frames
+pub mod Times
+pub mod Recordings

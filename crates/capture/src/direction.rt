@@ -23,7 +23,7 @@ pub struct Direction {
     /// The timestamp of the newest PDU.
     pub stamp: Option<u32>,
     /// The ConnReq or ConnResp that was heard last.
-    pub opening: Option<Opening>,
+    pub opening: Option<SessionOpening>,
     /// How many of its datagrams on each channel were no PDU.
     pub damaged: [u64; CHANNELS],
     /// What its PDUs were.
@@ -32,7 +32,7 @@ pub struct Direction {
 
 /// A ConnReq or ConnResp by which an end opened.
 #[derive(Clone, Copy, Debug, PartialEq, Eq)]
-pub struct Opening {
+pub struct SessionOpening {
     /// Which of the two it is.
     pub kind: Kind,
     /// The sequence number (SN).
@@ -198,11 +198,11 @@ fn follow_opened(
 }
 
 /// The opening that a PDU is; none of a PDU that opens nothing.
-fn opening_in(header: &Header) -> Option<Opening>
+fn opening_in(header: &Header) -> Option<SessionOpening>
     ensures { result ≡ opening_of header.now }
 {
     match header.kind {
-        Kind::ConnReq | Kind::ConnResp => Some(Opening {
+        Kind::ConnReq | Kind::ConnResp => Some(SessionOpening {
             kind: header.kind,
             sn: header.sn,
         }),
@@ -218,7 +218,7 @@ fn opening_in(header: &Header) -> Option<Opening>
 /// Whether a PDU opens, and is no copy of the last opening.
 fn begins_anew(
     direction: &Direction,
-    opening: Option<Opening>,
+    opening: Option<SessionOpening>,
     channel: usize,
     seq: u32,
     octets: u64,
@@ -265,7 +265,7 @@ fn differs(newest: Option<u32>, seq: u32) -> bool
 }
 
 /// Begins all numbers anew.
-fn open(direction: &mut Direction, opening: Option<Opening>, time: u64)
+fn open(direction: &mut Direction, opening: Option<SessionOpening>, time: u64)
     ensures { direction.new ≡ opened_as true direction.old opening time }
 {
     reopen_all(&mut direction.channels);
@@ -348,7 +348,7 @@ fn carries_again(kind: Kind) -> bool
 }
 
 /// How old the timestamp that a PDU confirms is at the end that made it, in milliseconds of the ring of 32 bits.
-fn age(opening: Option<Opening>, stamp: Option<u32>, header: &Header) -> Option<u32>
+fn age(opening: Option<SessionOpening>, stamp: Option<u32>, header: &Header) -> Option<u32>
     ensures { result ≡ age_of opening stamp header.now }
 {
     if confirms_none(opening, header.kind, header.sn) {
@@ -358,7 +358,7 @@ fn age(opening: Option<Opening>, stamp: Option<u32>, header: &Header) -> Option<
 }
 
 /// Whether a PDU confirms nothing: a ConnReq, and the DiscReq of an end that sent nothing but its ConnReq before.
-fn confirms_none(opening: Option<Opening>, kind: Kind, sn: u32) -> bool
+fn confirms_none(opening: Option<SessionOpening>, kind: Kind, sn: u32) -> bool
     ensures { result ≡ confirms_nothing opening kind sn }
 {
     match kind {
@@ -374,7 +374,7 @@ fn confirms_none(opening: Option<Opening>, kind: Kind, sn: u32) -> bool
 }
 
 /// Whether a sequence number follows directly on that of the last opening, and that was a ConnReq.
-fn follows_request(opening: Option<Opening>, sn: u32) -> bool
+fn follows_request(opening: Option<SessionOpening>, sn: u32) -> bool
     ensures { result ≡ is_behind_request opening sn }
 {
     match opening {

@@ -10,7 +10,7 @@ use crate::heard::{Header, Heard};
 use crate::line::Record;
 use crate::window::Window;
 use arrayvec::ArrayVec;
-use red_pdu::RedFault;
+use red_layer::pdu::RedFault;
 use safe_pdu::SafeFault;
 
 /// What is kept of a capture, in memory of one size whatever it says.
@@ -74,7 +74,7 @@ impl Following {
             connections: ArrayVec::new(),
             datagrams: 0,
             damaged: 0,
-            gone: none(),
+            gone: new_totals(),
             forgotten: 0,
         }
     }
@@ -136,7 +136,7 @@ fn sum_forgotten(gone: Totals, connections: &Connections, header: &Header) -> To
     ensures { result ≡ gone_with gone connections.now.items header.now }
 {
     if has_no_room(connections, header) {
-        return with(gone, &connections.as_slice()[0]);
+        return add_connection(gone, &connections.as_slice()[0]);
     }
     gone
 }
@@ -146,12 +146,13 @@ pub fn sum_up(gone: Totals, connections: &[Connection]) -> Totals
     // The sums are those over all connections, those that were forgotten among them.
     ensures { result ≡ totals_of gone connections.now }
 {
-    connections
-        .iter()
-        .fold(gone, |totals, connection| with(totals, connection))
+    connections.iter().fold(
+        gone,
+        |totals, connection| add_connection(totals, connection),
+    )
 }
 
-fn none() -> Totals
+fn new_totals() -> Totals
     ensures { result ≡ no_totals }
 {
     Totals {
@@ -165,7 +166,7 @@ fn none() -> Totals
 }
 
 /// The sums with a connection more, both its directions.
-fn with(totals: Totals, connection: &Connection) -> Totals
+fn add_connection(totals: Totals, connection: &Connection) -> Totals
     ensures { result ≡ counted_in totals connection.now }
 {
     let low = count_window(totals, &connection.from_low.together);

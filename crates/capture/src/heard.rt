@@ -6,7 +6,7 @@ ghost use Rattle.safe_pdu.specs.Pdu.{pdu_of};
 ghost use Rattle.safe_pdu.specs.Places.{safe_seen};
 ghost use Rattle.capture.specs.Hearing.{fingerprint_of, header_of, heard_of, heard_above, leaving_of, with_octet};
 
-use red_pdu::RedFault;
+use red_layer::pdu::RedFault;
 use safe_pdu::{CodeRule, Kind, Leaving, SafeFault, SafePdu, read_leaving};
 
 /// The base of fingerprints: an odd number with its bits spread, so that each octet reaches the high ones.
@@ -52,7 +52,7 @@ pub fn hear(octets: &[u8], rule: &CodeRule) -> Heard
     // detail of a DiscReq, or the fault.
     ensures { result ≡ heard_of rule.now octets.now }
 {
-    match red_pdu::decode(octets) {
+    match red_layer::pdu::decode(octets) {
         Ok(pdu) => hear_upper(pdu.seq, pdu.upper, rule),
         Err(fault) => Heard::NoRed(fault),
     }
@@ -90,10 +90,10 @@ fn spell(octets: &[u8]) -> u64
 {
     octets
         .iter()
-        .fold(1, |fingerprint, octet| joined(fingerprint, *octet))
+        .fold(1, |fingerprint, octet| join_octet(fingerprint, *octet))
 }
 
-fn joined(fingerprint: u64, octet: u8) -> u64
+fn join_octet(fingerprint: u64, octet: u8) -> u64
     ensures { result ≡ with_octet fingerprint octet }
 {
     fingerprint

@@ -9,18 +9,27 @@
 
 mod connections;
 mod direction;
+mod file;
 mod following;
+mod frame;
 mod heard;
+mod interfaces;
 mod law;
 mod line;
+mod places;
 mod ports;
 mod window;
 mod words;
 
 pub use connections::{CONNECTIONS, Connection, Connections, Route, follow};
-pub use direction::{CHANNELS, Direction, Opening, Place, Remarks, Tally, follow_pdu};
+pub use direction::{CHANNELS, Direction, Place, Remarks, SessionOpening, Tally, follow_pdu};
+pub use file::{
+    BLOCK_MAX, BlockContent, FileFault, FileForm, FilePart, Framed, INTERFACES, Recording,
+};
 pub use following::{Following, Remark, Totals, sum_up};
+pub use frame::{Found, Link, Passed, find_datagram};
 pub use heard::{Header, Heard, hear};
+pub use interfaces::Interface;
 pub use law::sums_law;
 pub use line::{Address, Buffer, Host, LineFault, PAYLOAD_ROOM, Record, read_line};
 pub use ports::{PortRange, Ports, RANGES, is_followed, read_ports};

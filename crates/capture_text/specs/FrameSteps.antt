@@ -8,11 +8,11 @@ use Rattle.capture.specs.Hearing.{heard_of}
 use Rattle.capture.specs.Numbers.{counted}
 use Rattle.capture.specs.Ports.{is_chosen}
 use Rattle.capture.specs.Whole.{connections_after, remark_of}
-use Rattle.recording.specs.declared.frame.Found.{Found}
-use Rattle.recording.specs.declared.frame.Link.{Link}
-use Rattle.recording.specs.declared.frame.Passed.{Passed}
-use Rattle.recording.specs.declared.frame.Passed.TheVariants as passed
-use Rattle.recording.specs.Frames.{found_in}
+use Rattle.capture.specs.declared.frame.Found.{Found}
+use Rattle.capture.specs.declared.frame.Link.{Link}
+use Rattle.capture.specs.declared.frame.Passed.{Passed}
+use Rattle.capture.specs.declared.frame.Passed.TheVariants as passed
+use Rattle.capture.specs.Frames.{found_in}
 use Rattle.capture_text.specs.Steps.{first_of, told_text}
 use Rattle.capture_text.specs.declared.course.Asked.{Asked}
 use Rattle.capture_text.specs.declared.frames.FrameFault.{FrameFault}

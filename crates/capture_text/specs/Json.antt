@@ -7,14 +7,14 @@ use Rattle.safe_pdu.specs.Names.{kind_name}
 use Rattle.capture.specs.declared.connections.Connection.{Connection}
 use Rattle.capture.specs.declared.connections.Route.{Route}
 use Rattle.capture.specs.declared.direction.Direction.{Direction}
-use Rattle.capture.specs.declared.direction.Opening.{Opening}
+use Rattle.capture.specs.declared.direction.SessionOpening.{SessionOpening}
 use Rattle.capture.specs.declared.direction.Tally.{Tally}
 use Rattle.capture.specs.declared.following.Totals.{Totals}
 use Rattle.capture.specs.declared.line.Address.{Address}
 use Rattle.capture.specs.declared.window.Window.{Window}
 use Rattle.capture.specs.Numbers.{open_window}
 use Rattle.pdu_text.specs.Lines.{joined}
-use Rattle.capture_text.specs.declared.summary.Counts.{Counts}
+use Rattle.capture_text.specs.declared.summary.CaptureCounts.{CaptureCounts}
 use Rattle.capture_text.specs.declared.summary.Scale.{Scale}
 use Rattle.capture_text.specs.Pieces.{address_text}
 use Rattle.capture_text.specs.Sentence.{lost_on_all, lost_on_channels, oldest_in, up_of}
@@ -31,7 +31,7 @@ up_json (Some time) = decimal time
 abbrev pub coming_json : Connection → List ℕ
 coming_json c = up_json (up_of c.from_low c.from_high)
 
-abbrev pub opening_json : Option Opening → List ℕ
+abbrev pub opening_json : Option SessionOpening → List ℕ
 opening_json None = codes "null"
 opening_json (Some opening) = joined (codes "\"" ∷ kind_name opening.kind ∷ codes "\"" ∷ [])
 
@@ -116,7 +116,7 @@ near_json t = joined (codes ",\"silence\":" ∷ decimal t.silence ∷ codes ",\"
 unfoldable pub ends_json : ℕ → ℕ → List ℕ
 ends_json from to = joined (codes "{\"from\":" ∷ decimal from ∷ codes ",\"to\":" ∷ decimal to ∷ [])
 
-unfoldable pub opened_json : Option Opening → List ℕ
+unfoldable pub opened_json : Option SessionOpening → List ℕ
 opened_json opening = codes ",\"opening\":" ++ opening_json opening
 
 unfoldable pub times_json : ℕ → List ℕ
@@ -125,7 +125,7 @@ times_json times = joined (codes ",\"openings\":" ∷ decimal times ∷ [])
 unfoldable pub opened_at_json : ℕ → List ℕ
 opened_at_json time = codes ",\"opened\":" ++ time_json time
 
-unfoldable pub openings_json : Option Opening → Tally → List ℕ
+unfoldable pub openings_json : Option SessionOpening → Tally → List ℕ
 openings_json opening t = opened_json opening ++ times_json t.openings ++ opened_at_json t.opened
 
 unfoldable pub parting_json : Tally → List ℕ
@@ -164,12 +164,12 @@ connections_json (c ∷ cs) = connection_json c ++ more_json cs
 unfoldable pub scale_json : Scale → List ℕ
 scale_json s = codes "{\"first\":" ++ time_json s.first ++ joined (codes ",\"t_max\":" ∷ decimal s.t_max ∷ codes ",\"all\":{\"datagrams\":" ∷ [])
 
-unfoldable pub counts_json : Counts → List ℕ
+unfoldable pub counts_json : CaptureCounts → List ℕ
 counts_json c =
     joined
     (codes ",\"damaged\":" ∷ decimal c.damaged ∷ codes ",\"forgotten\":" ∷ decimal c.forgotten ∷ codes ",\"unreadable\":"
     ∷ decimal c.unreadable ∷ codes "},\"connections\":[" ∷ [])
 
-unfoldable pub sums_json : Scale → List Connection → Totals → Counts → List ℕ
+unfoldable pub sums_json : Scale → List Connection → Totals → CaptureCounts → List ℕ
 sums_json s cs t c =
     scale_json s ++ decimal c.datagrams ++ numbers_json t ++ counts_json c ++ connections_json cs ++ codes "]}\n"

@@ -1,46 +1,43 @@
 -- Why an end left, in words, each behind a space; a number without a word has none.
-use Rattle.std.specs.Prelude.{ℕ, nat_eq, List, [], ◌∷◌, codes, if◌then◌else◌}
+use Rattle.std.specs.Prelude.{ℕ, List, [], ◌∷◌, codes, Option, Some, None}
 use Rattle.std.specs.Fmt.{decimal}
+use Rattle.safe_pdu.specs.LeavingNumbers.{detail_numbered, reason_numbered}
 use Rattle.safe_pdu.specs.declared.Leaving.{Leaving}
+use Rattle.safe_pdu.specs.declared.reasons.Reason.{Reason}
+use Rattle.safe_pdu.specs.declared.reasons.Reason.TheVariants.{ClosedByUser, UnexpectedPdu, SequenceError, Timeout, ServiceNotAllowed, WrongVersion, RetransmissionImpossible, ProtocolError}
+use Rattle.safe_pdu.specs.declared.reasons.Detail.{Detail}
+use Rattle.safe_pdu.specs.declared.reasons.Detail.TheVariants.{Unspecified, VersionDiffers, OutOfOrder, NotWellFormed, Limit, BadUnit, ConfirmedNumber, ConfirmedTimestamp}
 use Rattle.pdu_text.specs.Lines.{joined}
 
-abbrev pub reason_word : ℕ → List ℕ
-reason_word reason =
-    if nat_eq reason 0 then codes " closed by user"
-    else if nat_eq reason 1 then codes " unexpected PDU"
-    else if nat_eq reason 2 then codes " sequence error"
-    else if nat_eq reason 3 then codes " timeout"
-    else if nat_eq reason 4 then codes " service not allowed"
-    else if nat_eq reason 5 then codes " wrong version"
-    else if nat_eq reason 6 then codes " retransmission impossible"
-    else if nat_eq reason 7 then codes " protocol error"
-    else []
+abbrev pub reason_word : Option Reason → List ℕ
+reason_word (Some ClosedByUser) = codes " closed by user"
+reason_word (Some UnexpectedPdu) = codes " unexpected PDU"
+reason_word (Some SequenceError) = codes " sequence error"
+reason_word (Some Timeout) = codes " timeout"
+reason_word (Some ServiceNotAllowed) = codes " service not allowed"
+reason_word (Some WrongVersion) = codes " wrong version"
+reason_word (Some RetransmissionImpossible) = codes " retransmission impossible"
+reason_word (Some ProtocolError) = codes " protocol error"
+reason_word None = []
 
--- reason 4: what was wrong in the session
-abbrev pub session_word : ℕ → List ℕ
-session_word detail =
-    if nat_eq detail 1 then codes " version differs"
-    else if nat_eq detail 2 then codes " out of order"
-    else if nat_eq detail 3 then codes " not of this pair"
-    else []
+abbrev pub word_beside : Option Detail → List ℕ
+word_beside (Some VersionDiffers) = codes " version differs"
+word_beside (Some OutOfOrder) = codes " out of order"
+word_beside (Some NotWellFormed) = codes " not of this pair"
+word_beside (Some Limit) = codes " limit of PDUs"
+word_beside (Some BadUnit) = codes " bad unit"
+word_beside (Some ConfirmedNumber) = codes " confirmed number"
+word_beside (Some ConfirmedTimestamp) = codes " confirmed timestamp"
+word_beside (Some Unspecified) = []
+word_beside None = []
 
--- reason 7: what was wrong in the protocol
-abbrev pub protocol_word : ℕ → List ℕ
-protocol_word detail =
-    if nat_eq detail 1 then codes " limit of PDUs"
-    else if nat_eq detail 2 then codes " bad unit"
-    else if nat_eq detail 3 then codes " confirmed number"
-    else if nat_eq detail 4 then codes " confirmed timestamp"
-    else []
-
-abbrev pub detail_word : ℕ → ℕ → List ℕ
-detail_word reason detail =
-    if nat_eq reason 4 then session_word detail
-    else if nat_eq reason 7 then protocol_word detail
-    else []
+-- the word of a detail, by the reason that it stands beside
+abbrev pub detail_word : Option Reason → ℕ → List ℕ
+detail_word (Some reason) detail = word_beside (detail_numbered reason detail)
+detail_word None detail = []
 
 unfoldable pub leaving_words : Leaving → List ℕ
 leaving_words l =
     joined
-    (codes " reason " ∷ decimal l.reason ∷ reason_word l.reason ∷ codes " detail " ∷ decimal l.detail
-    ∷ detail_word l.reason l.detail ∷ [])
+    (codes " reason " ∷ decimal l.reason ∷ reason_word (reason_numbered l.reason) ∷ codes " detail " ∷ decimal l.detail
+    ∷ detail_word (reason_numbered l.reason) l.detail ∷ [])

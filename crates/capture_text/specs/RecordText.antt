@@ -1,8 +1,8 @@
 -- The line of a datagram.
 use Rattle.std.specs.Prelude.{ℕ, List, [], ◌∷◌, ◌++◌, codes}
 use Rattle.std.specs.Fmt.{decimal}
-use Rattle.red_pdu.specs.declared.RedFault.{RedFault}
-use Rattle.red_pdu.specs.FaultNames.{red_name, red_number}
+use Rattle.red_layer.specs.declared.pdu.RedFault.{RedFault}
+use Rattle.red_layer.specs.pdu.FaultNames.{red_name, red_number}
 use Rattle.safe_pdu.specs.declared.SafeFault.{SafeFault}
 use Rattle.safe_pdu.specs.Names.{kind_name, safe_name, safe_number}
 use Rattle.capture.specs.declared.direction.Remarks.{Remarks}

@@ -6,7 +6,7 @@ use Rattle.safe_pdu.specs.declared.Kind.TheVariants.{ConnResp}
 use Rattle.safe_pdu.specs.declared.Leaving.{Leaving}
 use Rattle.capture.specs.declared.connections.Connection.{Connection}
 use Rattle.capture.specs.declared.direction.Direction.{Direction}
-use Rattle.capture.specs.declared.direction.Opening.{Opening}
+use Rattle.capture.specs.declared.direction.SessionOpening.{SessionOpening}
 use Rattle.capture.specs.declared.window.Window.{Window}
 use Rattle.capture.specs.Following.{is_request}
 use Rattle.capture.specs.Numbers.{counted}
@@ -15,7 +15,7 @@ use Rattle.capture_text.specs.declared.summary.Scale.{Scale}
 use Rattle.capture_text.specs.Pieces.{reached_text, since_text}
 use Rattle.capture_text.specs.Reasons.{leaving_words}
 
-abbrev pub has_asked : Option Opening → Bool
+abbrev pub has_asked : Option SessionOpening → Bool
 has_asked None = false
 has_asked (Some opening) = is_request opening.kind
 
@@ -23,7 +23,7 @@ abbrev pub is_response : Kind → Bool
 is_response ConnResp = true
 is_response _ = false
 
-abbrev pub has_answered : Option Opening → Bool
+abbrev pub has_answered : Option SessionOpening → Bool
 has_answered None = false
 has_answered (Some opening) = is_response opening.kind
 

@@ -19,9 +19,9 @@ use Rattle.capture_text.specs.RecordText.{record_text}
 use Rattle.capture_text.specs.SummaryText.{summary_text}
 use Rattle.capture_text.specs.Telegrams.{telegram_lines}
 use Rattle.capture_text.specs.declared.course.Asked.{Asked}
-use Rattle.capture_text.specs.declared.course.Form.{Form}
-use Rattle.capture_text.specs.declared.course.Form.TheVariants.{Lines, Json}
-use Rattle.capture_text.specs.declared.summary.Counts.{Counts}
+use Rattle.capture_text.specs.declared.course.OutputForm.{OutputForm}
+use Rattle.capture_text.specs.declared.course.OutputForm.TheVariants.{Lines, Json}
+use Rattle.capture_text.specs.declared.summary.CaptureCounts.{CaptureCounts}
 use Rattle.capture_text.specs.declared.summary.Scale.{Scale}
 
 -- a recorded datagram, apart from its octets
@@ -82,7 +82,7 @@ first_of (Some first) time = first
 abbrev pub asked_telegrams : Asked → List ℕ → List ℕ
 asked_telegrams a octets = if a.messages then telegram_lines a.rule octets else []
 
-abbrev pub is_told_in : Form → Asked → Remark → Bool
+abbrev pub is_told_in : OutputForm → Asked → Remark → Bool
 is_told_in Lines a m = is_asked a.only a.t_max m
 is_told_in Json a m = false
 
@@ -115,19 +115,19 @@ fault_in (Ok (Some f)) = None
 fault_in (Ok None) = None
 fault_in (Err fault) = Some fault
 
-abbrev pub counts_of : ℕ → ℕ → ℕ → ℕ → Counts
+abbrev pub counts_of : ℕ → ℕ → ℕ → ℕ → CaptureCounts
 counts_of datagrams damaged forgotten unreadable =
     record { datagrams = datagrams; damaged = damaged; forgotten = forgotten; unreadable = unreadable }
 
 abbrev pub scale_of : Asked → Option ℕ → Scale
 scale_of a first = record { first = first_of first 0; t_max = a.t_max }
 
-abbrev pub sums_in : Form → Scale → List Connection → Totals → Counts → List ℕ
+abbrev pub sums_in : OutputForm → Scale → List Connection → Totals → CaptureCounts → List ℕ
 sums_in Lines s cs t counts = summary_text s cs t counts
 sums_in Json s cs t counts = sums_json s cs t counts
 
 -- the sums over all lines so far
-abbrev pub course_text : Asked → Option ℕ → Totals → List Connection → Counts → List ℕ
+abbrev pub course_text : Asked → Option ℕ → Totals → List Connection → CaptureCounts → List ℕ
 course_text a first gone cs counts = sums_in a.form (scale_of a first) cs (totals_of gone cs) counts
 
 -- the line of a fault, where there is one

@@ -7,20 +7,20 @@ use Rattle.safe_pdu.specs.Names.{kind_name}
 use Rattle.capture.specs.declared.connections.Connection.{Connection}
 use Rattle.capture.specs.declared.connections.Route.{Route}
 use Rattle.capture.specs.declared.direction.Direction.{Direction}
-use Rattle.capture.specs.declared.direction.Opening.{Opening}
+use Rattle.capture.specs.declared.direction.SessionOpening.{SessionOpening}
 use Rattle.capture.specs.declared.direction.Tally.{Tally}
 use Rattle.capture.specs.declared.following.Totals.{Totals}
 use Rattle.capture.specs.declared.window.Window.{Window}
 use Rattle.capture.specs.Numbers.{counted, open_window}
 use Rattle.capture_text.specs.declared.summary.Scale.{Scale}
-use Rattle.capture_text.specs.declared.summary.Counts.{Counts}
+use Rattle.capture_text.specs.declared.summary.CaptureCounts.{CaptureCounts}
 use Rattle.pdu_text.specs.Lines.{joined}
 use Rattle.capture_text.specs.Pieces.{address_text, channel_text, duration_text, ends_text, reached_text, since_text}
 use Rattle.capture_text.specs.Reasons.{leaving_words}
 use Rattle.capture_text.specs.Sentence.{sentence_text}
 
 -- how often an end opened, and by what
-abbrev pub opening_text : Option Opening → ℕ → List ℕ
+abbrev pub opening_text : Option SessionOpening → ℕ → List ℕ
 opening_text None times = codes " opening not seen"
 opening_text (Some opening) times = joined (codes " opened by " ∷ kind_name opening.kind ∷ codes " times " ∷ decimal times ∷ [])
 
@@ -122,12 +122,12 @@ other_totals_text t =
 unfoldable pub totals_text : Totals → List ℕ
 totals_text t = joined (codes " PDUs " ∷ decimal t.heard ∷ codes " missing " ∷ decimal t.missing ∷ []) ++ other_totals_text t
 
-unfoldable pub counts_text : Counts → List ℕ
+unfoldable pub counts_text : CaptureCounts → List ℕ
 counts_text c =
     joined (codes " damaged " ∷ decimal c.damaged ∷ codes " forgotten " ∷ decimal c.forgotten ∷ codes " unreadable " ∷ decimal c.unreadable ∷ [])
 
-unfoldable pub all_text : Totals → Counts → List ℕ
+unfoldable pub all_text : Totals → CaptureCounts → List ℕ
 all_text t c = came_text c.datagrams ++ totals_text t ++ counts_text c ++ codes "\n"
 
-abbrev pub summary_text : Scale → List Connection → Totals → Counts → List ℕ
+abbrev pub summary_text : Scale → List Connection → Totals → CaptureCounts → List ℕ
 summary_text s cs t c = connections_text s cs ++ all_text t c

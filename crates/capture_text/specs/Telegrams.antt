@@ -1,7 +1,7 @@
 -- The telegrams of a datagram.
 use Rattle.std.specs.Prelude.{ℕ, List, [], Result, Ok, Err}
-use Rattle.red_pdu.specs.declared.RedFault.{RedFault}
-use Rattle.red_pdu.specs.RedText.{red_seen}
+use Rattle.red_layer.specs.declared.pdu.RedFault.{RedFault}
+use Rattle.red_layer.specs.pdu.RedText.{red_seen}
 use Rattle.safe_pdu.specs.declared.CodeRule.{CodeRule}
 use Rattle.safe_pdu.specs.declared.SafeFault.{SafeFault}
 use Rattle.safe_pdu.specs.Pdu.{Pdu}

@@ -7,7 +7,7 @@ use capture::{Judged, Remark, Remarks};
 
 /// A remark that lines are chosen by.
 #[derive(Clone, Copy, Debug, PartialEq, Eq)]
-pub enum Word {
+pub enum Remarkable {
     /// `opens`: an opening that is no copy.
     Opens,
     /// `repeat`: a number was heard before, with the same octets.
@@ -32,33 +32,33 @@ pub enum Word {
     Fault,
 }
 
-impl Word {
+impl Remarkable {
     /// The word that a text is, or none.
-    pub fn named(text: &str) -> Option<Word>
+    pub fn named(text: &str) -> Option<Remarkable>
         // A word that is found is that of the text.
         ensures found { IfSome result (λ word. text.now ≡ word_text word) }
         // Each word is found by its text.
-        ensures only { (word : Word) → text.now ≡ word_text word → result ≡ Some word }
+        ensures only { (word : Remarkable) → text.now ≡ word_text word → result ≡ Some word }
     {
         match text {
-            "opens" => Some(Word::Opens),
-            "repeat" => Some(Word::Repeat),
-            "differs" => Some(Word::Differs),
-            "ahead" => Some(Word::Ahead),
-            "late" => Some(Word::Late),
-            "stale" => Some(Word::Stale),
-            "anew" => Some(Word::Anew),
-            "resent" => Some(Word::Resent),
-            "age" => Some(Word::Age),
-            "reason" => Some(Word::Leaving),
-            "fault" => Some(Word::Fault),
+            "opens" => Some(Remarkable::Opens),
+            "repeat" => Some(Remarkable::Repeat),
+            "differs" => Some(Remarkable::Differs),
+            "ahead" => Some(Remarkable::Ahead),
+            "late" => Some(Remarkable::Late),
+            "stale" => Some(Remarkable::Stale),
+            "anew" => Some(Remarkable::Anew),
+            "resent" => Some(Remarkable::Resent),
+            "age" => Some(Remarkable::Age),
+            "reason" => Some(Remarkable::Leaving),
+            "fault" => Some(Remarkable::Fault),
             _ => None,
         }
     }
 }
 
 /// Whether a line is printed where a word is asked for, or none; `t_max` in milliseconds.
-pub fn is_wanted(only: Option<Word>, t_max: u32, remark: &Remark) -> bool
+pub fn is_wanted(only: Option<Remarkable>, t_max: u32, remark: &Remark) -> bool
     // A line is printed where the remark that is asked for holds of it, and each is where none is asked for.
     ensures { result ≡ is_asked only t_max remark.now }
 {
@@ -68,30 +68,30 @@ pub fn is_wanted(only: Option<Word>, t_max: u32, remark: &Remark) -> bool
     }
 }
 
-fn is_meant_by(word: Word, t_max: u32, remark: &Remark) -> bool
+fn is_meant_by(word: Remarkable, t_max: u32, remark: &Remark) -> bool
     ensures { result ≡ is_meant word t_max remark.now }
 {
     match *remark {
         Remark::Pdu(_, _, remarks) => is_remarked(word, t_max, &remarks),
-        Remark::NoSafe(_, _) | Remark::NoRed(_) => matches!(word, Word::Fault),
+        Remark::NoSafe(_, _) | Remark::NoRed(_) => matches!(word, Remarkable::Fault),
     }
 }
 
-fn is_remarked(word: Word, t_max: u32, remarks: &Remarks) -> bool
+fn is_remarked(word: Remarkable, t_max: u32, remarks: &Remarks) -> bool
     ensures { result ≡ has_word word t_max remarks.now }
 {
     match word {
-        Word::Opens => remarks.opens,
-        Word::Resent => remarks.resent,
-        Word::Age => is_over(t_max, remarks.age),
-        Word::Leaving => remarks.leaving.is_some(),
-        Word::Repeat
-        | Word::Differs
-        | Word::Ahead
-        | Word::Late
-        | Word::Stale
-        | Word::Anew
-        | Word::Fault => is_number(word, remarks),
+        Remarkable::Opens => remarks.opens,
+        Remarkable::Resent => remarks.resent,
+        Remarkable::Age => is_over(t_max, remarks.age),
+        Remarkable::Leaving => remarks.leaving.is_some(),
+        Remarkable::Repeat
+        | Remarkable::Differs
+        | Remarkable::Ahead
+        | Remarkable::Late
+        | Remarkable::Stale
+        | Remarkable::Anew
+        | Remarkable::Fault => is_number(word, remarks),
     }
 }
 
@@ -106,7 +106,7 @@ pub(crate) fn is_over(t_max: u32, age: Option<u32>) -> bool
 }
 
 /// Whether one of a PDU's numbers followed as a word says.
-fn is_number(word: Word, remarks: &Remarks) -> bool
+fn is_number(word: Remarkable, remarks: &Remarks) -> bool
     ensures { result ≡ is_number_named word remarks.now }
 {
     is_maybe(word, remarks.channel)
@@ -114,7 +114,7 @@ fn is_number(word: Word, remarks: &Remarks) -> bool
         || is_maybe(word, remarks.sequence)
 }
 
-fn is_maybe(word: Word, judged: Option<Judged>) -> bool
+fn is_maybe(word: Remarkable, judged: Option<Judged>) -> bool
     ensures { result ≡ is_maybe_named word judged }
 {
     match judged {
@@ -123,16 +123,16 @@ fn is_maybe(word: Word, judged: Option<Judged>) -> bool
     }
 }
 
-fn is_so(word: Word, judged: Judged) -> bool
+fn is_so(word: Remarkable, judged: Judged) -> bool
     ensures { result ≡ is_named word judged }
 {
     match judged {
-        Judged::Repeat(_) => matches!(word, Word::Repeat),
-        Judged::Differs(_) => matches!(word, Word::Differs),
-        Judged::Ahead(_) => matches!(word, Word::Ahead),
-        Judged::Late => matches!(word, Word::Late),
-        Judged::Stale => matches!(word, Word::Stale),
-        Judged::Anew => matches!(word, Word::Anew),
+        Judged::Repeat(_) => matches!(word, Remarkable::Repeat),
+        Judged::Differs(_) => matches!(word, Remarkable::Differs),
+        Judged::Ahead(_) => matches!(word, Remarkable::Ahead),
+        Judged::Late => matches!(word, Remarkable::Late),
+        Judged::Stale => matches!(word, Remarkable::Stale),
+        Judged::Anew => matches!(word, Remarkable::Anew),
         Judged::First | Judged::Next => false,
     }
 }

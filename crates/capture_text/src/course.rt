@@ -9,10 +9,10 @@ ghost use Rattle.capture.specs.Whole.{connections_after, damaged_after, forgotte
 ghost use Rattle.capture_text.specs.FaultText.{fault_text, fault_word};
 ghost use Rattle.capture_text.specs.Steps.{asked_telegrams, connections_behind, counts_of, course_text, damaged_behind, datagrams_behind, fault_in, first_behind, first_of, forgotten_behind, found_in, found_text, gone_behind, heard_chosen, heard_line, is_line_told, payload_in, told_text, unreadable_behind};
 
-use crate::choice::{Word, is_wanted};
+use crate::choice::{Remarkable, is_wanted};
 use crate::json::write_json;
 use crate::record::write_record;
-use crate::summary::{Counts, Scale, write_summary};
+use crate::summary::{CaptureCounts, Scale, write_summary};
 use crate::telegrams::write_telegrams;
 use capture::{
     Buffer, Following, Heard, LineFault, PAYLOAD_ROOM, Ports, Record, Remark, hear, is_followed,
@@ -24,7 +24,7 @@ use std::io::Write;
 
 /// How a capture is told.
 #[derive(Clone, Copy, Debug, PartialEq, Eq)]
-pub enum Form {
+pub enum OutputForm {
     /// By a line for each datagram, and the sums in lines.
     Lines,
     /// By the sums alone, as one JSON object.
@@ -37,7 +37,7 @@ pub struct Asked {
     /// The rule of the safety code.
     pub rule: CodeRule,
     /// The remark whose lines are printed; all are, where there is none.
-    pub only: Option<Word>,
+    pub only: Option<Remarkable>,
     /// T_max in milliseconds, which ages are measured against.
     pub t_max: u32,
     /// Whether the telegrams of a datagram are printed behind its line.
@@ -45,7 +45,7 @@ pub struct Asked {
     /// The ports whose datagrams are followed, and no others are counted; all are, where there are none.
     pub ports: Option<Ports>,
     /// How it is told.
-    pub form: Form,
+    pub form: OutputForm,
 }
 
 /// How far a capture was read.
@@ -220,7 +220,7 @@ impl Course {
             first: start(self.first, 0),
             t_max: asked.t_max,
         };
-        let counts = Counts {
+        let counts = CaptureCounts {
             datagrams: self.following.datagrams,
             damaged: self.following.damaged,
             forgotten: self.following.forgotten,
@@ -229,8 +229,8 @@ impl Course {
         let connections = self.following.connections.as_slice();
         let gone = self.following.gone;
         match asked.form {
-            Form::Lines => write_summary(writer, scale, gone, connections, counts),
-            Form::Json => write_json(writer, scale, gone, connections, counts),
+            OutputForm::Lines => write_summary(writer, scale, gone, connections, counts),
+            OutputForm::Json => write_json(writer, scale, gone, connections, counts),
         }
     }
 }
@@ -324,8 +324,8 @@ fn is_told(asked: &Asked, remark: &Remark) -> bool
     ensures { result ≡ is_line_told asked.now remark.now }
 {
     match asked.form {
-        Form::Lines => is_wanted(asked.only, asked.t_max, remark),
-        Form::Json => false,
+        OutputForm::Lines => is_wanted(asked.only, asked.t_max, remark),
+        OutputForm::Json => false,
     }
 }
 

@@ -5,14 +5,13 @@ ghost use Rattle.std.specs.Io.KnownBytes.{Appends};
 ghost use Rattle.capture.specs.Hearing.{heard_of};
 ghost use Rattle.capture.specs.Numbers.{counted};
 ghost use Rattle.capture.specs.Whole.{connections_after, remark_of};
-ghost use Rattle.recording.specs.Frames.{found_in};
+ghost use Rattle.capture.specs.Frames.{found_in};
 ghost use Rattle.capture_text.specs.FaultText.{frame_text, frame_word};
 ghost use Rattle.capture_text.specs.FrameSteps.{connections_seen, fault_seen, first_seen, frame_seen, payload_at, record_found, seen_found, seen_passed, seen_text, unreadable_seen, IsWithin};
 ghost use Rattle.capture_text.specs.Steps.{first_of, told_text};
 
 use crate::course::{Asked, Course, start, write_wanted};
-use capture::{Ports, Record, hear, is_followed};
-use recording::{Found, Link, Passed, find_datagram};
+use capture::{Found, Link, Passed, Ports, Record, find_datagram, hear, is_followed};
 use std::io;
 use std::io::Write;
 

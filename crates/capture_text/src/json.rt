@@ -7,9 +7,9 @@ ghost use Rattle.capture_text.specs.Json.{came_json, channel_json, channels_json
 
 use crate::pieces::write_address;
 use crate::sentence::{oldest, on_all, on_channels, up};
-use crate::summary::{Counts, Scale, datagrams};
+use crate::summary::{CaptureCounts, Scale, datagrams};
 use capture::{
-    Address, CHANNELS, Connection, Direction, Opening, Route, Tally, Totals, Window, sum_up,
+    Address, CHANNELS, Connection, Direction, Route, SessionOpening, Tally, Totals, Window, sum_up,
 };
 use pdu_text::write_text;
 use safe_pdu::Leaving;
@@ -28,7 +28,7 @@ pub fn write_json<W: Write>(
     scale: Scale,
     gone: Totals,
     connections: &[Connection],
-    counts: Counts,
+    counts: CaptureCounts,
 ) -> io::Result<()>
     // The sums as one JSON object are exactly the stated text.
     ensures { OnOk result (Appends (W.contents writer.old) (W.contents writer.new)
@@ -92,7 +92,7 @@ fn write_others<W: Write>(writer: &mut W, totals: Totals) -> io::Result<()>
 }
 
 #[tactic(auto, unfolding(crate::specs::Json::counts_json))]
-fn write_counts<W: Write>(writer: &mut W, counts: Counts) -> io::Result<()>
+fn write_counts<W: Write>(writer: &mut W, counts: CaptureCounts) -> io::Result<()>
     ensures { OnOk result (Appends (W.contents writer.old) (W.contents writer.new) (counts_json counts)) }
 {
     let damaged = counts.damaged;
@@ -224,7 +224,7 @@ fn write_ends<W: Write>(writer: &mut W, sender: u32, receiver: u32) -> io::Resul
 #[tactic(auto, unfolding(crate::specs::Json::openings_json))]
 fn write_openings<W: Write>(
     writer: &mut W,
-    opening: Option<Opening>,
+    opening: Option<SessionOpening>,
     tally: &Tally,
 ) -> io::Result<()>
     ensures { OnOk result (Appends (W.contents writer.old) (W.contents writer.new)
@@ -237,7 +237,7 @@ fn write_openings<W: Write>(
 }
 
 #[tactic(auto, unfolding(crate::specs::Json::opened_json))]
-fn write_opened<W: Write>(writer: &mut W, opening: Option<Opening>) -> io::Result<()>
+fn write_opened<W: Write>(writer: &mut W, opening: Option<SessionOpening>) -> io::Result<()>
     ensures { OnOk result (Appends (W.contents writer.old) (W.contents writer.new) (opened_json opening)) }
 {
     write_text(writer, ",\"opening\":")?;
@@ -261,7 +261,7 @@ fn write_opened_at<W: Write>(writer: &mut W, time: u64) -> io::Result<()>
     Ok(())
 }
 
-fn write_opening<W: Write>(writer: &mut W, opening: Option<Opening>) -> io::Result<()>
+fn write_opening<W: Write>(writer: &mut W, opening: Option<SessionOpening>) -> io::Result<()>
     ensures { OnOk result (Appends (W.contents writer.old) (W.contents writer.new) (opening_json opening)) }
 {
     match opening {

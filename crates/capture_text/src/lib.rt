@@ -20,12 +20,12 @@ mod sentence;
 mod summary;
 mod telegrams;
 
-pub use choice::{Word, is_wanted};
-pub use course::{Asked, Course, Form, write_fault};
+pub use choice::{Remarkable, is_wanted};
+pub use course::{Asked, Course, OutputForm, write_fault};
 pub use frames::{FrameFault, write_frame_fault};
 pub use json::write_json;
 pub use record::write_record;
 pub use remarks::write_remarks;
 pub use running::{FollowStatus, run};
-pub use summary::{Counts, Scale, write_summary};
+pub use summary::{CaptureCounts, Scale, write_summary};
 pub use telegrams::write_telegrams;

@@ -2,9 +2,9 @@
 
 ghost use Rattle.std.specs.Prelude.{◌≡◌, OnOk};
 ghost use Rattle.std.specs.Io.KnownBytes.{Appends};
-ghost use Rattle.capture_text.specs.Reasons.{detail_word, leaving_words, protocol_word, reason_word, session_word};
+ghost use Rattle.capture_text.specs.Reasons.{detail_word, leaving_words, reason_word, word_beside};
 
-use safe_pdu::Leaving;
+use safe_pdu::{Detail, Leaving, Reason};
 use std::io;
 use std::io::Write;
 
@@ -14,56 +14,48 @@ pub(crate) fn write_reasons<W: Write>(writer: &mut W, leaving: Leaving) -> io::R
     ensures { OnOk result (Appends (W.contents writer.old) (W.contents writer.new) (leaving_words leaving)) }
 {
     let Leaving { detail, reason } = leaving;
-    let why = name_of_reason(reason);
-    let more = name_of_detail(reason, detail);
+    let named = Reason::of(reason);
+    let why = name_of_reason(named);
+    let more = name_of_detail(named, detail);
     write!(writer, " reason {reason}{why} detail {detail}{more}")
 }
 
-fn name_of_reason(reason: u16) -> &'static str
+fn name_of_reason(reason: Option<Reason>) -> &'static str
     ensures { result.now ≡ reason_word reason }
 {
     match reason {
-        0 => " closed by user",
-        1 => " unexpected PDU",
-        2 => " sequence error",
-        3 => " timeout",
-        4 => " service not allowed",
-        5 => " wrong version",
-        6 => " retransmission impossible",
-        7 => " protocol error",
-        _ => "",
+        Some(Reason::ClosedByUser) => " closed by user",
+        Some(Reason::UnexpectedPdu) => " unexpected PDU",
+        Some(Reason::SequenceError) => " sequence error",
+        Some(Reason::Timeout) => " timeout",
+        Some(Reason::ServiceNotAllowed) => " service not allowed",
+        Some(Reason::WrongVersion) => " wrong version",
+        Some(Reason::RetransmissionImpossible) => " retransmission impossible",
+        Some(Reason::ProtocolError) => " protocol error",
+        None => "",
     }
 }
 
-fn name_of_detail(reason: u16, detail: u16) -> &'static str
+fn name_of_detail(reason: Option<Reason>, detail: u16) -> &'static str
     ensures { result.now ≡ detail_word reason detail }
 {
     match reason {
-        4 => name_in_session(detail),
-        7 => name_in_protocol(detail),
-        _ => "",
+        Some(reason) => name_beside(Detail::of(reason, detail)),
+        None => "",
     }
 }
 
-fn name_in_session(detail: u16) -> &'static str
-    ensures { result.now ≡ session_word detail }
+fn name_beside(detail: Option<Detail>) -> &'static str
+    ensures { result.now ≡ word_beside detail }
 {
     match detail {
-        1 => " version differs",
-        2 => " out of order",
-        3 => " not of this pair",
-        _ => "",
-    }
-}
-
-fn name_in_protocol(detail: u16) -> &'static str
-    ensures { result.now ≡ protocol_word detail }
-{
-    match detail {
-        1 => " limit of PDUs",
-        2 => " bad unit",
-        3 => " confirmed number",
-        4 => " confirmed timestamp",
-        _ => "",
+        Some(Detail::VersionDiffers) => " version differs",
+        Some(Detail::OutOfOrder) => " out of order",
+        Some(Detail::NotWellFormed) => " not of this pair",
+        Some(Detail::Limit) => " limit of PDUs",
+        Some(Detail::BadUnit) => " bad unit",
+        Some(Detail::ConfirmedNumber) => " confirmed number",
+        Some(Detail::ConfirmedTimestamp) => " confirmed timestamp",
+        Some(Detail::Unspecified) | None => "",
     }
 }

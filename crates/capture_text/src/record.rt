@@ -8,7 +8,7 @@ use crate::pieces::{channel_name, write_address, write_ends, write_since};
 use crate::remarks::write_remarks;
 use capture::{Header, Record, Remark, Remarks};
 use pdu_text::write_text;
-use red_pdu::RedFault;
+use red_layer::pdu::RedFault;
 use safe_pdu::SafeFault;
 use std::io;
 use std::io::Write;

@@ -13,8 +13,9 @@ ghost use Rattle.capture_text.specs.Steps.{without_end};
 use crate::course::{Asked, Course, write_fault};
 use crate::frames::{FrameFault, write_frame_fault};
 use crate::reading::{LINE_MAX, take_line};
-use capture::{Buffer, LineFault, PAYLOAD_ROOM};
-use recording::{Event, FileFault, Framed, Part, Recording};
+use capture::{
+    BlockContent, Buffer, FileFault, FilePart, Framed, LineFault, PAYLOAD_ROOM, Recording,
+};
 use std::alloc::Allocator;
 use std::io;
 use std::io::{BufRead, BufReader, BufWriter, ErrorKind, Read, Write};
@@ -54,7 +55,7 @@ pub fn run<R: Read + Drop, O: Write, E: Write, A: Allocator + Copy>(
     out: &mut O,
     err: &mut E,
 ) -> FollowStatus {
-    match ran(alloc, reader, asked, out, err) {
+    match follow_input(alloc, reader, asked, out, err) {
         Ok(0) => FollowStatus::Done,
         Ok(_) => FollowStatus::Unreadable,
         Err(Stop::Memory) => FollowStatus::Memory,
@@ -64,7 +65,7 @@ pub fn run<R: Read + Drop, O: Write, E: Write, A: Allocator + Copy>(
 }
 
 /// Follows the capture, and answers how many lines were no datagrams.
-fn ran<R: Read + Drop, O: Write, E: Write, A: Allocator + Copy>(
+fn follow_input<R: Read + Drop, O: Write, E: Write, A: Allocator + Copy>(
     alloc: A,
     reader: R,
     asked: &Asked,
@@ -78,7 +79,7 @@ fn ran<R: Read + Drop, O: Write, E: Write, A: Allocator + Copy>(
     let mut course = Course::new();
     let mut recording = Recording::new();
     match recording.take(&front[..size]) {
-        Ok(Event::Nothing) => {
+        Ok(BlockContent::Nothing) => {
             let mut rest = BufReader::new(alloc, reader).map_err(|_| Stop::Memory)?;
             follow_frames(
                 alloc,
@@ -206,7 +207,7 @@ fn follow_frames<R: Read + Drop, W: Write, E: Write, A: Allocator + Copy>(
             return end(course, recording.part, size, err);
         }
         match recording.take(block.as_slice()) {
-            Ok(Event::Frame(framed)) => {
+            Ok(BlockContent::Frame(framed)) => {
                 take_framed(course, asked, &framed, block.as_slice(), writer, err)?;
             }
             Ok(_) => {}
@@ -344,8 +345,13 @@ fn tell_frame<E: Write>(err: &mut E, number: u64, fault: FrameFault) -> Result<(
 }
 
 /// Ends a recording of which no more octets than these came for the next block; within a block that is told.
-fn end<E: Write>(course: &mut Course, part: Part, size: usize, err: &mut E) -> Result<(), Stop> {
-    if size == 0 && matches!(part, Part::Record(_, _) | Part::Block(_)) {
+fn end<E: Write>(
+    course: &mut Course,
+    part: FilePart,
+    size: usize,
+    err: &mut E,
+) -> Result<(), Stop> {
+    if size == 0 && matches!(part, FilePart::Record(_, _) | FilePart::Block(_)) {
         return Ok(());
     }
     give_up(course, "it ends within a block", err)

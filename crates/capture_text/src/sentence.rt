@@ -7,7 +7,7 @@ ghost use Rattle.capture_text.specs.Sentence.{at_text, coming_text, going_text, 
 use crate::pieces::{reached, write_since};
 use crate::reasons::write_reasons;
 use crate::summary::Scale;
-use capture::{CHANNELS, Connection, Direction, Opening, Window};
+use capture::{CHANNELS, Connection, Direction, SessionOpening, Window};
 use pdu_text::write_text;
 use safe_pdu::{Kind, Leaving};
 use std::io;
@@ -98,7 +98,7 @@ fn answers(one: &Direction, other: &Direction) -> bool
     asks(one.opening) && responds(other.opening) && one.tally.opened <= other.tally.opened
 }
 
-fn asks(opening: Option<Opening>) -> bool
+fn asks(opening: Option<SessionOpening>) -> bool
     ensures { result ≡ has_asked opening }
 {
     match opening {
@@ -107,7 +107,7 @@ fn asks(opening: Option<Opening>) -> bool
     }
 }
 
-fn responds(opening: Option<Opening>) -> bool
+fn responds(opening: Option<SessionOpening>) -> bool
     ensures { result ≡ has_answered opening }
 {
     match opening {
@@ -196,10 +196,12 @@ fn write_last_heard<W: Write>(writer: &mut W, first: u64, last: u64) -> io::Resu
 pub(crate) fn on_channels(connection: &Connection) -> u64
     ensures { result ≡ lost_on_channels connection.now }
 {
-    lost(&connection.from_low.channels).saturating_add(lost(&connection.from_high.channels))
+    count_lost(&connection.from_low.channels).saturating_add(count_lost(
+        &connection.from_high.channels,
+    ))
 }
 
-fn lost(channels: &[Window; CHANNELS]) -> u64
+fn count_lost(channels: &[Window; CHANNELS]) -> u64
     ensures { result ≡ lost_in channels.now }
 {
     channels

@@ -10,7 +10,9 @@ use crate::pieces::{
 };
 use crate::reasons::write_reasons;
 use crate::sentence::write_sentence;
-use capture::{CHANNELS, Connection, Direction, Opening, Route, Tally, Totals, Window, sum_up};
+use capture::{
+    CHANNELS, Connection, Direction, Route, SessionOpening, Tally, Totals, Window, sum_up,
+};
 use pdu_text::write_text;
 use safe_pdu::Leaving;
 use std::io;
@@ -27,7 +29,7 @@ pub struct Scale {
 
 /// What is counted beside the connections.
 #[derive(Clone, Copy, Debug, PartialEq, Eq)]
-pub struct Counts {
+pub struct CaptureCounts {
     /// Datagrams, of whatever connection.
     pub datagrams: u64,
     /// Those that were no PDU.
@@ -49,7 +51,7 @@ pub fn write_summary<W: Write>(
     scale: Scale,
     gone: Totals,
     connections: &[Connection],
-    counts: Counts,
+    counts: CaptureCounts,
 ) -> io::Result<()>
     // The sums are exactly the stated text: of each connection both directions, of each direction its channels,
     // and one line for all.
@@ -159,7 +161,11 @@ fn write_direction<W: Write>(
     Ok(())
 }
 
-fn write_opening<W: Write>(writer: &mut W, opening: Option<Opening>, times: u64) -> io::Result<()>
+fn write_opening<W: Write>(
+    writer: &mut W,
+    opening: Option<SessionOpening>,
+    times: u64,
+) -> io::Result<()>
     ensures { OnOk result (Appends (W.contents writer.old) (W.contents writer.new) (opening_text opening times)) }
 {
     match opening {
@@ -369,7 +375,7 @@ pub(crate) fn datagrams(window: &Window, damaged: u64) -> u64
 }
 
 #[tactic(auto, unfolding(crate::specs::SummaryText::all_text))]
-fn write_all<W: Write>(writer: &mut W, totals: Totals, counts: Counts) -> io::Result<()>
+fn write_all<W: Write>(writer: &mut W, totals: Totals, counts: CaptureCounts) -> io::Result<()>
     ensures { OnOk result (Appends (W.contents writer.old) (W.contents writer.new) (all_text totals counts)) }
 {
     write_came(writer, counts.datagrams)?;
@@ -412,7 +418,7 @@ fn write_other_totals<W: Write>(writer: &mut W, totals: Totals) -> io::Result<()
 }
 
 #[tactic(auto, unfolding(crate::specs::SummaryText::counts_text))]
-fn write_counts<W: Write>(writer: &mut W, counts: Counts) -> io::Result<()>
+fn write_counts<W: Write>(writer: &mut W, counts: CaptureCounts) -> io::Result<()>
     ensures { OnOk result (Appends (W.contents writer.old) (W.contents writer.new) (counts_text counts)) }
 {
     let damaged = counts.damaged;

@@ -20,7 +20,7 @@ pub fn write_telegrams<W: Write>(writer: &mut W, rule: &CodeRule, datagram: &[u8
     ensures { OnOk result (Appends (W.contents writer.old) (W.contents writer.new)
         (telegram_lines rule.now datagram.now)) }
 {
-    match red_pdu::decode(datagram) {
+    match red_layer::pdu::decode(datagram) {
         Ok(pdu) => write_body(writer, rule, pdu.upper),
         Err(_) => Ok(()),
     }

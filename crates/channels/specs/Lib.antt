@@ -1,4 +1,2 @@
 pub mod Told
 pub mod Memory
-pub mod Sockets
-pub mod Addresses

@@ -7,17 +7,11 @@ ghost use Rattle.std.specs.Prelude.{◌≡◌, ◌≤◌, length, is_ok, IfOk, I
 ghost use Rattle.channels.specs.Told.{Told, Sends, after_receive};
 
 mod memory;
-mod sockets;
-mod udp;
 
 pub use memory::{MemChannels, MemoryFault};
 use pdi_session::Phase;
 use red_layer::RedEvent;
 use safe_machine::{ConnectionState, Step};
-pub use sockets::{Reception, Socket, SocketChannels};
-pub use udp::{
-    Addresses, Place, Refusal, UdpChannels, UdpFault, UdpPath, Watch, is_address, open_udp,
-};
 
 /// Why a datagram was not sent, or nothing could be received.
 #[derive(Clone, Copy, Debug, PartialEq, Eq)]

@@ -4,7 +4,6 @@
 ghost use Rattle.std.specs.Prelude.{◌≡◌, ◌≤◌, ◌^◌, IfOk, OnOk};
 
 use crate::switch::{Switch, turn};
-use channels::{UdpChannels, UdpFault, Watch, open_udp};
 use end_settings::Side;
 use safe_machine::ConnectionState;
 use settings_file::{Ends, Settings, SettingsFault, Word, settings};
@@ -17,6 +16,7 @@ use std::rt::Files;
 use std::time::{Clock, Duration, Instant};
 use std::{env, fs};
 use thiserror::Error;
+use udp_channels::{UdpChannels, UdpFault, Watch, open_udp};
 
 /// The greatest time that an end may be handed, in milliseconds.
 const TIME_MAX: u64 = 1 << 62;

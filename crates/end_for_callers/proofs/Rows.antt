@@ -10,8 +10,8 @@ use Rattle.std.specs.List.{flat_map, list_all}
 use Rattle.std.specs.Str.{IsUtf8}
 use Rattle.byteorder.specs.Endian.{little_bytes}
 use Rattle.octets.proofs.Fields.{field_reads}
-use Rattle.sci_telegram.specs.Names.{HasCharacters, IsName, is_character}
-use Rattle.sci_telegram.proofs.NameLemmas.{HasCharacters-ascii, name_read-ok, read_cases}
+use Rattle.pdi_session.specs.telegram.Names.{HasCharacters, IsName, is_character}
+use Rattle.pdi_session.proofs.NameLemmas.{HasCharacters-ascii, name_read-ok, read_cases}
 use Rattle.end_settings.specs.Configured.{code_of}
 use Rattle.end_settings.specs.EndSettings.{EndSettings}
 use Rattle.end_settings.specs.declared.Side.{Side}

@@ -3,16 +3,16 @@ use Rattle.std.specs.Prelude.{ℕ, Bool, true, ◌&&◌, ◌==◌, nat_lt, nat_l
 use Rattle.std.specs.List.{position_or_len}
 use Rattle.std.specs.Result.{result_ok}
 use Rattle.byteorder.specs.Endian.{little_number}
-use Rattle.sci_telegram.specs.Names.{name_read}
+use Rattle.pdi_session.specs.telegram.Names.{name_read}
 use Rattle.end_settings.specs.Configured.{code_of, settings_of}
 use Rattle.end_settings.specs.EndSettings.{EndSettings}
 use Rattle.end_settings.specs.declared.EndConfig.{EndConfig}
 use Rattle.end_settings.specs.declared.Side.{Side}
 use Rattle.end_settings.specs.declared.Side.TheVariants.{Interlocking, FieldElement}
 use Rattle.end_settings.specs.Lists.{checksum_in, versions_in}
-use Rattle.sci_telegram.specs.Tele.{owned_characters}
+use Rattle.pdi_session.specs.telegram.Tele.{owned_characters}
 use Rattle.end_for_callers.specs.declared.plain.Lists.{Lists}
-use Rattle.end_for_callers.specs.declared.plain.Opening.{Opening}
+use Rattle.end_for_callers.specs.declared.plain.EndOpening.{EndOpening}
 use Rattle.end_for_callers.specs.declared.plain.PlainSettings.{PlainSettings}
 use Rattle.end_for_callers.specs.declared.station.Rooms.{Rooms}
 
@@ -23,7 +23,7 @@ pub record OpeningSeen : Type 0 where
   pub first_sn : ℕ
   pub rooms : Rooms
 
-abbrev pub opening_seen : Opening → OpeningSeen
+abbrev pub opening_seen : EndOpening → OpeningSeen
 opening_seen o = record { config = settings_of o.config; side = o.side; first_sn = o.first_sn; rooms = o.rooms }
 
 -- how many octets stand before the first zero

@@ -16,7 +16,7 @@ mod station;
 mod writing;
 
 use pdi_session::{InitFault, PutFault};
-pub use plain::{Opening, PLAIN_SETTINGS_SIZE, PlainSettings, numbers_law};
+pub use plain::{EndOpening, PLAIN_SETTINGS_SIZE, PlainSettings, numbers_law};
 pub use queue::{Queue, QueueFull, TooSmall};
 pub use station::{Rooms, Station};
 

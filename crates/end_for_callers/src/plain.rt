@@ -3,14 +3,15 @@
 ghost use Rattle.std.specs.Prelude.{◌≡◌, ◌≤◌, option_map};
 ghost use Rattle.end_settings.specs.Configured.{settings_of};
 ghost use Rattle.end_settings.specs.Lists.{checksum_in, versions_in};
-ghost use Rattle.sci_telegram.specs.Tele.{owned_characters};
+ghost use Rattle.pdi_session.specs.telegram.Tele.{owned_characters};
 ghost use Rattle.end_for_callers.specs.Numbers.{NumbersAre};
 ghost use Rattle.end_for_callers.specs.Plain.{config_with, front_of, lists_in, lists_seen, name_in, opening_of, opening_seen, side_in, text_size};
 
 use crate::station::Rooms;
 use end_settings::{Checksum, EndConfig, Side, Versions};
+use octets::Milliseconds;
 use octets::places::u32_at;
-use sci_telegram::{Name, OwnedName};
+use pdi_session::telegram::{Name, OwnedName};
 
 /// How many octets plain settings of this version have.
 pub const PLAIN_SETTINGS_SIZE: u32 = 164;
@@ -73,7 +74,7 @@ pub struct PlainSettings {
 
 /// What an end is opened with.
 #[derive(Clone, Copy, Debug)]
-pub struct Opening {
+pub struct EndOpening {
     /// Its settings. Whether an end is opened with them is not said yet.
     pub config: EndConfig,
     /// Its side.
@@ -100,7 +101,7 @@ struct Lists {
 impl PlainSettings {
     /// What an end is opened with by these settings; `None` where the side is neither 1 nor 2, the protocol type is above 255, a name is none
     /// or has no zero behind it, or a list is longer than its row.
-    pub fn opening(&self) -> Option<Opening>
+    pub fn opening(&self) -> Option<EndOpening>
         // Plain settings are read as exactly what an end is opened with by them, or as nothing where side,
         // protocol type, a name or a list cannot be read.
         ensures { option_map opening_seen result ≡ opening_of self.now }
@@ -110,7 +111,7 @@ impl PlainSettings {
             return None;
         }
         let lists = self.lists()?;
-        Some(Opening {
+        Some(EndOpening {
             config: self.config(&lists),
             side,
             first_sn: self.first_sn,
@@ -155,9 +156,9 @@ impl PlainSettings {
             n_sendmax: u64::from(self.n_sendmax),
             n_maxpacket: u64::from(self.n_maxpacket),
             q: u64::from(self.q),
-            t_max: u64::from(self.t_max),
-            t_h: u64::from(self.t_h),
-            t_seq: u64::from(self.t_seq),
+            t_max: Milliseconds::from(self.t_max),
+            t_h: Milliseconds::from(self.t_h),
+            t_seq: Milliseconds::from(self.t_seq),
             mwa: u64::from(self.mwa),
             pdu_limit: u64::from(self.pdu_limit),
         }

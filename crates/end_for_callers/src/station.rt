@@ -20,6 +20,7 @@ use crate::outbox::Outbox;
 use crate::queue::{Queue, TooSmall};
 use crate::{CALL_TELEGRAMS, CallFault, Outcome, PART_PDUS, StationFault};
 use end_settings::{EndConfig, Side};
+use octets::Milliseconds;
 use octets::limits::{PAYLOAD_MAX, RED_PDU_MAX};
 use pdi_session::Phase;
 use safe_machine::ConnectionState;
@@ -77,7 +78,7 @@ impl Station {
         side: Side,
         first_sn: u32,
         rooms: Rooms,
-        now: u64,
+        now: Milliseconds,
     ) -> Result<Station, StationFault>
         // An end is opened exactly where its time, its settings and its rooms are fit and there is memory, else
         // the first that holds is named.
@@ -128,7 +129,12 @@ impl Station {
     /// # Errors
     ///
     /// Refused, and the first that holds is named: `Time`, `Lost`, `TakeFirst`, `SendFirst`.
-    pub fn arrive(&mut self, channel: usize, octets: &[u8], now: u64) -> Result<Outcome, CallFault>
+    pub fn arrive(
+        &mut self,
+        channel: usize,
+        octets: &[u8],
+        now: Milliseconds,
+    ) -> Result<Outcome, CallFault>
         // An accepted call leaves the end what the turn of the call leaves (`Does` (left)).
         // What the end sent in it waits behind what waited, each in order or counted, and all of it where the
         // count stands (of fewer than 2^64) (`Posted`).
@@ -155,7 +161,7 @@ impl Station {
     /// # Errors
     ///
     /// Refused, and the first that holds is named: `Time`, `Lost`, `TakeFirst`, `SendFirst`.
-    pub fn tick(&mut self, now: u64) -> Result<Outcome, CallFault>
+    pub fn tick(&mut self, now: Milliseconds) -> Result<Outcome, CallFault>
         // An accepted call leaves the end what the turn of the call leaves (`Does` (left)).
         // What the end sent in it waits behind what waited, each in order or counted, and all of it where the
         // count stands (of fewer than 2^64) (`Posted`).
@@ -182,7 +188,12 @@ impl Station {
     /// # Errors
     ///
     /// Refused, and the first that holds is named: `Time`, `Lost`, `SendFirst`, and what `End::put` refuses.
-    pub fn put(&mut self, kind: u16, payload: &[u8], now: u64) -> Result<Outcome, CallFault>
+    pub fn put(
+        &mut self,
+        kind: u16,
+        payload: &[u8],
+        now: Milliseconds,
+    ) -> Result<Outcome, CallFault>
         // An accepted call leaves the end what the turn of the call leaves (`Does` (left)).
         // What the end sent in it waits behind what waited, each in order or counted, and all of it where the
         // count stands (of fewer than 2^64) (`Posted`).
@@ -218,7 +229,7 @@ impl Station {
     /// # Errors
     ///
     /// Refused, and the first that holds is named: `Time`, `Lost`, `SendFirst`, and what `End::init_done` refuses.
-    pub fn init_done(&mut self, now: u64) -> Result<Outcome, CallFault>
+    pub fn init_done(&mut self, now: Milliseconds) -> Result<Outcome, CallFault>
         // An accepted call leaves the end what the turn of the call leaves (`Does` (left)).
         // What the end sent in it waits behind what waited, each in order or counted, and all of it where the
         // count stands (of fewer than 2^64) (`Posted`).
@@ -254,7 +265,7 @@ impl Station {
     /// # Errors
     ///
     /// Refused as `Time`.
-    pub fn close(&mut self, now: u64) -> Result<Outcome, CallFault>
+    pub fn close(&mut self, now: Milliseconds) -> Result<Outcome, CallFault>
         // An accepted call leaves the end what the turn of the call leaves (`Does` (left)).
         // What the end sent in it waits behind what waited, each in order or counted, and all of it where the
         // count stands (of fewer than 2^64) (`Posted`).
@@ -316,7 +327,7 @@ impl Station {
     ghost use Rattle.stack_end.specs.Turns.{is_over, is_settled};
 
     /// The earliest time at which `tick` does something, if nothing arrives and nothing is put in, as `End::next_deadline` tells it.
-    pub fn next_deadline(&self) -> Option<u64>
+    pub fn next_deadline(&self) -> Option<Milliseconds>
         // Before the deadline a tick does nothing, where the end is not closed.
         ensures before { is_over (inside self.now.end) ≡ false → (now : ℕ) → IsBefore now result
             → IsQuiet now (inside self.now.end) }
@@ -385,14 +396,14 @@ impl Station {
     }
 
     /// Whether it may be called at this time.
-    fn is_time(&self, now: u64) -> bool
+    fn is_time(&self, now: Milliseconds) -> bool
         ensures { result ≡ is_time now self.now }
     {
         self.time <= now && now <= TIME_MAX
     }
 
     /// Whether a call that sends may come to the end.
-    fn may_send(&self, now: u64) -> Result<(), CallFault>
+    fn may_send(&self, now: Milliseconds) -> Result<(), CallFault>
         ensures answer { MatchResult result (λ _. refusal_to_send now self.now ≡ None) (λ f. refusal_to_send now self.now ≡ Some f) }
         ensures time { OnOk result (is_time now self.now ≡ true) }
     {
@@ -409,7 +420,7 @@ impl Station {
     }
 
     /// Whether a call in which telegrams may come may come to the end.
-    fn may_hear(&self, now: u64) -> Result<(), CallFault>
+    fn may_hear(&self, now: Milliseconds) -> Result<(), CallFault>
         ensures answer { MatchResult result (λ _. refusal now self.now ≡ None) (λ f. refusal now self.now ≡ Some f) }
         ensures time { OnOk result (is_time now self.now ≡ true) }
     {

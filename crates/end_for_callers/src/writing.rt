@@ -2,14 +2,14 @@
 
 ghost use Rattle.std.specs.Prelude.{◌≡◌, ◌≤◌, ◌++◌, drop, is_some, length, Some, IfSome};
 ghost use Rattle.end_settings.specs.Configured.{settings_of};
-ghost use Rattle.sci_telegram.specs.Tele.{owned_characters};
+ghost use Rattle.pdi_session.specs.telegram.Tele.{owned_characters};
 ghost use Rattle.end_for_callers.specs.Plain.{are_plain, name_in, opening_of, side_in, words_of};
 
 use crate::plain::{PLAIN_SETTINGS_SIZE, PlainSettings};
 use crate::station::Rooms;
 use byteorder::{ByteOrder, LittleEndian};
 use end_settings::{EndConfig, Side};
-use sci_telegram::OwnedName;
+use pdi_session::telegram::OwnedName;
 
 /// How many octets a name has in plain settings, with the zeros behind it.
 const NAME_ROW: usize = 24;
@@ -41,7 +41,7 @@ impl PlainSettings {
             id: config.id,
             peer_id: config.peer_id,
             first_sn,
-            protocol: widened(config.protocol),
+            protocol: widen(config.protocol),
             code: config.code as u32,
             channels: config.channels as u32,
             n_sendmax: config.n_sendmax as u32,
@@ -59,8 +59,8 @@ impl PlainSettings {
             versions,
             checksum,
             initial_value: octets_of(&config.initial_value),
-            name: named(&config.name),
-            peer_name: named(&config.peer_name),
+            name: spell_name(&config.name),
+            peer_name: spell_name(&config.peer_name),
         })
     }
 }
@@ -90,7 +90,7 @@ fn number_of(side: Side) -> u32
     }
 }
 
-fn widened(octet: u8) -> u32
+fn widen(octet: u8) -> u32
     ensures value { result ≡ octet }
     ensures small { result ≤ 255 }
 {
@@ -115,7 +115,7 @@ fn octets_of(words: &[u32; 4]) -> [u8; 16]
 }
 
 /// A name with zeros behind it.
-fn named(name: &OwnedName) -> [u8; NAME_ROW]
+fn spell_name(name: &OwnedName) -> [u8; NAME_ROW]
     ensures { name_in result ≡ Some (owned_characters name.now) }
 {
     let mut row = [0; NAME_ROW];

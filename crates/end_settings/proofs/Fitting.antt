@@ -4,7 +4,7 @@ use Rattle.std.specs.Prelude.{nat_le}
 use Rattle.std.proofs.lemmas.Bool.{le-leb}
 use Rattle.std.proofs.lemmas.List.{length-take}
 use Rattle.octets.specs.declared.limits.TheConstants.{NAME_LENGTH}
-use Rattle.sci_telegram.specs.Names.{IsName}
+use Rattle.pdi_session.specs.telegram.Names.{IsName}
 use Rattle.pdi_session.specs.declared.TheConstants.{CHECKSUM_MAX}
 use Rattle.pdi_session.specs.Settings.{Addressing}
 use Rattle.end_settings.specs.declared.lists.Checksum.{Checksum}

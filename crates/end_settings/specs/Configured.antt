@@ -6,7 +6,7 @@ use Rattle.safe_machine.specs.declared.Role.{Role}
 use Rattle.safe_machine.specs.declared.Role.TheVariants.{Client, Server}
 use Rattle.safe_machine.specs.World.{Side as WorldSide}
 use Rattle.safe_machine.specs.World.Side.{Il, Fe}
-use Rattle.sci_telegram.specs.Tele.{owned_characters}
+use Rattle.pdi_session.specs.telegram.Tele.{owned_characters}
 use Rattle.end_settings.specs.declared.Side.{Side}
 use Rattle.end_settings.specs.declared.Side.TheVariants.{Interlocking, FieldElement}
 use Rattle.end_settings.specs.Lists.{versions_in, checksum_in}

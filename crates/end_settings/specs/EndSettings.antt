@@ -6,7 +6,7 @@ use Rattle.safe_pdu.specs.declared.CodeRule.{CodeRule}
 use Rattle.safe_machine.specs.Settings.{Settings, is_legal}
 use Rattle.safe_machine.specs.World.{Side, as_role}
 use Rattle.safe_machine.specs.World.Side.{Il, Fe}
-use Rattle.sci_telegram.specs.Names.{is_character}
+use Rattle.pdi_session.specs.telegram.Names.{is_character}
 use Rattle.pdi_session.specs.declared.TheConstants.{CHECKSUM_MAX}
 use Rattle.pdi_session.specs.Settings.{Addressing, Role, Interlocking, Field, first_version, are_versions}
 

@@ -12,11 +12,12 @@ ghost use Rattle.safe_machine.specs.View.{settings_of as machine_settings};
 mod lists;
 
 pub use lists::{Checksum, Versions};
+use octets::Milliseconds;
 use octets::limits::{CHANNELS_MAX, Q_MAX, T_SEQ_LOWEST, T_SEQ_MAX, UNIT_MESSAGES, WINDOW_MAX};
 use pdi_session::are_versions;
+use pdi_session::telegram::OwnedName;
 use safe_machine::{MachineConfig, Role};
 use safe_pdu::{CodeLength, CodeRule};
-use sci_telegram::OwnedName;
 
 /// The two ends of a connection.
 #[derive(Clone, Copy, Debug, PartialEq, Eq)]
@@ -70,11 +71,11 @@ pub struct EndConfig {
     /// How many early parts the redundancy layer lets wait (deferral queue), 1 to 8.
     pub q: u64,
     /// How old what was last confirmed may get (T_max), 100 to 60,000 milliseconds.
-    pub t_max: u64,
+    pub t_max: Milliseconds,
     /// How long after its last sending a connected end sends a heartbeat (T_h), 10 to t_max minus 1 milliseconds.
-    pub t_h: u64,
+    pub t_h: Milliseconds,
     /// How long early parts wait (T_seq), 10 to 1,000 milliseconds.
-    pub t_seq: u64,
+    pub t_seq: Milliseconds,
     /// After how many units taken without a sending a heartbeat is sent (MWA), 1 to 16.
     pub mwa: u64,
     /// How many PDUs one connection may have, 100 to 4,294,901,760.

@@ -1,10 +1,10 @@
 use arrayvec::ArrayVec;
-use packing::{WAITING_MAX, Waiting, pack, unpack};
+use pdi_session::packing::{WAITING_MAX, Waiting, pack, unpack};
+use pdi_session::telegram::{Name, NameFault, OwnedName, Telegram, decode};
 use pdi_session::{
-    Detail, FieldConfig, InitFault, InterlockingConfig, Parties, Phase, PutFault, Session,
+    FieldConfig, InitFault, InterlockingConfig, Parties, Phase, PutFault, Session, SessionDetail,
     SessionEnd, Taker, are_versions,
 };
-use sci_telegram::{Name, NameFault, OwnedName, Telegram, decode};
 use std::process::Abort;
 use std::test::Fail;
 
@@ -152,7 +152,7 @@ fn tell(
     names: [&str; 2],
     kind: u16,
     payload: &[u8],
-) -> Result<Option<Detail>, Fail> {
+) -> Result<Option<SessionDetail>, Fail> {
     let telegram = Telegram {
         protocol: 1,
         kind,
@@ -249,7 +249,15 @@ const TELEGRAMS: [(u16, &[u8]); 22] = [
 
 // What a row says: phase, places in TELEGRAMS from and to, answer, next phase, how many messages are
 // added and how many telegrams are taken.
-type Row = (Phase, usize, usize, Option<Detail>, Phase, usize, usize);
+type Row = (
+    Phase,
+    usize,
+    usize,
+    Option<SessionDetail>,
+    Phase,
+    usize,
+    usize,
+);
 
 // A telegram without a row.
 fn row_of(rows: &[Row], phase: Phase, place: usize) -> Row {
@@ -262,7 +270,7 @@ fn row_of(rows: &[Row], phase: Phase, place: usize) -> Row {
         phase,
         place,
         place,
-        Some(Detail::OutOfOrder),
+        Some(SessionDetail::OutOfOrder),
         Phase::Ended,
         0,
         0,
@@ -295,7 +303,7 @@ fn makes_the_table_of_the_interlocking(rt: HostRuntime) -> Result<(), Fail> {
             Phase::Checking,
             8,
             8,
-            Some(Detail::VersionDiffers),
+            Some(SessionDetail::VersionDiffers),
             Phase::Ended,
             0,
             0,
@@ -406,7 +414,7 @@ fn tests_the_parties_first(rt: HostRuntime) -> Result<(), Fail> {
                 &rt,
                 &mut interlocking_in(&rt, phase)?,
                 &telegram,
-                Detail::NotOfThisPair,
+                SessionDetail::NotOfThisPair,
             );
         }
     }
@@ -422,14 +430,14 @@ fn parts(
     payload: &[u8],
 ) -> Result<(), Fail> {
     let answer = tell(seat, names, kind, payload)?;
-    assert!(rt; answer == Some(Detail::NotOfThisPair));
+    assert!(rt; answer == Some(SessionDetail::NotOfThisPair));
     assert_eq!(rt; seat.phase(), Phase::Ended);
     assert!(rt; seat.log.kinds.is_empty());
     Ok(())
 }
 
 // A telegram ends the session of an end.
-fn ends(rt: &impl Abort, seat: &mut Seat, telegram: &Telegram<'_>, detail: Detail) {
+fn ends(rt: &impl Abort, seat: &mut Seat, telegram: &Telegram<'_>, detail: SessionDetail) {
     assert!(rt; seat.hear(telegram) == Some(Err(SessionEnd { detail })));
     assert_eq!(rt; seat.phase(), Phase::Ended);
 }
@@ -458,9 +466,9 @@ fn tests_the_parties_of_a_command_first(rt: HostRuntime) -> Result<(), Fail> {
 
 #[test]
 fn numbers_the_details(rt: HostRuntime) {
-    assert_eq!(rt; Detail::VersionDiffers.number(), 1);
-    assert_eq!(rt; Detail::OutOfOrder.number(), 2);
-    assert_eq!(rt; Detail::NotOfThisPair.number(), 3);
+    assert_eq!(rt; SessionDetail::VersionDiffers.number(), 1);
+    assert_eq!(rt; SessionDetail::OutOfOrder.number(), 2);
+    assert_eq!(rt; SessionDetail::NotOfThisPair.number(), 3);
 }
 
 // The opening of two sessions, with the phases of each step and every octet that is sent. The field
@@ -573,7 +581,7 @@ fn refuses(rt: &impl Abort, il: &mut Seat, fe: &mut Seat) -> Result<(), Fail> {
     let telegram = decode(answer.as_slice())?;
     assert_eq!(rt; telegram.kind, 0x25);
     assert_eq!(rt; telegram.payload, [1, 4, 0].as_slice());
-    ends(rt, il, &telegram, Detail::VersionDiffers);
+    ends(rt, il, &telegram, SessionDetail::VersionDiffers);
     assert!(rt; il.put(0x0100, &[0x0a]) == Err(PutFault::NotEstablished));
     fe.end();
     assert_eq!(rt; fe.phase(), Phase::Ended);

@@ -2,3 +2,4 @@ pub mod Fields
 pub mod Steps
 pub mod Choices
 pub mod ByIndex
+pub mod RingPlaces

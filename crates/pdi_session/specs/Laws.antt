@@ -2,10 +2,10 @@
 use Rattle.std.specs.Prelude.{◌≡◌, ◌≢◌, ◌==◌, ◌⊎◌, ◌<◌, ◌≤◌, ◌^◌, ℕ, ◌+◌, Bool, true, false, if◌then◌else◌, List, [], ◌∷◌, ◌++◌, Some, None, Ok, ⊤}
 use Rattle.std.specs.List.{AllByRecursion}
 use Rattle.octets.specs.Lists.{IsBeginning}
-use Rattle.packing.specs.UnitText.{IsMessage}
-use Rattle.sci_telegram.specs.Places.{tele_seen}
-use Rattle.sci_telegram.specs.Tele.{Tele}
-use Rattle.sci_telegram.specs.TeleText.{tele_text}
+use Rattle.pdi_session.specs.packing.UnitText.{IsMessage}
+use Rattle.pdi_session.specs.telegram.Places.{tele_seen}
+use Rattle.pdi_session.specs.telegram.Tele.{Tele}
+use Rattle.pdi_session.specs.telegram.TeleText.{tele_text}
 use Rattle.pdi_session.specs.declared.TheConstants.{INITIALISATION_COMPLETED}
 use Rattle.pdi_session.specs.declared.Phase.{Phase}
 use Rattle.pdi_session.specs.declared.Phase.TheVariants.{Idle, Established}

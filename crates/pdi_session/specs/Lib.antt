@@ -1,3 +1,5 @@
+pub mod telegram
+pub mod packing
 pub mod Settings
 pub mod Telegrams
 pub mod Tables

@@ -2,12 +2,12 @@
 use Rattle.std.specs.Prelude.{◌≡◌, ◌<◌, ◌≤◌, ℕ, true, is_none, not, nat_le, nat_lt, if◌then◌else◌, List, [], ◌∷◌, length, map, Option, Some, None}
 use Rattle.octets.specs.declared.limits.TheConstants.{PAYLOAD_MAX}
 use Rattle.octets.specs.declared.limits.TheConstants.{WAITING_MAX}
-use Rattle.sci_telegram.specs.Tele.{Tele}
-use Rattle.sci_telegram.specs.TeleText.{tele_text}
+use Rattle.pdi_session.specs.telegram.Tele.{Tele}
+use Rattle.pdi_session.specs.telegram.TeleText.{tele_text}
 use Rattle.pdi_session.specs.declared.Phase.{Phase}
 use Rattle.pdi_session.specs.declared.Phase.TheVariants.{Idle, Checking, Requesting, AwaitCheck, AwaitRequest, Refused, Established, Ended}
-use Rattle.pdi_session.specs.declared.Detail.{Detail}
-use Rattle.pdi_session.specs.declared.Detail.TheVariants as detail
+use Rattle.pdi_session.specs.declared.SessionDetail.{SessionDetail}
+use Rattle.pdi_session.specs.declared.SessionDetail.TheVariants as detail
 use Rattle.pdi_session.specs.declared.Notice.{Notice}
 use Rattle.pdi_session.specs.declared.Notice.TheVariants as notice
 use Rattle.pdi_session.specs.declared.Verdict.{Verdict}
@@ -87,7 +87,7 @@ taken_as t Takes = item_of t ∷ []
 taken_as t verdict = []
 
 -- what the call answers
-abbrev pub end_of : Verdict → Option Detail
+abbrev pub end_of : Verdict → Option SessionDetail
 end_of (Ends why) = Some why
 end_of verdict = None
 

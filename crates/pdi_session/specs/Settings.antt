@@ -3,10 +3,10 @@ use Rattle.std.specs.Prelude.{◌==◌, ◌<◌, ◌≤◌, ℕ, Bool, true, ◌
 use Rattle.std.specs.List.{list_any}
 use Rattle.pdi_session.specs.declared.TheConstants.{CHECKSUM_MAX, VERSIONS_MAX}
 use Rattle.pdi_session.specs.declared.Parties.{Parties}
-use Rattle.pdi_session.specs.declared.Side.{Side}
-use Rattle.pdi_session.specs.declared.Side.TheVariants as side
-use Rattle.sci_telegram.specs.Names.{IsName}
-use Rattle.sci_telegram.specs.Tele.{owned_characters}
+use Rattle.pdi_session.specs.declared.OwnSide.{OwnSide}
+use Rattle.pdi_session.specs.declared.OwnSide.TheVariants as side
+use Rattle.pdi_session.specs.telegram.Names.{IsName}
+use Rattle.pdi_session.specs.telegram.Tele.{owned_characters}
 
 -- what every telegram of the session bears: the protocol type and the characters of both names
 pub record Addressing : Type 0 where
@@ -52,11 +52,11 @@ pub record AreSettings (addressing : Addressing) (role : Role) : Type 0 where
 abbrev pub addressing_of : Parties → Addressing
 addressing_of p = record { protocol = p.protocol; own = owned_characters p.own; peer = owned_characters p.peer }
 
-abbrev pub role_of : Side → Role
+abbrev pub role_of : OwnSide → Role
 role_of (side.Interlocking version) = Interlocking version
 role_of (side.Field versions checksum) = Field versions.items checksum.items
 
 -- a field element's versions are versions, and its checksum is short enough
-abbrev pub IsSide : Side → Type 0
+abbrev pub IsSide : OwnSide → Type 0
 IsSide (side.Interlocking version) = ⊤
 IsSide (side.Field versions checksum) = AreVersions versions.items × (length checksum.items ≤ CHECKSUM_MAX)

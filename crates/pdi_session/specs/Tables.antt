@@ -3,8 +3,8 @@ use Rattle.std.specs.Prelude.{ℕ, ◌==◌, Bool, true, false, if◌then◌else
 use Rattle.std.specs.List.{list_any}
 use Rattle.pdi_session.specs.declared.Phase.{Phase}
 use Rattle.pdi_session.specs.declared.Phase.TheVariants.{Idle, Checking, Requesting, AwaitCheck, AwaitRequest, Refused, Initialising, Established}
-use Rattle.pdi_session.specs.declared.Detail.{Detail}
-use Rattle.pdi_session.specs.declared.Detail.TheVariants as detail
+use Rattle.pdi_session.specs.declared.SessionDetail.{SessionDetail}
+use Rattle.pdi_session.specs.declared.SessionDetail.TheVariants as detail
 use Rattle.pdi_session.specs.declared.Notice.TheVariants as notice
 use Rattle.pdi_session.specs.declared.Form.{Form}
 use Rattle.pdi_session.specs.declared.Form.TheVariants.{Notifies, Item}
@@ -71,7 +71,7 @@ is_early Refused = true
 is_early phase = false
 
 -- the number of a detail, in a DiscReq of reason 4
-abbrev pub detail_number : Detail → ℕ
+abbrev pub detail_number : SessionDetail → ℕ
 detail_number detail.VersionDiffers = 1
 detail_number detail.OutOfOrder = 2
 detail_number detail.NotOfThisPair = 3

@@ -1,7 +1,7 @@
 -- The telegrams of the establishment, and what a session reads in a telegram.
 use Rattle.std.specs.Prelude.{ℕ, ◌==◌, Bool, ◌&&◌, ◌||◌, nat_le, if◌then◌else◌, List, [], ◌∷◌, length}
 use Rattle.std.specs.Str.{bytes_eq}
-use Rattle.sci_telegram.specs.Tele.{Tele}
+use Rattle.pdi_session.specs.telegram.Tele.{Tele}
 use Rattle.pdi_session.specs.declared.TheConstants.{CHECKSUM_MAX, VERSION_CHECK, VERSION_ANSWER, INITIALISATION_REQUEST, START_INITIALISATION, INITIALISATION_COMPLETED, DIFFERENT, EQUAL}
 use Rattle.pdi_session.specs.declared.Notice.{Notice}
 use Rattle.pdi_session.specs.declared.Notice.TheVariants as notice

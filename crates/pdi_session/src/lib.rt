@@ -11,14 +11,16 @@ ghost use Rattle.std.specs.Prelude.{◌≡◌, ℕ, List};
 ghost use Rattle.pdi_session.specs.FaultNames.{init_fault_name, put_fault_name};
 ghost use Rattle.pdi_session.specs.Tables.{detail_number};
 
+use crate::telegram::OwnedName;
 use arrayvec::ArrayVec;
-use sci_telegram::OwnedName;
 
 mod forms;
 mod law;
 mod messages;
+pub mod packing;
 mod session;
 mod tables;
+pub mod telegram;
 
 pub use law::{numbers_law, session_law};
 pub use session::{Session, are_versions};
@@ -107,7 +109,7 @@ pub enum Phase {
 
 /// Why a telegram ended a session.
 #[derive(Clone, Copy, Debug, PartialEq, Eq)]
-pub enum Detail {
+pub enum SessionDetail {
     /// The field element takes another version.
     VersionDiffers,
     /// The telegram has no place in this phase, or another payload than its kind has.
@@ -116,16 +118,16 @@ pub enum Detail {
     NotOfThisPair,
 }
 
-impl Detail {
+impl SessionDetail {
     /// The number of the detail in a DiscReq, whose reason is then 4 (service not allowed).
     pub fn number(self) -> u16
         // Each detail has its number in a DiscReq.
         ensures { result ≡ detail_number self }
     {
         match self {
-            Detail::VersionDiffers => 1,
-            Detail::OutOfOrder => 2,
-            Detail::NotOfThisPair => 3,
+            SessionDetail::VersionDiffers => 1,
+            SessionDetail::OutOfOrder => 2,
+            SessionDetail::NotOfThisPair => 3,
         }
     }
 }
@@ -134,7 +136,7 @@ impl Detail {
 #[derive(Clone, Copy, Debug, PartialEq, Eq)]
 pub struct SessionEnd {
     /// Why.
-    pub detail: Detail,
+    pub detail: SessionDetail,
 }
 
 /// Why a telegram was not put in. Where several hold, `Session::put` names the first of this list.
@@ -202,7 +204,7 @@ pub trait Taker {
 /// Which end it is, with the settings of that end: the version of an interlocking, or the versions and
 /// the checksum of a field element.
 #[derive(Debug, Drop)]
-enum Side {
+enum OwnSide {
     /// An interlocking, with its version.
     Interlocking(u8),
     /// A field element, with its versions and its checksum.
@@ -247,5 +249,5 @@ pub enum Verdict {
     /// The phase is this one, and this is sent.
     Answers(Phase, Notice),
     /// The session ends.
-    Ends(Detail),
+    Ends(SessionDetail),
 }

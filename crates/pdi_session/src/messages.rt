@@ -1,7 +1,7 @@
 //! Putting a telegram behind the messages that wait.
 
 ghost use Rattle.std.specs.Prelude.{◌≡◌, ◌<◌, ◌≤◌, ◌+◌, [], ◌∷◌, ◌++◌, length};
-ghost use Rattle.sci_telegram.specs.TeleText.{tele_text};
+ghost use Rattle.pdi_session.specs.telegram.TeleText.{tele_text};
 ghost use Rattle.octets.specs.declared.limits.TheConstants.{WAITING_MAX};
 ghost use Rattle.pdi_session.specs.Settings.{addressing_of};
 ghost use Rattle.pdi_session.specs.Telegrams.{kind_of, payload_of, telegram};
@@ -10,10 +10,10 @@ use super::{
     CHECKSUM_MAX, DIFFERENT, EQUAL, INITIALISATION_COMPLETED, INITIALISATION_REQUEST, Notice,
     Parties, START_INITIALISATION, VERSION_ANSWER, VERSION_CHECK,
 };
+use crate::packing::Waiting;
+use crate::telegram::{Telegram, encode};
 use arrayvec::ArrayVec;
 use octets::limits::{MESSAGE_MAX, MESSAGE_MIN, PAYLOAD_MAX};
-use packing::Waiting;
-use sci_telegram::{Telegram, encode};
 use std::alloc::Allocator;
 
 /// The longest answer to a version check: result, version, length, checksum.

@@ -2,8 +2,8 @@
 
 ghost use Rattle.std.specs.Prelude.{◌≡◌, ◌≢◌, ◌<◌, ℕ, List, [], ◌∷◌, ◌++◌, length, None, Some, MatchResult, OnErr};
 ghost use Rattle.std.specs.List.{FoldsTo};
-ghost use Rattle.sci_telegram.specs.Tele.{tele_of};
-ghost use Rattle.sci_telegram.specs.TeleText.{tele_text};
+ghost use Rattle.pdi_session.specs.telegram.Tele.{tele_of};
+ghost use Rattle.pdi_session.specs.telegram.TeleText.{tele_text};
 ghost use Rattle.octets.specs.declared.limits.TheConstants.{WAITING_MAX};
 ghost use Rattle.pdi_session.specs.Settings.{AreSettings, AreVersions, Interlocking, Field, addressing_of, are_different, are_versions};
 ghost use Rattle.pdi_session.specs.Tables.{may_put, is_initialising};
@@ -12,15 +12,15 @@ ghost use Rattle.pdi_session.specs.Histories.{History, StandsFor, grown};
 ghost use Rattle.pdi_session.specs.SessionStep.{Event, FewWait, HasRoom, added_by, after, end_of, init_refusal, judged, notice_tele, opened, phase_by, put_refusal, sent_by, taken_by, texts, with_phase};
 
 use super::{
-    Detail, FieldConfig, InitFault, InterlockingConfig, Notice, Parties, Phase, PutFault,
-    SessionEnd, Side, Taker, VERSIONS_MAX, Verdict,
+    FieldConfig, InitFault, InterlockingConfig, Notice, OwnSide, Parties, Phase, PutFault,
+    SessionDetail, SessionEnd, Taker, VERSIONS_MAX, Verdict,
 };
 use crate::forms::{form_of, is_reserved};
 use crate::messages::{add_notice, add_telegram};
+use crate::packing::Waiting;
 use crate::tables::{field_up, field_verdict, interlocking_up, interlocking_verdict};
+use crate::telegram::Telegram;
 use octets::limits::{PAYLOAD_MAX, WAITING_MAX};
-use packing::Waiting;
-use sci_telegram::Telegram;
 use std::alloc::Allocator;
 use std::marker::Model;
 
@@ -35,7 +35,7 @@ pub struct Session {
     /// Protocol type and names of both ends.
     parties: Parties,
     /// What it is, with its versions.
-    side: Side,
+    side: OwnSide,
     /// How far it is.
     phase: Phase,
 }
@@ -67,7 +67,7 @@ impl Session {
     {
         Session {
             parties: config.parties,
-            side: Side::Interlocking(config.version),
+            side: OwnSide::Interlocking(config.version),
             phase: Phase::Idle,
         }
     }
@@ -85,7 +85,7 @@ impl Session {
     {
         Session {
             parties: config.parties,
-            side: Side::Field(config.versions, config.checksum),
+            side: OwnSide::Field(config.versions, config.checksum),
             phase: Phase::Idle,
         }
     }
@@ -122,8 +122,8 @@ impl Session {
         ensures few { FewWait self.old waiting.old → FewWait self.new waiting.new }
     {
         let verdict = match self.side {
-            Side::Interlocking(version) => interlocking_up(version, self.phase),
-            Side::Field(_, _) => field_up(self.phase),
+            OwnSide::Interlocking(version) => interlocking_up(version, self.phase),
+            OwnSide::Field(_, _) => field_up(self.phase),
         };
         self.carry_out(verdict, waiting);
     }
@@ -279,12 +279,12 @@ impl Session {
         ensures { result ≡ judged self.now (tele_of telegram.now) }
     {
         if !is_addressed(&self.parties, telegram) {
-            return Verdict::Ends(Detail::NotOfThisPair);
+            return Verdict::Ends(SessionDetail::NotOfThisPair);
         }
         let form = form_of(telegram.kind, telegram.payload);
         match &self.side {
-            Side::Interlocking(version) => interlocking_verdict(*version, self.phase, form),
-            Side::Field(versions, _) => field_verdict(versions, self.phase, form),
+            OwnSide::Interlocking(version) => interlocking_verdict(*version, self.phase, form),
+            OwnSide::Field(versions, _) => field_verdict(versions, self.phase, form),
         }
     }
 
@@ -311,8 +311,8 @@ impl Session {
         ensures { waiting.new ≡ waiting.old ++ tele_text (notice_tele self.now notice) ∷ [] }
     {
         match &self.side {
-            Side::Interlocking(_) => add_notice(&self.parties, &[], notice, waiting),
-            Side::Field(_, checksum) => add_notice(&self.parties, checksum, notice, waiting),
+            OwnSide::Interlocking(_) => add_notice(&self.parties, &[], notice, waiting),
+            OwnSide::Field(_, checksum) => add_notice(&self.parties, checksum, notice, waiting),
         }
     }
 
@@ -321,7 +321,7 @@ impl Session {
         ensures { result ≡ may_put self.now.role self.now.phase }
     {
         match (&self.side, self.phase) {
-            (_, Phase::Established) | (Side::Field(_, _), Phase::Initialising) => true,
+            (_, Phase::Established) | (OwnSide::Field(_, _), Phase::Initialising) => true,
             _ => false,
         }
     }
@@ -331,7 +331,7 @@ impl Session {
         ensures { result ≡ is_initialising self.now.role self.now.phase }
     {
         match (&self.side, self.phase) {
-            (Side::Field(_, _), Phase::Initialising) => true,
+            (OwnSide::Field(_, _), Phase::Initialising) => true,
             _ => false,
         }
     }

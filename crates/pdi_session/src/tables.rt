@@ -4,7 +4,7 @@ ghost use Rattle.std.specs.Prelude.{◌≡◌};
 ghost use Rattle.pdi_session.specs.Tables.{field_table, field_up, interlocking_table, interlocking_up};
 ghost use Rattle.pdi_session.specs.Settings.{first_version};
 
-use super::{Detail, Form, Notice, Phase, Verdict};
+use super::{Form, Notice, Phase, SessionDetail, Verdict};
 
 /// What an interlocking with this version decides when the connection is up.
 pub(crate) fn interlocking_up(own: u8, phase: Phase) -> Verdict
@@ -35,11 +35,11 @@ pub(crate) fn interlocking_verdict(own: u8, phase: Phase, form: Form) -> Verdict
             if version == own {
                 Verdict::Answers(Phase::Requesting, Notice::InitialisationRequest)
             } else {
-                Verdict::Ends(Detail::OutOfOrder)
+                Verdict::Ends(SessionDetail::OutOfOrder)
             }
         }
         (Phase::Checking, Form::Notifies(Notice::VersionDiffers(_))) => {
-            Verdict::Ends(Detail::VersionDiffers)
+            Verdict::Ends(SessionDetail::VersionDiffers)
         }
         (Phase::Requesting, Form::Notifies(Notice::StartInitialisation)) => {
             Verdict::Goes(Phase::Initialising)
@@ -48,7 +48,7 @@ pub(crate) fn interlocking_verdict(own: u8, phase: Phase, form: Form) -> Verdict
         (Phase::Initialising, Form::Notifies(Notice::InitialisationCompleted)) => {
             Verdict::Goes(Phase::Established)
         }
-        _ => Verdict::Ends(Detail::OutOfOrder),
+        _ => Verdict::Ends(SessionDetail::OutOfOrder),
     }
 }
 
@@ -71,7 +71,7 @@ pub(crate) fn field_verdict(versions: &[u8], phase: Phase, form: Form) -> Verdic
             Verdict::Answers(Phase::Initialising, Notice::StartInitialisation)
         }
         (Phase::Established, Form::Item) => Verdict::Takes,
-        _ => Verdict::Ends(Detail::OutOfOrder),
+        _ => Verdict::Ends(SessionDetail::OutOfOrder),
     }
 }
 

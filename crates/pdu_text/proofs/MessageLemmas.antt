@@ -3,7 +3,7 @@ use Rattle.std.proofs.Common.{◌≡◌, ◌+◌, ◌<◌, ◌≤◌, ◌∙◌,
 use Rattle.std.proofs.lemmas.List.{drop_all}
 use Rattle.std.specs.Io.KnownBytes.{Appends}
 use Rattle.std.proofs.KnownBytes.{Appends-trans}
-use Rattle.sci_telegram.specs.Places.{tele_seen}
+use Rattle.pdi_session.specs.telegram.Places.{tele_seen}
 use Rattle.pdu_text.specs.MessageText.{are_telegrams, is_telegram, message_line, message_lines}
 
 abbrev pub octets_of_all : List (Bor (List ℕ)) → List (List ℕ)

@@ -2,3 +2,10 @@ pub mod Lines
 pub mod MessageText
 pub mod ShowText
 pub mod HexText
+pub mod Names
+pub mod Reports
+pub mod Pieces
+pub mod Leavings
+pub mod Causes
+pub mod LogLines
+pub mod Endings

@@ -3,15 +3,15 @@ use Rattle.std.specs.Prelude.{ℕ, ◌+◌, Bool, true, false, ◌&&◌, List, [
 use Rattle.std.specs.Fmt.{decimal}
 use Rattle.std.specs.Int.{w16, to_be_bytes}
 use Rattle.hex.specs.Hex.{encode_lower}
-use Rattle.packing.specs.declared.PackFault.{PackFault}
-use Rattle.packing.specs.FaultNames.{unit_name, unit_number}
-use Rattle.packing.specs.Places.{unit_seen}
+use Rattle.pdi_session.specs.declared.packing.PackFault.{PackFault}
+use Rattle.pdi_session.specs.packing.FaultNames.{unit_name, unit_number}
+use Rattle.pdi_session.specs.packing.Places.{unit_seen}
 use Rattle.safe_pdu.specs.declared.Kind.{Kind}
 use Rattle.safe_pdu.specs.declared.Kind.TheVariants.{Data, RetrData}
-use Rattle.sci_telegram.specs.declared.TeleFault.{TeleFault}
-use Rattle.sci_telegram.specs.FaultNames.{telegram_name, telegram_number}
-use Rattle.sci_telegram.specs.Places.{tele_seen}
-use Rattle.sci_telegram.specs.Tele.{Tele}
+use Rattle.pdi_session.specs.declared.telegram.TeleFault.{TeleFault}
+use Rattle.pdi_session.specs.telegram.FaultNames.{telegram_name, telegram_number}
+use Rattle.pdi_session.specs.telegram.Places.{tele_seen}
+use Rattle.pdi_session.specs.telegram.Tele.{Tele}
 use Rattle.pdu_text.specs.Lines.{fault_line, joined, octets_text}
 
 -- message NUMBER

@@ -1,9 +1,9 @@
 -- The text that `show` prints for the octets of a datagram.
 use Rattle.std.specs.Prelude.{ℕ, Bool, false, List, [], ◌∷◌, ◌++◌, length, codes, Result, Ok, Err}
 use Rattle.std.specs.Fmt.{decimal}
-use Rattle.red_pdu.specs.declared.RedFault.{RedFault}
-use Rattle.red_pdu.specs.FaultNames.{red_name, red_number}
-use Rattle.red_pdu.specs.RedText.{red_seen}
+use Rattle.red_layer.specs.declared.pdu.RedFault.{RedFault}
+use Rattle.red_layer.specs.pdu.FaultNames.{red_name, red_number}
+use Rattle.red_layer.specs.pdu.RedText.{red_seen}
 use Rattle.safe_pdu.specs.declared.CodeRule.{CodeRule}
 use Rattle.safe_pdu.specs.declared.Kind.{Kind}
 use Rattle.safe_pdu.specs.declared.Kind.TheVariants.{ConnReq, ConnResp, DiscReq}

@@ -29,7 +29,7 @@ pub fn show<W: Write>(octets: &[u8], rule: &CodeRule, writer: &mut W) -> io::Res
     // `show` answers whether no line of a datagram's text names a fault.
     ensures clean { IfOk result (λ clean. clean ≡ is_clean rule.now octets.now) }
 {
-    match red_pdu::decode(octets) {
+    match red_layer::pdu::decode(octets) {
         Ok(pdu) => {
             write_red(writer, octets.len(), pdu.seq)?;
             let clean = show_upper(pdu.upper, rule, writer)?;

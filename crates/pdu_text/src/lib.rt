@@ -5,12 +5,24 @@
 //! Contracts: what is said of a text that is written is said of an output whose contents are known.
 #![tactic(auto)]
 
+mod causes;
 mod datagram;
+mod endings;
 mod hex_text;
+mod leavings;
+mod lines;
 mod messages;
+mod names;
+mod pieces;
+mod reports;
 mod texts;
 
+pub use causes::Cause;
 pub use datagram::show;
+pub use endings::{Departure, Ending, write_ending};
 pub use hex_text::{HexFault, hex_octets, initial_value};
+pub use lines::{Happening, write_channel, write_happening, write_missed};
 pub use messages::show_body;
+pub use names::{phase_name, red_cause, side_letter, side_name, state_name, step_cause};
+pub use reports::{Standing, write_refusal, write_report, write_take};
 pub use texts::{write_hex, write_octets, write_text};

@@ -2,15 +2,15 @@
 
 ghost use Rattle.std.specs.Prelude.{◌≡◌, ◌+◌, ◌≤◌, ◌<◌, ◌^◌, [], ◌∷◌, codes, length, map, OnOk, IfOk};
 ghost use Rattle.std.specs.Io.KnownBytes.{Appends};
-ghost use Rattle.sci_telegram.specs.Places.{tele_seen};
-ghost use Rattle.sci_telegram.specs.Tele.{tele_of};
+ghost use Rattle.pdi_session.specs.telegram.Places.{tele_seen};
+ghost use Rattle.pdi_session.specs.telegram.Tele.{tele_of};
 ghost use Rattle.pdu_text.specs.Lines.{fault_line};
 ghost use Rattle.pdu_text.specs.MessageText.{are_telegrams, hex_field, telegram_head, is_clean_body, is_telegram, message_label, message_line, message_lines, names_text, telegram_line, unit_lines, unit_text, is_clean_unit};
-ghost use Rattle.packing.specs.Places.{unit_seen};
+ghost use Rattle.pdi_session.specs.packing.Places.{unit_seen};
 
 use crate::texts::{write_fault, write_hex, write_octets, write_text};
+use pdi_session::telegram::Telegram;
 use safe_pdu::Kind;
-use sci_telegram::Telegram;
 use std::io;
 use std::io::Write;
 
@@ -36,7 +36,7 @@ fn show_unit<W: Write>(writer: &mut W, unit: &[u8]) -> io::Result<bool>
         (unit_text (unit_seen unit.now))) }
     ensures clean { IfOk result (λ clean. clean ≡ is_clean_unit (unit_seen unit.now)) }
 {
-    match packing::unpack(unit) {
+    match pdi_session::packing::unpack(unit) {
         Ok(messages) => {
             let clean = write_messages(writer, messages.as_slice())?;
             Ok(clean)
@@ -68,7 +68,7 @@ fn write_message<W: Write>(writer: &mut W, number: usize, message: &[u8]) -> io:
         (message_line number (tele_seen message.now))) }
     ensures clean { IfOk result (λ clean. clean ≡ is_telegram (tele_seen message.now)) }
 {
-    match sci_telegram::decode(message) {
+    match pdi_session::telegram::decode(message) {
         Ok(telegram) => {
             write_telegram(writer, number, &telegram)?;
             Ok(true)

@@ -1,5 +1,5 @@
 use channels::{Channels, MemChannels, Note};
-use overheard::{Overheard, PduCounts};
+use rasta_run::{Overheard, PduCounts};
 use red_layer::RedEvent;
 use safe_machine::{DropCause, Step};
 use std::alloc::Global;

@@ -1,5 +1,5 @@
-use rasta_net::{Run, run_net};
-use rasta_status::{LogLevel, RunLength, Status};
+use rasta_run::{Run, run_net};
+use rasta_words::{LogLevel, RunLength, Status};
 use settings_file::Word;
 use std::io;
 use std::io::{ErrorKind, Write};

@@ -1,7 +1,6 @@
 use crate::poor::Poor;
 use rasta_run::{run, run_follow, run_words};
-use rasta_status::{Fault, Status, report};
-use rasta_words::Following;
+use rasta_words::{Fault, FollowRequest, Status, report};
 use safe_pdu::CodeLength;
 use std::env::{Env, FillError};
 use std::io;
@@ -69,8 +68,8 @@ impl Read for Broken {
 }
 
 /// What `follow` is asked for a capture of PDUs without a code on standard input.
-fn plain_following() -> Following<'static> {
-    Following {
+fn plain_following() -> FollowRequest<'static> {
+    FollowRequest {
         code: CodeLength::Zero,
         iv: None,
         messages: false,

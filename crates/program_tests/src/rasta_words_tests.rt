@@ -1,7 +1,9 @@
 use capture::read_ports;
-use capture_text::Word;
-use rasta_status::{CountsForm, LogLevel, RunLength, Telling};
-use rasta_words::{Following, Request, Running, WordsFault, command};
+use capture_text::Remarkable;
+use rasta_words::{
+    CountsForm, FollowRequest, LogLevel, Request, RunLength, RunRequest, Telling, WordsFault,
+    command,
+};
 use safe_pdu::CodeLength;
 use settings_file::Word as Ends;
 use std::test::Fail;
@@ -57,7 +59,7 @@ fn accepts_the_words_of_md4(rt: HostRuntime) -> Result<(), Fail> {
 // What `follow` takes where nothing is chosen, each choice, and choices that are none.
 #[test]
 fn accepts_the_words_of_follow(rt: HostRuntime) -> Result<(), Fail> {
-    let plain = Following {
+    let plain = FollowRequest {
         code: CodeLength::Eight,
         iv: None,
         messages: false,
@@ -90,11 +92,11 @@ fn accepts_the_words_of_follow(rt: HostRuntime) -> Result<(), Fail> {
     let found = command(rt.alloc(), &words).map_err(|_| "refused")?;
     assert_eq!(rt;
         found,
-        Request::Follow(Following {
+        Request::Follow(FollowRequest {
             code: CodeLength::Sixteen,
             iv: Some(OWN_VALUE),
             messages: true,
-            only: Some(Word::Age),
+            only: Some(Remarkable::Age),
             t_max: 900,
             file: "-",
             ports: read_ports(b"46101-46102,5000"),
@@ -123,7 +125,7 @@ fn accepts_the_words_of_the_ends(rt: HostRuntime) -> Result<(), Fail> {
             let words = ["rasta", name, "ends.toml", "--turns", text];
             let found = command(rt.alloc(), &words).map_err(|_| "refused")?;
             let file = "ends.toml";
-            let running = Running {
+            let running = RunRequest {
                 word,
                 file,
                 length: RunLength::Turns(turns),
@@ -141,7 +143,7 @@ fn accepts_the_words_of_the_ends(rt: HostRuntime) -> Result<(), Fail> {
     }
     let until_end = ["rasta", "fe", "--until-end", "ends.toml"];
     let found = command(rt.alloc(), &until_end).map_err(|_| "refused")?;
-    let running = Running {
+    let running = RunRequest {
         word: Ends::Fe,
         file: "ends.toml",
         length: RunLength::UntilEnd,
@@ -243,8 +245,8 @@ fn accepts_kept_ends_and_counts(rt: HostRuntime) -> Result<(), Fail> {
     Ok(())
 }
 
-fn kept_until_end(keep: bool, counts: Option<Telling>) -> Running<'static> {
-    Running {
+fn kept_until_end(keep: bool, counts: Option<Telling>) -> RunRequest<'static> {
+    RunRequest {
         word: Ends::Il,
         file: "ends.toml",
         length: RunLength::UntilEnd,

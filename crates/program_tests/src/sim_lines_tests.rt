@@ -1,6 +1,6 @@
 use end_settings::Side;
 use linked_list_allocator::LocalHeap;
-use sim::{Command, Key, Label, LineFault, ScriptSettings, Setting, read_line};
+use sim::{Command, Key, Label, ScriptLineFault, ScriptSettings, Setting, read_line};
 use std::alloc::AllocError;
 use std::test::Fail;
 
@@ -179,10 +179,10 @@ fn tells_want_of_memory_for_a_line(rt: HostRuntime) -> Result<(), Fail> {
     )?;
     for line in [put.as_str(), flow.as_str()] {
         assert!(rt;
-            matches!(read_line(&heap, line), Err(LineFault::Memory)),
+            matches!(read_line(&heap, line), Err(ScriptLineFault::Memory)),
             "of {line}"
         );
     }
-    assert_eq!(rt; LineFault::from(AllocError), LineFault::Memory);
+    assert_eq!(rt; ScriptLineFault::from(AllocError), ScriptLineFault::Memory);
     Ok(())
 }

@@ -5,7 +5,7 @@ use Rattle.clap.specs.Words.{Text}
 use Rattle.rasta_words.specs.CommandLine.{Asks}
 use Rattle.rasta_words.specs.declared.command_line.Request.{Request}
 use Rattle.rasta_words.specs.declared.command_line.Request.TheVariants.{Digest, Show, Sim, Follow, Net}
-use Rattle.rasta_show.specs.Shown.{HasDigested, HasShown}
+use Rattle.rasta_run.specs.Shown.{HasDigested, HasShown}
 
 -- What a request asks for was done. Of a script and a capture, whose files no contract can name, and of a run over sockets no more is said than
 -- that it ended.

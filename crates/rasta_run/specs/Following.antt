@@ -1,20 +1,20 @@
 -- What `follow` asks of a capture, and how it ends.
 use Rattle.std.specs.Prelude.{ℕ, Bool, true, false, List, Option, Some, None}
 use Rattle.capture_text.specs.declared.course.Asked.{Asked}
-use Rattle.capture_text.specs.declared.course.Form.{Form}
-use Rattle.capture_text.specs.declared.course.Form.TheVariants.{Lines, Json}
+use Rattle.capture_text.specs.declared.course.OutputForm.{OutputForm}
+use Rattle.capture_text.specs.declared.course.OutputForm.TheVariants.{Lines, Json}
 use Rattle.capture_text.specs.declared.running.FollowStatus.{FollowStatus}
 use Rattle.capture_text.specs.declared.running.FollowStatus.TheVariants as follow
-use Rattle.rasta_status.specs.declared.Status.{Status}
-use Rattle.rasta_status.specs.declared.Status.TheVariants.{Done, Refused, Failed}
-use Rattle.rasta_words.specs.declared.command_line.Following.{Following}
+use Rattle.rasta_words.specs.declared.status.Status.{Status}
+use Rattle.rasta_words.specs.declared.status.Status.TheVariants.{Done, Refused, Failed}
+use Rattle.rasta_words.specs.declared.command_line.FollowRequest.{FollowRequest}
 
-abbrev pub form_of : Bool → Form
+abbrev pub form_of : Bool → OutputForm
 form_of true = Json
 form_of false = Lines
 
 -- each choice has its effect
-abbrev pub asked_of : Following → List ℕ → Asked
+abbrev pub asked_of : FollowRequest → List ℕ → Asked
 asked_of f words =
     record {
       rule = record { length = f.code; initial_value = words };
@@ -25,7 +25,7 @@ asked_of f words =
       form = form_of f.json;
     }
 
-abbrev pub asked_under : Following → Option (List ℕ) → Option Asked
+abbrev pub asked_under : FollowRequest → Option (List ℕ) → Option Asked
 asked_under f (Some words) = Some (asked_of f words)
 asked_under f None = None
 

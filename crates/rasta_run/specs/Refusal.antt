@@ -4,8 +4,8 @@ use Rattle.clap.specs.Values.{kind_of}
 use Rattle.clap.specs.declared.error.kind.ErrorKind.TheVariants as kind
 use Rattle.rasta_words.specs.declared.command_line.WordsFault.{WordsFault}
 use Rattle.rasta_words.specs.declared.command_line.WordsFault.TheVariants.{Words, BadCode, BadTurns, BadChoice, NotText, Memory}
-use Rattle.rasta_status.specs.declared.Status.{Status}
-use Rattle.rasta_status.specs.declared.Status.TheVariants.{Done, Refused, WrongWords, Failed}
+use Rattle.rasta_words.specs.declared.status.Status.{Status}
+use Rattle.rasta_words.specs.declared.status.Status.TheVariants.{Done, Refused, WrongWords, Failed}
 
 -- help that was asked for is no fault
 abbrev pub EndsBy : WordsFault → Status → Type 0

@@ -1,9 +1,9 @@
 -- How ends are run that words ask for.
-use Rattle.rasta_net.specs.declared.net.Run.{Run}
-use Rattle.rasta_words.specs.declared.command_line.Running.{Running}
+use Rattle.rasta_run.specs.declared.net.Run.{Run}
+use Rattle.rasta_words.specs.declared.command_line.RunRequest.{RunRequest}
 
 -- each choice has its effect
-abbrev pub run_under : Running → Run
+abbrev pub run_under : RunRequest → Run
 run_under r =
     record {
       word = r.word;

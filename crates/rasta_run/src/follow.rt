@@ -5,10 +5,9 @@ ghost use Rattle.std.specs.Option.{option_copied};
 ghost use Rattle.pdu_text.specs.HexText.{initial_value_of};
 ghost use Rattle.rasta_run.specs.Following.{asked_under, end_of, form_of};
 
-use capture_text::{Asked, FollowStatus, Form};
+use capture_text::{Asked, FollowStatus, OutputForm};
 use pdu_text::initial_value;
-use rasta_status::{Fault, Status, report};
-use rasta_words::Following;
+use rasta_words::{Fault, FollowRequest, Status, report};
 use safe_pdu::CodeRule;
 use std::alloc::Allocator;
 use std::io::{Read, Write};
@@ -23,7 +22,7 @@ use std::io::{Read, Write};
 pub fn run_follow<R: Read + Drop, O: Write, E: Write, A: Allocator + Copy>(
     alloc: A,
     reader: R,
-    following: &Following<'_>,
+    following: &FollowRequest<'_>,
     out: &mut O,
     err: &mut E,
 ) -> Status
@@ -32,7 +31,7 @@ pub fn run_follow<R: Read + Drop, O: Write, E: Write, A: Allocator + Copy>(
     // No run of `sim` or `follow` ends as wrong words.
     ensures words { result ≢ Status.WrongWords }
 {
-    let Some(asked) = asked(following) else {
+    let Some(asked) = ask_for(following) else {
         return report(err, Fault::Hex);
     };
     let ended = capture_text::run(alloc, reader, &asked, out, err);
@@ -40,7 +39,7 @@ pub fn run_follow<R: Read + Drop, O: Write, E: Write, A: Allocator + Copy>(
 }
 
 /// What the choices of `follow` ask of a capture; nothing where the text for the initial value is none.
-fn asked(following: &Following<'_>) -> Option<Asked>
+fn ask_for(following: &FollowRequest<'_>) -> Option<Asked>
     // Each choice of `follow` has its effect on what is asked of a capture.
     ensures { result ≡ asked_under following.now (initial_value_of (option_copied following.now.iv)) }
 {
@@ -58,10 +57,14 @@ fn asked(following: &Following<'_>) -> Option<Asked>
     })
 }
 
-fn form(json: bool) -> Form
+fn form(json: bool) -> OutputForm
     ensures { result ≡ form_of json }
 {
-    if json { Form::Json } else { Form::Lines }
+    if json {
+        OutputForm::Json
+    } else {
+        OutputForm::Lines
+    }
 }
 
 /// Names what stopped a run, and answers how the program ends.

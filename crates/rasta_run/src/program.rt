@@ -9,11 +9,9 @@ ghost use Rattle.rasta_run.specs.Starting.{run_under};
 
 use crate::follow::run_follow;
 use crate::scripts::run_sim;
+use crate::{Run, SETTINGS_MAX, refuse_long, run_md4, run_net, run_show};
 use clap::error::ErrorKind;
-use rasta_net::{Run, SETTINGS_MAX, refuse_long, run_net};
-use rasta_show::{run_md4, run_show};
-use rasta_status::{Fault, Status, report};
-use rasta_words::{Following, Request, Running, WordsFault, command};
+use rasta_words::{Fault, FollowRequest, Request, RunRequest, Status, WordsFault, command, report};
 use std::alloc::{AllocError, Global};
 use std::convert::AsStr;
 use std::env::{Env, FillError};
@@ -77,7 +75,7 @@ fn run_script<R: AllocGlobal + Files, O: Write, E: Write>(
 /// Follows the capture of a file; `-` is standard input.
 fn run_capture<R: AllocGlobal + Files, O: Write, E: Write>(
     rt: &R,
-    following: &Following<'_>,
+    following: &FollowRequest<'_>,
     out: &mut O,
     err: &mut E,
 ) -> Status {
@@ -95,7 +93,7 @@ fn run_capture<R: AllocGlobal + Files, O: Write, E: Write>(
 /// Runs ends over the sockets that a settings file names.
 fn run_file<R: AllocGlobal + Files + Net + Clock + Input, O: Write, E: Write>(
     rt: &R,
-    running: &Running<'_>,
+    running: &RunRequest<'_>,
     out: &mut O,
     err: &mut E,
 ) -> Status {
@@ -113,7 +111,7 @@ fn run_file<R: AllocGlobal + Files + Net + Clock + Input, O: Write, E: Write>(
 }
 
 /// How ends are run that words ask for.
-fn run_under(running: &Running<'_>) -> Run
+fn run_under(running: &RunRequest<'_>) -> Run
     ensures { result ≡ run_under running.now }
 {
     Run {

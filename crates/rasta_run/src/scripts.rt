@@ -2,7 +2,7 @@
 
 ghost use Rattle.std.specs.Prelude.{◌≢◌};
 
-use rasta_status::Status;
+use rasta_words::Status;
 use sim::SimStatus;
 use std::alloc::Allocator;
 use std::io::{Read, Write};

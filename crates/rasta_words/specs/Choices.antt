@@ -7,11 +7,11 @@ use Rattle.clap.specs.Words.{App, Row, Rule, Text, first_of, new_app, new_rule, 
 use Rattle.clap.specs.declared.builder.action.ArgAction.TheVariants.{SetTrue}
 use Rattle.capture.specs.declared.ports.PortRange.{PortRange}
 use Rattle.capture.specs.Ports.{ports_of}
-use Rattle.capture_text.specs.declared.choice.Word.{Word as Remarkable}
+use Rattle.capture_text.specs.declared.choice.Remarkable.{Remarkable}
 use Rattle.capture_text.specs.Choice.{word_text}
 use Rattle.safe_pdu.specs.declared.CodeLength.{CodeLength}
 use Rattle.safe_pdu.specs.declared.CodeLength.TheVariants.{Zero, Eight, Sixteen}
-use Rattle.rasta_words.specs.declared.command_line.Following.{Following}
+use Rattle.rasta_words.specs.declared.command_line.FollowRequest.{FollowRequest}
 
 -- follow [--code N] [--iv HEX] [--json] [--messages] [--only WORD] [--ports PORTS] [--t-max MS] FILE
 abbrev pub chosen_code_rule : Rule
@@ -109,7 +109,7 @@ ArePortsChosen None ports = ports ≡ None
 ArePortsChosen (Some word) ports = IsPorts word ports
 
 -- the choices are those of the entries found
-abbrev pub HasChoices : List Row → Following → Type 0
+abbrev pub HasChoices : List Row → FollowRequest → Type 0
 HasChoices rows f =
     IsCodeChosen (first_of (codes "code") rows) f.code × (first_of (codes "iv") rows ≡ option_copied f.iv)
     × (is_flagged (first_of (codes "messages") rows) ≡ f.messages) × IsRemarkChosen (first_of (codes "only") rows) f.only
@@ -117,4 +117,4 @@ HasChoices rows f =
     × ArePortsChosen (first_of (codes "ports") rows) f.ports × (is_flagged (first_of (codes "json") rows) ≡ f.json)
 
 abbrev pub HasNoChoices : List Row → Type 0
-HasNoChoices rows = (f : Following) → ¬ HasChoices rows f
+HasNoChoices rows = (f : FollowRequest) → ¬ HasChoices rows f

@@ -1,3 +1,4 @@
+pub mod Status
 pub mod Choices
 pub mod CommandLine
 pub mod Runs

@@ -3,17 +3,17 @@ use Rattle.std.specs.Prelude.{◌≡◌, ⊤, ℕ, ◌≤◌, Bool, false, true,
 use Rattle.std.specs.Str.Parse.{IsNumeral, digits_value, without_leading_plus}
 use Rattle.clap.specs.Words.{App, Row, Rule, Text, first_of, new_app, new_rule, with_rule}
 use Rattle.clap.specs.declared.builder.action.ArgAction.TheVariants.{SetTrue}
-use Rattle.rasta_status.specs.declared.RunLength.{RunLength}
-use Rattle.rasta_status.specs.declared.RunLength.TheVariants.{Turns, UntilEnd}
-use Rattle.rasta_status.specs.declared.LogLevel.{LogLevel}
-use Rattle.rasta_status.specs.declared.LogLevel.TheVariants.{Off, State, All}
-use Rattle.rasta_status.specs.declared.Expected.{Expected}
-use Rattle.rasta_status.specs.declared.Expected.TheVariants.{Up, Settled}
-use Rattle.rasta_status.specs.declared.CountsForm.{CountsForm}
-use Rattle.rasta_status.specs.declared.CountsForm.TheVariants as counts_form
-use Rattle.rasta_status.specs.declared.Telling.{Telling}
+use Rattle.rasta_words.specs.declared.status.RunLength.{RunLength}
+use Rattle.rasta_words.specs.declared.status.RunLength.TheVariants.{Turns, UntilEnd}
+use Rattle.rasta_words.specs.declared.status.LogLevel.{LogLevel}
+use Rattle.rasta_words.specs.declared.status.LogLevel.TheVariants.{Off, State, All}
+use Rattle.rasta_words.specs.declared.status.Expected.{Expected}
+use Rattle.rasta_words.specs.declared.status.Expected.TheVariants.{Up, Settled}
+use Rattle.rasta_words.specs.declared.status.CountsForm.{CountsForm}
+use Rattle.rasta_words.specs.declared.status.CountsForm.TheVariants as counts_form
+use Rattle.rasta_words.specs.declared.status.Telling.{Telling}
 use Rattle.rasta_words.specs.Choices.{file_rule, is_flagged}
-use Rattle.rasta_words.specs.declared.command_line.Running.{Running}
+use Rattle.rasta_words.specs.declared.command_line.RunRequest.{RunRequest}
 use Rattle.settings_file.specs.declared.Word.{Word}
 use Rattle.settings_file.specs.declared.Word.TheVariants.{Il, Fe, Pair}
 
@@ -137,7 +137,7 @@ AreCountsChosen None (Some every) counts = ⊥
 AreCountsChosen (Some form) every counts = AreTold form every counts
 
 -- the choices are those of the entries found
-abbrev pub IsRun : List Row → Running → Type 0
+abbrev pub IsRun : List Row → RunRequest → Type 0
 IsRun rows r =
     (first_of (codes "file") rows ≡ Some r.file.now)
     × IsLengthChosen (first_of (codes "turns") rows) (is_flagged (first_of (codes "until-end") rows)) r.length
@@ -146,4 +146,4 @@ IsRun rows r =
     × AreCountsChosen (first_of (codes "stats") rows) (first_of (codes "every") rows) r.counts
 
 abbrev pub HasNoRun : List Row → Type 0
-HasNoRun rows = (r : Running) → ¬ IsRun rows r
+HasNoRun rows = (r : RunRequest) → ¬ IsRun rows r

@@ -9,10 +9,10 @@ ghost use Rattle.rasta_words.specs.Runs.{HasNoRun, IsEndChosen, IsLogChosen, IsL
 ghost use Rattle.capture.specs.declared.ports.PortRange.{PortRange};
 ghost use Rattle.rasta_words.specs.Choices.{ArePortsChosen, HasChoices, HasNoChoices, IsAgeChosen, IsCodeChosen, IsMilliseconds, IsRemarkChosen, chosen_app, code_word, follow_app, is_flagged, length_app, limited_app, only_app, ported_app, summing_app, telling_app};
 
+use crate::{CountsForm, Expected, LogLevel, RunLength, Telling};
 use capture::{Ports, read_ports};
-use capture_text::Word as Remarkable;
+use capture_text::Remarkable;
 use clap::{Arg, ArgAction, ArgMatches, Command};
-use rasta_status::{CountsForm, Expected, LogLevel, RunLength, Telling};
 use safe_pdu::CodeLength;
 use settings_file::Word;
 use std::alloc::{AllocError, Global};
@@ -42,14 +42,14 @@ pub enum Request<'a> {
         script: &'a str,
     },
     /// `follow FILE` with its choices: a recorded connection, and what is remarkable in it.
-    Follow(Following<'a>),
+    Follow(FollowRequest<'a>),
     /// `il`, `fe` or `pair` with a FILE, `--turns N` or `--until-end`, and its choices: ends over sockets.
-    Net(Running<'a>),
+    Net(RunRequest<'a>),
 }
 
 /// How ends are run over sockets.
 #[derive(Clone, Copy, Debug, PartialEq, Eq)]
-pub struct Running<'a> {
+pub struct RunRequest<'a> {
     /// The ends that run.
     pub word: Word,
     /// The name of the settings file.
@@ -68,7 +68,7 @@ pub struct Running<'a> {
 
 /// How a recorded connection is followed.
 #[derive(Clone, Copy, Debug, PartialEq, Eq)]
-pub struct Following<'a> {
+pub struct FollowRequest<'a> {
     /// `--code`: how many octets of safety code a PDU has; 8 where nothing is said.
     pub code: CodeLength,
     /// `--iv`: the initial value of the code as hex digits, or that of RFC 1320.
@@ -131,7 +131,7 @@ pub fn command<'a, S: AsStr>(alloc: Global, words: &'a [S]) -> Result<Request<'a
     ensures refused { IfErr result (Refuses (map S.text words.entry.now)) }
 {
     let matches = matched(alloc, words)?;
-    match asked(&matches) {
+    match request_of(&matches) {
         Some(request) => Ok(request),
         None if matches.subcommand_name() == Some("show") => Err(WordsFault::BadCode),
         None if matches.subcommand_name() == Some("follow") => Err(WordsFault::BadChoice),
@@ -139,7 +139,7 @@ pub fn command<'a, S: AsStr>(alloc: Global, words: &'a [S]) -> Result<Request<'a
     }
 }
 
-fn asked<'a>(matches: &ArgMatches<'a>) -> Option<Request<'a>>
+fn request_of<'a>(matches: &ArgMatches<'a>) -> Option<Request<'a>>
     ensures found { IfSome result (IsFound (subcommand_rows_of matches.now)) }
     ensures none { IsNone result → FindsNone (subcommand_rows_of matches.now) }
 {
@@ -172,11 +172,11 @@ fn asked_by<'a>(name: &str, entries: &ArgMatches<'a>) -> Option<Request<'a>>
 }
 
 /// How the entries of `il`, `fe` and `pair` have these ends run.
-fn ends_run<'a>(word: Word, entries: &ArgMatches<'a>) -> Option<Running<'a>>
+fn ends_run<'a>(word: Word, entries: &ArgMatches<'a>) -> Option<RunRequest<'a>>
     ensures found { IfSome result (λ running. (running.word ≡ word) × IsRun (rows_of (found_of entries.now)) running) }
     ensures none { IsNone result → HasNoRun (rows_of (found_of entries.now)) }
 {
-    Some(Running {
+    Some(RunRequest {
         word,
         file: entry(entries, "file")?,
         length: chosen_run(
@@ -298,11 +298,11 @@ fn expected(word: &str) -> Option<Expected>
 }
 
 /// What the entries of `follow` choose.
-fn choices<'a>(entries: &ArgMatches<'a>) -> Option<Following<'a>>
+fn choices<'a>(entries: &ArgMatches<'a>) -> Option<FollowRequest<'a>>
     ensures found { IfSome result (HasChoices (rows_of (found_of entries.now))) }
     ensures none { IsNone result → HasNoChoices (rows_of (found_of entries.now)) }
 {
-    Some(Following {
+    Some(FollowRequest {
         code: chosen_code(entry(entries, "code"))?,
         iv: entry(entries, "iv"),
         messages: is_chosen(entry(entries, "messages")),

@@ -2,5 +2,7 @@
 #![tactic(auto)]
 
 mod command_line;
+mod status;
 
-pub use command_line::{Following, Request, Running, WordsFault, command};
+pub use command_line::{FollowRequest, Request, RunRequest, WordsFault, command};
+pub use status::{CountsForm, Expected, Fault, LogLevel, RunLength, Status, Telling, report};

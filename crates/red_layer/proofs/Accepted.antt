@@ -6,9 +6,9 @@ use Rattle.octets.specs.Octets.{AreOctets}
 use Rattle.octets.proofs.ByIndex.{fit-octets}
 use Rattle.octets.proofs.Fields.{field_reads}
 use Rattle.octets.specs.declared.limits.TheConstants.{RED_HEADER, RED_PDU_MAX}
-use Rattle.red_pdu.specs.declared.RedFault.{RedFault}
-use Rattle.red_pdu.specs.RedText.{RedText, red_seen, length_field, reserve_field, seq_field}
-use Rattle.red_pdu.proofs.RedLemmas.{red_spelled}
+use Rattle.red_layer.specs.declared.pdu.RedFault.{RedFault}
+use Rattle.red_layer.specs.pdu.RedText.{RedText, red_seen, length_field, reserve_field, seq_field}
+use Rattle.red_layer.proofs.RedLemmas.{red_spelled}
 use Rattle.red_layer.specs.Parts.{Part}
 use Rattle.red_layer.specs.Redundancy.{decoded}
 use Rattle.red_layer.specs.Service.{accepted}

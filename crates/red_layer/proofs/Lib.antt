@@ -1,3 +1,4 @@
+pub mod RedLemmas
 pub mod FiniteMap
 pub mod Entries
 pub mod Runs

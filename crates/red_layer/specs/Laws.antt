@@ -2,7 +2,7 @@
 use Rattle.std.specs.Prelude.{◌≡◌, ℕ, ◌≤◌, ◌↔◌, List, [], ◌∷◌, ◌++◌, length}
 use Rattle.std.specs.List.{AllByRecursion}
 use Rattle.octets.specs.Octets.{AreOctets}
-use Rattle.red_pdu.specs.RedText.{RedText}
+use Rattle.red_layer.specs.pdu.RedText.{RedText}
 use Rattle.red_layer.specs.Parts.{Part}
 use Rattle.red_layer.specs.Redundancy.{Receiver, Input, Datagram, opened, passed_by, after}
 use Rattle.red_layer.specs.Service.{Service, AreAmong, arrivals_of, arrivals, moments, passed_along, after_along}

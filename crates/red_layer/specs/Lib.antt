@@ -1,3 +1,4 @@
+pub mod pdu
 pub mod FiniteMap
 pub mod Parts
 pub mod Sound

@@ -4,8 +4,8 @@
 use Rattle.std.specs.Prelude.{ℕ, ◌+◌, ◌*◌, ◌==◌, nat_le, nat_lt, Bool, not, ◌&&◌, List, [], ◌∷◌, ◌++◌, length, Option, Some, None, Result, Ok, Err, if◌then◌else◌}
 use Rattle.red_layer.specs.FiniteMap.{put_in, has_number}
 use Rattle.octets.specs.declared.limits.TheConstants.{REACH}
-use Rattle.red_pdu.specs.RedText.{red_seen}
-use Rattle.red_pdu.specs.declared.RedFault.{RedFault}
+use Rattle.red_layer.specs.pdu.RedText.{red_seen}
+use Rattle.red_layer.specs.declared.pdu.RedFault.{RedFault}
 use Rattle.red_layer.specs.Parts.{Part, is_nil}
 use Rattle.red_layer.specs.declared.RedEvent.{RedEvent}
 use Rattle.red_layer.specs.declared.RedEvent.TheVariants.{Passed, Wait, Old, Far, Full, Again, Fault}

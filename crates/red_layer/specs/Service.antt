@@ -1,6 +1,6 @@
 -- Service: what goes up has strictly rising numbers and has arrived. It knows no queue, no size and no time.
 use Rattle.std.specs.Prelude.{◌≡◌, ◌⊎◌, List, [], ◌∷◌, ◌++◌, Result, Ok, Err, ⊤}
-use Rattle.red_pdu.specs.declared.RedFault.{RedFault}
+use Rattle.red_layer.specs.declared.pdu.RedFault.{RedFault}
 use Rattle.red_layer.specs.FiniteMap.{Rises}
 use Rattle.red_layer.specs.Parts.{Part}
 use Rattle.red_layer.specs.Redundancy.{Receiver, Input, Datagram, Tick, decoded, passed_by, after}

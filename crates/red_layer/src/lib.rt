@@ -13,15 +13,16 @@ ghost use Rattle.red_layer.specs.FiniteMap.{Rises, take_out, part_under};
 ghost use Rattle.red_layer.specs.Parts.{map_parts, IsBelow};
 ghost use Rattle.red_layer.specs.Redundancy.{Input, decoded, run_from, after_run, follow, released, after_release, deferred, arrival, judged, passed_by, after, opened, deadline_of};
 
+use crate::pdu::{RedFault, RedPdu, decode};
 use arrayvec::ArrayVec;
-use octets::copy_of;
 use octets::limits::{REACH, SAFE_PDU_MAX};
-use red_pdu::{RedFault, RedPdu, decode};
+use octets::{Milliseconds, copy_of};
 use std::alloc::{Allocator, Global};
 use std::marker::Model;
 
 mod deferral;
 mod law;
+pub mod pdu;
 #[cfg(test)]
 mod tests;
 
@@ -79,12 +80,12 @@ pub struct RedConfig {
     /// How many early parts may wait (the profile has 1 to 8).
     pub q: usize,
     /// How long early parts wait, in milliseconds (the profile has 10 to 1,000).
-    pub t_seq: u64,
+    pub t_seq: Milliseconds,
 }
 
 /// Why a receiving half was not opened.
 #[derive(Clone, Copy, Debug, PartialEq, Eq)]
-pub enum OpenFault {
+pub enum RedOpenFault {
     /// There was no memory for the parts that wait.
     Memory,
 }
@@ -98,11 +99,11 @@ pub struct RedLayer<A: Allocator = Global> {
     /// How many parts may wait.
     q: u64,
     /// How long they wait, in milliseconds.
-    t_seq: u64,
+    t_seq: Milliseconds,
     /// The number that goes up next, without wrap: 2^32 behind the last one.
     expected: u64,
     /// Where parts wait, the own time since which they do, in milliseconds.
-    since: u64,
+    since: Milliseconds,
     /// The parts that wait, under their numbers.
     waiting: Deferral<Kept, A>,
 }
@@ -128,7 +129,7 @@ impl<A: Allocator> Model for RedLayer<A> {
 impl<A: Allocator> RedLayer<A> {
     /// A receiving half that expects number 0. It is the only call that takes memory, and the only
     /// one that may answer `Memory`.
-    pub fn open(alloc: A, config: RedConfig) -> Result<Self, OpenFault>
+    pub fn open(alloc: A, config: RedConfig) -> Result<Self, RedOpenFault>
         requires q { config.q ≤ Q_MAX }
         requires t_seq { config.t_seq ≤ T_SEQ_MAX }
         // A receiving half that is opened has its settings, expects number 0, and nothing waits.
@@ -142,13 +143,13 @@ impl<A: Allocator> RedLayer<A> {
                 since: 0,
                 waiting,
             }),
-            Err(_) => Err(OpenFault::Memory),
+            Err(_) => Err(RedOpenFault::Memory),
         }
     }
 
     /// Takes a datagram, of any octets, after the deadline was tried once. What goes up is handed
     /// to `up` in order: first what the deadline lets through, then what the datagram does.
-    pub fn arrive<U: Upward>(&mut self, octets: &[u8], now: u64, up: &mut U) -> RedEvent
+    pub fn arrive<U: Upward>(&mut self, octets: &[u8], now: Milliseconds, up: &mut U) -> RedEvent
         requires now { now ≤ 2 ^ 62 }
         requires ready { U.ready up.old self.old.expected }
         // `arrive` answers, on any octets and times up to 2^62 ms, what the step of the profile does with the
@@ -170,7 +171,7 @@ impl<A: Allocator> RedLayer<A> {
 
     /// Tries the deadline: where something waits and its time is over, the run of consecutive
     /// numbers from the least one on goes up.
-    pub fn tick<U: Upward>(&mut self, now: u64, up: &mut U)
+    pub fn tick<U: Upward>(&mut self, now: Milliseconds, up: &mut U)
         requires now { now ≤ 2 ^ 62 }
         requires ready { U.ready up.old self.old.expected }
         // `arrive` and `tick` leave, on any octets and times up to 2^62 ms, exactly the state of the step.
@@ -188,7 +189,7 @@ impl<A: Allocator> RedLayer<A> {
     }
 
     /// When the waiting ends, exactly while something waits; it may be past.
-    pub fn deadline(&self) -> Option<u64>
+    pub fn deadline(&self) -> Option<Milliseconds>
         // `deadline` is the end of the wait, exactly while something waits.
         ensures moment { result ≡ deadline_of self.now }
 
@@ -202,7 +203,7 @@ impl<A: Allocator> RedLayer<A> {
     }
 
     /// Hands up the run from a number on, and expects the number behind it.
-    fn follow<U: Upward>(&mut self, from: u64, now: u64, up: &mut U)
+    fn follow<U: Upward>(&mut self, from: u64, now: Milliseconds, up: &mut U)
         requires now { now ≤ 2 ^ 62 }
         requires in_range { from ≤ 2 ^ 32 }
         requires rises { Rises from self.old.waiting }
@@ -229,7 +230,7 @@ impl<A: Allocator> RedLayer<A> {
     }
 
     /// Hands up the run from a number on where something waits, and expects the number behind it.
-    fn follow_run<U: Upward>(&mut self, from: u64, now: u64, up: &mut U)
+    fn follow_run<U: Upward>(&mut self, from: u64, now: Milliseconds, up: &mut U)
         requires now { now ≤ 2 ^ 62 }
         requires in_range { from ≤ 2 ^ 32 }
         requires rises { Rises from self.old.waiting }
@@ -245,7 +246,13 @@ impl<A: Allocator> RedLayer<A> {
     }
 
     /// Judges an arrival by its number.
-    fn judge<U: Upward>(&mut self, seq: u32, upper: &[u8], now: u64, up: &mut U) -> RedEvent
+    fn judge<U: Upward>(
+        &mut self,
+        seq: u32,
+        upper: &[u8],
+        now: Milliseconds,
+        up: &mut U,
+    ) -> RedEvent
         requires now { now ≤ 2 ^ 62 }
         requires small { length upper.now ≤ SAFE_PDU_MAX }
         requires ready { U.ready up.old self.old.expected }
@@ -270,7 +277,7 @@ impl<A: Allocator> RedLayer<A> {
     }
 
     /// Lets an early part wait, where its number does not wait and a place is free.
-    fn defer(&mut self, seq: u32, upper: &[u8], now: u64) -> RedEvent
+    fn defer(&mut self, seq: u32, upper: &[u8], now: Milliseconds) -> RedEvent
         requires now { now ≤ 2 ^ 62 }
         requires small { length upper.now ≤ SAFE_PDU_MAX }
         requires ahead { self.old.expected < seq }

@@ -1,8 +1,8 @@
 use crate::deferral::Deferral;
-use crate::{Numbers, OpenFault, RedConfig, RedEvent, RedLayer, Upward};
+use crate::pdu::RedFault;
+use crate::{Numbers, RedConfig, RedEvent, RedLayer, RedOpenFault, Upward};
 use arrayvec::ArrayVec;
 use linked_list_allocator::LocalHeap;
-use red_pdu::RedFault;
 use std::test::Fail;
 
 /// Keeps the numbers that go up.
@@ -131,7 +131,7 @@ fn opening_takes_the_only_memory(rt: HostRuntime) -> Result<(), Fail> {
                 assert!(rt; refused);
                 return Ok(());
             }
-            Err(OpenFault::Memory) => refused = true,
+            Err(RedOpenFault::Memory) => refused = true,
         }
     }
     Err("no heap was great enough".into())

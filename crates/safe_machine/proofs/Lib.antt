@@ -1,3 +1,5 @@
+pub mod RingLemmas
+pub mod UnitLemmas
 -- A clause with `_` is checked once for each case that the clauses above it leave. Where one proof does for every case, the first case has a clause
 -- of its own all the same: without it nothing would be split into cases.
 mod Words
@@ -6,8 +8,4 @@ pub mod two
 pub mod order
 pub mod code
 pub mod Rows
-mod LossRow
-mod ClosingRow
-mod WrapRow
-mod RequestRow
-pub mod OrderRow
+pub mod EventsRow

@@ -6,34 +6,27 @@ use Rattle.safe_machine.proofs.Words.{SequenceError, Timeout, ServiceNotAllowed,
 use Rattle.safe_machine.proofs.Words.{VersionDiffers, OutOfOrder, NotWellFormed, Limit, BadUnit, ConfirmedNumber, ConfirmedTimestamp, Made, opening_body}
 use Rattle.safe_machine.proofs.Words.{leaving_body, Settings, State, opened, leave, Decision, decide, Nothing, Drops, Shuts, Leaves, Rejects, Accepts, Connects}
 use Rattle.safe_machine.proofs.Words.{Takes, Asks, Resumes, AnswersNext, AnswersEarly, arrive, send, tick, arrive_answer, Il, Fe, Event, start, run, Genuine}
-use Rattle.safe_machine.proofs.Words.{Open, Send, Arrive, heard_answer, kept_of}
+use Rattle.safe_machine.proofs.Words.{Open, Send, Arrive, heard_answer, kept_of, Bool}
 use Rattle.safe_machine.specs.Numbers.{sn_of, ahead}
 
-settings : Settings
-settings = record {
-  client = false;
-  own = 2;
-  peer = 1;
+abbrev set_of : (client : Bool) (own peer pdu_limit : ℕ) → Settings
+set_of client own peer pdu_limit = record {
+  client = client;
+  own = own;
+  peer = peer;
   n_sendmax = 20;
   t_max = 1800;
   t_h = 300;
   mwa = 10;
-  pdu_limit = 4294901760;
+  pdu_limit = pdu_limit;
   rule = record { length = Eight; initial_value = [] };
 }
 
+settings : Settings
+settings = set_of false 2 1 4294901760
+
 client_settings : Settings
-client_settings = record {
-  client = true;
-  own = 1;
-  peer = 2;
-  n_sendmax = 20;
-  t_max = 1800;
-  t_h = 300;
-  mwa = 10;
-  pdu_limit = 4294901760;
-  rule = record { length = Eight; initial_value = [] };
-}
+client_settings = set_of true 1 2 4294901760
 
 -- PDUs from the interlocking (1) and from the field element (2)
 from_il : Kind → ℕ → ℕ → ℕ → List ℕ → Pdu
@@ -181,17 +174,7 @@ closed_seen = (refl, refl, refl, refl)
 
 -- Where as many PDUs were made as may be: reason 7, detail 1. (Here the limit is one PDU.)
 short_settings : Settings
-short_settings = record {
-  client = false;
-  own = 2;
-  peer = 1;
-  n_sendmax = 20;
-  t_max = 1800;
-  t_h = 300;
-  mwa = 10;
-  pdu_limit = 1;
-  rule = record { length = Eight; initial_value = [] };
-}
+short_settings = set_of false 2 1 1
 
 limit_seen : arrive_answer (from_il Heartbeat 101 500 0 []) 0 (kept_of (arrive (from_il ConnReq 100 0 0 (opening_body 20)) 0 (opened short_settings 500 0)))
     ≡ Left ProtocolError Limit

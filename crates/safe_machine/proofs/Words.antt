@@ -1,12 +1,12 @@
 -- What the lemmas of this crate name of the library, of the layers below and of the crate's own definitions; what they prove they name by its own file.
-pub use Rattle.std.proofs.Common.{Bool, Err, List, None, Ok, Option, Result, Some, [], ap, append_assoc, arith, cond, drop, false, inl, inr, length}
+pub use Rattle.std.proofs.Common.{Bool, Err, List, None, Ok, Option, Result, Some, [], ap, append_assoc, arith, cond, drop, false, inl, inr, length, rules}
 pub use Rattle.std.proofs.Common.{length-append, refl, subst, suc, sym, take, true, zero, ℕ, ⊎_elim, ◌%◌, ◌*◌, ◌++◌, ◌+◌, ◌-◌, ◌<◌, ◌^◌, ◌∙◌, ◌∷◌, ◌≡◌, ◌≢◌}
 pub use Rattle.std.proofs.Common.{◌≤◌, ◌⊎◌}
 pub use Rattle.std.proofs.Math.Seq.{drop-append_seam, take-append_seam}
 pub use Rattle.std.proofs.lemmas.Bool.{and_parts, cond_both, eq-eqb, eqb-true, false≢true, le-leb, leb-false, leb-true, lt-ltb, ltb-false, ltb-true}
 pub use Rattle.std.proofs.lemmas.Bool.Decides.{eqb_tells, nat_tests}
 pub use Rattle.std.proofs.lemmas.List.{append-nil, append_cancel_right, drop-append-le, drop-drop, drop_all, length-drop, length-map, length-take, map-append}
-pub use Rattle.std.proofs.lemmas.List.{take-append-drop, take_more}
+pub use Rattle.std.proofs.lemmas.List.{take-append-drop, take_more, take_all}
 pub use Rattle.std.proofs.lemmas.List.Elements.{All-cons, All-filter, All-nil, All-push, All-weaker, filter-append}
 pub use Rattle.std.proofs.lemmas.Option.{slice_get-get_or}
 pub use Rattle.std.specs.List.{FoldsTo, list_all}
@@ -14,12 +14,12 @@ pub use Rattle.std.specs.Prelude.{IfSome, MatchOption, get_or, if◌then◌else�
 pub use Rattle.octets.proofs.Choices.{by_cond, by_test}
 pub use Rattle.octets.proofs.Steps.{FoldsTo-append}
 pub use Rattle.octets.specs.Lists.{IsBeginning}
-pub use Rattle.octets.specs.declared.limits.TheConstants.{LEAVING_BODY, REACH, UNIT_MAX, UNIT_MIN}
-pub use Rattle.retrans.proofs.UnitLemmas.{octets-renumbered}
-pub use Rattle.retrans.specs.Units.{Numbered, above, octets_of, renumbered}
+pub use Rattle.octets.specs.declared.limits.TheConstants.{LEAVING_BODY, REACH, UNIT_MAX, UNIT_MIN, WINDOW_MAX}
+pub use Rattle.safe_machine.proofs.UnitLemmas.{octets-renumbered}
+pub use Rattle.safe_machine.specs.retrans.Units.{Numbered, above, octets_of, renumbered}
 pub use Rattle.safe_pdu.proofs.SafeLemmas.{length-text}
 pub use Rattle.safe_pdu.specs.Bodies.{IsBody, is_digit, is_zero, version_of, window_of}
-pub use Rattle.safe_pdu.specs.Pdu.{Pdu, kind_number}
+pub use Rattle.safe_pdu.specs.Pdu.{Pdu, kind_number, pdu_of}
 pub use Rattle.safe_pdu.specs.Places.{safe_seen}
 pub use Rattle.safe_pdu.specs.SafeText.{HasNumbers}
 pub use Rattle.safe_pdu.specs.declared.CodeLength.TheVariants.{Eight}
@@ -40,11 +40,11 @@ pub use Rattle.safe_machine.specs.Made.{Made, after_pdu, carries, first_sent, is
 pub use Rattle.safe_machine.specs.Made.{units}
 pub use Rattle.safe_machine.specs.Moves.{AreFrom, AreSoundMoves, ConnectionsLaw, GoesOn, HasText, HaveTexts, HearsNothing, HearsOwn, IdentifiedLaw, IsSoundMove}
 pub use Rattle.safe_machine.specs.Moves.{IsUnitSized, Move, MovesLaw, ReachedLaw, ReachedState, RequestsLaw, SettingsLaw, StrangersLaw, TextsLaw, WaitsLaw}
-pub use Rattle.safe_machine.specs.Moves.{move, moved, sent_by}
+pub use Rattle.safe_machine.specs.Moves.{move, moved, sent_by, IsTakenBy, HearsRequest}
 pub use Rattle.safe_machine.specs.Moves.Move.{Guards, Hears, Leaves as LeavesNow, Sends, Ticks}
 pub use Rattle.safe_machine.specs.Numbers.{ahead, sn_of, wrap}
 pub use Rattle.safe_machine.specs.Octets.{arrive_octets, heard, heard_answer, hears, hears_units}
-pub use Rattle.safe_machine.specs.Properties.{HandsIf, IsNextData, IsRecent, StopsOnly, index_step}
+pub use Rattle.safe_machine.specs.Properties.{HandsIf, IsNextData, IsRecent, StopsOnly, index_step, OnlyConfirms}
 pub use Rattle.safe_machine.specs.Reached.{AreRead, FewLaw, IsReached, IsRead}
 pub use Rattle.safe_machine.specs.Ring.{after_at, after_carrier, carried_again, carried_at, carriers, carriers_from, is_resent, resent, ring_of}
 pub use Rattle.safe_machine.specs.Settings.{Settings, are_two, in_range, is_coded, is_legal}
@@ -56,20 +56,20 @@ pub use Rattle.safe_machine.specs.Turned.{HasMade, MaySend, OpenedTurn, Tells, T
 pub use Rattle.safe_machine.specs.Turns.{Out, Turn, answers_ahead, arrive_answer, arrives, asks, beats, both_confirmed, carried, carries_out, confirmed_to}
 pub use Rattle.safe_machine.specs.Turns.{counted, goes_on, guards, handed_by, hands, has_room, is_open, leaves, moved_to, opens, passed, renumbers, replies}
 pub use Rattle.safe_machine.specs.Turns.{requested, resends, responds, says, sends, sends_unit, still, takes_unit, units_confirmed, unsaid, windowed}
-pub use Rattle.safe_machine.specs.View.{StandsFor, View, beside, kept_of, text_of, texts}
+pub use Rattle.safe_machine.specs.View.{StandsFor, View, beside, kept_of, text_of, texts, settings_of}
 pub use Rattle.safe_machine.specs.World.{Among, Event, Genuine, GenuineAt, GenuineEvent, Served, Timely, TimelyEvent, World, as_role, at_end, changed}
 pub use Rattle.safe_machine.specs.World.{event_end, event_time, happens, joins, open_fe, open_il, run, start, unopened, with_fe, with_il}
 pub use Rattle.safe_machine.specs.World.Event.{Arrive, Close, Guard, Open, Send, Tick}
 pub use Rattle.safe_machine.specs.World.Side.{Fe, Il}
 pub use Rattle.safe_machine.specs.declared.ConnectionState.{ConnectionState}
 pub use Rattle.safe_machine.specs.declared.ConnectionState.TheVariants.{Closed, Down, RetrReq as Requesting, RetrRun, Start, Up}
-pub use Rattle.safe_machine.specs.declared.Detail.{Detail}
-pub use Rattle.safe_machine.specs.declared.Detail.TheVariants.{BadUnit, ConfirmedNumber, ConfirmedTimestamp, Limit, NotWellFormed, OutOfOrder, Unspecified}
-pub use Rattle.safe_machine.specs.declared.Detail.TheVariants.{VersionDiffers}
+pub use Rattle.safe_pdu.specs.declared.reasons.Detail.{Detail}
+pub use Rattle.safe_pdu.specs.declared.reasons.Detail.TheVariants.{BadUnit, ConfirmedNumber, ConfirmedTimestamp, Limit, NotWellFormed, OutOfOrder, Unspecified}
+pub use Rattle.safe_pdu.specs.declared.reasons.Detail.TheVariants.{VersionDiffers}
 pub use Rattle.safe_machine.specs.declared.DropCause.TheVariants.{Answered, Below, Fault, NotOpened, Number, Request, Stranger}
-pub use Rattle.safe_machine.specs.declared.Reason.{Reason}
-pub use Rattle.safe_machine.specs.declared.Reason.TheVariants.{ClosedByUser, ProtocolError, RetransmissionImpossible, SequenceError, ServiceNotAllowed, Timeout}
-pub use Rattle.safe_machine.specs.declared.Reason.TheVariants.{UnexpectedPdu, WrongVersion}
+pub use Rattle.safe_pdu.specs.declared.reasons.Reason.{Reason}
+pub use Rattle.safe_pdu.specs.declared.reasons.Reason.TheVariants.{ClosedByUser, ProtocolError, RetransmissionImpossible, SequenceError}
+pub use Rattle.safe_pdu.specs.declared.reasons.Reason.TheVariants.{ServiceNotAllowed, Timeout, UnexpectedPdu, WrongVersion}
 pub use Rattle.safe_machine.specs.declared.Step.TheVariants.{Dropped, Gap, Left, Nothing as NoAnswer, Taken}
 pub use Rattle.safe_machine.specs.declared.arrival.Cell.{Cell}
 pub use Rattle.safe_machine.specs.declared.arrival.Cell.TheVariants.{Answer, Ask, Refuse, Resume, Skip, Take}

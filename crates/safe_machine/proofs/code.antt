@@ -1,7 +1,3 @@
 -- What the functions of the crate rely on.
-pub mod Sending
-pub mod Arriving
-pub mod Reaching
-pub mod Nearing
 pub mod Properties
-pub mod Stopping
+pub mod Reaching

@@ -1,25 +1,8 @@
 -- What one machine does, whatever comes to it.
-pub mod ConnectionFacts
-pub mod StepCases
-pub mod Legal
-pub mod TableLemmas
-pub mod Deciding
-pub mod Resending
 pub mod Runs
-pub mod Numbers
-pub mod Counting
-pub mod Ring
-pub mod RingMoves
+pub mod Deciding
 pub mod Carriers
 pub mod Kept
-pub mod OneMachine
-pub mod Leaving
-pub mod Strangers
-pub mod Connections
-pub mod Identified
-pub mod Texts
-pub mod Requests
-pub mod MovesLaw
-pub mod Few
 pub mod Turning
 pub mod Confirming
+pub mod Identified

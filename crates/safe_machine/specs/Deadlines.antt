@@ -1,10 +1,10 @@
 -- When the deadlines of a machine fall, if nothing comes: T_max, T_h, and at once where as many PDUs were made as one connection may have
 -- (safety and retransmission layer of DIN VDE V 0831-200:2015).
 use Rattle.std.specs.Prelude.{ℕ, ◌+◌, ◌-◌, ◌^◌, ◌<◌, ◌≤◌, ◌&&◌, Bool, min, nat_le, Option, Some, None, if◌then◌else◌}
-use Rattle.safe_machine.specs.declared.Reason.{Reason}
-use Rattle.safe_machine.specs.declared.Reason.TheVariants.{Timeout, ProtocolError}
-use Rattle.safe_machine.specs.declared.Detail.{Detail}
-use Rattle.safe_machine.specs.declared.Detail.TheVariants.{Unspecified, Limit}
+use Rattle.safe_pdu.specs.declared.reasons.Reason.{Reason}
+use Rattle.safe_pdu.specs.declared.reasons.Reason.TheVariants.{Timeout, ProtocolError}
+use Rattle.safe_pdu.specs.declared.reasons.Detail.{Detail}
+use Rattle.safe_pdu.specs.declared.reasons.Detail.TheVariants.{Unspecified, Limit}
 use Rattle.safe_machine.specs.Connections.{is_connected, is_live}
 use Rattle.safe_machine.specs.View.{View}
 

@@ -23,8 +23,8 @@ pub use Rattle.safe_machine.specs.Connections.{in_turn, is_closed}
 use Rattle.safe_machine.specs.declared.arrival.Cell.{Cell}
 use Rattle.safe_machine.specs.Table.{cell}
 use Rattle.safe_machine.specs.declared.arrival.Cell.TheVariants.{Take, Ask, Answer, Resume, Refuse, Skip}
-use Rattle.safe_machine.specs.declared.Reason.TheVariants.{UnexpectedPdu, WrongVersion, RetransmissionImpossible, ProtocolError}
-use Rattle.safe_machine.specs.declared.Detail.TheVariants.{Unspecified, ConfirmedNumber, ConfirmedTimestamp}
+use Rattle.safe_pdu.specs.declared.reasons.Reason.TheVariants.{UnexpectedPdu, WrongVersion, RetransmissionImpossible, ProtocolError}
+use Rattle.safe_pdu.specs.declared.reasons.Detail.TheVariants.{Unspecified, ConfirmedNumber, ConfirmedTimestamp}
 
 -- a ConnReq or ConnResp has the version of this profile
 abbrev pub is_ours : List ℕ → Bool

@@ -1,5 +1,5 @@
+pub mod retrans
 pub mod Numbers
-pub mod Leaving
 pub mod Made
 pub mod Settings
 pub mod Connections

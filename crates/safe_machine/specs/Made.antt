@@ -5,9 +5,9 @@ use Rattle.byteorder.specs.Endian.{little_bytes}
 use Rattle.safe_pdu.specs.declared.Kind.{Kind}
 use Rattle.safe_pdu.specs.declared.Kind.TheVariants.{RetrReq, RetrResp, Data, RetrData}
 use Rattle.safe_pdu.specs.Pdu.{Pdu}
-use Rattle.safe_machine.specs.declared.Reason.{Reason}
-use Rattle.safe_machine.specs.declared.Detail.{Detail}
-use Rattle.safe_machine.specs.Leaving.{reason_number, detail_number}
+use Rattle.safe_pdu.specs.declared.reasons.Reason.{Reason}
+use Rattle.safe_pdu.specs.declared.reasons.Detail.{Detail}
+use Rattle.safe_pdu.specs.LeavingNumbers.{reason_number, detail_number}
 
 -- A PDU that an end made: its fields, the own time, and how many of the peer's PDUs the end had behind it.
 -- Its basis is the last of these: the PDU that had last set the expected sequence number.

@@ -5,8 +5,8 @@ use Rattle.safe_pdu.specs.declared.Kind.TheVariants.{ConnReq}
 use Rattle.safe_pdu.specs.Pdu.{Pdu}
 use Rattle.safe_pdu.specs.SafeText.{SafeText, HasNumbers, safe_text}
 use Rattle.octets.specs.declared.limits.TheConstants.{UNIT_MIN, UNIT_MAX}
-use Rattle.safe_machine.specs.declared.Reason.{Reason}
-use Rattle.safe_machine.specs.declared.Detail.{Detail}
+use Rattle.safe_pdu.specs.declared.reasons.Reason.{Reason}
+use Rattle.safe_pdu.specs.declared.reasons.Detail.{Detail}
 use Rattle.safe_machine.specs.declared.ConnectionState.{ConnectionState}
 use Rattle.safe_machine.specs.declared.ConnectionState.TheVariants.{Closed, Down, Start, Up}
 use Rattle.safe_machine.specs.Made.{Made, units}

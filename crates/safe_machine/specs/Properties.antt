@@ -2,7 +2,7 @@
 use Rattle.octets.specs.declared.limits.TheConstants.{REACH, WINDOW_MAX}
 use Rattle.std.specs.Prelude.{ℕ, ◌+◌, ◌*◌, ◌≡◌, ◌≢◌, ◌<◌, ◌⊎◌, true, List, [], None, Result, Ok, Err}
 use Rattle.std.specs.List.{FoldsTo}
-use Rattle.retrans.specs.Units.{above, octets_of}
+use Rattle.safe_machine.specs.retrans.Units.{above, octets_of}
 use Rattle.safe_pdu.specs.declared.Kind.TheVariants.{Data}
 use Rattle.safe_pdu.specs.declared.SafeFault.{SafeFault}
 use Rattle.safe_pdu.specs.Pdu.{Pdu}

@@ -2,7 +2,7 @@
 use Rattle.std.specs.Prelude.{◌≡◌, ℕ, suc, ◌+◌, ◌-◌, Bool, true, false, List, [], ◌∷◌, ◌++◌, length, take, drop, if◌then◌else◌}
 use Rattle.safe_pdu.specs.declared.Kind.{Kind}
 use Rattle.safe_pdu.specs.declared.Kind.TheVariants.{RetrResp, Data, RetrData}
-use Rattle.retrans.specs.Units.{Numbered, above, renumbered, octets_of}
+use Rattle.safe_machine.specs.retrans.Units.{Numbered, above, renumbered, octets_of}
 use Rattle.safe_machine.specs.Made.{Made}
 use Rattle.safe_machine.specs.State.{State, unconfirmed}
 

@@ -10,8 +10,8 @@ use Rattle.safe_machine.specs.Numbers.{wrap, sn_of}
 use Rattle.safe_pdu.specs.Pdu.{Pdu}
 use Rattle.safe_machine.specs.Made.{Made, opening_body, leaving_body, run_of}
 use Rattle.safe_machine.specs.Settings.{Settings}
-use Rattle.safe_machine.specs.declared.Reason.{Reason}
-use Rattle.safe_machine.specs.declared.Detail.{Detail}
+use Rattle.safe_pdu.specs.declared.reasons.Reason.{Reason}
+use Rattle.safe_pdu.specs.declared.reasons.Detail.{Detail}
 
 -- What an end knows, and all that it made and took.
 pub record State : Type 0 where

@@ -15,8 +15,8 @@ use Rattle.safe_machine.specs.Decision.{cs_step, cts_step, decide, distance}
 use Rattle.safe_machine.specs.Deadlines.{beat_due, by_guard}
 pub use Rattle.safe_machine.specs.Made.{last_time}
 use Rattle.safe_machine.specs.declared.arrival.Decision.TheVariants.{Nothing, Drops, Shuts, Leaves, Rejects, Accepts, Connects, Takes, Asks, Resumes, AnswersNext, AnswersEarly}
-use Rattle.safe_machine.specs.declared.Reason.TheVariants.{WrongVersion}
-use Rattle.safe_machine.specs.declared.Detail.TheVariants.{Unspecified}
+use Rattle.safe_pdu.specs.declared.reasons.Reason.TheVariants.{WrongVersion}
+use Rattle.safe_pdu.specs.declared.reasons.Detail.TheVariants.{Unspecified}
 
 -- the confirmed number moves on
 abbrev pub confirm_units : Pdu → State → State

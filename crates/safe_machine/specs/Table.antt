@@ -6,7 +6,7 @@ use Rattle.safe_machine.specs.declared.ConnectionState.{ConnectionState}
 use Rattle.safe_machine.specs.declared.ConnectionState.TheVariants.{Start, Up, RetrReq as Requesting, RetrRun}
 use Rattle.safe_machine.specs.declared.arrival.Cell.{Cell}
 use Rattle.safe_machine.specs.declared.arrival.Cell.TheVariants.{Take, Ask, Answer, Resume, Refuse, Skip}
-use Rattle.safe_machine.specs.declared.Reason.TheVariants.{UnexpectedPdu, SequenceError}
+use Rattle.safe_pdu.specs.declared.reasons.Reason.TheVariants.{UnexpectedPdu, SequenceError}
 
 -- the rows; the flag says that the PDU is the next one
 abbrev pub start_row : Bool → Kind → Cell

@@ -2,7 +2,7 @@
 -- (safety and retransmission layer of DIN VDE V 0831-200:2015).
 use Rattle.std.specs.Prelude.{ℕ, ◌+◌, ◌%◌, ◌&&◌, nat_le, nat_lt, Bool, List, [], ◌∷◌, ◌++◌, length, if◌then◌else◌}
 use Rattle.std.specs.List.{FoldsTo}
-use Rattle.retrans.specs.Units.{above, octets_of, renumbered}
+use Rattle.safe_machine.specs.retrans.Units.{above, octets_of, renumbered}
 use Rattle.safe_pdu.specs.declared.Kind.{Kind}
 use Rattle.safe_pdu.specs.declared.Kind.TheVariants.{ConnReq, ConnResp, RetrReq, RetrResp, DiscReq, Heartbeat, Data, RetrData}
 use Rattle.safe_pdu.specs.declared.CodeRule.{CodeRule}
@@ -10,10 +10,10 @@ use Rattle.safe_pdu.specs.Pdu.{Pdu}
 use Rattle.safe_pdu.specs.Bodies.{window_of}
 use Rattle.safe_machine.specs.declared.ConnectionState.{ConnectionState}
 use Rattle.safe_machine.specs.declared.ConnectionState.TheVariants.{Closed, Down, Start, Up, RetrReq as Requesting, RetrRun}
-use Rattle.safe_machine.specs.declared.Reason.{Reason}
-use Rattle.safe_machine.specs.declared.Reason.TheVariants.{WrongVersion}
-use Rattle.safe_machine.specs.declared.Detail.{Detail}
-use Rattle.safe_machine.specs.declared.Detail.TheVariants.{Unspecified}
+use Rattle.safe_pdu.specs.declared.reasons.Reason.{Reason}
+use Rattle.safe_pdu.specs.declared.reasons.Reason.TheVariants.{WrongVersion}
+use Rattle.safe_pdu.specs.declared.reasons.Detail.{Detail}
+use Rattle.safe_pdu.specs.declared.reasons.Detail.TheVariants.{Unspecified}
 use Rattle.safe_machine.specs.declared.arrival.Decision.{Decision}
 use Rattle.safe_machine.specs.declared.arrival.Decision.TheVariants.{Nothing, Drops, Shuts, Leaves, Rejects, Accepts, Connects, Takes, Asks, Resumes, AnswersNext, AnswersEarly}
 use Rattle.octets.specs.declared.limits.TheConstants.{WINDOW_MAX}

@@ -1,7 +1,7 @@
 -- What a machine keeps of a state: each list as its count, and the unconfirmed units.
 use Rattle.std.specs.Prelude.{◌≡◌, ℕ, Bool, true, false, List, length, map}
 use Rattle.octets.specs.declared.limits.TheConstants.{WINDOW_MAX}
-use Rattle.retrans.specs.Units.{Numbered}
+use Rattle.safe_machine.specs.retrans.Units.{Numbered}
 use Rattle.safe_pdu.specs.declared.CodeRule.{CodeRule}
 use Rattle.safe_pdu.specs.SafeText.{safe_text}
 use Rattle.safe_machine.specs.declared.ConnectionState.{ConnectionState}

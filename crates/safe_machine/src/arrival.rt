@@ -19,6 +19,7 @@ ghost use Rattle.safe_machine.specs.inner.Allows.{Allows};
 
 use super::endpoint::{Endpoint, VERSION, low};
 use super::{ConnectionState, Detail, DropCause, PduOut, Reason, Role, Step, UnitIn};
+use octets::Milliseconds;
 use octets::limits::REACH;
 use safe_pdu::{Kind, SafeFault, SafePdu, decode, read_opening};
 use std::alloc::Allocator;
@@ -28,7 +29,7 @@ impl<A: Allocator> Endpoint<A> {
     pub(crate) fn arrive_octets<O: PduOut, U: UnitIn>(
         &mut self,
         octets: &[u8],
-        now: u64,
+        now: Milliseconds,
         out: &mut O,
         units: &mut U,
     ) -> Step
@@ -58,7 +59,7 @@ impl<A: Allocator> Endpoint<A> {
     fn arrive<O: PduOut, U: UnitIn>(
         &mut self,
         pdu: &SafePdu<'_>,
-        now: u64,
+        now: Milliseconds,
         out: &mut O,
         units: &mut U,
     ) -> Step
@@ -83,7 +84,7 @@ impl<A: Allocator> Endpoint<A> {
     fn respond<O: PduOut, U: UnitIn>(
         &mut self,
         pdu: &SafePdu<'_>,
-        now: u64,
+        now: Milliseconds,
         out: &mut O,
         units: &mut U,
     ) -> Step
@@ -104,7 +105,7 @@ impl<A: Allocator> Endpoint<A> {
     }
 
     /// What the end decides.
-    fn decide(&self, pdu: &SafePdu<'_>, now: u64) -> Decision
+    fn decide(&self, pdu: &SafePdu<'_>, now: Milliseconds) -> Decision
         requires body { IsBody pdu.now.kind pdu.now.body.now }
         requires reach { self.now.expected < 2 ^ 62 }
         ensures { result ≡ decide self.now (pdu_of pdu.now) now }
@@ -126,7 +127,7 @@ impl<A: Allocator> Endpoint<A> {
     }
 
     /// What an end decides by its state.
-    fn by_connection(&self, pdu: &SafePdu<'_>, now: u64) -> Decision
+    fn by_connection(&self, pdu: &SafePdu<'_>, now: Milliseconds) -> Decision
         requires body { IsBody pdu.now.kind pdu.now.body.now }
         requires reach { self.now.expected < 2 ^ 62 }
         ensures { result ≡ by_connection self.now (pdu_of pdu.now) now self.now.connection }
@@ -142,7 +143,7 @@ impl<A: Allocator> Endpoint<A> {
     }
 
     /// What a client in Start decides.
-    fn as_client(&self, pdu: &SafePdu<'_>, now: u64) -> Decision
+    fn as_client(&self, pdu: &SafePdu<'_>, now: Milliseconds) -> Decision
         requires { IsBody pdu.now.kind pdu.now.body.now }
         ensures { result ≡ as_client self.now (pdu_of pdu.now) now pdu.now.kind }
     {
@@ -159,7 +160,7 @@ impl<A: Allocator> Endpoint<A> {
     }
 
     /// What an end with an expected number decides.
-    fn by_table(&self, pdu: &SafePdu<'_>, now: u64) -> Decision
+    fn by_table(&self, pdu: &SafePdu<'_>, now: Milliseconds) -> Decision
         requires { self.now.expected < 2 ^ 62 }
         ensures { result ≡ by_table self.now (pdu_of pdu.now) now (distance self.now (pdu_of pdu.now)) }
     {
@@ -172,7 +173,7 @@ impl<A: Allocator> Endpoint<A> {
     }
 
     /// What a cell of the table makes of a PDU.
-    fn by_cell(&self, pdu: &SafePdu<'_>, now: u64, distance: u32, cell: Cell) -> Decision
+    fn by_cell(&self, pdu: &SafePdu<'_>, now: Milliseconds, distance: u32, cell: Cell) -> Decision
         requires { self.now.expected < 2 ^ 62 }
         ensures { result ≡ by_cell self.now (pdu_of pdu.now) now distance cell }
     {
@@ -187,7 +188,7 @@ impl<A: Allocator> Endpoint<A> {
     }
 
     /// What the number of a RetrReq makes of it.
-    fn answering(&self, pdu: &SafePdu<'_>, now: u64, distance: u32) -> Decision
+    fn answering(&self, pdu: &SafePdu<'_>, now: Milliseconds, distance: u32) -> Decision
         requires { self.now.expected < 2 ^ 62 }
         ensures { result ≡ answering self.now (pdu_of pdu.now) now distance }
     {
@@ -218,7 +219,7 @@ impl<A: Allocator> Endpoint<A> {
     }
 
     /// A decision under the confirmation tests.
-    fn tested(&self, pdu: &SafePdu<'_>, now: u64, decision: Decision) -> Decision
+    fn tested(&self, pdu: &SafePdu<'_>, now: Milliseconds, decision: Decision) -> Decision
         ensures { result ≡ tested self.now (pdu_of pdu.now) now decision }
     {
         if !self.cs_fits(pdu) {
@@ -255,7 +256,7 @@ impl<A: Allocator> Endpoint<A> {
     }
 
     /// Whether it confirms a time that is past.
-    fn cts_fits(&self, pdu: &SafePdu<'_>, now: u64) -> bool
+    fn cts_fits(&self, pdu: &SafePdu<'_>, now: Milliseconds) -> bool
         ensures { result ≡ cts_fits self.now (pdu_of pdu.now) now }
     {
         u64::from(self.cts_step(pdu)) <= now.saturating_sub(self.confirmed_at)
@@ -274,7 +275,7 @@ impl<A: Allocator> Endpoint<A> {
         &mut self,
         decision: Decision,
         pdu: &SafePdu<'_>,
-        now: u64,
+        now: Milliseconds,
         out: &mut O,
         units: &mut U,
     )
@@ -304,7 +305,7 @@ impl<A: Allocator> Endpoint<A> {
     }
 
     /// The guard, and then what octets bring that are no PDU.
-    fn arrive_fault<O: PduOut>(&mut self, fault: SafeFault, now: u64, out: &mut O) -> Step
+    fn arrive_fault<O: PduOut>(&mut self, fault: SafeFault, now: Milliseconds, out: &mut O) -> Step
         requires few { self.old.made < 2 ^ 40 }
         ensures left { self.new ≡ (guards now self.old).left }
         ensures made { Out O.makes self.old.settings.rule out.old (guards now self.old) out.new }

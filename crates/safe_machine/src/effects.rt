@@ -2,7 +2,7 @@
 
 ghost use Rattle.std.specs.Prelude.{◌≡◌, ◌+◌, ◌-◌, ◌<◌, ◌≤◌, ◌^◌, [], length, slice_get, IfSome};
 ghost use Rattle.octets.specs.declared.limits.TheConstants.{WINDOW_MAX};
-ghost use Rattle.retrans.specs.Units.{octets_of};
+ghost use Rattle.safe_machine.specs.retrans.Units.{octets_of};
 ghost use Rattle.std.specs.List.{FoldsTo};
 ghost use Rattle.safe_pdu.specs.Pdu.{pdu_of};
 ghost use Rattle.safe_pdu.specs.Bodies.{IsBody, window_of};
@@ -15,12 +15,13 @@ ghost use Rattle.safe_machine.specs.inner.Sound.{AllUnits};
 
 use super::endpoint::Endpoint;
 use super::{ConnectionState, Detail, PduOut, Reason, UnitIn};
+use octets::Milliseconds;
 use safe_pdu::{Kind, SafePdu, read_opening};
 use std::alloc::Allocator;
 
 impl<A: Allocator> Endpoint<A> {
     /// Refuses a ConnReq for its version.
-    pub(crate) fn reject<O: PduOut>(&mut self, pdu: &SafePdu<'_>, now: u64, out: &mut O)
+    pub(crate) fn reject<O: PduOut>(&mut self, pdu: &SafePdu<'_>, now: Milliseconds, out: &mut O)
         requires few { self.old.made < 2 ^ 39 }
         requires reach { self.old.expected < 2 ^ 62 }
         ensures left { self.new ≡ (rejects (pdu_of pdu.now) now self.old).left }
@@ -32,7 +33,7 @@ impl<A: Allocator> Endpoint<A> {
     }
 
     /// Grants a ConnReq.
-    pub(crate) fn accept<O: PduOut>(&mut self, pdu: &SafePdu<'_>, now: u64, out: &mut O)
+    pub(crate) fn accept<O: PduOut>(&mut self, pdu: &SafePdu<'_>, now: Milliseconds, out: &mut O)
         requires few { self.old.made < 2 ^ 38 }
         requires reach { self.old.expected < 2 ^ 62 }
         requires body { IsBody Kind.ConnReq pdu.now.body.now }
@@ -51,7 +52,7 @@ impl<A: Allocator> Endpoint<A> {
     }
 
     /// Has got its ConnResp.
-    pub(crate) fn connect<O: PduOut>(&mut self, pdu: &SafePdu<'_>, now: u64, out: &mut O)
+    pub(crate) fn connect<O: PduOut>(&mut self, pdu: &SafePdu<'_>, now: Milliseconds, out: &mut O)
         requires body { IsBody Kind.ConnReq pdu.now.body.now }
         requires few { self.old.made < 2 ^ 39 }
         requires reach { self.old.expected < 2 ^ 62 }
@@ -71,7 +72,7 @@ impl<A: Allocator> Endpoint<A> {
     pub(crate) fn take<O: PduOut, U: UnitIn>(
         &mut self,
         pdu: &SafePdu<'_>,
-        now: u64,
+        now: Milliseconds,
         connection: ConnectionState,
         out: &mut O,
         units: &mut U,
@@ -95,7 +96,7 @@ impl<A: Allocator> Endpoint<A> {
     }
 
     /// Asks for a retransmission.
-    pub(crate) fn ask<O: PduOut>(&mut self, now: u64, out: &mut O)
+    pub(crate) fn ask<O: PduOut>(&mut self, now: Milliseconds, out: &mut O)
         requires few { self.old.made < 2 ^ 40 }
         ensures left { self.new ≡ (asks now self.old).left }
         ensures made { Out O.makes self.old.settings.rule out.old (asks now self.old) out.new }
@@ -105,7 +106,7 @@ impl<A: Allocator> Endpoint<A> {
     }
 
     /// Has got the answer to its request.
-    pub(crate) fn resume(&mut self, pdu: &SafePdu<'_>, now: u64)
+    pub(crate) fn resume(&mut self, pdu: &SafePdu<'_>, now: Milliseconds)
         requires few { self.old.made < 2 ^ 39 }
         requires reach { self.old.expected < 2 ^ 62 }
         requires number { cs_step self.old (pdu_of pdu.now) < self.old.made - self.old.confirmed }
@@ -119,7 +120,12 @@ impl<A: Allocator> Endpoint<A> {
     }
 
     /// Answers a RetrReq that is the next PDU.
-    pub(crate) fn answer_next<O: PduOut>(&mut self, pdu: &SafePdu<'_>, now: u64, out: &mut O)
+    pub(crate) fn answer_next<O: PduOut>(
+        &mut self,
+        pdu: &SafePdu<'_>,
+        now: Milliseconds,
+        out: &mut O,
+    )
         requires few { self.old.made < 2 ^ 38 }
         requires reach { self.old.expected < 2 ^ 62 }
         requires short { length self.old.ring ≤ WINDOW_MAX }
@@ -136,7 +142,12 @@ impl<A: Allocator> Endpoint<A> {
     }
 
     /// Answers any other RetrReq, and asks for what is missing itself.
-    pub(crate) fn answer_early<O: PduOut>(&mut self, pdu: &SafePdu<'_>, now: u64, out: &mut O)
+    pub(crate) fn answer_early<O: PduOut>(
+        &mut self,
+        pdu: &SafePdu<'_>,
+        now: Milliseconds,
+        out: &mut O,
+    )
         requires few { self.old.made < 2 ^ 38 }
         requires reach { self.old.expected < 2 ^ 62 }
         requires short { length self.old.ring ≤ WINDOW_MAX }
@@ -153,7 +164,7 @@ impl<A: Allocator> Endpoint<A> {
     }
 
     /// Confirms and answers a RetrReq that is not to be passed, and is not the next one.
-    fn answer_ahead<O: PduOut>(&mut self, pdu: &SafePdu<'_>, now: u64, out: &mut O)
+    fn answer_ahead<O: PduOut>(&mut self, pdu: &SafePdu<'_>, now: Milliseconds, out: &mut O)
         requires few { self.old.made < 2 ^ 38 }
         requires reach { self.old.expected < 2 ^ 62 }
         requires short { length self.old.ring ≤ WINDOW_MAX }
@@ -170,7 +181,7 @@ impl<A: Allocator> Endpoint<A> {
     }
 
     /// Answers a request: RetrResp, each unconfirmed unit again, heartbeat.
-    fn reply<O: PduOut>(&mut self, now: u64, out: &mut O)
+    fn reply<O: PduOut>(&mut self, now: Milliseconds, out: &mut O)
         requires few { self.old.made < 2 ^ 38 }
         requires short { length self.old.ring ≤ WINDOW_MAX }
         requires sized { AllUnits self.old.ring }
@@ -187,7 +198,7 @@ impl<A: Allocator> Endpoint<A> {
     }
 
     /// Makes each unit again, in order.
-    fn resend_all<O: PduOut>(&mut self, now: u64, out: &mut O)
+    fn resend_all<O: PduOut>(&mut self, now: Milliseconds, out: &mut O)
         requires few { self.old.made < 2 ^ 39 }
         requires short { length self.old.ring ≤ WINDOW_MAX }
         requires sized { AllUnits self.old.ring }
@@ -203,7 +214,7 @@ impl<A: Allocator> Endpoint<A> {
     }
 
     /// Makes the unit at a place again.
-    fn resend_at<O: PduOut>(&mut self, place: usize, now: u64, out: &mut O)
+    fn resend_at<O: PduOut>(&mut self, place: usize, now: Milliseconds, out: &mut O)
         requires few { self.old.made < 2 ^ 40 }
         requires inside { place < length self.old.ring }
         requires sized { IfSome (slice_get self.old.ring place) (λ u. IsBody Kind.RetrData u.octets) }
@@ -251,7 +262,7 @@ impl<A: Allocator> Endpoint<A> {
     }
 
     /// Counts what a PDU that passed both tests confirms.
-    fn confirm_both(&mut self, pdu: &SafePdu<'_>, now: u64)
+    fn confirm_both(&mut self, pdu: &SafePdu<'_>, now: Milliseconds)
         requires few { self.old.made < 2 ^ 40 }
         requires number { cs_step self.old (pdu_of pdu.now) < self.old.made - self.old.confirmed }
         requires time { cts_step self.old (pdu_of pdu.now) ≤ now - self.old.confirmed_at }
@@ -277,7 +288,7 @@ impl<A: Allocator> Endpoint<A> {
     fn take_unit<O: PduOut, U: UnitIn>(
         &mut self,
         pdu: &SafePdu<'_>,
-        now: u64,
+        now: Milliseconds,
         out: &mut O,
         units: &mut U,
     )

@@ -10,9 +10,10 @@ ghost use Rattle.safe_machine.specs.Numbers.{sn_of};
 ghost use Rattle.safe_machine.specs.Connections.{is_live, in_turn, is_connected};
 
 use super::{ConnectionState, Detail, MachineConfig, PduOut, Reason, Role};
+use crate::retrans::Unconfirmed;
+use octets::Milliseconds;
 use octets::limits::{SAFE_HEADER, SAFE_PDU_MAX};
 use octets::places::put_u16;
-use retrans::Unconfirmed;
 use safe_pdu::{Kind, SafePdu, encode};
 use std::alloc::{Allocator, Global};
 use std::marker::Model;
@@ -40,7 +41,7 @@ pub(crate) struct Endpoint<A: Allocator = Global> {
     /// The own time of the last of them, in milliseconds.
     pub(crate) last_made: u64,
     /// How many units it has taken since its last sending; at mwa a heartbeat is made.
-    pub(crate) since: u64,
+    pub(crate) since: Milliseconds,
     /// The index of the peer's next PDU: SN_R without its wrap.
     pub(crate) expected: u64,
     /// The sequence number of the PDU that last moved `expected`: CS_T. 0 before any.
@@ -85,7 +86,13 @@ impl<A: Allocator> Model for Endpoint<A> {
 
 impl<A: Allocator> Endpoint<A> {
     /// Leaves the connection, from any state.
-    pub(crate) fn leave<O: PduOut>(&mut self, reason: Reason, detail: Detail, now: u64, out: &mut O)
+    pub(crate) fn leave<O: PduOut>(
+        &mut self,
+        reason: Reason,
+        detail: Detail,
+        now: Milliseconds,
+        out: &mut O,
+    )
         requires few { self.old.made < 2 ^ 40 }
         ensures left { self.new ≡ (leaves reason detail now self.old).left }
         ensures made { Out O.makes self.old.settings.rule out.old (leaves reason detail now self.old) out.new }
@@ -101,7 +108,7 @@ impl<A: Allocator> Endpoint<A> {
         &mut self,
         reason: Reason,
         detail: Detail,
-        now: u64,
+        now: Milliseconds,
         out: &mut O,
     )
         requires few { self.old.made < 2 ^ 40 }
@@ -114,7 +121,7 @@ impl<A: Allocator> Endpoint<A> {
     }
 
     /// Makes a ConnReq or ConnResp.
-    pub(crate) fn say_opening<O: PduOut>(&mut self, kind: Kind, now: u64, out: &mut O)
+    pub(crate) fn say_opening<O: PduOut>(&mut self, kind: Kind, now: Milliseconds, out: &mut O)
         requires few { self.old.made < 2 ^ 40 }
         requires body { IsBody kind (opening_body self.old.settings.n_sendmax) }
         ensures left { self.new ≡ counted now self.old }
@@ -126,7 +133,7 @@ impl<A: Allocator> Endpoint<A> {
     }
 
     /// Makes a heartbeat.
-    pub(crate) fn beat<O: PduOut>(&mut self, now: u64, out: &mut O)
+    pub(crate) fn beat<O: PduOut>(&mut self, now: Milliseconds, out: &mut O)
         requires few { self.old.made < 2 ^ 40 }
         ensures left { self.new ≡ counted now self.old }
         ensures made { O.makes out.old
@@ -136,7 +143,13 @@ impl<A: Allocator> Endpoint<A> {
     }
 
     /// Makes a PDU: hands it out and counts it.
-    pub(crate) fn make<O: PduOut>(&mut self, kind: Kind, body: &[u8], now: u64, out: &mut O)
+    pub(crate) fn make<O: PduOut>(
+        &mut self,
+        kind: Kind,
+        body: &[u8],
+        now: Milliseconds,
+        out: &mut O,
+    )
         requires body { IsBody kind body.now }
         requires few { self.old.made < 2 ^ 40 }
         ensures left { self.new ≡ counted now self.old }
@@ -148,7 +161,13 @@ impl<A: Allocator> Endpoint<A> {
     }
 
     /// Hands out a PDU, before it is counted.
-    pub(crate) fn hand_out<O: PduOut>(&self, kind: Kind, body: &[u8], now: u64, out: &mut O)
+    pub(crate) fn hand_out<O: PduOut>(
+        &self,
+        kind: Kind,
+        body: &[u8],
+        now: Milliseconds,
+        out: &mut O,
+    )
         requires body { IsBody kind body.now }
         ensures { O.makes out.old (text_of self.now.settings.rule (next_made self.now kind body.now now)) out.new }
     {
@@ -167,7 +186,7 @@ impl<A: Allocator> Endpoint<A> {
         &self,
         kind: Kind,
         body: &[u8],
-        now: u64,
+        now: Milliseconds,
         buffer: &mut [u8],
         out: &mut O,
     )
@@ -198,7 +217,7 @@ impl<A: Allocator> Endpoint<A> {
     }
 
     /// Counts a PDU that was handed out.
-    pub(crate) fn count(&mut self, now: u64)
+    pub(crate) fn count(&mut self, now: Milliseconds)
         requires few { self.old.made < 2 ^ 40 }
         ensures { self.new ≡ counted now self.old }
     {

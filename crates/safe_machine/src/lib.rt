@@ -10,7 +10,8 @@
 #![tactic(auto)]
 
 ghost use Rattle.std.specs.Prelude.{◌≡◌};
-ghost use Rattle.safe_machine.specs.Leaving.{detail_number, reason_number};
+
+use octets::Milliseconds;
 
 mod arrival;
 mod effects;
@@ -18,11 +19,13 @@ mod endpoint;
 mod law;
 mod machine;
 mod opening;
+pub mod retrans;
 mod sending;
 
 pub use law::unit_law;
 pub use machine::{Machine, PduOut, UnitIn};
 pub use octets::Unit;
+pub use safe_pdu::{Detail, Reason};
 
 /// The states of a connection.
 #[derive(Clone, Copy, Debug, PartialEq, Eq)]
@@ -60,9 +63,9 @@ pub struct MachineConfig {
     /// How many units the peer may have unconfirmed, 1 to 32.
     pub n_sendmax: u16,
     /// How old what was last confirmed may get, in milliseconds, 100 to 60,000.
-    pub t_max: u64,
+    pub t_max: Milliseconds,
     /// How long after its last sending a connected end sends a heartbeat, in milliseconds, 10 to t_max minus 1.
-    pub t_h: u64,
+    pub t_h: Milliseconds,
     /// After how many units taken without a sending it sends one, 1 to 16.
     pub mwa: u64,
     /// How many PDUs one connection may have, 100 to 4,294,901,760.
@@ -87,86 +90,6 @@ pub enum SendFault {
     NotUp,
     /// As many units are unconfirmed as the peer's window has.
     Window,
-}
-
-/// Why an end leaves a connection, as its DiscReq says it.
-#[derive(Clone, Copy, Debug, PartialEq, Eq)]
-pub enum Reason {
-    /// 0: closed by the user.
-    ClosedByUser,
-    /// 1: a PDU that does not belong here.
-    UnexpectedPdu,
-    /// 2: a sequence error while connecting.
-    SequenceError,
-    /// 3: nothing recent was confirmed in time.
-    Timeout,
-    /// 4: the session refuses the service.
-    ServiceNotAllowed,
-    /// 5: another version of the protocol.
-    WrongVersion,
-    /// 6: what is asked for can't be sent again.
-    RetransmissionImpossible,
-    /// 7: an error of the protocol.
-    ProtocolError,
-}
-
-impl Reason {
-    /// The reason's number in a DiscReq.
-    pub fn number(self) -> u16
-        // Each reason of a DiscReq has its number.
-        ensures { result ≡ reason_number self }
-    {
-        match self {
-            Reason::ClosedByUser => 0,
-            Reason::UnexpectedPdu => 1,
-            Reason::SequenceError => 2,
-            Reason::Timeout => 3,
-            Reason::ServiceNotAllowed => 4,
-            Reason::WrongVersion => 5,
-            Reason::RetransmissionImpossible => 6,
-            Reason::ProtocolError => 7,
-        }
-    }
-}
-
-/// What a DiscReq says beside the reason.
-#[derive(Clone, Copy, Debug, PartialEq, Eq)]
-pub enum Detail {
-    /// 0: nothing more.
-    Unspecified,
-    /// 1, of reason 4: the version of the session differs.
-    VersionDiffers,
-    /// 2, of reason 4: a telegram out of order.
-    OutOfOrder,
-    /// 3, of reason 4: a telegram that is not well formed, or not of this pair.
-    NotWellFormed,
-    /// 1, of reason 7: as many PDUs were made as one connection may have.
-    Limit,
-    /// 2, of reason 7: a unit that is none.
-    BadUnit,
-    /// 3, of reason 7: the confirmed sequence number is not of a PDU that awaits it.
-    ConfirmedNumber,
-    /// 4, of reason 7: the confirmed timestamp is not of this time.
-    ConfirmedTimestamp,
-}
-
-impl Detail {
-    /// The detail's number in a DiscReq.
-    pub fn number(self) -> u16
-        // Each detail of a DiscReq has its number.
-        ensures { result ≡ detail_number self }
-    {
-        match self {
-            Detail::Unspecified => 0,
-            Detail::VersionDiffers => 1,
-            Detail::OutOfOrder => 2,
-            Detail::NotWellFormed => 3,
-            Detail::Limit => 1,
-            Detail::BadUnit => 2,
-            Detail::ConfirmedNumber => 3,
-            Detail::ConfirmedTimestamp => 4,
-        }
-    }
 }
 
 /// Why a PDU is dropped.

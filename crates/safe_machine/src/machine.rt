@@ -22,8 +22,9 @@ use super::opening::begin;
 use super::{
     ConnectionState, Detail, MachineConfig, MachineFault, Reason, Role, SendFault, Step, Unit,
 };
+use crate::retrans::Unconfirmed;
+use octets::Milliseconds;
 use octets::limits::{SAFE_PDU_MAX, WINDOW_MAX};
-use retrans::Unconfirmed;
 use std::alloc::{Allocator, Global};
 use std::marker::Model;
 
@@ -87,7 +88,7 @@ impl<A: Allocator> Machine<A> {
         config: MachineConfig,
         role: Role,
         first_sn: u32,
-        now: u64,
+        now: Milliseconds,
         out: &mut O,
     ) -> Result<Self, MachineFault>
         // `open` answers `BadConfig` exactly where no end can have the settings.
@@ -118,7 +119,7 @@ impl<A: Allocator> Machine<A> {
 
     /// The guard alone: leaves where nothing recent was confirmed, or where as many PDUs were made as one connection
     /// may have.
-    pub fn guard<O: PduOut>(&mut self, now: u64, out: &mut O)
+    pub fn guard<O: PduOut>(&mut self, now: Milliseconds, out: &mut O)
         // `Machine::open`, `guard`, `arrive`, `tick`, `send` and `close` leave exactly what their turns leave
         // (docs/SAFETY_MACHINE.md) on any octets and times.
         ensures left { self.new ≡ (guards now self.old).left }
@@ -132,7 +133,7 @@ impl<A: Allocator> Machine<A> {
     }
 
     /// The guard, and then a heartbeat where one is due.
-    pub fn tick<O: PduOut>(&mut self, now: u64, out: &mut O)
+    pub fn tick<O: PduOut>(&mut self, now: Milliseconds, out: &mut O)
         // `Machine::open`, `guard`, `arrive`, `tick`, `send` and `close` leave exactly what their turns leave
         // (docs/SAFETY_MACHINE.md) on any octets and times.
         ensures left { self.new ≡ (ticks now self.old).left }
@@ -146,7 +147,13 @@ impl<A: Allocator> Machine<A> {
     }
 
     /// Leaves the connection, and says so, where there is one.
-    pub fn close<O: PduOut>(&mut self, reason: Reason, detail: Detail, now: u64, out: &mut O)
+    pub fn close<O: PduOut>(
+        &mut self,
+        reason: Reason,
+        detail: Detail,
+        now: Milliseconds,
+        out: &mut O,
+    )
         // `Machine::open`, `guard`, `arrive`, `tick`, `send` and `close` leave exactly what their turns leave
         // (docs/SAFETY_MACHINE.md) on any octets and times.
         ensures left { self.new ≡ (leaves reason detail now self.old).left }
@@ -161,7 +168,7 @@ impl<A: Allocator> Machine<A> {
     }
 
     /// The earliest time at which `tick` does something, if nothing arrives and nothing is sent; `None` where no time does.
-    pub fn deadline(&self) -> Option<u64>
+    pub fn deadline(&self) -> Option<Milliseconds>
         // Before `deadline` a tick leaves the machine as it is and makes nothing.
         ensures before { (now : ℕ) → IsBefore now result → ticks now self.now ≡ still self.now }
         // From `deadline` on, up to 2^62 ms, a tick does not leave the machine as it is.
@@ -207,7 +214,7 @@ impl<A: Allocator> Machine<A> {
     pub fn arrive<O: PduOut, U: UnitIn>(
         &mut self,
         octets: &[u8],
-        now: u64,
+        now: Milliseconds,
         out: &mut O,
         units: &mut U,
     ) -> Step
@@ -249,7 +256,12 @@ impl<A: Allocator> Machine<A> {
     ///
     /// Refused, and the first that holds is named: `NotUp`, where the state is neither Up nor RetrRun; `Window`, where as many
     /// units are unconfirmed as the peer's window has.
-    pub fn send<O: PduOut>(&mut self, unit: &Unit, now: u64, out: &mut O) -> Result<(), SendFault>
+    pub fn send<O: PduOut>(
+        &mut self,
+        unit: &Unit,
+        now: Milliseconds,
+        out: &mut O,
+    ) -> Result<(), SendFault>
         requires size { IsUnitSized unit.now.items }
         // `Machine::open`, `guard`, `arrive`, `tick`, `send` and `close` leave exactly what their turns leave
         // (docs/SAFETY_MACHINE.md) on any octets and times.

@@ -11,11 +11,12 @@ ghost use Rattle.safe_machine.specs.declared.Role.TheVariants.{Client};
 
 use super::endpoint::Endpoint;
 use super::{ConnectionState, MachineConfig, PduOut, Role};
+use crate::retrans::Unconfirmed;
+use octets::Milliseconds;
 use octets::limits::{
     MWA_MAX, PDU_LIMIT_HIGHEST, PDU_LIMIT_LOWEST, T_H_LOWEST, T_MAX_HIGHEST, T_MAX_LOWEST,
     WINDOW_MAX,
 };
-use retrans::Unconfirmed;
 use safe_pdu::{CodeLength, Kind};
 use std::alloc::Allocator;
 
@@ -24,7 +25,7 @@ pub(crate) fn begin<A: Allocator, O: PduOut>(
     config: MachineConfig,
     role: Role,
     first: u32,
-    now: u64,
+    now: Milliseconds,
     ring: Unconfirmed<A>,
     out: &mut O,
 ) -> Endpoint<A>
@@ -48,7 +49,7 @@ fn blank<A: Allocator>(
     config: MachineConfig,
     role: Role,
     first: u32,
-    now: u64,
+    now: Milliseconds,
     connection: ConnectionState,
     ring: Unconfirmed<A>,
 ) -> Endpoint<A>

@@ -11,6 +11,7 @@ ghost use Rattle.safe_machine.specs.Deadlines.{deadline_of, timeout_of, beat_due
 
 use super::endpoint::Endpoint;
 use super::{Detail, PduOut, Reason};
+use octets::Milliseconds;
 use octets::limits::UNIT_MAX;
 use safe_pdu::Kind;
 use std::alloc::Allocator;
@@ -25,7 +26,7 @@ impl<A: Allocator> Endpoint<A> {
     }
 
     /// Sends a unit, where one may be sent.
-    pub(crate) fn send<O: PduOut>(&mut self, unit: &[u8], now: u64, out: &mut O)
+    pub(crate) fn send<O: PduOut>(&mut self, unit: &[u8], now: Milliseconds, out: &mut O)
         requires reached { IsReached self.old }
         requires size { IsUnitSized unit.now }
         requires open { has_room self.old ≡ true }
@@ -39,7 +40,7 @@ impl<A: Allocator> Endpoint<A> {
     }
 
     /// Sends a unit.
-    pub(crate) fn send_unit<O: PduOut>(&mut self, unit: &[u8], now: u64, out: &mut O)
+    pub(crate) fn send_unit<O: PduOut>(&mut self, unit: &[u8], now: Milliseconds, out: &mut O)
         requires body { IsBody Kind.Data unit.now }
         requires few { self.old.made < 2 ^ 40 }
         requires room { length self.old.ring < self.old.room }
@@ -64,7 +65,7 @@ impl<A: Allocator> Endpoint<A> {
     }
 
     /// The guard, and then a heartbeat where one is due by time.
-    pub(crate) fn tick<O: PduOut>(&mut self, now: u64, out: &mut O)
+    pub(crate) fn tick<O: PduOut>(&mut self, now: Milliseconds, out: &mut O)
         requires few { self.old.made < 2 ^ 39 }
         ensures left { self.new ≡ (ticks now self.old).left }
         ensures made { Out O.makes self.old.settings.rule out.old (ticks now self.old) out.new }
@@ -74,7 +75,7 @@ impl<A: Allocator> Endpoint<A> {
     }
 
     /// The guard.
-    pub(crate) fn guard<O: PduOut>(&mut self, now: u64, out: &mut O)
+    pub(crate) fn guard<O: PduOut>(&mut self, now: Milliseconds, out: &mut O)
         requires few { self.old.made < 2 ^ 40 }
         ensures left { self.new ≡ (guards now self.old).left }
         ensures made { Out O.makes self.old.settings.rule out.old (guards now self.old) out.new }
@@ -85,7 +86,7 @@ impl<A: Allocator> Endpoint<A> {
     }
 
     /// Why the guard leaves, if it does.
-    pub(crate) fn overdue(&self, now: u64) -> Option<(Reason, Detail)>
+    pub(crate) fn overdue(&self, now: Milliseconds) -> Option<(Reason, Detail)>
         ensures { result ≡ overdue now self.now }
     {
         if !self.connection.is_live() {
@@ -101,7 +102,7 @@ impl<A: Allocator> Endpoint<A> {
     }
 
     /// Makes a heartbeat where one is due by time.
-    fn beat_by_time<O: PduOut>(&mut self, now: u64, out: &mut O)
+    fn beat_by_time<O: PduOut>(&mut self, now: Milliseconds, out: &mut O)
         requires few { self.old.made < 2 ^ 40 }
         ensures left { self.new ≡ (beats now self.old).left }
         ensures made { Out O.makes self.old.settings.rule out.old (beats now self.old) out.new }
@@ -112,7 +113,7 @@ impl<A: Allocator> Endpoint<A> {
     }
 
     /// Whether a heartbeat is due by time.
-    fn beat_due(&self, now: u64) -> bool
+    fn beat_due(&self, now: Milliseconds) -> bool
         ensures { result ≡ beat_due now self.now }
     {
         self.connection.is_connected()
@@ -121,7 +122,7 @@ impl<A: Allocator> Endpoint<A> {
     }
 
     /// When the first of the deadlines falls.
-    pub(crate) fn deadline(&self) -> Option<u64>
+    pub(crate) fn deadline(&self) -> Option<Milliseconds>
         ensures { result ≡ deadline_of self.now }
     {
         if !self.connection.is_live() {

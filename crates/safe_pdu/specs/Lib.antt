@@ -4,3 +4,4 @@ pub mod SafeText
 pub mod Places
 pub mod Laws
 pub mod Names
+pub mod LeavingNumbers

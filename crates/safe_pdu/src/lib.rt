@@ -20,9 +20,11 @@ use octets::places::put_octets;
 
 mod bodies;
 mod codec;
+mod reasons;
 
 pub use bodies::{read_leaving, read_opening};
 pub use codec::{decode, encode, read_back, text_law};
+pub use reasons::{Detail, Reason};
 
 /// The eight types of safety PDU, by the standard's names.
 #[derive(Clone, Copy, Debug, PartialEq, Eq)]

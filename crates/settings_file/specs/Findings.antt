@@ -11,7 +11,7 @@ use Rattle.settings_file.specs.declared.Word.TheVariants as word
 use Rattle.settings_file.specs.declared.keys.Key.{Key}
 use Rattle.settings_file.specs.declared.keys.Key.TheVariants as key
 use Rattle.settings_file.specs.declared.keys.KeyFault.{KeyFault}
-use Rattle.settings_file.specs.declared.keys.Expected.TheVariants as expected
+use Rattle.settings_file.specs.declared.keys.Wanted.TheVariants as expected
 use Rattle.settings_file.specs.declared.keys.Found.TheVariants as found
 use Rattle.settings_file.specs.declared.keys.SettingsFault.{SettingsFault}
 use Rattle.settings_file.specs.declared.keys.SettingsFault.TheVariants as fault

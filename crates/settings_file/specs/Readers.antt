@@ -8,13 +8,13 @@ use Rattle.std.specs.Prelude.{◌≡◌, nat_lt, slice_index, take, drop}
 use Rattle.std.specs.Bool.{⊤}
 use Rattle.settings_file.specs.declared.keys.ReadFault.{ReadFault}
 use Rattle.settings_file.specs.declared.keys.ReadFault.TheVariants as read_fault
-use Rattle.sci_telegram.specs.Names.{name_read}
+use Rattle.pdi_session.specs.telegram.Names.{name_read}
 use Rattle.settings_file.specs.declared.keys.Key.{Key}
 use Rattle.settings_file.specs.declared.keys.Key.TheVariants as key
 use Rattle.end_settings.specs.declared.Side.{Side}
 use Rattle.end_settings.specs.declared.Side.TheVariants as side
-use Rattle.settings_file.specs.declared.keys.Expected.{Expected}
-use Rattle.settings_file.specs.declared.keys.Expected.TheVariants as expected
+use Rattle.settings_file.specs.declared.keys.Wanted.{Wanted}
+use Rattle.settings_file.specs.declared.keys.Wanted.TheVariants as expected
 use Rattle.settings_file.specs.declared.keys.KeyFault.{KeyFault}
 use Rattle.settings_file.specs.declared.keys.Found.{Found}
 use Rattle.settings_file.specs.declared.keys.Found.TheVariants as found
@@ -27,11 +27,11 @@ use Rattle.settings_file.specs.Keys.{text_of}
 abbrev pub found_at : Data → Key → Found
 found_at d k = option_map_or (λ v. option_map_or found.Number (as_integer v) found.Other) (get (text_of k) d) found.Nothing
 
-abbrev pub wrong_at : Data → Key → Expected → KeyFault
+abbrev pub wrong_at : Data → Key → Wanted → KeyFault
 wrong_at d k e = record { key = k; expected = e; found = found_at d k }
 
 -- a key that may be left out has a default
-abbrev pub at_key : {T : Type 0} → Data → Key → Expected → Option T → (Data → Option T) → Result T KeyFault
+abbrev pub at_key : {T : Type 0} → Data → Key → Wanted → Option T → (Data → Option T) → Result T KeyFault
 at_key d k e default read = ok_or (option_map_or read (get (text_of k) d) default) (wrong_at d k e)
 
 -- a whole number in its range

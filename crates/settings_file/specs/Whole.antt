@@ -8,7 +8,7 @@ use Rattle.settings_file.specs.declared.keys.Key.TheVariants as key
 use Rattle.end_settings.specs.declared.Side.{Side}
 use Rattle.end_settings.specs.declared.Side.TheVariants as side
 use Rattle.settings_file.specs.declared.keys.KeyFault.{KeyFault}
-use Rattle.settings_file.specs.declared.keys.Expected.TheVariants as expected
+use Rattle.settings_file.specs.declared.keys.Wanted.TheVariants as expected
 use Rattle.settings_file.specs.declared.values.Limits.{Limits}
 use Rattle.settings_file.specs.declared.values.Settings.{Settings}
 use Rattle.settings_file.specs.declared.values.Ends.{Ends}

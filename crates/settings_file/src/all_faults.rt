@@ -12,7 +12,7 @@ ghost use Rattle.settings_file.specs.Findings.{address_faults, at_entry, at_its_
 
 use crate::Word;
 use crate::groups::limit;
-use crate::keys::{Expected, Found, Key, KeyFault, ReadFault, SettingsFault, prefix};
+use crate::keys::{Found, Key, KeyFault, ReadFault, SettingsFault, Wanted, prefix};
 use crate::lists::{addresses, put, puts};
 use crate::readers::{
     checksum, code, first_number, identifier, initial_value, name, octet, versions, wrong,
@@ -51,7 +51,7 @@ const PLAIN_KEYS: [Key; 18] = [
 /// What is wrong where the lists of addresses are not of one length.
 const UNEQUAL: KeyFault = KeyFault {
     key: Key::Remote,
-    expected: Expected::Addresses,
+    expected: Wanted::Addresses,
     found: Found::Other,
 };
 
@@ -264,7 +264,7 @@ fn peer_fault(table: &Value) -> Option<KeyFault>
 {
     match (identifier(table, Key::Id), identifier(table, Key::PeerId)) {
         (_, Err(fault)) => Some(fault),
-        (Ok(id), Ok(peer)) if peer == id => { Some(wrong(table, Key::PeerId, Expected::AnotherId)) }
+        (Ok(id), Ok(peer)) if peer == id => { Some(wrong(table, Key::PeerId, Wanted::AnotherId)) }
         _ => None,
     }
 }
@@ -353,7 +353,7 @@ fn find_puts(
             alloc,
             named,
             table,
-            wrong(table, Key::Puts, Expected::Puts),
+            wrong(table, Key::Puts, Wanted::Puts),
             list,
         ),
     }
@@ -401,7 +401,7 @@ fn find_entry(
 /// What is wrong at such an entry.
 const NO_TELEGRAM: KeyFault = KeyFault {
     key: Key::Puts,
-    expected: Expected::Put,
+    expected: Wanted::Put,
     found: Found::Other,
 };
 
@@ -420,7 +420,7 @@ impl fmt::Display for Finding {
         let SettingsFault::Key(named, fault) = &self.fault else {
             return write!(f, "{}", self.fault);
         };
-        if fault.expected == Expected::Absent {
+        if fault.expected == Wanted::Absent {
             return write!(f, "{}", self.fault);
         }
         write!(f, "{}{}: ", prefix(*named), fault.key.text())?;

@@ -5,7 +5,7 @@ ghost use Rattle.toml.specs.View.{view};
 ghost use Rattle.settings_file.specs.Groups.{limit_at, limits_of, identity_of, identity_seen, beginning_of, beginning_seen};
 ghost use Rattle.settings_file.specs.Readers.{read_as};
 
-use crate::keys::{Expected, Key, KeyFault};
+use crate::keys::{Key, KeyFault, Wanted};
 use crate::readers::{
     checksum, code, first_number, identifier, initial_value, name, number, octet, versions, wrong,
 };
@@ -18,13 +18,13 @@ use octets::limits::{
 use toml::Value;
 
 /// Who the end and its peer are.
-pub fn identified(table: &Value) -> Result<Identity, KeyFault>
+pub fn read_identity(table: &Value) -> Result<Identity, KeyFault>
     ensures { read_as identity_seen result ≡ identity_of (view table.now) }
 {
     let id = identifier(table, Key::Id)?;
     let peer_id = identifier(table, Key::PeerId)?;
     if peer_id == id {
-        return Err(wrong(table, Key::PeerId, Expected::AnotherId));
+        return Err(wrong(table, Key::PeerId, Wanted::AnotherId));
     }
     let own_name = name(table, Key::Name)?;
     let peer_name = name(table, Key::PeerName)?;
@@ -39,7 +39,7 @@ pub fn identified(table: &Value) -> Result<Identity, KeyFault>
 }
 
 /// What the end begins with.
-pub fn begun(side: Side, table: &Value) -> Result<Beginning, KeyFault>
+pub fn read_beginning(side: Side, table: &Value) -> Result<Beginning, KeyFault>
     ensures { read_as beginning_seen result ≡ beginning_of side (view table.now) }
 {
     let versions = versions(side, table)?;
@@ -57,7 +57,7 @@ pub fn begun(side: Side, table: &Value) -> Result<Beginning, KeyFault>
 }
 
 /// The numbers of the layers.
-pub fn limited(table: &Value) -> Result<Limits, KeyFault>
+pub fn read_limits(table: &Value) -> Result<Limits, KeyFault>
     ensures { result ≡ limits_of (view table.now) }
 {
     let n_sendmax = limit(table, 0, Key::NSendmax)?;

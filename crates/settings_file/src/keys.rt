@@ -59,7 +59,7 @@ pub enum Key {
 
 /// What a key wants.
 #[derive(Clone, Copy, Debug, PartialEq, Eq)]
-pub enum Expected {
+pub enum Wanted {
     /// A whole number in this range.
     Whole {
         /// The least number.
@@ -108,7 +108,7 @@ pub struct KeyFault {
     /// The key.
     pub key: Key,
     /// What it wants.
-    pub expected: Expected,
+    pub expected: Wanted,
     /// What it has.
     pub found: Found,
 }
@@ -186,21 +186,21 @@ impl Key {
     }
 }
 
-impl fmt::Display for Expected {
+impl fmt::Display for Wanted {
     fn fmt<W: fmt::Write>(&self, f: &mut fmt::Formatter<W>) -> fmt::Result {
         let text = match self {
-            Expected::Whole { low, high } => return write!(f, "{low} to {high}"),
-            Expected::FirstNumber => "0 to 4294967295 or random",
-            Expected::Name => "a name of 1 to 20 characters 21 to 7e, none of them 5f,",
-            Expected::CodeLength => "8 or 16",
-            Expected::SixteenOctets => "32 hex digits",
-            Expected::UpToSixteenOctets => "0 to 16 octets in hex",
-            Expected::DifferentVersions => "one to four different numbers from 0 to 255",
-            Expected::Addresses => "one to four texts, as many in local as in remote,",
-            Expected::Puts => "a list of texts KIND:HEX",
-            Expected::Put => "a text KIND:HEX",
-            Expected::AnotherId => "another number than id",
-            Expected::Absent => "no such key here",
+            Wanted::Whole { low, high } => return write!(f, "{low} to {high}"),
+            Wanted::FirstNumber => "0 to 4294967295 or random",
+            Wanted::Name => "a name of 1 to 20 characters 21 to 7e, none of them 5f,",
+            Wanted::CodeLength => "8 or 16",
+            Wanted::SixteenOctets => "32 hex digits",
+            Wanted::UpToSixteenOctets => "0 to 16 octets in hex",
+            Wanted::DifferentVersions => "one to four different numbers from 0 to 255",
+            Wanted::Addresses => "one to four texts, as many in local as in remote,",
+            Wanted::Puts => "a list of texts KIND:HEX",
+            Wanted::Put => "a text KIND:HEX",
+            Wanted::AnotherId => "another number than id",
+            Wanted::Absent => "no such key here",
         };
         f.write_str(text)
     }
@@ -219,7 +219,7 @@ impl fmt::Display for Found {
 impl fmt::Display for KeyFault {
     fn fmt<W: fmt::Write>(&self, f: &mut fmt::Formatter<W>) -> fmt::Result {
         let key = self.key.text();
-        if self.expected == Expected::Absent {
+        if self.expected == Wanted::Absent {
             return write!(f, "{key}: {}", self.expected);
         }
         write!(f, "{key}: {} expected, {} found", self.expected, self.found)

@@ -15,7 +15,7 @@ mod whole;
 
 pub use all_faults::{Finding, findings};
 use end_settings::Side;
-pub use keys::{Expected, Found, Key, KeyFault, SettingsFault};
+pub use keys::{Found, Key, KeyFault, SettingsFault, Wanted};
 pub use lists::put;
 pub use mistakes::{Warning, warnings};
 use std::alloc::Global;

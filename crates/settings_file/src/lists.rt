@@ -6,7 +6,7 @@ ghost use Rattle.settings_file.specs.Readers.{texts_of, few_texts, addresses_at,
 ghost use Rattle.settings_file.specs.declared.keys.Key.TheVariants as key_of;
 ghost use Rattle.settings_file.specs.Groups.{put_seen};
 
-use crate::keys::{Expected, Key, ReadFault};
+use crate::keys::{Key, ReadFault, Wanted};
 use crate::readers::wrong;
 use crate::values::Put;
 use hex::FromHexError;
@@ -29,7 +29,7 @@ fn texts(alloc: Global, items: &[Value]) -> Result<Option<Vec<String>>, AllocErr
 }
 
 #[tactic(auto, using(crate::proofs::Lengths::items_length_view))]
-fn few(alloc: Global, items: &[Value]) -> Result<Option<Vec<String>>, AllocError>
+fn read_texts(alloc: Global, items: &[Value]) -> Result<Option<Vec<String>>, AllocError>
     ensures { IfOk result (λ r. option_map (λ v. map string_bytes v.items) r ≡ few_texts (items_view items.now)) }
 {
     if items.is_empty() || items.len() > CHANNELS_MAX {
@@ -43,14 +43,14 @@ pub fn addresses(alloc: Global, table: &Value, key: Key) -> Result<Vec<String>, 
     ensures ok { IfOk result (λ v. addresses_at (view table.now) key ≡ Ok (map string_bytes v.items)) }
     ensures err { IfErr result (IsFaultOf (addresses_at (view table.now) key)) }
 {
-    let fault = ReadFault::Key(wrong(table, key, Expected::Addresses));
+    let fault = ReadFault::Key(wrong(table, key, Wanted::Addresses));
     let Some(value) = table.get(key.text()) else {
         return Err(fault);
     };
     let Some(items) = value.as_array() else {
         return Err(fault);
     };
-    match few(alloc, items.as_slice()) {
+    match read_texts(alloc, items.as_slice()) {
         Ok(Some(list)) => Ok(list),
         Ok(None) => Err(fault),
         Err(refused) => Err(ReadFault::Memory(refused)),
@@ -108,7 +108,7 @@ pub fn puts(alloc: Global, table: &Value) -> Result<Vec<Put>, ReadFault>
     ensures err { IfErr result (IsFaultOf (puts_at (view table.now) key_of.Puts)) }
 {
     let key = Key::Puts;
-    let fault = ReadFault::Key(wrong(table, key, Expected::Puts));
+    let fault = ReadFault::Key(wrong(table, key, Wanted::Puts));
     let Some(value) = table.get(key.text()) else {
         return Ok(Vec::new(alloc));
     };

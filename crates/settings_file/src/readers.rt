@@ -4,23 +4,23 @@ ghost use Rattle.std.specs.Prelude.{◌≡◌, ◌≤◌, IfOk, IfSome, length, 
 ghost use Rattle.toml.specs.View.{view, items_view};
 ghost use Rattle.toml.specs.Data.{as_array};
 ghost use Rattle.std.specs.Prelude.{Some};
-ghost use Rattle.sci_telegram.specs.Tele.{owned_characters};
+ghost use Rattle.pdi_session.specs.telegram.Tele.{owned_characters};
 ghost use Rattle.settings_file.specs.Readers.{wrong_at, number_at, code_at, first_number_at, name_at, initial_value_at, checksum_at, octets_of, short_octets, different_octets, few_octets, if_different, one_version, il_versions, fe_versions, versions_at, are_different, stands_in, read_as};
 ghost use Rattle.end_settings.specs.Lists.{versions_in, checksum_in};
 ghost use Rattle.pdi_session.specs.declared.TheConstants.{VERSIONS_MAX};
 ghost use Rattle.settings_file.specs.declared.keys.Key.TheVariants as key_of;
 
-use crate::keys::{Expected, Found, Key, KeyFault};
+use crate::keys::{Found, Key, KeyFault, Wanted};
 use arrayvec::ArrayVec;
 use end_settings::{Checksum, Side, Versions};
 use md4::INITIAL_VALUE;
 use octets::places::u32_at;
+use pdi_session::telegram::{Name, OwnedName};
 use pdi_session::{CHECKSUM_MAX, VERSIONS_MAX};
-use sci_telegram::{Name, OwnedName};
 use toml::Value;
 
 /// The fault at a key, with what the table has there.
-pub fn wrong(table: &Value, key: Key, expected: Expected) -> KeyFault
+pub fn wrong(table: &Value, key: Key, expected: Wanted) -> KeyFault
     ensures { result ≡ wrong_at (view table.now) key expected }
 {
     let found = match table.get(key.text()) {
@@ -48,7 +48,7 @@ pub fn number(
     ensures read { result ≡ number_at (view table.now) key low high default }
     ensures within { IfOk result (λ n. n ≤ high) }
 {
-    let expected = Expected::Whole { low, high };
+    let expected = Wanted::Whole { low, high };
     let fault = wrong(table, key, expected);
     let number = match table.get(key.text()) {
         Some(value) => match value.as_integer() {
@@ -95,7 +95,7 @@ pub fn first_number(table: &Value) -> Result<Option<u32>, KeyFault>
     ensures { result ≡ first_number_at (view table.now) key_of.FirstSn }
 {
     let key = Key::FirstSn;
-    let fault = wrong(table, key, Expected::FirstNumber);
+    let fault = wrong(table, key, Wanted::FirstNumber);
     let Some(value) = table.get(key.text()) else {
         return Ok(Some(1));
     };
@@ -126,7 +126,7 @@ pub fn code(table: &Value) -> Result<u64, KeyFault>
     match value.as_integer() {
         Some(8) => Ok(8),
         Some(16) => Ok(16),
-        _ => Err(wrong(table, key, Expected::CodeLength)),
+        _ => Err(wrong(table, key, Wanted::CodeLength)),
     }
 }
 
@@ -134,7 +134,7 @@ pub fn code(table: &Value) -> Result<u64, KeyFault>
 pub fn name(table: &Value, key: Key) -> Result<OwnedName, KeyFault>
     ensures { read_as owned_characters result ≡ name_at (view table.now) key }
 {
-    let fault = wrong(table, key, Expected::Name);
+    let fault = wrong(table, key, Wanted::Name);
     let Some(value) = table.get(key.text()) else {
         return Err(fault);
     };
@@ -152,7 +152,7 @@ pub fn initial_value(table: &Value) -> Result<[u32; 4], KeyFault>
     ensures { result ≡ initial_value_at (view table.now) key_of.InitialValue }
 {
     let key = Key::InitialValue;
-    let fault = wrong(table, key, Expected::SixteenOctets);
+    let fault = wrong(table, key, Wanted::SixteenOctets);
     let Some(value) = table.get(key.text()) else {
         return Ok(INITIAL_VALUE);
     };
@@ -192,7 +192,7 @@ pub fn checksum(table: &Value) -> Result<Checksum, KeyFault>
     ensures { read_as checksum_in result ≡ checksum_at (view table.now) key_of.Checksum }
 {
     let key = Key::Checksum;
-    let fault = wrong(table, key, Expected::UpToSixteenOctets);
+    let fault = wrong(table, key, Wanted::UpToSixteenOctets);
     let text = match table.get(key.text()) {
         None => "",
         Some(value) => match value.as_str() {
@@ -244,7 +244,7 @@ fn octet_list(items: &[Value]) -> Option<ArrayVec<u8, VERSIONS_MAX>>
 
 // One to four numbers of one octet.
 #[tactic(auto, using(crate::proofs::Lengths::items_length_view))]
-fn few(items: &[Value]) -> Option<ArrayVec<u8, VERSIONS_MAX>>
+fn collect_versions(items: &[Value]) -> Option<ArrayVec<u8, VERSIONS_MAX>>
     ensures { option_map (λ v. v.items) result ≡ few_octets (items_view items.now) }
 {
     if items.is_empty() || items.len() > VERSIONS_MAX {
@@ -269,7 +269,7 @@ fn different(value: &Value) -> Option<Versions>
     ensures { option_map versions_in result ≡ option_and_then different_octets (as_array (view value.now)) }
 {
     let items = value.as_array()?;
-    let list = few(items.as_slice())?;
+    let list = collect_versions(items.as_slice())?;
     if_differing(list.as_slice())
 }
 
@@ -284,7 +284,7 @@ fn for_interlocking(table: &Value) -> Result<Versions, KeyFault>
     ensures { read_as versions_in result ≡ il_versions (view table.now) }
 {
     if table.get(Key::Versions.text()).is_some() {
-        return Err(wrong(table, Key::Versions, Expected::Absent));
+        return Err(wrong(table, Key::Versions, Wanted::Absent));
     }
     one(table)
 }
@@ -296,11 +296,11 @@ fn for_field_element(table: &Value) -> Result<Versions, KeyFault>
         return one(table);
     };
     if table.get(Key::Version.text()).is_some() {
-        return Err(wrong(table, Key::Version, Expected::Absent));
+        return Err(wrong(table, Key::Version, Wanted::Absent));
     }
     match different(value) {
         Some(versions) => Ok(versions),
-        None => Err(wrong(table, Key::Versions, Expected::DifferentVersions)),
+        None => Err(wrong(table, Key::Versions, Wanted::DifferentVersions)),
     }
 }
 

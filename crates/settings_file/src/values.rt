@@ -1,7 +1,7 @@
 //! What a settings file says.
 
 use end_settings::{Checksum, EndConfig, Versions};
-use sci_telegram::OwnedName;
+use pdi_session::telegram::OwnedName;
 
 /// Who an end is, and who its peer.
 #[derive(Clone, Copy, Debug, PartialEq, Eq)]

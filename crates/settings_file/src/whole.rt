@@ -13,8 +13,8 @@ ghost use Rattle.toml.specs.Parse.{parse_document};
 ghost use Rattle.settings_file.specs.declared.keys.SettingsFault.TheVariants as settings_fault;
 ghost use Rattle.std.specs.Prelude.{◌==◌, ◌≤◌, Some, alloc_error, count_by, length, map, string_bytes};
 
-use crate::groups::{begun, identified, limited};
-use crate::keys::{Expected, Found, Key, KeyFault, ReadFault, SettingsFault};
+use crate::groups::{read_beginning, read_identity, read_limits};
+use crate::keys::{Found, Key, KeyFault, ReadFault, SettingsFault, Wanted};
 use crate::lists::{addresses, puts};
 use crate::values::{Beginning, Identity, Limits, Settings};
 use end_settings::{EndConfig, Side};
@@ -32,7 +32,7 @@ fn matched(local: &[String], remote: Vec<String>) -> Result<Vec<String>, KeyFaul
     } else {
         Err(KeyFault {
             key: Key::Remote,
-            expected: Expected::Addresses,
+            expected: Wanted::Addresses,
             found: Found::Other,
         })
     }
@@ -43,15 +43,15 @@ fn read(alloc: Global, side: Side, table: &Value) -> Result<Settings, ReadFault>
     ensures err { IfErr result (IsFaultOf (end_of side (view table.now))) }
     ensures memory { IfErr result (MemoryInEnd side (view table.now)) }
 {
-    let identity = identified(table)?;
-    let beginning = begun(side, table)?;
-    let limits = limited(table)?;
+    let identity = read_identity(table)?;
+    let beginning = read_beginning(side, table)?;
+    let limits = read_limits(table)?;
     let local = addresses(alloc, table, Key::Local)?;
     let others = addresses(alloc, table, Key::Remote)?;
     let remote = matched(local.as_slice(), others)?;
     let puts = puts(alloc, table)?;
     Ok(Settings {
-        config: configured(&identity, &beginning, &limits, local.len()),
+        config: configure(&identity, &beginning, &limits, local.len()),
         first_sn: beginning.first_sn,
         local,
         remote,
@@ -59,7 +59,7 @@ fn read(alloc: Global, side: Side, table: &Value) -> Result<Settings, ReadFault>
     })
 }
 
-fn configured(
+fn configure(
     identity: &Identity,
     beginning: &Beginning,
     limits: &Limits,

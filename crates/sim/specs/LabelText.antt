@@ -1,7 +1,7 @@
 -- How a label is written.
 use Rattle.std.specs.Prelude.{ℕ, ◌+◌, ◌-◌, ◌^◌, ◌++◌, List, min}
 use Rattle.std.specs.Fmt.{decimal}
-use Rattle.log_lines.specs.Names.{side_letter}
+use Rattle.pdu_text.specs.Names.{side_letter}
 use Rattle.sim.specs.declared.label.Label.{Label}
 
 -- the end's letter and the number of the PDU, from 1

@@ -1,7 +1,7 @@
 -- How a run of a script ends.
 use Rattle.std.specs.Prelude.{ℕ}
-use Rattle.sim.specs.declared.fault.LineFault.{LineFault}
-use Rattle.sim.specs.declared.fault.LineFault.TheVariants as line
+use Rattle.sim.specs.declared.fault.ScriptLineFault.{ScriptLineFault}
+use Rattle.sim.specs.declared.fault.ScriptLineFault.TheVariants as line
 use Rattle.sim.specs.declared.fault.ScriptFault.{ScriptFault}
 use Rattle.sim.specs.declared.fault.ScriptFault.TheVariants as script
 use Rattle.sim.specs.declared.fault.SimStatus.{SimStatus}
@@ -20,7 +20,7 @@ sim_status_of script.Memory = Refused
 sim_status_of script.Output = Failed
 
 -- a fault of a line with the number of that line
-abbrev pub fault_at : LineFault → ℕ → ScriptFault
+abbrev pub fault_at : ScriptLineFault → ℕ → ScriptFault
 fault_at line.Unreadable n = script.Unreadable n
 fault_at line.NoSuchLabel n = script.NoSuchLabel n
 fault_at line.Memory n = script.Memory

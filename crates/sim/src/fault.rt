@@ -8,7 +8,7 @@ use thiserror::Error;
 
 /// What stops a script at a line.
 #[derive(Clone, Copy, Debug, PartialEq, Eq)]
-pub enum LineFault {
+pub enum ScriptLineFault {
     /// The line has no form of a script's line, or a number that is too large for its place.
     Unreadable,
     /// The line names a PDU that is not made yet.
@@ -19,40 +19,40 @@ pub enum LineFault {
     Output,
 }
 
-impl LineFault {
+impl ScriptLineFault {
     /// The fault with the number of its line, from 1.
     pub fn at(self, line: u64) -> ScriptFault
         // A fault of a script's line keeps the number of the line, but for want of memory and a failed output.
         ensures { result ≡ fault_at self line }
     {
         match self {
-            LineFault::Unreadable => ScriptFault::Unreadable(line),
-            LineFault::NoSuchLabel => ScriptFault::NoSuchLabel(line),
-            LineFault::Memory => ScriptFault::Memory,
-            LineFault::Output => ScriptFault::Output,
+            ScriptLineFault::Unreadable => ScriptFault::Unreadable(line),
+            ScriptLineFault::NoSuchLabel => ScriptFault::NoSuchLabel(line),
+            ScriptLineFault::Memory => ScriptFault::Memory,
+            ScriptLineFault::Output => ScriptFault::Output,
         }
     }
 }
 
-impl From<AllocError> for LineFault {
-    fn from(_error: AllocError) -> LineFault {
-        LineFault::Memory
+impl From<AllocError> for ScriptLineFault {
+    fn from(_error: AllocError) -> ScriptLineFault {
+        ScriptLineFault::Memory
     }
 }
 
-impl<T: Drop> From<AllocFailed<T>> for LineFault {
-    fn from(_error: AllocFailed<T>) -> LineFault {
-        LineFault::Memory
+impl<T: Drop> From<AllocFailed<T>> for ScriptLineFault {
+    fn from(_error: AllocFailed<T>) -> ScriptLineFault {
+        ScriptLineFault::Memory
     }
 }
 
 /// Why a run stopped, as it is named on standard error.
 #[derive(Clone, Copy, Debug, PartialEq, Eq, Error)]
 pub enum ScriptFault {
-    /// See `LineFault::Unreadable`.
+    /// See `ScriptLineFault::Unreadable`.
     #[error("line {0}: unreadable")]
     Unreadable(u64),
-    /// See `LineFault::NoSuchLabel`.
+    /// See `ScriptLineFault::NoSuchLabel`.
     #[error("line {0}: no such label")]
     NoSuchLabel(u64),
     /// The script can't be read, or is no UTF-8 text.

@@ -1,7 +1,7 @@
 //! How a script names a PDU.
 
 use end_settings::Side;
-use log_lines::side_letter;
+use pdu_text::side_letter;
 use std::fmt;
 use std::fmt::{Display, Formatter};
 

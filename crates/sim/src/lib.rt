@@ -15,7 +15,7 @@ mod sides;
 mod trace;
 mod words;
 
-pub use fault::{LineFault, ScriptFault, SimStatus};
+pub use fault::{ScriptFault, ScriptLineFault, SimStatus};
 pub use label::Label;
 pub use labels::Labels;
 pub use line::{Command, ZEROS_MAX, read_line};

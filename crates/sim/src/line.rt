@@ -1,6 +1,6 @@
 //! A line of a script as what it asks for.
 
-use crate::fault::LineFault;
+use crate::fault::ScriptLineFault;
 use crate::label::Label;
 use crate::settings::{Key, Setting};
 use crate::words::Words;
@@ -56,7 +56,7 @@ pub enum Command<A: Allocator = Global> {
 /// # Errors
 ///
 /// Refused: `Unreadable`, where the line has no form of the language, or a number too large for its place; `Memory`.
-pub fn read_line<A: Allocator + Copy>(alloc: A, line: &str) -> Result<Command<A>, LineFault> {
+pub fn read_line<A: Allocator + Copy>(alloc: A, line: &str) -> Result<Command<A>, ScriptLineFault> {
     let mut words = Words::new(line);
     let Some(first) = words.next() else {
         return Ok(Command::Nothing);
@@ -73,7 +73,7 @@ pub fn read_line<A: Allocator + Copy>(alloc: A, line: &str) -> Result<Command<A>
         "done" => Command::InitDone,
         "est" => Command::Establish,
         "trace" => Command::Trace(trace(&mut words)?),
-        _ => return Err(LineFault::Unreadable),
+        _ => return Err(ScriptLineFault::Unreadable),
     };
     words.end()?;
     Ok(found)
@@ -84,7 +84,7 @@ fn delivery<A: Allocator + Copy>(
     alloc: A,
     first: &str,
     words: &mut Words<'_>,
-) -> Result<Command<A>, LineFault> {
+) -> Result<Command<A>, ScriptLineFault> {
     match first {
         "give" => Ok(Command::Give(words.label()?, words.number(u64::MAX)?)),
         "hit" => {
@@ -97,7 +97,7 @@ fn delivery<A: Allocator + Copy>(
         _ => {
             let channels = words.numbers(alloc, u64::MAX)?;
             if channels.is_empty() {
-                return Err(LineFault::Unreadable);
+                return Err(ScriptLineFault::Unreadable);
             }
             Ok(Command::Flow(channels))
         }
@@ -109,7 +109,7 @@ fn putting<A: Allocator + Copy>(
     alloc: A,
     first: &str,
     words: &mut Words<'_>,
-) -> Result<Command<A>, LineFault> {
+) -> Result<Command<A>, ScriptLineFault> {
     let side = words.side()?;
     match first {
         "put" => Ok(Command::Put(side, words.kind()?, words.octets(alloc)?)),
@@ -125,8 +125,8 @@ fn putting<A: Allocator + Copy>(
     }
 }
 
-fn setting(words: &mut Words<'_>) -> Result<Setting, LineFault> {
-    let key = Key::of(words.word()?).ok_or(LineFault::Unreadable)?;
+fn setting(words: &mut Words<'_>) -> Result<Setting, ScriptLineFault> {
+    let key = Key::of(words.word()?).ok_or(ScriptLineFault::Unreadable)?;
     let value = words.number(u64::from(key.greatest()))?;
     Ok(Setting {
         key,
@@ -135,29 +135,32 @@ fn setting(words: &mut Words<'_>) -> Result<Setting, LineFault> {
 }
 
 /// The versions of a field element; no other end has a list.
-fn versions<A: Allocator + Copy>(alloc: A, words: &mut Words<'_>) -> Result<Command<A>, LineFault> {
+fn versions<A: Allocator + Copy>(
+    alloc: A,
+    words: &mut Words<'_>,
+) -> Result<Command<A>, ScriptLineFault> {
     if words.side()? != Side::FieldElement {
-        return Err(LineFault::Unreadable);
+        return Err(ScriptLineFault::Unreadable);
     }
     let mut list = ArrayVec::<u8, VERSIONS_MAX>::new();
     for version in words.numbers(alloc, u64::from(u8::MAX))?.iter() {
         if list.try_push((*version & 0xff) as u8).is_err() {
-            return Err(LineFault::Unreadable);
+            return Err(ScriptLineFault::Unreadable);
         }
     }
     if list.is_empty() {
-        return Err(LineFault::Unreadable);
+        return Err(ScriptLineFault::Unreadable);
     }
     match Versions::new(list.as_slice()) {
         Some(versions) => Ok(Command::Versions(versions)),
-        None => Err(LineFault::Unreadable),
+        None => Err(ScriptLineFault::Unreadable),
     }
 }
 
-fn trace(words: &mut Words<'_>) -> Result<bool, LineFault> {
+fn trace(words: &mut Words<'_>) -> Result<bool, ScriptLineFault> {
     match words.next() {
         None => Ok(true),
         Some("off") => Ok(false),
-        Some(_) => Err(LineFault::Unreadable),
+        Some(_) => Err(ScriptLineFault::Unreadable),
     }
 }

@@ -1,12 +1,13 @@
 //! Running a script, line by line.
 
-use crate::trace::{Happening, Trace};
+use crate::trace::{Trace, TracedEvent};
 use crate::{
-    Command, Label, Labels, LineFault, ScriptFault, ScriptSettings, Sides, SimStatus, ZEROS_MAX,
-    other, read_line,
+    Command, Label, Labels, ScriptFault, ScriptLineFault, ScriptSettings, Sides, SimStatus,
+    ZEROS_MAX, other, read_line,
 };
 use end_settings::Side;
-use log_lines::Standing;
+use octets::Milliseconds;
+use pdu_text::Standing;
 use stack_engine::{ApplyFault, Call, Doing, Event, Pair};
 use std::alloc::Allocator;
 use std::io;
@@ -27,7 +28,7 @@ pub fn run<R: Read + Drop, O: Write, E: Write, A: Allocator + Copy>(
     out: &mut O,
     err: &mut E,
 ) -> SimStatus {
-    match ran(alloc, reader, out) {
+    match run_lines(alloc, reader, out) {
         Ok(()) => SimStatus::Done,
         Err(fault) => {
             // Where this output fails too, the status alone tells.
@@ -38,7 +39,7 @@ pub fn run<R: Read + Drop, O: Write, E: Write, A: Allocator + Copy>(
 }
 
 /// Runs the script that a reader holds.
-fn ran<R: Read + Drop, O: Write, A: Allocator + Copy>(
+fn run_lines<R: Read + Drop, O: Write, A: Allocator + Copy>(
     alloc: A,
     reader: R,
     out: &mut O,
@@ -113,14 +114,14 @@ impl<W: Write + Drop, A: Allocator + Copy> Script<W, A> {
         }
     }
 
-    fn report(&mut self) -> Result<(), LineFault> {
+    fn report(&mut self) -> Result<(), ScriptLineFault> {
         for side in [Side::Interlocking, Side::FieldElement] {
             self.trace.report(side, standing(&self.pair, side))?;
         }
         Ok(())
     }
 
-    fn line(&mut self, line: &str) -> Result<(), LineFault> {
+    fn line(&mut self, line: &str) -> Result<(), ScriptLineFault> {
         match read_line(self.alloc, line)? {
             Command::Nothing => Ok(()),
             Command::Give(label, channel) => self.give(label, channel),
@@ -155,7 +156,7 @@ impl<W: Write + Drop, A: Allocator + Copy> Script<W, A> {
         }
     }
 
-    fn call(&mut self, side: Side, call: Call<'_>) -> Result<(), LineFault> {
+    fn call(&mut self, side: Side, call: Call<'_>) -> Result<(), ScriptLineFault> {
         let now = *self.clocks.of(side);
         let is_tick = matches!(call, Call::Tick);
         let event = Event {
@@ -167,9 +168,9 @@ impl<W: Write + Drop, A: Allocator + Copy> Script<W, A> {
     }
 
     /// Lets an event happen, but a delivery, and prints what it did or why it is refused.
-    fn happen(&mut self, event: &Event<'_>, is_tick: bool) -> Result<(), LineFault> {
+    fn happen(&mut self, event: &Event<'_>, is_tick: bool) -> Result<(), ScriptLineFault> {
         match self.pair.apply(event) {
-            Ok(()) => self.tell(Happening {
+            Ok(()) => self.tell(TracedEvent {
                 side: event.side,
                 came: None,
                 is_tick,
@@ -179,7 +180,7 @@ impl<W: Write + Drop, A: Allocator + Copy> Script<W, A> {
     }
 
     /// Prints what the last event did.
-    fn tell(&mut self, happening: Happening) -> Result<(), LineFault> {
+    fn tell(&mut self, happening: TracedEvent) -> Result<(), ScriptLineFault> {
         self.trace.begin();
         if let Some(notes) = self.pair.notes() {
             for place in 0..notes.len() {
@@ -191,7 +192,7 @@ impl<W: Write + Drop, A: Allocator + Copy> Script<W, A> {
         self.trace.finish()
     }
 
-    fn open(&mut self, side: Side) -> Result<(), LineFault> {
+    fn open(&mut self, side: Side) -> Result<(), ScriptLineFault> {
         let event = Event {
             side,
             time: *self.clocks.of(side),
@@ -203,7 +204,7 @@ impl<W: Write + Drop, A: Allocator + Copy> Script<W, A> {
         match self.pair.apply(&event) {
             Ok(()) => {
                 self.trace.forget_waiting(side);
-                self.tell(Happening {
+                self.tell(TracedEvent {
                     side,
                     came: None,
                     is_tick: false,
@@ -213,19 +214,19 @@ impl<W: Write + Drop, A: Allocator + Copy> Script<W, A> {
         }
     }
 
-    fn put(&mut self, side: Side, kind: u16, payload: &[u8]) -> Result<(), LineFault> {
+    fn put(&mut self, side: Side, kind: u16, payload: &[u8]) -> Result<(), ScriptLineFault> {
         self.call(side, Call::Put { kind, payload })
     }
 
-    fn put_zeros(&mut self, side: Side, kind: u16, length: usize) -> Result<(), LineFault> {
+    fn put_zeros(&mut self, side: Side, kind: u16, length: usize) -> Result<(), ScriptLineFault> {
         let zeros = [0; ZEROS_MAX];
         match zeros.split_at_checked(length) {
             Some((payload, _)) => self.put(side, kind, payload),
-            None => Err(LineFault::Unreadable),
+            None => Err(ScriptLineFault::Unreadable),
         }
     }
 
-    fn put_counted(&mut self, side: Side, count: u64, kind: u16) -> Result<(), LineFault> {
+    fn put_counted(&mut self, side: Side, count: u64, kind: u16) -> Result<(), ScriptLineFault> {
         for place in 0..count {
             self.put(side, kind, &[(place & 0xff) as u8])?;
         }
@@ -233,7 +234,7 @@ impl<W: Write + Drop, A: Allocator + Copy> Script<W, A> {
     }
 
     /// Opens both ends, and lets all that they make arrive until a session is set up.
-    fn establish(&mut self) -> Result<(), LineFault> {
+    fn establish(&mut self) -> Result<(), ScriptLineFault> {
         self.open(Side::FieldElement)?;
         self.open(Side::Interlocking)?;
         self.flow(&[1])?;
@@ -241,7 +242,7 @@ impl<W: Write + Drop, A: Allocator + Copy> Script<W, A> {
         self.flow(&[1])
     }
 
-    fn set_clock(&mut self, side: Side, now: u64) -> Result<(), LineFault> {
+    fn set_clock(&mut self, side: Side, now: Milliseconds) -> Result<(), ScriptLineFault> {
         let clock = self.clocks.of_mut(side);
         if now < *clock || now > CLOCK_MAX {
             return self.trace.refuse(ApplyFault::Clock.name());
@@ -250,21 +251,27 @@ impl<W: Write + Drop, A: Allocator + Copy> Script<W, A> {
         Ok(())
     }
 
-    fn give(&mut self, label: Label, channel: u64) -> Result<(), LineFault> {
+    fn give(&mut self, label: Label, channel: u64) -> Result<(), ScriptLineFault> {
         self.check_channel(channel)?;
         self.check_label(label)?;
         self.trace.labels.name(label);
         self.deliver(label, channel)
     }
 
-    fn hit(&mut self, label: Label, channel: u64, at: u64, bits: u8) -> Result<(), LineFault> {
+    fn hit(
+        &mut self,
+        label: Label,
+        channel: u64,
+        at: u64,
+        bits: u8,
+    ) -> Result<(), ScriptLineFault> {
         self.check_channel(channel)?;
         self.check_label(label)?;
         let datagram = datagram(&self.trace.labels, label)?;
         let mut damaged = Vec::from_slice(self.alloc, datagram)?;
         match damaged.get_mut(at as usize) {
             Some(octet) => *octet ^= bits,
-            None => return Err(LineFault::Unreadable),
+            None => return Err(ScriptLineFault::Unreadable),
         }
         self.trace.labels.name(label);
         let side = other(label.side);
@@ -281,7 +288,7 @@ impl<W: Write + Drop, A: Allocator + Copy> Script<W, A> {
         self.arrived(label, arrival)
     }
 
-    fn flow(&mut self, channels: &[u64]) -> Result<(), LineFault> {
+    fn flow(&mut self, channels: &[u64]) -> Result<(), ScriptLineFault> {
         for channel in channels {
             self.check_channel(*channel)?;
         }
@@ -297,21 +304,21 @@ impl<W: Write + Drop, A: Allocator + Copy> Script<W, A> {
         Ok(())
     }
 
-    fn check_channel(&self, channel: u64) -> Result<(), LineFault> {
+    fn check_channel(&self, channel: u64) -> Result<(), ScriptLineFault> {
         if channel < 1 || channel > self.settings.channels() {
-            return Err(LineFault::Unreadable);
+            return Err(ScriptLineFault::Unreadable);
         }
         Ok(())
     }
 
     /// The PDU of a label is made.
-    fn check_label(&self, label: Label) -> Result<(), LineFault> {
+    fn check_label(&self, label: Label) -> Result<(), ScriptLineFault> {
         let _datagram = datagram(&self.trace.labels, label)?;
         Ok(())
     }
 
     /// Delivers the datagram of a PDU to the end that did not make it.
-    fn deliver(&mut self, label: Label, channel: u64) -> Result<(), LineFault> {
+    fn deliver(&mut self, label: Label, channel: u64) -> Result<(), ScriptLineFault> {
         let side = other(label.side);
         let now = *self.clocks.of(side);
         let is_on = self.trace.is_on;
@@ -321,12 +328,12 @@ impl<W: Write + Drop, A: Allocator + Copy> Script<W, A> {
     }
 
     /// Prints what a delivery did.
-    fn arrived(&mut self, label: Label, arrival: Arrival) -> Result<(), LineFault> {
+    fn arrived(&mut self, label: Label, arrival: Arrival) -> Result<(), ScriptLineFault> {
         if arrival.is_dead {
             self.trace.warn(label)?;
         }
         match arrival.answer {
-            Ok(()) => self.tell(Happening {
+            Ok(()) => self.tell(TracedEvent {
                 side: other(label.side),
                 came: Some(label),
                 is_tick: false,
@@ -337,8 +344,8 @@ impl<W: Write + Drop, A: Allocator + Copy> Script<W, A> {
 }
 
 /// The datagram of a PDU. Refused as `NoSuchLabel`, where it is not made yet.
-fn datagram<A: Allocator>(labels: &Labels<A>, label: Label) -> Result<&[u8], LineFault> {
-    labels.datagram(label).ok_or(LineFault::NoSuchLabel)
+fn datagram<A: Allocator>(labels: &Labels<A>, label: Label) -> Result<&[u8], ScriptLineFault> {
+    labels.datagram(label).ok_or(ScriptLineFault::NoSuchLabel)
 }
 
 /// How a delivery went.
@@ -354,7 +361,7 @@ struct Arrival {
 fn arrive<A: Allocator + Copy>(
     pair: &mut Pair<A>,
     side: Side,
-    now: u64,
+    now: Milliseconds,
     channel: u64,
     octets: &[u8],
     is_traced: bool,

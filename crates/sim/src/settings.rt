@@ -2,7 +2,7 @@
 
 use crate::sides::Sides;
 use end_settings::{Checksum, EndConfig, Side, Versions};
-use sci_telegram::{Name, OwnedName};
+use pdi_session::telegram::{Name, OwnedName};
 
 /// What `set` changes.
 #[derive(Clone, Copy, Debug, PartialEq, Eq)]
@@ -89,8 +89,8 @@ impl ScriptSettings {
         let fe = OwnedName::new(Name::new("FE1").ok()?);
         Some(ScriptSettings {
             ends: Sides {
-                il: begun(1, il, 2, fe)?,
-                fe: begun(2, fe, 1, il)?,
+                il: begin_config(1, il, 2, fe)?,
+                fe: begin_config(2, fe, 1, il)?,
             },
             first_sn: Sides { il: 100, fe: 500 },
         })
@@ -135,7 +135,7 @@ impl ScriptSettings {
 }
 
 /// The settings of an end at a script's beginning.
-fn begun(id: u32, name: OwnedName, peer_id: u32, peer_name: OwnedName) -> Option<EndConfig> {
+fn begin_config(id: u32, name: OwnedName, peer_id: u32, peer_name: OwnedName) -> Option<EndConfig> {
     Some(EndConfig {
         id,
         peer_id,

@@ -2,20 +2,20 @@
 
 ghost use Rattle.std.specs.Prelude.{◌≡◌, MatchResult, IsOk, IsErr};
 
-use crate::{Label, Labels, LineFault, Sides, other};
+use crate::{Label, Labels, ScriptLineFault, Sides, other};
 use arrayvec::ArrayVec;
 use channels::Note;
 use end_settings::Side;
-use log_lines::{
+use octets::limits::{Q_MAX, RED_HEADER, SAFE_HEADER};
+use octets::places::{u16_at, u32_at};
+use pdu_text::{
     Standing, phase_name, red_cause, side_name, state_name, step_cause, write_refusal,
     write_report, write_take,
 };
-use octets::limits::{Q_MAX, RED_HEADER, SAFE_HEADER};
-use octets::places::{u16_at, u32_at};
 use red_layer::RedEvent;
 use safe_machine::Step;
 use safe_pdu::Kind;
-use stack_engine::Told;
+use stack_engine::NoteView;
 use std::alloc::{Allocator, Global};
 use std::fmt::Display;
 use std::io;
@@ -26,7 +26,7 @@ type Waits = ArrayVec<(u32, usize), Q_MAX>;
 
 /// The event whose doings are told.
 #[derive(Clone, Copy, Debug)]
-pub struct Happening {
+pub struct TracedEvent {
     /// The end that it happened to.
     pub side: Side,
     /// The PDU whose datagram came; none where none came.
@@ -92,38 +92,40 @@ impl<W: Write + Drop, A: Allocator + Copy> Trace<W, A> {
     /// Tells the next thing that an event did.
     ///
     /// A PDU is printed behind what its machine step drops and hands up, so it is held back until the step is told.
-    pub fn tell(&mut self, event: Happening, told: Told<'_>) -> Result<(), LineFault> {
+    pub fn tell(&mut self, event: TracedEvent, told: NoteView<'_>) -> Result<(), ScriptLineFault> {
         match told {
-            Told::Made(datagram) => {
+            NoteView::Made(datagram) => {
                 if self.progress.in_step {
                     self.catch_up()?;
                 }
                 self.labels.make(event.side, datagram)?;
                 Ok(())
             }
-            Told::Note(Note::Step(number, step)) => self.step(event, number, step),
-            Told::Note(Note::Take(kind, payload)) => {
+            NoteView::Note(Note::Step(number, step)) => self.step(event, number, step),
+            NoteView::Note(Note::Take(kind, payload)) => {
                 self.hand_up()?;
                 self.take(event.side, kind, payload)
             }
-            Told::Note(Note::Phase(phase)) => {
+            NoteView::Note(Note::Phase(phase)) => {
                 self.hand_up()?;
                 let side = side_name(event.side);
                 let name = phase_name(phase);
                 self.traced(format_args!("{side} phase {name}"))
             }
-            Told::Note(Note::State(state)) => {
+            NoteView::Note(Note::State(state)) => {
                 self.catch_up()?;
                 let side = side_name(event.side);
                 let name = state_name(state);
                 self.traced(format_args!("{side} state {name}"))
             }
-            Told::Note(Note::Redundancy(number, answer)) => self.redundancy(event, number, answer),
+            NoteView::Note(Note::Redundancy(number, answer)) => self.redundancy(
+                event, number, answer,
+            ),
         }
     }
 
     /// Ends to tell of an event.
-    pub fn finish(&mut self) -> Result<(), LineFault> {
+    pub fn finish(&mut self) -> Result<(), ScriptLineFault> {
         self.catch_up()
     }
 
@@ -133,27 +135,31 @@ impl<W: Write + Drop, A: Allocator + Copy> Trace<W, A> {
     }
 
     /// Prints that a delivery breaks the premise of the promises.
-    pub fn warn(&mut self, label: Label) -> Result<(), LineFault> {
+    pub fn warn(&mut self, label: Label) -> Result<(), ScriptLineFault> {
         self.traced(format_args!("note {label} not live"))
     }
 
     /// Prints a refusal.
-    pub fn refuse(&mut self, name: &str) -> Result<(), LineFault> {
-        told(write_refusal(&mut self.out, name))
+    pub fn refuse(&mut self, name: &str) -> Result<(), ScriptLineFault> {
+        check_written(write_refusal(&mut self.out, name))
     }
 
     /// Prints how an end stands at the end of a script.
-    pub fn report(&mut self, side: Side, standing: Option<Standing>) -> Result<(), LineFault> {
-        told(write_report(&mut self.out, side, standing))
+    pub fn report(
+        &mut self,
+        side: Side,
+        standing: Option<Standing>,
+    ) -> Result<(), ScriptLineFault> {
+        check_written(write_report(&mut self.out, side, standing))
     }
 
     /// Writes out all that was printed.
-    pub fn flush(&mut self) -> Result<(), LineFault> {
-        told(self.out.flush())
+    pub fn flush(&mut self) -> Result<(), ScriptLineFault> {
+        check_written(self.out.flush())
     }
 
     /// The machine step of a part: what it drops comes before all that it hands up and makes.
-    fn step(&mut self, event: Happening, number: u32, step: Step) -> Result<(), LineFault> {
+    fn step(&mut self, event: TracedEvent, number: u32, step: Step) -> Result<(), ScriptLineFault> {
         if self.progress.in_step {
             self.catch_up()?;
         }
@@ -170,7 +176,7 @@ impl<W: Write + Drop, A: Allocator + Copy> Trace<W, A> {
     }
 
     /// The PDU of the part that goes up under a number: the one that waited under it, or the one that came.
-    fn part(&mut self, event: Happening, number: u32) -> Option<Label> {
+    fn part(&mut self, event: TracedEvent, number: u32) -> Option<Label> {
         let waits = self.waits.of_mut(event.side);
         match waits.iter().position(|(waiting, _)| *waiting == number) {
             Some(at) => {
@@ -187,7 +193,7 @@ impl<W: Write + Drop, A: Allocator + Copy> Trace<W, A> {
     /// Prints the heartbeat that a tick makes on its own, before the first step of a part that a deadline lets through.
     ///
     /// It confirms what was taken before that part; one that the step makes confirms the part.
-    fn own_heartbeat(&mut self, part: Option<Label>, step: Step) -> Result<(), LineFault> {
+    fn own_heartbeat(&mut self, part: Option<Label>, step: Step) -> Result<(), ScriptLineFault> {
         let first = self.progress.unprinted;
         let (Some(label), Some(part)) = (self.labels.label(first), part) else {
             return Ok(());
@@ -207,10 +213,10 @@ impl<W: Write + Drop, A: Allocator + Copy> Trace<W, A> {
     /// What the redundancy layer did with the datagram that came.
     fn redundancy(
         &mut self,
-        event: Happening,
+        event: TracedEvent,
         number: Option<u32>,
         answer: RedEvent,
-    ) -> Result<(), LineFault> {
+    ) -> Result<(), ScriptLineFault> {
         self.catch_up()?;
         let Some(label) = event.came else {
             return Ok(());
@@ -230,7 +236,7 @@ impl<W: Write + Drop, A: Allocator + Copy> Trace<W, A> {
     }
 
     /// Something that a part's unit did in the session follows.
-    fn hand_up(&mut self) -> Result<(), LineFault> {
+    fn hand_up(&mut self) -> Result<(), ScriptLineFault> {
         if self.progress.in_step {
             return Ok(());
         }
@@ -238,7 +244,7 @@ impl<W: Write + Drop, A: Allocator + Copy> Trace<W, A> {
     }
 
     /// Prints the PDUs that were held back.
-    fn catch_up(&mut self) -> Result<(), LineFault> {
+    fn catch_up(&mut self) -> Result<(), ScriptLineFault> {
         self.progress.in_step = false;
         let first = self.progress.unprinted;
         self.progress.unprinted = self.labels.len();
@@ -253,7 +259,7 @@ impl<W: Write + Drop, A: Allocator + Copy> Trace<W, A> {
         Ok(())
     }
 
-    fn made(&mut self, label: Label) -> Result<(), LineFault> {
+    fn made(&mut self, label: Label) -> Result<(), ScriptLineFault> {
         let Some(header) = self.header(label) else {
             return Ok(());
         };
@@ -268,20 +274,20 @@ impl<W: Write + Drop, A: Allocator + Copy> Trace<W, A> {
         }
     }
 
-    fn take(&mut self, side: Side, kind: u16, payload: &[u8]) -> Result<(), LineFault> {
+    fn take(&mut self, side: Side, kind: u16, payload: &[u8]) -> Result<(), ScriptLineFault> {
         if self.is_on {
-            told(write_take(&mut self.out, side, kind, payload))
+            check_written(write_take(&mut self.out, side, kind, payload))
         } else {
             Ok(())
         }
     }
 
-    fn dropped(&mut self, side: Side, label: Label, cause: &str) -> Result<(), LineFault> {
+    fn dropped(&mut self, side: Side, label: Label, cause: &str) -> Result<(), ScriptLineFault> {
         let side = side_name(side);
         self.traced(format_args!("{side} drop {label} {cause}"))
     }
 
-    fn waiting(&mut self, side: Side, label: Label) -> Result<(), LineFault> {
+    fn waiting(&mut self, side: Side, label: Label) -> Result<(), ScriptLineFault> {
         let side = side_name(side);
         self.traced(format_args!("{side} wait {label}"))
     }
@@ -291,9 +297,9 @@ impl<W: Write + Drop, A: Allocator + Copy> Trace<W, A> {
     }
 
     /// Prints a line, where lines are traced.
-    fn traced(&mut self, line: impl Display + Drop) -> Result<(), LineFault> {
+    fn traced(&mut self, line: impl Display + Drop) -> Result<(), ScriptLineFault> {
         if self.is_on {
-            told(writeln!(self.out, "{line}"))
+            check_written(writeln!(self.out, "{line}"))
         } else {
             Ok(())
         }
@@ -301,12 +307,12 @@ impl<W: Write + Drop, A: Allocator + Copy> Trace<W, A> {
 }
 
 /// What an output answered: all that it can say is that it failed.
-fn told(answer: io::Result<()>) -> Result<(), LineFault>
-    ensures { MatchResult result (λ _. IsOk answer) (λ fault. (fault ≡ LineFault.Output) × IsErr answer) }
+fn check_written(answer: io::Result<()>) -> Result<(), ScriptLineFault>
+    ensures { MatchResult result (λ _. IsOk answer) (λ fault. (fault ≡ ScriptLineFault.Output) × IsErr answer) }
 {
     match answer {
         Ok(()) => Ok(()),
-        Err(_) => Err(LineFault::Output),
+        Err(_) => Err(ScriptLineFault::Output),
     }
 }
 

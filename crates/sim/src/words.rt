@@ -5,7 +5,7 @@ ghost use Rattle.std.specs.List.{list_all};
 ghost use Rattle.std.specs.Char.{is_ascii_digit};
 ghost use Rattle.std.specs.Str.Parse.{digits_value};
 
-use crate::fault::LineFault;
+use crate::fault::ScriptLineFault;
 use crate::label::Label;
 use end_settings::Side;
 use hex::FromHexError;
@@ -32,67 +32,67 @@ impl<'a> Words<'a> {
     }
 
     /// The next word, which the line must have.
-    pub fn word(&mut self) -> Result<&'a str, LineFault> {
-        self.next().ok_or(LineFault::Unreadable)
+    pub fn word(&mut self) -> Result<&'a str, ScriptLineFault> {
+        self.next().ok_or(ScriptLineFault::Unreadable)
     }
 
     /// The end that the next word names.
-    pub fn side(&mut self) -> Result<Side, LineFault> {
+    pub fn side(&mut self) -> Result<Side, ScriptLineFault> {
         match self.word()? {
             "il" => Ok(Side::Interlocking),
             "fe" => Ok(Side::FieldElement),
-            _ => Err(LineFault::Unreadable),
+            _ => Err(ScriptLineFault::Unreadable),
         }
     }
 
     /// The next word as a number of at most `most`.
-    pub fn number(&mut self, most: u64) -> Result<u64, LineFault> {
-        number(self.word()?, most).ok_or(LineFault::Unreadable)
+    pub fn number(&mut self, most: u64) -> Result<u64, ScriptLineFault> {
+        number(self.word()?, most).ok_or(ScriptLineFault::Unreadable)
     }
 
     /// The next word as the kind of a telegram: four hex digits.
-    pub fn kind(&mut self) -> Result<u16, LineFault> {
+    pub fn kind(&mut self) -> Result<u16, ScriptLineFault> {
         let mut octets = [0; 2];
         match hex::decode_to_slice(self.word()?, &mut octets) {
             Ok(()) => Ok(u16::from_be_bytes(octets)),
-            Err(_) => Err(LineFault::Unreadable),
+            Err(_) => Err(ScriptLineFault::Unreadable),
         }
     }
 
     /// The next word as one octet: two hex digits.
-    pub fn octet(&mut self) -> Result<u8, LineFault> {
+    pub fn octet(&mut self) -> Result<u8, ScriptLineFault> {
         let mut octets = [0; 1];
         match hex::decode_to_slice(self.word()?, &mut octets) {
             Ok(()) => Ok(octets[0]),
-            Err(_) => Err(LineFault::Unreadable),
+            Err(_) => Err(ScriptLineFault::Unreadable),
         }
     }
 
     /// The next word as octets: hex digits, two for each, or `-` for none.
-    pub fn octets<A: Allocator + Copy>(&mut self, alloc: A) -> Result<Vec<u8, A>, LineFault> {
+    pub fn octets<A: Allocator + Copy>(&mut self, alloc: A) -> Result<Vec<u8, A>, ScriptLineFault> {
         let word = self.word()?;
         if word == "-" {
             return Ok(Vec::new(alloc));
         }
         match hex::decode(alloc, word) {
             Ok(octets) => Ok(octets),
-            Err(FromHexError::OutOfMemory) => Err(LineFault::Memory),
-            Err(_) => Err(LineFault::Unreadable),
+            Err(FromHexError::OutOfMemory) => Err(ScriptLineFault::Memory),
+            Err(_) => Err(ScriptLineFault::Unreadable),
         }
     }
 
     /// The next word as a label: `i` or `f`, and digits.
-    pub fn label(&mut self) -> Result<Label, LineFault> {
+    pub fn label(&mut self) -> Result<Label, ScriptLineFault> {
         let word = self.word()?;
         let (side, digits) = if let Some(digits) = word.strip_prefix('i') {
             (Side::Interlocking, digits)
         } else if let Some(digits) = word.strip_prefix('f') {
             (Side::FieldElement, digits)
         } else {
-            return Err(LineFault::Unreadable);
+            return Err(ScriptLineFault::Unreadable);
         };
         if digits.is_empty() || !is_digits(digits) {
-            return Err(LineFault::Unreadable);
+            return Err(ScriptLineFault::Unreadable);
         }
         Ok(Label {
             side,
@@ -105,21 +105,21 @@ impl<'a> Words<'a> {
         &mut self,
         alloc: A,
         most: u64,
-    ) -> Result<Vec<u64, A>, LineFault> {
+    ) -> Result<Vec<u64, A>, ScriptLineFault> {
         let mut numbers = Vec::new(alloc);
         for part in &mut self.parts {
             if !part.is_empty() {
-                numbers.push(number(part, most).ok_or(LineFault::Unreadable)?)?;
+                numbers.push(number(part, most).ok_or(ScriptLineFault::Unreadable)?)?;
             }
         }
         Ok(numbers)
     }
 
     /// The line has no further word.
-    pub fn end(&mut self) -> Result<(), LineFault> {
+    pub fn end(&mut self) -> Result<(), ScriptLineFault> {
         match self.next() {
             None => Ok(()),
-            Some(_) => Err(LineFault::Unreadable),
+            Some(_) => Err(ScriptLineFault::Unreadable),
         }
     }
 }

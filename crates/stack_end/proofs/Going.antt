@@ -1,21 +1,23 @@
--- Turns of an end, one after the other, and what the machine makes in one.
-use Rattle.std.proofs.Common.{◌≡◌, ◌∙◌, ℕ, ◌+◌, ◌%◌, ◌^◌, List, [], ◌∷◌, ◌++◌, refl, sym, ap, subst, arith}
-use Rattle.std.specs.List.{FoldsTo}
+-- Turns of an end one after the other, what the calls of a session do to its dialogue, and the parts and datagrams that come one by one.
+use Rattle.stack_end.proofs.Words.{[], above, added_by, after, ap, append-nil, append_assoc, arith, Arrives, Bool, Closed, ConnectionState, datagrams, Dialogue}
+use Rattle.stack_end.proofs.Words.{dialogue_of, Down, drop, end_of, Err, Event, false, Fields, FoldsTo, followed, if_ended, if◌then◌else◌, Input, Inside}
+use Rattle.stack_end.proofs.Words.{is_closed, is_over, Item, judge_messages, judge_read, judge_units, judge_unpacked, Judged, judged, Judges, Keeps, Leaving}
+use Rattle.stack_end.proofs.Words.{length, length-append, List, machine_turn, MachineTurn, Made, meets, next_number, None, number_behind, Ok, on_channels}
+use Rattle.stack_end.proofs.Words.{Option, PackFault, Part, part, parts, passed_by, Receiver, receives, red_after, red_text, refl, Result, RetrReq, RetrRun}
+use Rattle.stack_end.proofs.Words.{SendsOne, session_in, session_turn, Some, Speaks, Start, still, subst, suc, sym, taken_by, Tele, tele_seen, TeleFault}
+use Rattle.stack_end.proofs.Words.{text_of, Told, true, Turn, unit_seen, unless_leaving, Up, View, WentAlone, zero, ℕ, ◌%◌, ◌++◌, ◌+◌, ◌<◌, ◌^◌, ◌∙◌, ◌∷◌, ◌≡◌}
+use Rattle.stack_end.proofs.Words.{◌≤◌}
+use Rattle.channels.specs.Told.{Sending}
 use Rattle.octets.proofs.Steps.{FoldsTo-append}
-use Rattle.channels.specs.Told.{SendsOne, Sending, Told}
-use Rattle.pdi_session.specs.SessionStep.{Event, Item, SessionState, added_by, after, taken_by, texts as texts_of}
-use Rattle.stack_end.specs.Dialogue.{Dialogue, meets}
-use Rattle.stack_end.specs.Talk.{Spoke, Talk}
-use Rattle.red_pdu.specs.RedText.{red_text}
+use Rattle.pdi_session.specs.SessionStep.{SessionState, texts as session_texts, texts as texts_of}
+use Rattle.safe_machine.specs.View.{texts}
 use Rattle.safe_pdu.specs.declared.CodeRule.{CodeRule}
-use Rattle.safe_machine.specs.Made.{Made}
-use Rattle.safe_machine.specs.Turns.{Turn as MachineTurn}
-use Rattle.safe_machine.specs.View.{View, text_of, texts}
-use Rattle.stack_end.specs.Datagrams.{on_channels}
+use Rattle.stack_end.specs.Dialogue.{for_message, for_unit}
+use Rattle.stack_end.specs.Talk.{judge_next, Spoke, Talk, texts_of as talk_texts, Took}
+use Rattle.stack_end.specs.Turns.{Went}
 use Rattle.stack_end.specs.declared.upper.Upper.{Upper}
-use Rattle.stack_end.specs.Fields.{Keeps}
-use Rattle.stack_end.specs.Turns.{Fields, Turn, Went, WentAlone, datagrams, dialogue_of, followed, machine_turn, next_number, number_behind, session_turn}
-use Rattle.stack_end.specs.Turns.{still}
+use Rattle.std.proofs.Common.{add-one, get_or}
+use Rattle.std.specs.Borrow.{Bor}
 
 -- one turn, and then another
 pub went-then : {V T : Type 0} (takes : T → Item → T → Type 0) (t : Turn V) (next : V → Turn V) (a b c : Told) (x y z : T) (v w : V) → Went takes t a x v b y
@@ -118,3 +120,226 @@ keeps-none u = record { same = refl; near = omega arith; few = λ h. h }
 
 pub keeps-then : {C A : Type 0} (m n : ℕ) (u v w : Upper C A) → Keeps m u v → Keeps n v w → Keeps (m + n) u w
 keeps-then m n u v w h k = record { same = k.same ∙ h.same; near = omega (arith, h.near, k.near); few = λ few. k.few (h.few few) }
+
+-- one channel more
+pub FoldsTo-channel : (R : Told → Sending → Told → Type 0) (n : ℕ) (octets : List ℕ) (s t u : Told) → FoldsTo R s (on_channels n octets) t
+    → R t (n + 1, octets) u → FoldsTo R s (on_channels (n + 1) octets) u
+FoldsTo-channel R n octets s t u h k =
+    subst (λ m. FoldsTo R s (on_channels m octets) u) (sym (add-one n))
+    (FoldsTo-append R (on_channels n octets) ((suc n, octets) ∷ []) s t u h (u, subst (λ m. R t (m, octets) u) (add-one n) k, refl))
+
+-- one more
+pub heard-more : {S D : Type 0} (R : S → D → S → Type 0) (s t u : S) (n : ℕ) → (heard : List D) × (length heard ≡ n) × FoldsTo R s heard t → (d : D) × R t d u
+    → (heard : List D) × (length heard ≡ n + 1) × FoldsTo R s heard u
+heard-more R s t u n h k =
+    let long = length-append h.0 (k.0 ∷ []) in
+    (h.0 ++ k.0 ∷ [], long ∙ ap (λ m. m + 1) h.1, FoldsTo-append R h.0 (k.0 ∷ []) s t u h.2 (u, k.1, refl))
+
+module _ {S T : Type 0} (takes : T → Item → T → Type 0) (told : S → Told) (fields_of : S → Fields) (taker : S → T) (time : S → ℕ) (R : S → Part → S → Type 0)
+    (step : (s : S) (p : Part) (u : S) → R s p u → (time u ≡ time s)
+    × Went takes (part (time s) p.1 (fields_of s)) (told s) (taker s) (fields_of u) (told u) (taker u)) where
+  pub parts-went : (now : ℕ) (ps : List Part) (s u : S) → FoldsTo R s ps u → time s ≡ now
+      → Went takes (parts now ps (fields_of s)) (told s) (taker s) (fields_of u) (told u) (taker u)
+  parts-went now [] s u e n = record { left = ap fields_of (sym e); sent = ap told e; taken = ap taker e }
+  parts-went now (p ∷ ps) s u (j, r, rest) n =
+      let a = step s p j r in
+      let one = subst (λ k. Went takes (part k p.1 (fields_of s)) (told s) (taker s) (fields_of j) (told j) (taker j)) n a.1 in
+      went-then takes (part now p.1 (fields_of s)) (parts now ps) _ _ _ _ _ _ _ _ one (parts-went now ps j u rest (a.0 ∙ n))
+
+-- what comes to the redundancy layer changes nothing above it
+pub receives-went : {T : Type 0} (takes : T → Item → T → Type 0) (now : ℕ) (i : Input) (v : Inside) (a b : Told) (t u : T) (r : Receiver) (w : Fields)
+    → r ≡ red_after i v.red → Went takes (parts now (passed_by i v.red) v.upper) a t w b u
+    → Went takes (receives now i v) a t (record { red = r; upper = w }) b u
+receives-went takes now i v a b t u r w layer h = record { left = λ k. record { red = layer k; upper = h.left k }; sent = h.sent; taken = h.taken }
+
+-- a turn above it
+pub above-went : (next : Fields → Turn Fields) (v : Inside) (w : Fields) (a b : Told) → WentAlone (next v.upper) a w b
+    → WentAlone (above next v) a (record { red = v.red; upper = w }) b
+above-went next v w a b h = record { left = ap (λ q. record { red = v.red; upper = q }) h.left; sent = h.sent; none = h.none }
+
+pub not-closed : (c : ConnectionState) → (c ≡ Closed → ⊥) → is_closed c ≡ false
+not-closed Closed h = absurd (h refl)
+not-closed Down h = refl
+not-closed Start h = refl
+not-closed Up h = refl
+not-closed RetrReq h = refl
+not-closed RetrRun h = refl
+
+-- the end is not closed, as its machine says, and this is done
+pub open-went : {T : Type 0} (takes : T → Item → T → Type 0) (v : Inside) (turn : Turn Inside) (c : ConnectionState) (a b : Told) (t u : T) (w : Inside)
+    → c ≡ v.upper.machine.connection → (c ≡ Closed → ⊥) → Went takes turn a t w b u
+    → Went takes (if is_over v then still v else turn) a t w b u
+open-went takes v turn c a b t u w e is h =
+    subst (λ (q : Bool). Went takes (if q then still v else turn) a t w b u) (sym (ap is_closed (sym e) ∙ not-closed c is)) h
+
+pub took-none : {T : Type 0} (takes : T → Item → T → Type 0) (t : T) (d : Dialogue) → Took takes t d d t
+took-none takes t d = record { more = []; grown = sym (append-nil d.history.taken); handed = refl }
+
+pub took-then : {T : Type 0} (takes : T → Item → T → Type 0) (t u v : T) (d e f : Dialogue) → Took takes t d e u → Took takes u e f v → Took takes t d f v
+took-then takes t u v d e f h k =
+    record {
+      more = h.more ++ k.more;
+      grown = k.grown ∙ (ap (λ xs. xs ++ k.more) h.grown ∙ append_assoc d.history.taken h.more k.more);
+      handed = FoldsTo-append takes h.more k.more t u v h.handed k.handed;
+    }
+
+pub spoke-none : {T : Type 0} (takes : T → Item → T → Type 0) (d : Dialogue) (s : Talk T) → Speaks s.session s.waiting d → Spoke takes d d s s
+spoke-none takes d s h = record { speaks = h; took = took-none takes s.taker d }
+
+pub spoke-then : {T : Type 0} (takes : T → Item → T → Type 0) (d e f : Dialogue) (s t u : Talk T) → Spoke takes d e s t → Spoke takes e f t u
+    → Spoke takes d f s u
+spoke-then takes d e f s t u h k = record { speaks = k.speaks; took = took-then takes s.taker t.taker u.taker d e f h.took k.took }
+
+-- an event of the session
+pub meets-spoke : {T : Type 0} (takes : T → Item → T → Type 0) (e : Event) (s t : Talk T) → t.session ≡ after e s.session
+    → t.waiting ≡ s.waiting ++ session_texts (added_by e s.session) → FoldsTo takes s.taker (taken_by e s.session) t.taker → (d : Dialogue)
+    → Speaks s.session s.waiting d → Spoke takes d (meets e d) s t
+meets-spoke takes e s t left added taken d h =
+    record {
+      speaks =
+          record {
+            state = left ∙ ap (λ x. after e x) h.state;
+            waits = added ∙ (ap (λ ws. ws ++ session_texts (added_by e s.session)) h.waits ∙ ap (λ x. d.waiting ++ session_texts (added_by e x)) h.state);
+          };
+      took = record { more = taken_by e (session_in d); grown = refl; handed = subst (λ x. FoldsTo takes s.taker (taken_by e x) t.taker) h.state taken };
+    }
+
+-- a message that is read
+pub judged-message : {T : Type 0} (takes : T → Item → T → Type 0) (r : Result Tele TeleFault) (x : Tele) (s t : Talk T) (asked : Option Leaving) → Ok x ≡ r
+    → t.session ≡ after (Arrives x) s.session → t.waiting ≡ s.waiting ++ session_texts (added_by (Arrives x) s.session)
+    → FoldsTo takes s.taker (taken_by (Arrives x) s.session) t.taker → asked ≡ if_ended (end_of (judged s.session x)) → Judges takes (judge_read r) s t asked
+judged-message takes r x s t asked is left added taken answer =
+    subst (λ (q : Result Tele TeleFault). Judges takes (judge_read q) s t asked) is
+    (λ d h. (meets-spoke takes (Arrives x) s t left added taken d h, answer ∙ ap (λ y. if_ended (end_of (judged y x))) h.state))
+
+-- and one that is not
+pub judged-no_message : {T : Type 0} (takes : T → Item → T → Type 0) (r : Result Tele TeleFault) (fault : TeleFault) (s : Talk T) → Err fault ≡ r
+    → Judges takes (judge_read r) s s (Some for_message)
+judged-no_message takes r fault s is =
+    subst (λ (q : Result Tele TeleFault). Judges takes (judge_read q) s s (Some for_message)) is (λ d h. (spoke-none takes d s h, refl))
+
+-- Messages that were judged in front of these: what all of them come to is what these come to from here.
+abbrev pub Along : {T : Type 0} → (T → Item → T → Type 0) → List (List ℕ) → List (List ℕ) → Talk T → Talk T → Type 0
+Along takes all rest s t =
+    (d : Dialogue) → Speaks s.session s.waiting d → (e : Dialogue) × (Spoke takes d e s t × (judge_messages all d ≡ judge_messages rest e))
+
+pub along-start : {T : Type 0} (takes : T → Item → T → Type 0) (all : List (List ℕ)) (s : Talk T) → Along takes all all s s
+along-start takes all s d h = (d, (spoke-none takes d s h, refl))
+
+-- the message is judged, and the end is not to leave
+pub along-more : {T : Type 0} (takes : T → Item → T → Type 0) (all : List (List ℕ)) (m : List ℕ) (rest : List (List ℕ)) (s t u : Talk T)
+    (asked : Option Leaving) → Along takes all (m ∷ rest) s t → Judges takes (judge_read (tele_seen m)) t u asked → asked ≡ None → Along takes all rest s u
+along-more takes all m rest s t u asked h k none d start =
+    let a = h d start in
+    let b = k a.0 a.1.0.speaks in
+    let first = judge_read (tele_seen m) a.0 in (
+      first.left,
+      (
+        spoke-then takes d a.0 first.left s t u a.1.0 b.0,
+        a.1.1 ∙ ap (λ w. unless_leaving w first (judge_messages rest first.left)) (sym b.1 ∙ none),
+      ),
+    )
+
+-- the message is judged, and the end is to leave
+pub along-stop : {T : Type 0} (takes : T → Item → T → Type 0) (all : List (List ℕ)) (m : List ℕ) (rest : List (List ℕ)) (s t u : Talk T)
+    (asked : Option Leaving) (why : Leaving) → Along takes all (m ∷ rest) s t → Judges takes (judge_read (tele_seen m)) t u asked → asked ≡ Some why
+    → Judges takes (judge_messages all) s u (Some why)
+along-stop takes all m rest s t u asked why h k some d start =
+    let a = h d start in
+    let b = k a.0 a.1.0.speaks in
+    let first = judge_read (tele_seen m) a.0 in
+    let is : judge_messages all d ≡ first = a.1.1 ∙ ap (λ w. unless_leaving w first (judge_messages rest first.left)) (sym b.1 ∙ some) in (
+      subst (λ (j : Judged). Spoke takes d j.left s u) (sym is) (spoke-then takes d a.0 first.left s t u a.1.0 b.0),
+      sym some ∙ (b.1 ∙ ap (λ (j : Judged). j.leaving) (sym is)),
+    )
+
+-- none is left
+pub along-end : {T : Type 0} (takes : T → Item → T → Type 0) (all : List (List ℕ)) (s t : Talk T) → Along takes all [] s t
+    → Judges takes (judge_messages all) s t None
+along-end takes all s t h d start =
+    let a = h d start in
+    (subst (λ (j : Judged). Spoke takes d j.left s t) (sym a.1.1) a.1.0, ap (λ (j : Judged). j.leaving) (sym a.1.1))
+
+-- the messages of a list behind a place
+texts-drop : (xs : List (Bor (List ℕ))) (i : ℕ) (d : Bor (List ℕ)) → i < length xs → drop i (talk_texts xs) ≡ (get_or xs i d).now ∷ drop (suc i) (talk_texts xs)
+texts-drop [] i d h = absurd (omega (arith, h))
+texts-drop (x ∷ xs) zero d h = refl
+texts-drop (x ∷ xs) (suc i) d h = texts-drop xs i d (omega (arith, h))
+
+texts-past : (xs : List (Bor (List ℕ))) (i : ℕ) → length xs ≤ i → drop i (talk_texts xs) ≡ []
+texts-past [] zero h = refl
+texts-past [] (suc i) h = refl
+texts-past (x ∷ xs) zero h = absurd (omega (arith, h))
+texts-past (x ∷ xs) (suc i) h = texts-past xs i (omega (arith, h))
+
+pub along-at : {T : Type 0} (takes : T → Item → T → Type 0) (xs : List (Bor (List ℕ))) (i : ℕ) (x : Bor (List ℕ)) (s t u : Talk T) (asked : Option Leaving)
+    → i < length xs → Along takes (talk_texts xs) (drop i (talk_texts xs)) s t
+    → Judges takes (judge_read (tele_seen (get_or xs i x).now)) t u asked → asked ≡ None
+    → Along takes (talk_texts xs) (drop (i + 1) (talk_texts xs)) s u
+along-at takes xs i x s t u asked lt h k none =
+    subst (λ n. Along takes (talk_texts xs) (drop n (talk_texts xs)) s u) (sym (add-one i))
+    (along-more takes (talk_texts xs) (get_or xs i x).now (drop (suc i) (talk_texts xs)) s t u asked
+    (subst (λ rest. Along takes (talk_texts xs) rest s t) (texts-drop xs i x lt) h) k none)
+
+pub along-stop_at : {T : Type 0} (takes : T → Item → T → Type 0) (xs : List (Bor (List ℕ))) (i : ℕ) (x : Bor (List ℕ)) (s t u : Talk T) (asked : Option Leaving)
+    (why : Leaving) → i < length xs → Along takes (talk_texts xs) (drop i (talk_texts xs)) s t
+    → Judges takes (judge_read (tele_seen (get_or xs i x).now)) t u asked
+    → asked ≡ Some why → Judges takes (judge_messages (talk_texts xs)) s u (Some why)
+along-stop_at takes xs i x s t u asked why lt h k some =
+    along-stop takes (talk_texts xs) (get_or xs i x).now (drop (suc i) (talk_texts xs)) s t u asked why
+    (subst (λ rest. Along takes (talk_texts xs) rest s t) (texts-drop xs i x lt) h) k some
+
+pub along-past : {T : Type 0} (takes : T → Item → T → Type 0) (xs : List (Bor (List ℕ))) (i : ℕ) (s t : Talk T) → length xs ≤ i
+    → Along takes (talk_texts xs) (drop i (talk_texts xs)) s t → Judges takes (judge_messages (talk_texts xs)) s t None
+along-past takes xs i s t le h = along-end takes (talk_texts xs) s t (subst (λ rest. Along takes (talk_texts xs) rest s t) (texts-past xs i le) h)
+
+-- the unit is one
+pub judged-unit : {T : Type 0} (takes : T → Item → T → Type 0) (r : Result (List (List ℕ)) PackFault) (ms : List (List ℕ)) (s t : Talk T)
+    (asked : Option Leaving) → Ok ms ≡ r → Judges takes (judge_messages ms) s t asked → Judges takes (judge_unpacked r) s t asked
+judged-unit takes r ms s t asked is h = subst (λ (q : Result (List (List ℕ)) PackFault). Judges takes (judge_unpacked q) s t asked) is h
+
+-- and is none
+pub judged-no_unit : {T : Type 0} (takes : T → Item → T → Type 0) (r : Result (List (List ℕ)) PackFault) (fault : PackFault) (s : Talk T) → Err fault ≡ r
+    → Judges takes (judge_unpacked r) s s (Some for_unit)
+judged-no_unit takes r fault s is =
+    subst (λ (q : Result (List (List ℕ)) PackFault). Judges takes (judge_unpacked q) s s (Some for_unit)) is (λ d h. (spoke-none takes d s h, refl))
+
+-- Units that a receiver takes one by one, which judges none behind one for which the end is to leave.
+module _ {S T : Type 0} (takes : T → Item → T → Type 0) (talk_of : S → Talk T) (asked : S → Option Leaving) (R : S → List ℕ → S → Type 0)
+    (step : (s : S) (u : List ℕ) (t : S) → R s u t → Judges takes (judge_next (asked s) u) (talk_of s) (talk_of t) (asked t)) where
+  judges-stay : (us : List (List ℕ)) (s t : S) (why : Leaving) → FoldsTo R s us t → asked s ≡ Some why → (d : Dialogue)
+      → Speaks (talk_of s).session (talk_of s).waiting d → Spoke takes d d (talk_of s) (talk_of t) × (asked t ≡ Some why)
+  judges-stay [] s t why e is d h = (subst (λ (x : S). Spoke takes d d (talk_of s) (talk_of x)) e (spoke-none takes d (talk_of s) h), ap asked (sym e) ∙ is)
+  judges-stay (u ∷ us) s t why (j, r, rest) is d h =
+      let a = subst (λ w. Judges takes (judge_next w u) (talk_of s) (talk_of j) (asked j)) is (step s u j r) d h in
+      let b = judges-stay us j t why rest a.1 d a.0.speaks in
+      (spoke-then takes d d d (talk_of s) (talk_of j) (talk_of t) a.0 b.0, b.1)
+
+  -- the first unit is judged, and what is behind it comes to this
+  units-then : (u : List ℕ) (us : List (List ℕ)) (s j t : S) (w : Option Leaving) → asked j ≡ w
+      → Judges takes (judge_unpacked (unit_seen u)) (talk_of s) (talk_of j) (asked j)
+      → (w ≡ None → Judges takes (judge_units us) (talk_of j) (talk_of t) (asked t))
+      → ((why : Leaving) → w ≡ Some why → (d : Dialogue) → Speaks (talk_of j).session (talk_of j).waiting d → Spoke takes d d (talk_of j) (talk_of t)
+      × (asked t ≡ Some why)) → Judges takes (judge_units (u ∷ us)) (talk_of s) (talk_of t) (asked t)
+  units-then u us s j t None none h k stay d start =
+      let first = judge_unpacked (unit_seen u) d in
+      let a = h d start in
+      let b = k refl first.left a.0.speaks in
+      let same : judge_units us first.left ≡ judge_units (u ∷ us) d = ap (λ w. unless_leaving w first (judge_units us first.left)) (sym none ∙ a.1) in
+      subst (λ (q : Judged). Spoke takes d q.left (talk_of s) (talk_of t) × (asked t ≡ q.leaving)) same
+      (spoke-then takes d first.left (judge_units us first.left).left (talk_of s) (talk_of j) (talk_of t) a.0 b.0, b.1)
+  units-then u us s j t (Some why) some h k stay d start =
+      let first = judge_unpacked (unit_seen u) d in
+      let a = h d start in
+      let b = stay why refl first.left a.0.speaks in
+      let same : first ≡ judge_units (u ∷ us) d = ap (λ w. unless_leaving w first (judge_units us first.left)) (sym some ∙ a.1) in
+      subst (λ (q : Judged). Spoke takes d q.left (talk_of s) (talk_of t) × (asked t ≡ q.leaving)) same
+      (spoke-then takes d first.left first.left (talk_of s) (talk_of j) (talk_of t) a.0 b.0, b.1 ∙ (sym some ∙ a.1))
+
+  pub judges-units : (us : List (List ℕ)) (s t : S) → FoldsTo R s us t → asked s ≡ None → Judges takes (judge_units us) (talk_of s) (talk_of t) (asked t)
+  judges-units [] s t e is = λ d h. (subst (λ (x : S). Spoke takes d d (talk_of s) (talk_of x)) e (spoke-none takes d (talk_of s) h), ap asked (sym e) ∙ is)
+  judges-units (u ∷ us) s t (j, r, rest) is =
+      units-then u us s j t (asked j) refl
+      (subst (λ w. Judges takes (judge_next w u) (talk_of s) (talk_of j) (asked j)) is (step s u j r))
+      (λ none. judges-units us j t rest none)
+      (λ why some. judges-stay us j t why rest some)

@@ -1,13 +1,4 @@
-pub mod Talking
-pub mod OnChannels
+pub mod Words
 pub mod Going
-pub mod Outstanding
 pub mod Packing
-pub mod Receiving
-pub mod Riding
 pub mod Turning
-pub mod Taking
-pub mod Putting
-pub mod Ending
-pub mod Polls
-pub mod Deadlines

@@ -1,49 +1,188 @@
--- What a state of an end keeps takes the turn of each call, and the state grows by what the turn sends and by what is taken.
-use Rattle.std.proofs.Common.{◌≡◌, ◌∙◌, ℕ, zero, suc, ◌+◌, ◌%◌, ◌^◌, ◌/◌, List, [], ◌∷◌, ◌++◌, length, take, drop, Option, Some, None, Bool, true, false, not}
-use Rattle.std.proofs.Common.{◌&&◌, refl, sym, ap, subst, arith, append_assoc, append-nil, length-append}
-use Rattle.std.specs.Prelude.{if◌then◌else◌}
-use Rattle.std.proofs.Math.Seq.{drop-append_seam}
+-- What a state of an end keeps takes the turn of each call; and before the first deadline a tick does nothing.
+use Rattle.stack_end.proofs.Words.{[], above, added_by, after, ap, append-nil, append_assoc, arith, Arrives, Bool, by_cond, can_pack, ClosedByUser, Closes}
+use Rattle.stack_end.proofs.Words.{comes_up, Completes, completes, ConnectionState, Datagram, datagrams, Deliver, Dialogue, dialogue_of, Down, drop, end_of}
+use Rattle.stack_end.proofs.Words.{EndSettings, Err, Event, false, Fields, followed, goes_on, goes_up, has_room, HasMade, hears, hears_units, if_ended}
+use Rattle.stack_end.proofs.Words.{if◌then◌else◌, inl, Input, inr, Inside, is_closed, is_nil, is_none, is_over, IsBefore, IsReachedAt, Item, judge_messages}
+use Rattle.stack_end.proofs.Words.{judge_read, judge_units, judge_unpacked, Judged, judged, judged_at, kept_of, leaves, Leaving, length, length-append, List}
+use Rattle.stack_end.proofs.Words.{machine_hears, machine_still, machine_turn, MachineTurn, Made, meets, next_number, None, not, notes, number_behind, Ok}
+use Rattle.stack_end.proofs.Words.{on_channels, opens, Option, PackFault, packs, packs_up_to, Part, part, parts, passed_by, Puts, puts, Receiver, receives}
+use Rattle.stack_end.proofs.Words.{red_after, red_text, RedTick, refl, Result, rises, rule_of, sendings, sends, session_in, session_turn, Settings, settles}
+use Rattle.stack_end.proofs.Words.{Some, Speaks, Start, subst, suc, sym, take, taken_by, Tele, tele_seen, TeleFault, text_of, texts, ticks, Told, true}
+use Rattle.stack_end.proofs.Words.{true≢false, turn, unit_seen, unit_text, unless_leaving, Unspecified, View, zero, ℕ, ◌%◌, ◌&&◌, ◌++◌, ◌+◌, ◌^◌, ◌∙◌, ◌∷◌, ◌≡◌}
+use Rattle.stack_end.proofs.Words.{◌≢◌, ◌≤◌, ◌⊎◌}
 use Rattle.byteorder.specs.Endian.{little_bytes}
-use Rattle.packing.specs.UnitText.{unit_text}
-use Rattle.red_pdu.specs.RedText.{red_text}
-use Rattle.red_layer.specs.Parts.{Part, is_nil}
-use Rattle.red_layer.specs.Redundancy.{Datagram, Input, Receiver, Tick as RedTick, after, passed_by}
-use Rattle.safe_pdu.specs.declared.CodeRule.{CodeRule}
-use Rattle.safe_pdu.specs.Places.{safe_seen}
-use Rattle.safe_machine.specs.declared.ConnectionState.{ConnectionState}
-use Rattle.safe_machine.specs.declared.Reason.TheVariants.{ClosedByUser}
-use Rattle.safe_machine.specs.declared.Detail.TheVariants.{Unspecified}
-use Rattle.safe_machine.specs.Connections.{is_closed}
-use Rattle.safe_machine.specs.Made.{Made, opening_body}
-use Rattle.safe_machine.specs.Moves.{Move, move}
-use Rattle.safe_machine.specs.Moves.Move.{Guards, Leaves, Sends, Ticks}
-use Rattle.safe_machine.specs.Octets.{arrive_octets, heard as heard_move, hears as machine_hears, hears_units, seen_by}
-use Rattle.safe_machine.specs.Settings.{Settings}
-use Rattle.safe_machine.specs.State.{State, leave}
-use Rattle.safe_machine.specs.Step.{may_send, send}
-use Rattle.safe_machine.specs.Turned.{HasMade, MaySend, Turned as MachineTurned, turn as machine_move}
-use Rattle.safe_machine.specs.Turns.{Turn as MachineTurn, has_room, opens, says, still as machine_still, unsaid}
-use Rattle.safe_pdu.specs.declared.Kind.TheVariants.{ConnReq}
-use Rattle.safe_machine.specs.declared.ConnectionState.TheVariants.{Down, Start}
-use Rattle.std.proofs.lemmas.Bool.{true≢false}
-use Rattle.safe_machine.specs.View.{View, text_of}
-use Rattle.safe_machine.specs.World.{joins}
+use Rattle.pdi_session.specs.Histories.{History}
+use Rattle.pdi_session.specs.SessionStep.{put_refusal}
+use Rattle.red_layer.specs.Redundancy.{deadline_of, is_due}
 use Rattle.safe_machine.proofs.one.Confirming.{made_law_holds}
 use Rattle.safe_machine.proofs.one.Identified.{settings_law_holds}
-use Rattle.safe_machine.proofs.one.Turning.{octets_law_holds, tells_law_holds, turns_law_holds as machine_turns}
-use Rattle.pdi_session.specs.SessionStep.{Event, Closes, InitDone as Completes, Item, Puts}
-use Rattle.end_settings.specs.EndSettings.{EndSettings, rule_of}
-use Rattle.stack_end.specs.Datagrams.{on_channels, sendings, upper_of}
-use Rattle.stack_end.specs.Dialogue.{Dialogue, Leaving, judge_units, meets, session_in}
-use Rattle.stack_end.specs.Ends.{Call, Close, Deliver, EndState, InitDone, Put, Tick, answered, comes_up, did, goes_on as end_goes_on, handed_up, is_shut}
-use Rattle.stack_end.specs.Ends.{leaves as end_leaves, moved, noted, packed, packed_up_to, part as end_part, parts as end_parts, receives as end_receives}
-use Rattle.stack_end.specs.Ends.{rises, sends as end_sends, settle, with_input, with_machine, with_session}
-use Rattle.stack_end.specs.Fields.{BothStand, Stands}
-use Rattle.stack_end.specs.Turned.{Grew, Turned}
-use Rattle.stack_end.specs.Turns.{Fields, Inside, Turn, above, can_pack, closes, completes, datagrams, dialogue_of, followed, goes_on, goes_up, hears, is_over}
-use Rattle.stack_end.specs.Turns.{judged_at, leaves, machine_turn, next_number, notes, number_behind, packs, packs_up_to, part, parts, puts, receives, sends}
-use Rattle.stack_end.specs.Turns.{session_turn, settles, still, turn}
-use Rattle.stack_end.proofs.Riding.{Rides, RidesJudged, rides-meets, rides-rises, rides-units}
+use Rattle.safe_machine.proofs.one.Turning.{octets_law_holds, tells_law_holds as machine_tells, tells_law_holds as machine_tells_hold}
+use Rattle.safe_machine.proofs.one.Turning.{turns_law_holds as machine_turns}
+use Rattle.safe_machine.specs.Made.{opening_body}
+use Rattle.safe_machine.specs.Moves.{Move, move}
+use Rattle.safe_machine.specs.Moves.Move.{Guards, Leaves, Sends, Ticks}
+use Rattle.safe_machine.specs.Octets.{arrive_octets, heard as heard_move, seen_by}
+use Rattle.safe_machine.specs.State.{State, unconfirmed}
+use Rattle.safe_machine.specs.Step.{may_send, send, tick}
+use Rattle.safe_machine.specs.Turned.{MaySend, turn as machine_move, Turned as MachineTurned}
+use Rattle.safe_machine.specs.Turns.{says, still, Turn, unsaid}
+use Rattle.safe_machine.specs.View.{StandsFor}
+use Rattle.safe_machine.specs.World.{joins}
+use Rattle.safe_pdu.specs.Places.{safe_seen}
+use Rattle.safe_pdu.specs.declared.Kind.TheVariants.{ConnReq}
+use Rattle.stack_end.specs.Datagrams.{upper_of}
+use Rattle.stack_end.specs.Deadlines.{earliest}
+use Rattle.stack_end.specs.EndValue.{EndTurns, EndValue}
+use Rattle.stack_end.specs.Ends.{Call, Close, did, EndState, goes_on as end_goes_on, handed_up, InitDone, is_shut, leaves as end_leaves, moved, noted, packed}
+use Rattle.stack_end.specs.Ends.{packed_up_to, part as end_part, parts as end_parts, Put, receives as end_receives, sends as end_sends, settle, Tick, time_of}
+use Rattle.stack_end.specs.Ends.{with_input, with_machine, with_session}
+use Rattle.stack_end.specs.Fields.{BothDo, BothStand, Stands}
+use Rattle.stack_end.specs.Turned.{Grew, LastLaw, TellsLaw, Turned, TurnsLaw}
+use Rattle.stack_end.specs.Turns.{closes, still as end_still, Turn as EndTurn}
+use Rattle.stack_end.specs.declared.layers.Layers.{Layers}
+use Rattle.std.proofs.Common.{◌/◌}
+use Rattle.std.proofs.Math.Seq.{drop-append_seam}
+use Rattle.std.proofs.lemmas.Bool.{le-leb, leb-false, leb-true}
+use Rattle.std.specs.Prelude.{nat_le}
+
+pub record Rides (before : List Item) (d e : Dialogue) : Type 0 where
+  pub speaks : Speaks (session_in d) d.waiting e
+  pub taken : e.history.taken ≡ before ++ d.history.taken
+
+pub record RidesJudged (before : List Item) (j k : Judged) : Type 0 where
+  pub left : Rides before j.left k.left
+  pub leaving : j.leaving ≡ k.leaving
+
+pub rides-meets : (event : Event) (before : List Item) (d e : Dialogue) → Rides before d e → Rides before (meets event d) (meets event e)
+rides-meets event before d e h =
+    record {
+      speaks =
+          record {
+            state = ap (after event) h.speaks.state;
+            waits = ap (λ ws. ws ++ texts (added_by event (session_in d))) h.speaks.waits ∙ ap (λ s. e.waiting ++ texts (added_by event s)) h.speaks.state;
+          };
+      taken =
+          ap (λ xs. xs ++ taken_by event (session_in e)) h.taken
+          ∙ (append_assoc before d.history.taken (taken_by event (session_in e))
+          ∙ ap (λ s. before ++ (d.history.taken ++ taken_by event s)) (sym h.speaks.state));
+    }
+
+pub rides-rises : (a b : Bool) (before : List Item) (d e : Dialogue) → a ≡ b → Rides before d e → Rides before (rises a d) (rises b e)
+rides-rises a b before d e same h = subst (λ q. Rides before (rises a d) (rises q e)) same (both a)
+  where
+    both : (a : Bool) → Rides before (rises a d) (rises a e)
+    both true = rides-meets Event.Up before d e h
+    both false = h
+
+rides-read : (before : List Item) (r : Result Tele TeleFault) (d e : Dialogue) → Rides before d e → RidesJudged before (judge_read r d) (judge_read r e)
+rides-read before (Ok t) d e h = record { left = rides-meets (Arrives t) before d e h; leaving = ap (λ s. if_ended (end_of (judged s t))) h.speaks.state }
+rides-read before (Err fault) d e h = record { left = h; leaving = refl }
+
+rides-unless : (before : List Item) (a b : Option Leaving) (first rest first_too rest_too : Judged) → a ≡ b → RidesJudged before first first_too
+    → RidesJudged before rest rest_too
+    → RidesJudged before (unless_leaving a first rest) (unless_leaving b first_too rest_too)
+rides-unless before a b first rest first_too rest_too same h k =
+    subst (λ q. RidesJudged before (unless_leaving a first rest) (unless_leaving q first_too rest_too)) same (both a)
+  where
+    both : (a : Option Leaving) → RidesJudged before (unless_leaving a first rest) (unless_leaving a first_too rest_too)
+    both None = k
+    both (Some why) = h
+
+rides-messages : (before : List Item) (ms : List (List ℕ)) (d e : Dialogue) → Rides before d e → RidesJudged before (judge_messages ms d) (judge_messages ms e)
+rides-messages before [] d e h = record { left = h; leaving = refl }
+rides-messages before (m ∷ ms) d e h =
+    let first = rides-read before (tele_seen m) d e h in
+    let j = judge_read (tele_seen m) d in
+    let k = judge_read (tele_seen m) e in
+    rides-unless before j.leaving k.leaving j (judge_messages ms j.left) k (judge_messages ms k.left) first.leaving first
+    (rides-messages before ms j.left k.left first.left)
+
+rides-unpacked : (before : List Item) (r : Result (List (List ℕ)) PackFault) (d e : Dialogue) → Rides before d e
+    → RidesJudged before (judge_unpacked r d) (judge_unpacked r e)
+rides-unpacked before (Ok ms) d e h = rides-messages before ms d e h
+rides-unpacked before (Err fault) d e h = record { left = h; leaving = refl }
+
+pub rides-units : (before : List Item) (us : List (List ℕ)) (d e : Dialogue) → Rides before d e → RidesJudged before (judge_units us d) (judge_units us e)
+rides-units before [] d e h = record { left = h; leaving = refl }
+rides-units before (u ∷ us) d e h =
+    let first = rides-unpacked before (unit_seen u) d e h in
+    let j = judge_unpacked (unit_seen u) d in
+    let k = judge_unpacked (unit_seen u) e in
+    rides-unless before j.leaving k.leaving j (judge_units us j.left) k (judge_units us k.left) first.leaving first
+    (rides-units before us j.left k.left first.left)
+
+-- two histories of which the same is kept, and that made and took the same
+same-state : (s t : State) → kept_of t ≡ kept_of s → t.made ≡ s.made → t.taken ≡ s.taken → t ≡ s
+same-state s t kept made taken = λ i.
+    record {
+      settings = (kept i).settings;
+      first = (kept i).first;
+      connection = (kept i).connection;
+      made = made i;
+      taken = taken i;
+      since = (kept i).since;
+      expected = (kept i).expected;
+      last_sn = (kept i).last_sn;
+      last_ts = (kept i).last_ts;
+      confirmed = (kept i).confirmed;
+      confirmed_at = (kept i).confirmed_at;
+      answered = (kept i).answered;
+      window = (kept i).window;
+    }
+
+-- a tick does nothing to a history where it does nothing to what is kept of it, and something where it does
+pub quiet-tick : (now : ℕ) (v : View) (s : State) → StandsFor v s → ticks now v ≡ still v → tick now s ≡ s
+quiet-tick now v s h quiet =
+    let one = machine_turns (Ticks now) v s tt h in
+    same-state s (tick now s) (sym one.stands ∙ (ap (λ (t : Turn). t.left) quiet ∙ h))
+    (one.made ∙ (ap (λ (t : Turn). s.made ++ t.made) quiet ∙ append-nil s.made))
+    (one.taken ∙ append-nil s.taken)
+
+pub fallen-tick : (now : ℕ) (v : View) (s : State) → StandsFor v s → (ticks now v).left ≢ v → tick now s ≢ s
+fallen-tick now v s h changes same = changes ((machine_turns (Ticks now) v s tt h).stands ∙ (ap kept_of same ∙ sym h))
+
+pub before-both : (now : ℕ) (a b : Option ℕ) → IsBefore now (earliest a b) → IsBefore now a × IsBefore now b
+before-both now None b h = (tt, h)
+before-both now (Some a) None h = (h, tt)
+before-both now (Some a) (Some b) h = (omega arith, omega arith)
+
+pub at-either : (now : ℕ) (a b : Option ℕ) → IsReachedAt now (earliest a b) → IsReachedAt now a ⊎ IsReachedAt now b
+at-either now None b h = inr h
+at-either now (Some a) None h = inl h
+at-either now (Some a) (Some b) h = at-min (nat_le a b) refl
+  where
+    at-min : (t : Bool) → nat_le a b ≡ t → (a ≤ now) ⊎ (b ≤ now)
+    at-min true e = inl (let k = leb-true a b e in omega (arith, h, k))
+    at-min false e = inr (let k = leb-false a b e in omega (arith, h, k))
+
+undue : (nil late : Bool) (now : ℕ) (r : Receiver) → is_nil r.waiting ≡ nil → nat_le (r.since + r.t_seq) now ≡ late → IsBefore now (deadline_of r)
+    → is_due now r ≡ false
+undue true late now r n l h = rw n refl
+undue false true now r n l h = let k = rw n at h in let m = leb-true (r.since + r.t_seq) now l in absurd (omega (arith, k, m))
+undue false false now r n l h = rw (n, l) refl
+
+pub red-before : (now : ℕ) (r : Receiver) → IsBefore now (deadline_of r) → (red_after (RedTick now) r ≡ r) × (passed_by (RedTick now) r ≡ [])
+red-before now r h =
+    let e = undue (is_nil r.waiting) (nat_le (r.since + r.t_seq) now) now r refl refl h in
+    (rw e refl, rw e refl)
+
+pub red-at : (now : ℕ) (r : Receiver) (nil : Bool) → is_nil r.waiting ≡ nil → IsReachedAt now (deadline_of r) → is_due now r ≡ true
+red-at now r true n h = absurd (rw n at h)
+red-at now r false n h = let k = rw n at h in rw (n, le-leb (r.since + r.t_seq) now k) refl
+
+sends-history : (n now : ℕ) (x : EndState) → (packed_up_to n now x).session.history ≡ x.session.history
+sends-history zero now x = refl
+sends-history (suc n) now x =
+    by_cond (λ (y : EndState). y.session.history ≡ x.session.history) (is_nil x.session.waiting) x _ (λ _. refl)
+    (λ _. by_cond (λ (y : EndState). y.session.history ≡ x.session.history) (may_send x.machine) (packed_up_to n now (packed now x)) x
+    (λ _. sends-history n now (packed now x)) (λ _. refl))
+
+pub puts-last : (kind : ℕ) (payload : List ℕ) (now : ℕ) (x : EndState) → put_refusal (session_in x.session) kind payload (length x.session.waiting) ≡ None
+    → (did (Put kind payload now) x).session.history.put ≡ x.session.history.put ++ (kind, payload) ∷ []
+puts-last kind payload now x accepted =
+    let y : EndState = with_session (meets (Puts kind payload (length x.session.waiting)) x.session) x in
+    ap (λ (h : History). h.put) (sends-history (length y.session.waiting) now y)
+    ∙ ap (λ r. x.session.history.put ++ (if is_none r then (kind, payload) ∷ [] else [])) accepted
 
 -- four octets tell a number modulo 2^32
 little-wrap : (n : ℕ) → little_bytes 4 (n % 2 ^ 32) ≡ little_bytes 4 n
@@ -91,15 +230,15 @@ opens-made settings first now = by_client settings.client
     by_client false turn = absurd (true≢false (sym turn))
 
 -- Above the redundancy layer.
-pub record UpperTurned (t : Turn Fields) (x y : EndState) : Type 0 where
+pub record UpperTurned (t : EndTurn Fields) (x y : EndState) : Type 0 where
   pub stands : Stands t.left y
   pub red : y.red ≡ x.red
   pub grew : Grew t x y
 
-grew-none : {V : Type 0} (v : V) (x : EndState) → Grew (still v) x x
+grew-none : {V : Type 0} (v : V) (x : EndState) → Grew (end_still v) x x
 grew-none v x = record { settings = refl; more = []; made = sym (append-nil x.machine.made); sent = refl; taken = sym (append-nil x.session.history.taken) }
 
-grew-then : {V : Type 0} (t : Turn V) (next : V → Turn V) (x y z : EndState) → Grew t x y → Grew (next t.left) y z → Grew (followed t next) x z
+grew-then : {V : Type 0} (t : EndTurn V) (next : V → EndTurn V) (x y z : EndState) → Grew t x y → Grew (next t.left) y z → Grew (followed t next) x z
 grew-then t next x y z h k =
     let start = length x.machine.made in
     let u = next t.left in
@@ -116,15 +255,15 @@ grew-then t next x y z h k =
       taken = k.taken ∙ (ap (λ xs. xs ++ u.taken) h.taken ∙ append_assoc x.session.history.taken t.taken u.taken);
     }
 
-upper-still : (v : Fields) (x : EndState) → Stands v x → UpperTurned (still v) x x
+upper-still : (v : Fields) (x : EndState) → Stands v x → UpperTurned (end_still v) x x
 upper-still v x h = record { stands = h; red = refl; grew = grew-none v x }
 
-upper-then : (t : Turn Fields) (next : Fields → Turn Fields) (x y z : EndState) → UpperTurned t x y → UpperTurned (next t.left) y z
+upper-then : (t : EndTurn Fields) (next : Fields → EndTurn Fields) (x y z : EndState) → UpperTurned t x y → UpperTurned (next t.left) y z
     → UpperTurned (followed t next) x z
 upper-then t next x y z h k = record { stands = k.stands; red = k.red ∙ h.red; grew = grew-then t next x y z h.grew k.grew }
 
 -- one of two, on both sides
-choose : {V : Type 0} (P : Turn V → EndState → Type 0) (a b : Bool) (t u : Turn V) (y z : EndState) → a ≡ b → P t y → P u z
+choose : {V : Type 0} (P : EndTurn V → EndState → Type 0) (a b : Bool) (t u : EndTurn V) (y z : EndState) → a ≡ b → P t y → P u z
     → P (if a then t else u) (if b then y else z)
 choose P true b t u y z e h k = subst (λ q. P t (if q then y else z)) e h
 choose P false b t u y z e h k = subst (λ q. P u (if q then y else z)) e k
@@ -195,7 +334,7 @@ rides-here v x h = record { speaks = h.speaks; taken = sym (append-nil x.session
 
 upper-settles : (v : Fields) (x : EndState) → Stands v x → UpperTurned (settles v) x (settle x)
 upper-settles v x h =
-    choose (λ t y. UpperTurned t x y) (is_closed v.machine.connection) (is_shut x) (session_turn (meets Closes (dialogue_of v)) v) (still v)
+    choose (λ t y. UpperTurned t x y) (is_closed v.machine.connection) (is_shut x) (session_turn (meets Closes (dialogue_of v)) v) (end_still v)
     (with_session (meets Closes x.session) x) x
     (ap (λ (m : View). is_closed m.connection) h.machine)
     (upper-session (meets Closes (dialogue_of v)) (meets Closes x.session) v x
@@ -314,7 +453,7 @@ upper-packs now v x h =
     let t = machine_turn (machine_move (Sends unit now) v.machine) v in
     let one = upper-move (Sends unit now) v x h.has_made h in
     let s = one.stands in
-    let behind : UpperTurned (still (record t.left { waiting = rest })) y z =
+    let behind : UpperTurned (end_still (record t.left { waiting = rest })) y z =
     record {
       stands = record {
         machine = s.machine;
@@ -332,7 +471,7 @@ upper-packs now v x h =
     let is : z ≡ packed now x =
     ap (λ n. sent_out (unit_text (take n v.waiting)) (drop n v.waiting) now x) h.max
     ∙ ap (λ ws. sent_out (unit_text (take x.settings.n_maxpacket ws)) (drop x.settings.n_maxpacket ws) now x) h.speaks.waits in
-    subst (UpperTurned (packs now v) x) is (upper-then t (λ w. still (record w { waiting = rest })) x y z one behind)
+    subst (UpperTurned (packs now v) x) is (upper-then t (λ w. end_still (record w { waiting = rest })) x y z one behind)
 
 -- the two tests of packing are one
 one-test : (nil may : Bool) (y z : EndState) → (if not nil && may then z else y) ≡ (if nil then y else if may then z else y)
@@ -350,9 +489,9 @@ upper-up_to (suc n) now v x h =
     let nil = is_nil x.session.waiting in
     let may = may_send x.machine in
     let can : can_pack v ≡ (not nil && may) =
-    ap (λ ws. not (is_nil ws) && has_room v.machine) h.speaks.waits ∙ ap (λ b. not nil && b) (tells_law_holds v.machine x.machine h.machine).room in
+    ap (λ ws. not (is_nil ws) && has_room v.machine) h.speaks.waits ∙ ap (λ b. not nil && b) (machine_tells_hold v.machine x.machine h.machine).room in
     subst (UpperTurned (packs_up_to (suc n) now v) x) (one-test nil may x z)
-    (choose (λ q w. UpperTurned q x w) (can_pack v) (not nil && may) (followed t (packs_up_to n now)) (still v) z x can more (upper-still v x h))
+    (choose (λ q w. UpperTurned q x w) (can_pack v) (not nil && may) (followed t (packs_up_to n now)) (end_still v) z x can more (upper-still v x h))
 
 upper-sends : (now : ℕ) (v : Fields) (x : EndState) → Stands v x → UpperTurned (sends now v) x (end_sends now x)
 upper-sends now v x h = subst (λ ws. UpperTurned (sends now v) x (packed_up_to (length ws) now x)) h.speaks.waits (upper-up_to (length v.waiting) now v x h)
@@ -373,13 +512,13 @@ upper-event event now v x h =
     upper-then (session_turn d v) (sends now) x y (end_sends now y) one (upper-sends now (session_turn d v).left y one.stands)
 
 -- All layers.
-whole-still : (v : Inside) (x : EndState) → BothStand v x → Turned (still v) x x
+whole-still : (v : Inside) (x : EndState) → BothStand v x → Turned (end_still v) x x
 whole-still v x h = record { stands = h; grew = grew-none v x }
 
-whole-then : (t : Turn Inside) (next : Inside → Turn Inside) (x y z : EndState) → Turned t x y → Turned (next t.left) y z → Turned (followed t next) x z
+whole-then : (t : EndTurn Inside) (next : Inside → EndTurn Inside) (x y z : EndState) → Turned t x y → Turned (next t.left) y z → Turned (followed t next) x z
 whole-then t next x y z h k = record { stands = k.stands; grew = grew-then t next x y z h.grew k.grew }
 
-whole-above : (next : Fields → Turn Fields) (v : Inside) (x y : EndState) → BothStand v x → UpperTurned (next v.upper) x y → Turned (above next v) x y
+whole-above : (next : Fields → EndTurn Fields) (v : Inside) (x y : EndState) → BothStand v x → UpperTurned (next v.upper) x y → Turned (above next v) x y
 whole-above next v x y h k =
     record {
       stands = record { red = h.red ∙ sym k.red; upper = k.stands };
@@ -404,7 +543,7 @@ whole-receives now i v x h =
     let k = subst (λ (r : Receiver). UpperTurned (parts now (passed_by i v.red) v.upper) y (end_parts now (passed_by i r) y)) h.red
     (upper-parts now (passed_by i v.red) v.upper y noted_too) in
     record {
-      stands = record { red = ap (after i) h.red ∙ sym k.red; upper = k.stands };
+      stands = record { red = ap (red_after i) h.red ∙ sym k.red; upper = k.stands };
       grew = record { settings = k.grew.settings; more = k.grew.more; made = k.grew.made; sent = k.grew.sent; taken = k.grew.taken };
     }
 
@@ -418,18 +557,19 @@ whole-goes_on now i v x h =
     let one = whole-receives now i v x h in
     let more = whole-then t (above (sends now)) x y (end_sends now y) one
     (whole-above (sends now) t.left y (end_sends now y) one.stands (upper-sends now t.left.upper y one.stands.upper)) in
-    choose (λ q w. Turned q x w) (is_over v) (is_shut x) (still v) (followed t (above (sends now))) x (end_sends now y) (over-is v x h) (whole-still v x h) more
+    choose (λ q w. Turned q x w) (is_over v) (is_shut x) (end_still v) (followed t (above (sends now))) x (end_sends now y)
+    (over-is v x h) (whole-still v x h) more
 
 -- the machine first, and then what follows
 whole-first : (m : Move) (now : ℕ) (i : Input) (v : Inside) (x : EndState) → MaySend m v.upper.machine → BothStand v x
-    → Turned (if is_over v then still v else followed (above (λ w. followed (machine_turn (machine_move m w.machine) w) settles) v) (goes_on now i)) x
+    → Turned (if is_over v then end_still v else followed (above (λ w. followed (machine_turn (machine_move m w.machine) w) settles) v) (goes_on now i)) x
     (if is_shut x then x else end_goes_on now i (moved m x))
 whole-first m now i v x may h =
     let next = λ (w : Fields). followed (machine_turn (machine_move m w.machine) w) settles in
     let t = above next v in
     let y : EndState = moved m x in
     let one = whole-above next v x y h (upper-moved m v.upper x may h.upper) in
-    choose (λ q w. Turned q x w) (is_over v) (is_shut x) (still v) (followed t (goes_on now i)) x (end_goes_on now i y) (over-is v x h) (whole-still v x h)
+    choose (λ q w. Turned q x w) (is_over v) (is_shut x) (end_still v) (followed t (goes_on now i)) x (end_goes_on now i y) (over-is v x h) (whole-still v x h)
     (whole-then t (goes_on now i) x y (end_goes_on now i y) one (whole-goes_on now i t.left y one.stands))
 
 pub turns_did : (c : Call) (v : Inside) (x : EndState) → BothStand v x → Turned (turn c v) x (did c x)
@@ -440,3 +580,64 @@ turns_did (Put kind payload now) v x h =
 turns_did (InitDone now) v x h = whole-above (completes now) v x (did (InitDone now) x) h (upper-event (λ n. Completes n) now v.upper x h.upper)
 turns_did (Tick now) v x h = whole-first (Ticks now) now (RedTick now) v x tt h
 turns_did (Deliver channel octets now) v x h = whole-first (Guards now) now (Datagram octets now) v x tt h
+
+-- the time of a call changes nothing of what the layers stand for
+timed : (v : Inside) (x : EndState) (time : ℕ) → BothStand v x → BothStand v (record x { time = time })
+timed v x time h =
+    let u = h.upper in
+    record {
+      red = h.red;
+      upper = record {
+        machine = u.machine;
+        has_made = u.has_made;
+        speaks = u.speaks;
+        request = u.request;
+        numbers = u.numbers;
+        count = u.count;
+        max = u.max;
+        rule = u.rule;
+      };
+    }
+
+pub turns_law_holds : TurnsLaw
+turns_law_holds c v x h =
+    let one = turns_did c v x h in
+    let g = one.grew in
+    record {
+      stands = timed _ (did c x) (time_of c) one.stands;
+      grew = record { settings = g.settings; more = g.more; made = g.made; sent = g.sent; taken = g.taken };
+    }
+
+-- lists of equal length are both empty, or neither is
+nil-alike : {X Y : Type 0} (xs : List X) (ys : List Y) → length xs ≡ length ys → is_nil xs ≡ is_nil ys
+nil-alike [] [] e = refl
+nil-alike [] (y ∷ ys) e = absurd (omega (arith, e))
+nil-alike (x ∷ xs) [] e = absurd (omega (arith, e))
+nil-alike (x ∷ xs) (y ∷ ys) e = refl
+
+pub tells_law_holds : TellsLaw
+tells_law_holds v x h =
+    let u = h.upper in
+    let count = (machine_tells v.upper.machine x.machine u.machine).awaiting in
+    let waiting = v.upper.waiting in
+    let ring = v.upper.machine.ring in
+    record {
+      settled =
+          ap (λ (m : View). not (is_closed m.connection) && (is_nil waiting && is_nil ring)) u.machine
+          ∙ (ap (λ (ws : List (List ℕ)). not (is_shut x) && (is_nil ws && is_nil ring)) u.speaks.waits
+          ∙ ap (λ (b : Bool). not (is_shut x) && (is_nil x.session.waiting && b)) (nil-alike ring (unconfirmed x.machine) count));
+      unconfirmed = count;
+      quiet = λ now. quiet-tick now v.upper.machine x.machine u.machine;
+      fallen = λ now. fallen-tick now v.upper.machine x.machine u.machine;
+    }
+
+pub last_law_holds : LastLaw
+last_law_holds kind payload now x accepted = puts-last kind payload now x accepted
+
+-- a turn of the layers of an end is its turn
+pub layers-turn : {C A T : Type 0} (told : C → Told) (takes : T → Item → T → Type 0) (next : Inside → EndTurn Inside) (l m : Layers C A) (time now : ℕ)
+    (v : EndValue C A) (t u : T) → record { layers = l; time = time } ≡ v → BothDo told takes next l t m u
+    → EndTurns told takes next v t (record { layers = m; time = now }) u
+layers-turn {C} {A} told takes next l m time now v t u e h =
+    let w : EndValue C A = record { layers = m; time = now } in
+    subst (λ q. EndTurns told takes next q t w u) e h

@@ -1,6 +1,6 @@
 -- The datagrams that an end sends: each PDU made, under its index, on every channel in order.
 use Rattle.std.specs.Prelude.{ℕ, zero, suc, ◌+◌, List, [], ◌∷◌, ◌++◌, drop, length}
-use Rattle.red_pdu.specs.RedText.{red_text}
+use Rattle.red_layer.specs.pdu.RedText.{red_text}
 use Rattle.safe_pdu.specs.declared.CodeRule.{CodeRule}
 use Rattle.safe_pdu.specs.SafeText.{safe_text}
 use Rattle.safe_machine.specs.Made.{Made}

@@ -1,12 +1,12 @@
 -- One end: its layers, and what each of its calls does.
 use Rattle.std.specs.Prelude.{ℕ, zero, suc, Bool, true, false, not, ◌&&◌, Option, Some, None, List, [], ◌∷◌, ◌++◌, take, drop, length, if◌then◌else◌}
-use Rattle.packing.specs.UnitText.{unit_text}
+use Rattle.pdi_session.specs.packing.UnitText.{unit_text}
 use Rattle.red_layer.specs.Parts.{Part, is_nil}
 use Rattle.red_layer.specs.Redundancy.{Receiver, Input, Datagram, Tick as RedTick, passed_by, after, opened as red_opened}
 use Rattle.safe_machine.specs.declared.ConnectionState.{ConnectionState}
 use Rattle.safe_machine.specs.declared.ConnectionState.TheVariants.{Start, Up}
-use Rattle.safe_machine.specs.declared.Reason.TheVariants.{ClosedByUser}
-use Rattle.safe_machine.specs.declared.Detail.TheVariants.{Unspecified}
+use Rattle.safe_pdu.specs.declared.reasons.Reason.TheVariants.{ClosedByUser}
+use Rattle.safe_pdu.specs.declared.reasons.Detail.TheVariants.{Unspecified}
 use Rattle.safe_machine.specs.State.{State, leave, opened, unconfirmed}
 use Rattle.safe_machine.specs.Decision.{is_closed}
 use Rattle.safe_machine.specs.Step.{send, may_send}

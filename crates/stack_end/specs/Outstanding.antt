@@ -1,8 +1,8 @@
 -- No message is let go before it is confirmed: each waits, or stands in an unconfirmed unit.
 use Rattle.std.specs.Prelude.{◌≡◌, ℕ, List, [], ◌∷◌, ◌++◌, map}
 use Rattle.std.specs.List.{flat_map}
-use Rattle.packing.specs.UnitText.{unit_text}
-use Rattle.sci_telegram.specs.TeleText.{tele_text}
+use Rattle.pdi_session.specs.packing.UnitText.{unit_text}
+use Rattle.pdi_session.specs.telegram.TeleText.{tele_text}
 use Rattle.pdi_session.specs.Settings.{Addressing}
 use Rattle.pdi_session.specs.Telegrams.{telegram}
 use Rattle.safe_machine.specs.View.{View}

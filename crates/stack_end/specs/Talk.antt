@@ -2,7 +2,7 @@
 use Rattle.std.specs.Prelude.{◌≡◌, ℕ, Option, Some, None, List, ◌++◌, map}
 use Rattle.std.specs.Borrow.{Bor}
 use Rattle.std.specs.List.{FoldsTo}
-use Rattle.packing.specs.Places.{unit_seen}
+use Rattle.pdi_session.specs.packing.Places.{unit_seen}
 use Rattle.pdi_session.specs.SessionStep.{Item, SessionState}
 use Rattle.stack_end.specs.Dialogue.{Dialogue, Judged, Leaving, judge_unpacked, judged_as, session_in}
 

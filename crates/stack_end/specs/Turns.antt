@@ -3,17 +3,17 @@ use Rattle.std.specs.Prelude.{◌≡◌, ℕ, zero, suc, ◌+◌, ◌%◌, ◌^�
 use Rattle.std.specs.Prelude.{if◌then◌else◌}
 use Rattle.std.specs.List.{FoldsTo}
 use Rattle.channels.specs.Told.{Sending, SendsOne, Told}
-use Rattle.packing.specs.UnitText.{unit_text}
+use Rattle.pdi_session.specs.packing.UnitText.{unit_text}
 use Rattle.pdi_session.specs.declared.InitFault.{InitFault}
 use Rattle.pdi_session.specs.declared.PutFault.{PutFault}
 use Rattle.pdi_session.specs.SessionStep.{Closes, InitDone as Completes, Item, Puts, SessionState, init_refusal, put_refusal}
 use Rattle.red_layer.specs.Parts.{Part, is_nil}
 use Rattle.red_layer.specs.Redundancy.{Datagram, Input, Receiver, Tick as RedTick, after, passed_by}
-use Rattle.red_pdu.specs.RedText.{red_text}
+use Rattle.red_layer.specs.pdu.RedText.{red_text}
 use Rattle.safe_pdu.specs.declared.CodeRule.{CodeRule}
 use Rattle.safe_machine.specs.declared.ConnectionState.{ConnectionState}
-use Rattle.safe_machine.specs.declared.Reason.TheVariants.{ClosedByUser}
-use Rattle.safe_machine.specs.declared.Detail.TheVariants.{Unspecified}
+use Rattle.safe_pdu.specs.declared.reasons.Reason.TheVariants.{ClosedByUser}
+use Rattle.safe_pdu.specs.declared.reasons.Detail.TheVariants.{Unspecified}
 use Rattle.safe_machine.specs.Connections.{is_closed}
 use Rattle.safe_machine.specs.Made.{Made}
 use Rattle.safe_machine.specs.Octets.{hears as machine_hears, hears_units}

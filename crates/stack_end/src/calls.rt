@@ -11,12 +11,18 @@ ghost use Rattle.stack_end.specs.Turns.{above, arrives, can_pack, put_answer, pu
 
 use crate::End;
 use channels::Channels;
+use octets::Milliseconds;
 use pdi_session::{PutFault, Taker};
 use std::alloc::Allocator;
 
 impl<C: Channels, A: Allocator> End<C, A> {
     /// The layers take a datagram: what `arrive` does.
-    pub(crate) fn take_datagram<T: Taker>(&mut self, octets: &[u8], now: u64, taker: &mut T)
+    pub(crate) fn take_datagram<T: Taker>(
+        &mut self,
+        octets: &[u8],
+        now: Milliseconds,
+        taker: &mut T,
+    )
         requires now { now ≤ 2 ^ 62 }
         requires later { self.old.time ≤ now }
         ensures turns { EndTurns C.told T.takes (arrives now octets.now) self.old taker.old self.new taker.new }
@@ -37,7 +43,12 @@ impl<C: Channels, A: Allocator> End<C, A> {
     }
 
     /// The layers take what is put in: what `put` does.
-    pub(crate) fn put_behind(&mut self, kind: u16, payload: &[u8], now: u64) -> Result<(), PutFault>
+    pub(crate) fn put_behind(
+        &mut self,
+        kind: u16,
+        payload: &[u8],
+        now: Milliseconds,
+    ) -> Result<(), PutFault>
         requires now { now ≤ 2 ^ 62 }
         requires later { self.old.time ≤ now }
         ensures turns { OnOk result (EndTurnsAlone C.told (above (puts kind payload.now now)) self.old self.new) }

@@ -24,6 +24,7 @@ use crate::layers::Layers;
 use crate::{OpenFault, POLL_BUFFER, POLL_DATAGRAMS, PollFault, opening};
 use channels::{ChannelFault, Channels};
 use end_settings::{EndConfig, Side};
+use octets::Milliseconds;
 use pdi_session::{InitFault, Phase, PutFault, Taker};
 use safe_machine::ConnectionState;
 use std::alloc::{Allocator, Global};
@@ -68,7 +69,7 @@ impl<C: Channels, A: Allocator + Copy> End<C, A> {
         config: EndConfig,
         side: Side,
         first_sn: u32,
-        now: u64,
+        now: Milliseconds,
     ) -> Result<Self, (OpenFault, C)>
         // `open` answers BadConfig exactly where the settings are not fit for the side.
         ensures bad_config { IsErrAnd result (λ e. e.0 ≡ BadConfig)
@@ -94,7 +95,13 @@ impl<C: Channels, A: Allocator> End<C, A> {
 
     /// Takes a datagram that came on a channel, of any octets. What the application takes goes to the taker in order, and what waits is sent
     /// while the peer's window is open. A closed end does nothing.
-    pub fn arrive<T: Taker>(&mut self, channel: usize, octets: &[u8], now: u64, taker: &mut T)
+    pub fn arrive<T: Taker>(
+        &mut self,
+        channel: usize,
+        octets: &[u8],
+        now: Milliseconds,
+        taker: &mut T,
+    )
         requires now { now ≤ 2 ^ 62 }
         requires later { self.old.time ≤ now }
         // An arrival is the turn `arrives`: it leaves what that leaves, sends what that sends, each datagram on
@@ -121,7 +128,7 @@ impl<C: Channels, A: Allocator> End<C, A> {
     }
 
     /// Time passes: the deadlines of the safety machine and of the redundancy layer.
-    pub fn tick<T: Taker>(&mut self, now: u64, taker: &mut T)
+    pub fn tick<T: Taker>(&mut self, now: Milliseconds, taker: &mut T)
         requires now { now ≤ 2 ^ 62 }
         requires later { self.old.time ≤ now }
         // A tick is the turn `passes`: it leaves what that leaves, sends what that sends, and the application
@@ -145,7 +152,7 @@ impl<C: Channels, A: Allocator> End<C, A> {
     /// # Errors
     ///
     /// Refused, and the first that holds is named; nothing changes then: `NotEstablished`, `Full`, `ReservedType`, `TooLong`.
-    pub fn put(&mut self, kind: u16, payload: &[u8], now: u64) -> Result<(), PutFault>
+    pub fn put(&mut self, kind: u16, payload: &[u8], now: Milliseconds) -> Result<(), PutFault>
         requires now { now ≤ 2 ^ 62 }
         requires later { self.old.time ≤ now }
         // An accepted put is the turn `puts`: it leaves what that leaves and sends what that sends, and the
@@ -174,7 +181,7 @@ impl<C: Channels, A: Allocator> End<C, A> {
     /// # Errors
     ///
     /// Refused, and the first that holds is named; nothing changes then: `NotInitialising`, `Full`.
-    pub fn init_done(&mut self, now: u64) -> Result<(), InitFault>
+    pub fn init_done(&mut self, now: Milliseconds) -> Result<(), InitFault>
         requires now { now ≤ 2 ^ 62 }
         requires later { self.old.time ≤ now }
         // An accepted end of the initialisation is the turn `completes`: it leaves what that leaves and sends
@@ -199,7 +206,7 @@ impl<C: Channels, A: Allocator> End<C, A> {
     }
 
     /// Leaves the connection, with reason 0 (closed by the user), where there is one; the session ends.
-    pub fn close(&mut self, now: u64)
+    pub fn close(&mut self, now: Milliseconds)
         requires now { now ≤ 2 ^ 62 }
         requires later { self.old.time ≤ now }
         // A closing is the turn `closes`: it leaves what that leaves and sends what that sends, and the
@@ -218,7 +225,7 @@ impl<C: Channels, A: Allocator> End<C, A> {
     /// # Errors
     ///
     /// Refused as `Channel` where a reception fails: what came before stays handed in, and time does not pass.
-    pub fn poll<T: Taker>(&mut self, now: u64, taker: &mut T) -> Result<(), PollFault>
+    pub fn poll<T: Taker>(&mut self, now: Milliseconds, taker: &mut T) -> Result<(), PollFault>
         requires now { now ≤ 2 ^ 62 }
         requires later { self.old.time ≤ now }
         // A poll that is not refused is `arrive` of what the channels answered, in order, each before the next
@@ -253,7 +260,7 @@ impl<C: Channels, A: Allocator> End<C, A> {
     fn hear_all<T: Taker>(
         &mut self,
         buffer: &mut [u8],
-        now: u64,
+        now: Milliseconds,
         taker: &mut T,
     ) -> Result<(), ChannelFault>
         requires now { now ≤ 2 ^ 62 }
@@ -279,7 +286,7 @@ impl<C: Channels, A: Allocator> End<C, A> {
     fn hear_next<T: Taker>(
         &mut self,
         buffer: &mut [u8],
-        now: u64,
+        now: Milliseconds,
         taker: &mut T,
     ) -> Result<bool, ChannelFault>
         requires now { now ≤ 2 ^ 62 }
@@ -311,7 +318,7 @@ impl<C: Channels, A: Allocator> End<C, A> {
 
     /// The earliest time at which `tick` does something, if nothing arrives and nothing is put in: a deadline of the safety machine (T_max,
     /// T_h, the limit of PDUs) or of the redundancy layer (T_seq). It may be past; `None` where no time does, as in a closed end.
-    pub fn next_deadline(&self) -> Option<u64>
+    pub fn next_deadline(&self) -> Option<Milliseconds>
         // Before `next_deadline` a tick leaves machine and redundancy layer of an end that is not closed as
         // they are, and nothing goes up.
         ensures before { is_over (inside self.now) ≡ false → (now : ℕ) → IsBefore now result

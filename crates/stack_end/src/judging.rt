@@ -1,14 +1,15 @@
 //! The units that go up: their messages are judged by the session, in order.
 
 ghost use Rattle.std.specs.Prelude.{◌≡◌};
-ghost use Rattle.packing.specs.Places.{unit_seen};
-ghost use Rattle.sci_telegram.specs.Places.{tele_seen};
+ghost use Rattle.pdi_session.specs.packing.Places.{unit_seen};
+ghost use Rattle.pdi_session.specs.telegram.Places.{tele_seen};
 ghost use Rattle.pdi_session.specs.SessionStep.{FewWait};
 ghost use Rattle.stack_end.specs.Dialogue.{for_session, judge_messages, judge_read, judge_unpacked};
 ghost use Rattle.stack_end.specs.Talk.{Judges, judge_next, talk, texts_of};
 
 use octets::limits::UNIT_MESSAGES;
-use packing::{Waiting, unpack};
+use pdi_session::packing::{Waiting, unpack};
+use pdi_session::telegram::KnownPair;
 use pdi_session::{Phase, Session, Taker};
 use safe_machine::{Detail, Reason, UnitIn};
 use std::alloc::Allocator;
@@ -47,9 +48,11 @@ impl Phases {
 
 /// Hands the units that go up to the session.
 #[derive(Drop)]
-pub(crate) struct ToSession<'a, 'b, 'c, A: Allocator, T> {
+pub(crate) struct ToSession<'a, 'b, 'c, 'd, A: Allocator, T> {
     /// The session of the end.
     pub(crate) session: &'a mut Session,
+    /// The names that telegrams from the peer have.
+    pub(crate) pair: &'d KnownPair,
     /// The messages that wait to be sent.
     pub(crate) waiting: &'b mut Waiting<A>,
     /// The application.
@@ -60,7 +63,7 @@ pub(crate) struct ToSession<'a, 'b, 'c, A: Allocator, T> {
     pub(crate) phases: Phases,
 }
 
-impl<'a, 'b, 'c, A: Allocator, T: Taker> UnitIn for ToSession<'a, 'b, 'c, A, T> {
+impl<'a, 'b, 'c, 'd, A: Allocator, T: Taker> UnitIn for ToSession<'a, 'b, 'c, 'd, A, T> {
     ghost takes = { λ s unit t.
         (t.session.ghost_name ≡ s.session.ghost_name) × (t.waiting.ghost_name ≡ s.waiting.ghost_name)
         × (t.taker.ghost_name ≡ s.taker.ghost_name)
@@ -72,6 +75,7 @@ impl<'a, 'b, 'c, A: Allocator, T: Taker> UnitIn for ToSession<'a, 'b, 'c, A, T> 
     fn unit(&mut self, unit: &[u8]) {
         if self.asked.is_none() {
             self.asked = judge_unit(
+                self.pair,
                 self.session,
                 self.waiting,
                 self.taker,
@@ -84,6 +88,7 @@ impl<'a, 'b, 'c, A: Allocator, T: Taker> UnitIn for ToSession<'a, 'b, 'c, A, T> 
 
 /// Judges a unit, and answers why the end is to leave, if it is.
 fn judge_unit<A: Allocator, T: Taker>(
+    pair: &KnownPair,
     session: &mut Session,
     waiting: &mut Waiting<A>,
     taker: &mut T,
@@ -96,13 +101,14 @@ fn judge_unit<A: Allocator, T: Taker>(
     ensures few { FewWait session.new waiting.new }
 {
     match unpack(unit) {
-        Ok(messages) => judge_messages(session, waiting, taker, &messages, phases),
+        Ok(messages) => judge_messages(pair, session, waiting, taker, &messages, phases),
         Err(_) => Some((Reason::ProtocolError, Detail::BadUnit)),
     }
 }
 
 /// Judges messages in order, up to one for which the end is to leave.
 fn judge_messages<A: Allocator, T: Taker>(
+    pair: &KnownPair,
     session: &mut Session,
     waiting: &mut Waiting<A>,
     taker: &mut T,
@@ -115,7 +121,7 @@ fn judge_messages<A: Allocator, T: Taker>(
     ensures few { FewWait session.new waiting.new }
 {
     for message in messages {
-        let asked = judge_message(session, waiting, taker, message);
+        let asked = judge_message(pair, session, waiting, taker, message);
         phases.push(session.phase());
         if let Some(leaving) = asked {
             return Some(leaving);
@@ -126,6 +132,7 @@ fn judge_messages<A: Allocator, T: Taker>(
 
 /// Judges a message, and answers why the end is to leave, if it is.
 fn judge_message<A: Allocator, T: Taker>(
+    pair: &KnownPair,
     session: &mut Session,
     waiting: &mut Waiting<A>,
     taker: &mut T,
@@ -136,7 +143,7 @@ fn judge_message<A: Allocator, T: Taker>(
         (talk session.new waiting.new taker.new) result }
     ensures few { FewWait session.new waiting.new }
 {
-    match sci_telegram::decode(message) {
+    match pair.decode(message) {
         Ok(telegram) => match session.arrive(&telegram, waiting, taker) {
             Ok(()) => None,
             Err(end) => Some(for_session(end.detail)),
@@ -146,12 +153,18 @@ fn judge_message<A: Allocator, T: Taker>(
 }
 
 /// Why an end leaves where its session ends.
-fn for_session(detail: pdi_session::Detail) -> (Reason, Detail)
+fn for_session(detail: pdi_session::SessionDetail) -> (Reason, Detail)
     ensures { result ≡ for_session detail }
 {
     match detail {
-        pdi_session::Detail::VersionDiffers => (Reason::ServiceNotAllowed, Detail::VersionDiffers),
-        pdi_session::Detail::OutOfOrder => (Reason::ServiceNotAllowed, Detail::OutOfOrder),
-        pdi_session::Detail::NotOfThisPair => (Reason::ServiceNotAllowed, Detail::NotWellFormed),
+        pdi_session::SessionDetail::VersionDiffers => (
+            Reason::ServiceNotAllowed,
+            Detail::VersionDiffers,
+        ),
+        pdi_session::SessionDetail::OutOfOrder => (Reason::ServiceNotAllowed, Detail::OutOfOrder),
+        pdi_session::SessionDetail::NotOfThisPair => (
+            Reason::ServiceNotAllowed,
+            Detail::NotWellFormed,
+        ),
     }
 }

@@ -10,6 +10,7 @@ ghost use Rattle.stack_end.specs.Turns.{above, arrives, closes, completes, goes_
 use crate::telling::tell_change;
 use crate::upper::Upper;
 use channels::Channels;
+use octets::Milliseconds;
 use pdi_session::{InitFault, PutFault, Taker};
 use red_layer::RedLayer;
 use safe_machine::ConnectionState;
@@ -26,7 +27,7 @@ pub(crate) struct Layers<C, A: Allocator = Global> {
 
 impl<C: Channels, A: Allocator> Layers<C, A> {
     /// Takes a datagram: the guard, and what follows where it has not left.
-    pub(crate) fn arrive<T: Taker>(&mut self, octets: &[u8], now: u64, taker: &mut T)
+    pub(crate) fn arrive<T: Taker>(&mut self, octets: &[u8], now: Milliseconds, taker: &mut T)
         requires now { now ≤ 2 ^ 62 }
         requires kept { IsKept self.old }
         // The channel plays no part.
@@ -46,7 +47,7 @@ impl<C: Channels, A: Allocator> Layers<C, A> {
     }
 
     /// What follows the guard: the datagram reaches the layers, and what waits is sent.
-    fn deliver<T: Taker>(&mut self, octets: &[u8], now: u64, taker: &mut T)
+    fn deliver<T: Taker>(&mut self, octets: &[u8], now: Milliseconds, taker: &mut T)
         requires now { now ≤ 2 ^ 62 }
         requires kept { IsKept self.old }
         ensures does { BothDo C.told T.takes (goes_on now (Datagram octets.now now)) self.old taker.old self.new taker.new }
@@ -62,7 +63,7 @@ impl<C: Channels, A: Allocator> Layers<C, A> {
     }
 
     /// Time passes: the machine's deadlines, and what follows where it has not left.
-    pub(crate) fn tick<T: Taker>(&mut self, now: u64, taker: &mut T)
+    pub(crate) fn tick<T: Taker>(&mut self, now: Milliseconds, taker: &mut T)
         requires now { now ≤ 2 ^ 62 }
         requires kept { IsKept self.old }
         ensures does { BothDo C.told T.takes (passes now) self.old taker.old self.new taker.new }
@@ -81,7 +82,7 @@ impl<C: Channels, A: Allocator> Layers<C, A> {
     }
 
     /// What follows the machine's deadlines: that of the redundancy layer, and what waits is sent.
-    fn wait<T: Taker>(&mut self, now: u64, taker: &mut T)
+    fn wait<T: Taker>(&mut self, now: Milliseconds, taker: &mut T)
         requires now { now ≤ 2 ^ 62 }
         requires kept { IsKept self.old }
         ensures does { BothDo C.told T.takes (goes_on now (RedTick now)) self.old taker.old self.new taker.new }
@@ -97,7 +98,12 @@ impl<C: Channels, A: Allocator> Layers<C, A> {
     }
 
     /// Puts in a command or status, which is sent where the machine may send.
-    pub(crate) fn put(&mut self, kind: u16, payload: &[u8], now: u64) -> Result<(), PutFault>
+    pub(crate) fn put(
+        &mut self,
+        kind: u16,
+        payload: &[u8],
+        now: Milliseconds,
+    ) -> Result<(), PutFault>
         requires kept { IsKept self.old }
         ensures does { OnOk result (BothDoAlone C.told (above (puts kind payload.now now)) self.old self.new) }
         ensures refused { OnErr result (self.new ≡ self.old) }
@@ -111,7 +117,7 @@ impl<C: Channels, A: Allocator> Layers<C, A> {
     }
 
     /// The end of the initialisation is sent behind the status put in.
-    pub(crate) fn init_done(&mut self, now: u64) -> Result<(), InitFault>
+    pub(crate) fn init_done(&mut self, now: Milliseconds) -> Result<(), InitFault>
         requires kept { IsKept self.old }
         ensures does { OnOk result (BothDoAlone C.told (above (completes now)) self.old self.new) }
         ensures refused { OnErr result (self.new ≡ self.old) }
@@ -124,7 +130,7 @@ impl<C: Channels, A: Allocator> Layers<C, A> {
     }
 
     /// The user closes the connection.
-    pub(crate) fn close(&mut self, now: u64)
+    pub(crate) fn close(&mut self, now: Milliseconds)
         requires kept { IsKept self.old }
         ensures does { BothDoAlone C.told (above (closes now)) self.old self.new }
         ensures kept { IsKept self.new }

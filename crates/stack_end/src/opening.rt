@@ -25,8 +25,9 @@ use crate::upper::Upper;
 use arrayvec::ArrayVec;
 use channels::Channels;
 use end_settings::{EndConfig, Side};
-use octets::copy_of;
-use packing::Waiting;
+use octets::{Milliseconds, copy_of};
+use pdi_session::packing::{Unit, Waiting};
+use pdi_session::telegram::KnownPair;
 use pdi_session::{FieldConfig, InterlockingConfig, Parties, Session};
 use red_layer::{Numbers, RedConfig, RedLayer};
 use safe_machine::{Machine, MachineFault};
@@ -39,7 +40,7 @@ pub(crate) fn open<C: Channels, A: Allocator + Copy>(
     config: EndConfig,
     side: Side,
     first_sn: u32,
-    now: u64,
+    now: Milliseconds,
 ) -> Result<Layers<C, A>, (OpenFault, C)>
     ensures bad_config { IsErrAnd result (λ e. e.0 ≡ BadConfig)
         ↔ (are_fit (side_of side) (settings_of config) ≡ false) }
@@ -81,7 +82,9 @@ pub(crate) fn open<C: Channels, A: Allocator + Copy>(
         numbers,
         machine,
         session: session(&config, side),
+        pair: names_of(&config),
         waiting,
+        unit: Unit::new(),
         request: None,
         count: config.channels as usize,
         max: config.n_maxpacket as usize,
@@ -90,13 +93,18 @@ pub(crate) fn open<C: Channels, A: Allocator + Copy>(
     Ok(Layers { red, upper })
 }
 
+/// The names that telegrams from the peer of an end with these settings have.
+fn names_of(config: &EndConfig) -> KnownPair {
+    KnownPair::new(config.peer_name.name(), config.name.name())
+}
+
 /// The machine of an end with these settings; what it makes is sent.
 fn open_machine<C: Channels, A: Allocator>(
     alloc: A,
     config: &EndConfig,
     side: Side,
     first_sn: u32,
-    now: u64,
+    now: Milliseconds,
     channels: &mut C,
     numbers: &mut Numbers,
 ) -> Result<Machine<A>, MachineFault>

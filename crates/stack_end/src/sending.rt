@@ -3,7 +3,7 @@
 ghost use Rattle.std.specs.Prelude.{◌≡◌, ◌+◌, ◌≤◌, ◌%◌, ◌^◌, length};
 ghost use Rattle.octets.specs.declared.limits.TheConstants.{SAFE_PDU_MAX};
 ghost use Rattle.std.specs.List.{FoldsTo};
-ghost use Rattle.red_pdu.specs.RedText.{red_text};
+ghost use Rattle.red_layer.specs.pdu.RedText.{red_text};
 ghost use Rattle.channels.specs.Told.{SendsOne};
 ghost use Rattle.stack_end.specs.Datagrams.{on_channels};
 
@@ -52,7 +52,7 @@ fn send_by<C: Channels>(channels: &mut C, count: usize, number: u32, pdu: &[u8],
     requires room { RED_HEADER + length pdu.now ≤ length buffer.old }
     ensures { FoldsTo SendsOne (C.told channels.old) (on_channels count (red_text number pdu.now)) (C.told channels.new) }
 {
-    let size = red_pdu::encode(number, pdu, buffer);
+    let size = red_layer::pdu::encode(number, pdu, buffer);
     send_on_all(channels, count, &buffer[..size]);
 }
 

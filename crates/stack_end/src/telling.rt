@@ -5,8 +5,8 @@ ghost use Rattle.std.specs.Prelude.{◌≡◌};
 use crate::judging::Phases;
 use channels::{Channels, Note};
 use octets::limits::SAFE_HEADER;
-use packing::unpack;
 use pdi_session::Phase;
+use pdi_session::packing::unpack;
 use red_layer::RedEvent;
 use safe_machine::{ConnectionState, Step};
 
@@ -33,7 +33,7 @@ pub(crate) fn tell_event<C: Channels>(channels: &mut C, octets: &[u8], event: Re
     if !channels.hears_notes() {
         return;
     }
-    let number = match red_pdu::decode(octets) {
+    let number = match red_layer::pdu::decode(octets) {
         Ok(pdu) => Some(pdu.seq),
         Err(_) => None,
     };
@@ -86,7 +86,7 @@ pub(crate) fn tell_step<C: Channels>(
 fn tell_take<C: Channels>(channels: &mut C, message: &[u8])
     ensures { C.told channels.new ≡ C.told channels.old }
 {
-    if let Ok(telegram) = sci_telegram::decode(message) {
+    if let Ok(telegram) = pdi_session::telegram::decode(message) {
         channels.note(&Note::Take(telegram.kind, telegram.payload));
     }
 }

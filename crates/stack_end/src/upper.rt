@@ -14,9 +14,10 @@ use crate::sending::ToChannels;
 use crate::telling::{Seen, tell_change, tell_event, tell_step};
 use arrayvec::ArrayVec;
 use channels::Channels;
-use octets::copy_of;
 use octets::limits::{SAFE_PDU_MAX, UNIT_MESSAGES};
-use packing::{Waiting, pack};
+use octets::{Milliseconds, copy_of};
+use pdi_session::packing::{Unit, Waiting, pack_into};
+use pdi_session::telegram::KnownPair;
 use pdi_session::{InitFault, PutFault, Session, Taker};
 use red_layer::{Numbers, RedLayer, Upward};
 use safe_machine::{ConnectionState, Detail, Machine, Reason, Step};
@@ -33,8 +34,12 @@ pub(crate) struct Upper<C, A: Allocator = Global> {
     pub(crate) machine: Machine<A>,
     /// The session.
     pub(crate) session: Session,
+    /// The names that telegrams from the peer have.
+    pub(crate) pair: KnownPair,
     /// The messages that wait to be sent.
     pub(crate) waiting: Waiting<A>,
+    /// The unit that was packed last. Its storage is kept, so that no call clears and moves one.
+    pub(crate) unit: Unit,
     /// The octets of the ConnReq that a field element took.
     pub(crate) request: Option<Part>,
     /// How many channels there are.
@@ -61,7 +66,7 @@ struct Heard {
 
 impl<C: Channels, A: Allocator> Upper<C, A> {
     /// The machine takes a part, and the session the unit that goes up. Answers why the end is to leave, if it is.
-    fn hear<T: Taker>(&mut self, octets: &[u8], now: u64, taker: &mut T) -> Heard
+    fn hear<T: Taker>(&mut self, octets: &[u8], now: Milliseconds, taker: &mut T) -> Heard
         requires reach { self.old.machine.expected < 2 ^ 62 }
         requires few { FewWait self.old.session self.old.waiting }
         ensures does { Does C.told T.takes (hears now octets.now) self.old taker.old self.new taker.new }
@@ -75,6 +80,7 @@ impl<C: Channels, A: Allocator> Upper<C, A> {
         };
         let mut units = ToSession {
             session: &mut self.session,
+            pair: &self.pair,
             waiting: &mut self.waiting,
             taker,
             asked: None,
@@ -101,7 +107,7 @@ impl<C: Channels, A: Allocator> Upper<C, A> {
     }
 
     /// Leaves the connection, where this is asked for.
-    fn leave(&mut self, asked: Option<(Reason, Detail)>, now: u64)
+    fn leave(&mut self, asked: Option<(Reason, Detail)>, now: Milliseconds)
         ensures does { DoesAlone C.told (leaves now asked) self.old self.new }
         ensures keeps { Keeps 0 self.old self.new }
     {
@@ -126,7 +132,13 @@ impl<C: Channels, A: Allocator> Upper<C, A> {
     }
 
     /// Takes a part that goes up.
-    pub(crate) fn part<T: Taker>(&mut self, number: u32, octets: &[u8], now: u64, taker: &mut T)
+    pub(crate) fn part<T: Taker>(
+        &mut self,
+        number: u32,
+        octets: &[u8],
+        now: Milliseconds,
+        taker: &mut T,
+    )
         requires reach { self.old.machine.expected < 2 ^ 62 }
         requires sized { length octets.now ≤ SAFE_PDU_MAX }
         requires few { FewWait self.old.session self.old.waiting }
@@ -149,7 +161,7 @@ impl<C: Channels, A: Allocator> Upper<C, A> {
         &mut self,
         number: u32,
         octets: &[u8],
-        now: u64,
+        now: Milliseconds,
         taker: &mut T,
     ) -> Option<(Reason, Detail)>
         requires reach { self.old.machine.expected < 2 ^ 62 }
@@ -201,7 +213,7 @@ impl<C: Channels, A: Allocator> Upper<C, A> {
     }
 
     /// The guard alone.
-    pub(crate) fn guard(&mut self, now: u64)
+    pub(crate) fn guard(&mut self, now: Milliseconds)
         ensures does { DoesAlone C.told (guards now) self.old self.new }
         ensures keeps { Keeps 0 self.old self.new }
     {
@@ -215,7 +227,7 @@ impl<C: Channels, A: Allocator> Upper<C, A> {
     }
 
     /// The guard, and a heartbeat where one is due.
-    pub(crate) fn tick(&mut self, now: u64)
+    pub(crate) fn tick(&mut self, now: Milliseconds)
         ensures does { DoesAlone C.told (ticks now) self.old self.new }
         ensures keeps { Keeps 0 self.old self.new }
     {
@@ -229,7 +241,7 @@ impl<C: Channels, A: Allocator> Upper<C, A> {
     }
 
     /// The user closes the connection.
-    pub(crate) fn close(&mut self, now: u64)
+    pub(crate) fn close(&mut self, now: Milliseconds)
         ensures does { DoesAlone C.told (closes now) self.old self.new }
         ensures keeps { Keeps 0 self.old self.new }
     {
@@ -238,7 +250,12 @@ impl<C: Channels, A: Allocator> Upper<C, A> {
     }
 
     /// Puts in a command or status, which is sent where the machine may send.
-    pub(crate) fn put(&mut self, kind: u16, payload: &[u8], now: u64) -> Result<(), PutFault>
+    pub(crate) fn put(
+        &mut self,
+        kind: u16,
+        payload: &[u8],
+        now: Milliseconds,
+    ) -> Result<(), PutFault>
         requires some { 1 ≤ self.old.max }
         requires most { self.old.max ≤ UNIT_MESSAGES }
         ensures does { OnOk result (DoesAlone C.told (puts kind payload.now now) self.old self.new) }
@@ -258,7 +275,7 @@ impl<C: Channels, A: Allocator> Upper<C, A> {
     }
 
     /// The application of a field element has put its initial status in: its end is sent behind it.
-    pub(crate) fn init_done(&mut self, now: u64) -> Result<(), InitFault>
+    pub(crate) fn init_done(&mut self, now: Milliseconds) -> Result<(), InitFault>
         requires some { 1 ≤ self.old.max }
         requires most { self.old.max ≤ UNIT_MESSAGES }
         ensures does { OnOk result (DoesAlone C.told (completes now) self.old self.new) }
@@ -280,7 +297,7 @@ impl<C: Channels, A: Allocator> Upper<C, A> {
     }
 
     /// Packs a unit and sends it, where messages wait and the machine may send; answers whether it did.
-    fn pack_one(&mut self, now: u64) -> bool
+    fn pack_one(&mut self, now: Milliseconds) -> bool
         requires some { 1 ≤ self.old.max }
         requires most { self.old.max ≤ UNIT_MESSAGES }
         ensures does { DoesAlone C.told (packs_once now) self.old self.new }
@@ -291,20 +308,20 @@ impl<C: Channels, A: Allocator> Upper<C, A> {
         if !self.machine.may_send() {
             return false;
         }
-        let Some(unit) = pack(&mut self.waiting, self.max) else {
+        if !pack_into(&mut self.waiting, self.max, &mut self.unit) {
             return false;
-        };
+        }
         let mut out = ToChannels {
             channels: &mut self.channels,
             numbers: &mut self.numbers,
             count: self.count,
         };
-        let _sent = self.machine.send(&unit, now, &mut out);
+        let _sent = self.machine.send(&self.unit, now, &mut out);
         true
     }
 
     /// Packs and sends while messages wait and the machine may send.
-    pub(crate) fn send_waiting(&mut self, now: u64)
+    pub(crate) fn send_waiting(&mut self, now: Milliseconds)
         requires some { 1 ≤ self.old.max }
         requires most { self.old.max ≤ UNIT_MESSAGES }
         ensures does { DoesAlone C.told (sends now) self.old self.new }
@@ -325,7 +342,7 @@ struct ToUpper<'a, 'b, C, A: Allocator, T> {
     /// What takes telegrams.
     taker: &'b mut T,
     /// The own time, in milliseconds.
-    now: u64,
+    now: Milliseconds,
 }
 
 impl<'a, 'b, C: Channels, A: Allocator, T: Taker> Upward for ToUpper<'a, 'b, C, A, T> {
@@ -352,7 +369,7 @@ impl<C: Channels, A: Allocator> Upper<C, A> {
         &mut self,
         red: &mut RedLayer<B>,
         octets: &[u8],
-        now: u64,
+        now: Milliseconds,
         taker: &mut T,
     )
         requires now { now ≤ 2 ^ 62 }
@@ -377,7 +394,7 @@ impl<C: Channels, A: Allocator> Upper<C, A> {
     pub(crate) fn pass_time<B: Allocator, T: Taker>(
         &mut self,
         red: &mut RedLayer<B>,
-        now: u64,
+        now: Milliseconds,
         taker: &mut T,
     )
         requires now { now ≤ 2 ^ 62 }

@@ -2,11 +2,11 @@
 pub use Rattle.std.proofs.Common.{Bool, Err, List, None, Ok, Option, Result, Some, [], add-one, ap, append-nil, append_assoc, arith, codes, cond, drop, false}
 pub use Rattle.std.proofs.Common.{get_or, inl, inr, is_some, length, lit<, lit≤, refl, subst, suc, sym, take, true, unwrap_or, zero, zero-add, ℕ, ⊎_elim, ◌*◌}
 pub use Rattle.std.proofs.Common.{◌++◌, ◌+◌, ◌-◌, ◌<◌, ◌==◌, ◌^◌, ◌↔◌, ◌∙◌, ◌∷◌, ◌≡◌, ◌≢◌, ◌≤◌, ◌⊎◌}
-pub use Rattle.std.proofs.Math.Seq.{drop-append_seam, take-length}
+pub use Rattle.std.proofs.Math.Seq.{drop-append_seam, take-length, take-suc}
 pub use Rattle.std.proofs.lemmas.Bool.{cases_lt, eq-eqb, eqb-true, false≢true, ltb-false}
 pub use Rattle.std.proofs.lemmas.Bool.Decides.{nat_tests}
-pub use Rattle.std.proofs.lemmas.List.{drop-append-le, length-append, length-drop, length-reverse, length-take, map-append, reverse-append, reverse-reverse}
-pub use Rattle.std.proofs.lemmas.List.{take-append-drop, take-append-le}
+pub use Rattle.std.proofs.lemmas.List.{drop-append-le, length-append, length-drop, length-map, length-reverse, length-take, map-append, reverse-append}
+pub use Rattle.std.proofs.lemmas.List.{reverse-reverse, take-append-drop, take-append-le}
 pub use Rattle.std.proofs.lemmas.List.Elements.{All-from_recursion}
 pub use Rattle.std.proofs.lemmas.Option.{slice_get-map}
 pub use Rattle.std.proofs.lemmas.Slice.Eq.{bytes_eq-Decides}
@@ -23,9 +23,9 @@ pub use Rattle.octets.proofs.Choices.{by_cond, by_test}
 pub use Rattle.octets.specs.Lists.{IsBeginning}
 pub use Rattle.octets.specs.Octets.{AreOctets}
 pub use Rattle.octets.specs.declared.limits.TheConstants.{MESSAGE_MAX, MESSAGE_MIN, NAME_LENGTH, PAYLOAD_MAX, REACH, RED_PDU_MAX, UNIT_MESSAGES}
-pub use Rattle.packing.specs.Places.{after as after_read, behind_first, first_message, is_piece, unit_seen}
-pub use Rattle.packing.specs.UnitText.{IsMessage, UnitText, piece, unit_text}
-pub use Rattle.packing.specs.declared.PackFault.{PackFault}
+pub use Rattle.pdi_session.specs.packing.Places.{after as after_read, behind_first, first_message, is_piece}
+pub use Rattle.pdi_session.specs.packing.UnitText.{IsMessage, UnitText, piece, unit_text}
+pub use Rattle.pdi_session.specs.declared.packing.PackFault.{PackFault}
 pub use Rattle.pdi_session.specs.Histories.{History, begun, ends_by, grown, grown_along, handed_by, is_ended, put_by}
 pub use Rattle.pdi_session.specs.JoinedSessions.{AreInStep, AtFe, AtIl, EndsEarly, Fits, InStepLaw, InTurn, IsNext, IsRunning, Joined, JoinedEvent, MatchingLaw}
 pub use Rattle.pdi_session.specs.JoinedSessions.{PhaseLaw, TakesFrontLaw, happen, joined}
@@ -35,7 +35,7 @@ pub use Rattle.pdi_session.specs.SessionStep.{end_of, init_refusal, item_of, jud
 pub use Rattle.pdi_session.specs.Settings.{Addressing, AreSettings, Field, Interlocking, Role, checksum_of, first_version}
 pub use Rattle.pdi_session.specs.Tables.{is_early, is_initialising, may_put}
 pub use Rattle.pdi_session.specs.Telegrams.{is_reserved}
-pub use Rattle.pdi_session.specs.declared.Detail.{Detail as SessionDetail}
+pub use Rattle.pdi_session.specs.declared.SessionDetail.{SessionDetail}
 pub use Rattle.pdi_session.specs.declared.Phase.{Phase}
 pub use Rattle.pdi_session.specs.declared.Phase.TheVariants.{Established, Idle, Initialising}
 pub use Rattle.pdi_session.specs.declared.PutFault.{PutFault}
@@ -46,12 +46,12 @@ pub use Rattle.red_layer.specs.FiniteMap.{has_number, part_under, put_in}
 pub use Rattle.red_layer.specs.Laws.{FirstMissingLaw, Masking, OneMoreLaw, OriginLaw, PartsLaw}
 pub use Rattle.red_layer.specs.Masking.{AreAtMost, IsInTime, NoDeadlineFalls, QNear, Wait, first_missing, first_parts, moment_of, no_wait, wait_after}
 pub use Rattle.red_layer.specs.Parts.{Part, is_nil}
-pub use Rattle.red_layer.specs.Redundancy.{Datagram, Input, Receiver, Stepped, Tick as RedTick, after, after_release, after_run, arrival, decoded, deferred}
+pub use Rattle.red_layer.specs.Redundancy.{Datagram, Input, Receiver, Stepped, Tick as RedTick, after, after_release, after_run, arrival, deferred}
 pub use Rattle.red_layer.specs.Redundancy.{follow, is_due, least_waiting, opened as red_opened, passed_by, released, run_from}
 pub use Rattle.red_layer.specs.Service.{AreAmong, IsAmong, accepted, after_along, arrivals, arrivals_of, passed_along}
 pub use Rattle.red_layer.specs.declared.RedEvent.TheVariants.{Again, Far, Full, Old, Passed}
-pub use Rattle.red_pdu.specs.RedText.{red_seen, red_text}
-pub use Rattle.red_pdu.specs.declared.RedFault.{RedFault}
+pub use Rattle.red_layer.specs.pdu.RedText.{red_seen, red_text}
+pub use Rattle.red_layer.specs.declared.pdu.RedFault.{RedFault}
 pub use Rattle.safe_machine.specs.Decision.{in_turn, is_closed, is_stranger}
 pub use Rattle.safe_machine.specs.InOrder.{AsksNothing, GuardHolds, InOrder, InOrderEvent, KeepsOrder, NextArrival, OneMoreLaw as EventsLaw, OrderLaw, StaysLaw}
 pub use Rattle.safe_machine.specs.InOrder.{StaysOpen, all_heard_by_fe, all_heard_by_il, client_state, has_close, heard_by_fe, heard_by_il, is_close}
@@ -71,10 +71,10 @@ pub use Rattle.safe_machine.specs.World.Event.{Arrive, Guard, Open as OpenMachin
 pub use Rattle.safe_machine.specs.World.Side.{Fe, Il}
 pub use Rattle.safe_machine.specs.declared.ConnectionState.{ConnectionState}
 pub use Rattle.safe_machine.specs.declared.ConnectionState.TheVariants.{Closed, Down, RetrReq, RetrReq as Requesting, RetrRun, Start, Up, Up as IsUp}
-pub use Rattle.safe_machine.specs.declared.Detail.{Detail}
-pub use Rattle.safe_machine.specs.declared.Detail.TheVariants.{Limit, Unspecified}
-pub use Rattle.safe_machine.specs.declared.Reason.{Reason}
-pub use Rattle.safe_machine.specs.declared.Reason.TheVariants.{ClosedByUser, ProtocolError, Timeout}
+pub use Rattle.safe_pdu.specs.declared.reasons.Detail.{Detail}
+pub use Rattle.safe_pdu.specs.declared.reasons.Detail.TheVariants.{Limit, Unspecified}
+pub use Rattle.safe_pdu.specs.declared.reasons.Reason.{Reason}
+pub use Rattle.safe_pdu.specs.declared.reasons.Reason.TheVariants.{ClosedByUser, ProtocolError, Timeout}
 pub use Rattle.safe_pdu.specs.Laws.{AskedLaw, ReadAlikeLaw, ReadAskedLaw, ReadLaw, ReadLaw as PduReadLaw}
 pub use Rattle.safe_pdu.specs.Pdu.{Pdu}
 pub use Rattle.safe_pdu.specs.Places.{safe_seen}
@@ -84,11 +84,11 @@ pub use Rattle.safe_pdu.specs.declared.CodeLength.TheVariants.{Eight, Sixteen, Z
 pub use Rattle.safe_pdu.specs.declared.CodeRule.{CodeRule}
 pub use Rattle.safe_pdu.specs.declared.Kind.TheVariants.{Data, DiscReq, Heartbeat}
 pub use Rattle.safe_pdu.specs.declared.SafeFault.{SafeFault}
-pub use Rattle.sci_telegram.specs.Names.{IsName}
-pub use Rattle.sci_telegram.specs.Places.{name_seen, read_named, receiver_field, sender_field, tele_seen}
-pub use Rattle.sci_telegram.specs.Tele.{Tele}
-pub use Rattle.sci_telegram.specs.TeleText.{tele_text}
-pub use Rattle.sci_telegram.specs.declared.TeleFault.{TeleFault}
+pub use Rattle.pdi_session.specs.telegram.Names.{IsName}
+pub use Rattle.pdi_session.specs.telegram.Places.{name_seen, read_named, receiver_field, sender_field}
+pub use Rattle.pdi_session.specs.telegram.Tele.{Tele}
+pub use Rattle.pdi_session.specs.telegram.TeleText.{tele_text}
+pub use Rattle.pdi_session.specs.declared.telegram.TeleFault.{TeleFault}
 pub use Rattle.stack_end.specs.Datagrams.{on_channels, sendings, sent_at_opening, upper_of}
 pub use Rattle.stack_end.specs.Dialogue.{Dialogue, Judged, Leaving, if_ended, judge_messages, judge_read, judge_units, judge_unpacked, judged_as, judged_none}
 pub use Rattle.stack_end.specs.Dialogue.{meets, phase_in, session_in, unless_leaving}
@@ -142,3 +142,8 @@ pub use Rattle.stack_engine.specs.declared.incarnation.Incarnation.{Incarnation}
 pub use Rattle.stack_engine.specs.declared.openings.Openings.{Openings}
 pub use Rattle.stack_engine.specs.declared.sides.Sides.{Sides}
 pub use Rattle.stack_engine.specs.declared.texts.Kept.{Kept}
+unfoldable pub use Rattle.md4.specs.Digest.{after_block, after_round, digest, four_steps}
+unfoldable pub use Rattle.pdi_session.specs.packing.Places.{pieces_seen, unit_seen}
+unfoldable pub use Rattle.red_layer.specs.Redundancy.{decoded}
+unfoldable pub use Rattle.safe_machine.specs.Numbers.{ahead, sn_of}
+unfoldable pub use Rattle.pdi_session.specs.telegram.Places.{tele_seen}

@@ -2,7 +2,7 @@
 use Rattle.std.specs.Prelude.{◌≡◌, ℕ, ◌+◌, ◌≤◌, ◌/◌, min, Option, None, List, [], ◌∷◌, ◌++◌, length}
 use Rattle.std.specs.Option.{option_map}
 use Rattle.octets.specs.declared.limits.TheConstants.{PAYLOAD_MAX}
-use Rattle.red_pdu.specs.RedText.{red_text}
+use Rattle.red_layer.specs.pdu.RedText.{red_text}
 use Rattle.safe_machine.specs.Made.{Made}
 use Rattle.pdi_session.specs.SessionStep.{Item}
 use Rattle.end_settings.specs.EndSettings.{EndSettings, rule_of}

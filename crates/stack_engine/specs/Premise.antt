@@ -2,7 +2,7 @@
 use Rattle.std.specs.Prelude.{ℕ, ◌↔◌, ◌^◌, ◌≡◌, ◌<◌, ◌==◌, ◌&&◌, not, Bool, true, false, Option, Some, None, List, [], ◌∷◌, drop, Result, Ok, Err}
 use Rattle.std.specs.List.{AllByRecursion}
 use Rattle.octets.specs.Octets.{AreOctets}
-use Rattle.red_pdu.specs.declared.RedFault.{RedFault}
+use Rattle.red_layer.specs.declared.pdu.RedFault.{RedFault}
 use Rattle.red_layer.specs.Parts.{Part}
 use Rattle.red_layer.specs.Redundancy.{Input, Datagram, Tick as RedTick, decoded, passed_by}
 use Rattle.red_layer.specs.Service.{arrivals_of}

@@ -1,11 +1,11 @@
 -- ConfirmedTaken: over losses and retransmissions, what neither waits nor is in an unconfirmed unit was taken.
 use Rattle.std.specs.Prelude.{ℕ, ◌≡◌, ◌==◌, Bool, true, false, Option, Some, None, List, [], ◌∷◌, ◌++◌, length, if◌then◌else◌, Result, Ok, Err}
 use Rattle.octets.specs.Lists.{IsBeginning}
-use Rattle.packing.specs.declared.PackFault.{PackFault}
-use Rattle.packing.specs.Places.{unit_seen}
-use Rattle.sci_telegram.specs.declared.TeleFault.{TeleFault}
-use Rattle.sci_telegram.specs.Tele.{Tele}
-use Rattle.sci_telegram.specs.Places.{tele_seen}
+use Rattle.pdi_session.specs.declared.packing.PackFault.{PackFault}
+use Rattle.pdi_session.specs.packing.Places.{unit_seen}
+use Rattle.pdi_session.specs.declared.telegram.TeleFault.{TeleFault}
+use Rattle.pdi_session.specs.telegram.Tele.{Tele}
+use Rattle.pdi_session.specs.telegram.Places.{tele_seen}
 use Rattle.safe_machine.specs.State.{unconfirmed}
 use Rattle.pdi_session.specs.SessionStep.{Item}
 use Rattle.pdi_session.specs.Laws.{items_of}

@@ -23,6 +23,7 @@ use crate::notes::Notes;
 use crate::premise::is_asked_about;
 use crate::telegrams::{Telegrams, reserve_telegrams};
 use end_settings::{EndConfig, Side};
+use octets::Milliseconds;
 use pdi_session::{InitFault, PutFault};
 use safe_machine::ConnectionState;
 use safe_pdu::CodeRule;
@@ -66,7 +67,7 @@ impl<A: Allocator + Copy> Incarnation<A> {
         config: EndConfig,
         side: Side,
         first_sn: u32,
-        now: u64,
+        now: Milliseconds,
     ) -> Result<Self, OpenFault>
         requires now { now ≤ 2 ^ 62 }
         requires few { are_fit (side_of side) (settings_of config) ≡ true
@@ -133,7 +134,7 @@ impl<A: Allocator + Copy> Incarnation<A> {
     /// # Errors
     ///
     /// Refused as the end refuses it, and then nothing changes: `Put` and `Init`, each with its fault.
-    pub(crate) fn call(&mut self, call: &Call<'_>, now: u64) -> Result<(), ApplyFault>
+    pub(crate) fn call(&mut self, call: &Call<'_>, now: Milliseconds) -> Result<(), ApplyFault>
         requires now { now ≤ 2 ^ 62 }
         requires later { self.old.time ≤ now }
         requires room { HasRoomFor call.now self.old }
@@ -152,7 +153,7 @@ impl<A: Allocator + Copy> Incarnation<A> {
     }
 
     /// The end is called, and what it did before is not forgotten.
-    fn step(&mut self, call: &Call<'_>, now: u64) -> Result<(), ApplyFault>
+    fn step(&mut self, call: &Call<'_>, now: Milliseconds) -> Result<(), ApplyFault>
         requires now { now ≤ 2 ^ 62 }
         requires later { self.old.time ≤ now }
         requires room { HasRoomFor call.now self.old }
@@ -175,7 +176,7 @@ impl<A: Allocator + Copy> Incarnation<A> {
     }
 
     /// A datagram comes.
-    fn deliver(&mut self, channel: usize, octets: &[u8], now: u64)
+    fn deliver(&mut self, channel: usize, octets: &[u8], now: Milliseconds)
         requires now { now ≤ 2 ^ 62 }
         requires later { self.old.time ≤ now }
         requires room { HasRoom self.old }
@@ -187,7 +188,7 @@ impl<A: Allocator + Copy> Incarnation<A> {
     }
 
     /// Time passes.
-    fn tick(&mut self, now: u64)
+    fn tick(&mut self, now: Milliseconds)
         requires now { now ≤ 2 ^ 62 }
         requires later { self.old.time ≤ now }
         requires room { HasRoom self.old }
@@ -201,7 +202,7 @@ impl<A: Allocator + Copy> Incarnation<A> {
     /// The application puts a telegram in. The caller has made room for it.
     ///
     /// Refused as the end refuses it, and then nothing changes.
-    fn put(&mut self, kind: u16, payload: &[u8], now: u64) -> Result<(), PutFault>
+    fn put(&mut self, kind: u16, payload: &[u8], now: Milliseconds) -> Result<(), PutFault>
         requires now { now ≤ 2 ^ 62 }
         requires later { self.old.time ≤ now }
         requires room { HasRoom self.old }
@@ -227,7 +228,7 @@ impl<A: Allocator + Copy> Incarnation<A> {
     /// The application of a field element has put in its initial status.
     ///
     /// Refused as the end refuses it, and then nothing changes.
-    fn init_done(&mut self, now: u64) -> Result<(), InitFault>
+    fn init_done(&mut self, now: Milliseconds) -> Result<(), InitFault>
         requires now { now ≤ 2 ^ 62 }
         requires later { self.old.time ≤ now }
         requires room { HasRoom self.old }
@@ -247,7 +248,7 @@ impl<A: Allocator + Copy> Incarnation<A> {
     }
 
     /// The end leaves its connection.
-    fn close(&mut self, now: u64)
+    fn close(&mut self, now: Milliseconds)
         requires now { now ≤ 2 ^ 62 }
         requires later { self.old.time ≤ now }
         requires room { HasRoom self.old }

@@ -6,7 +6,7 @@ ghost use Rattle.std.specs.Str.{bytes_eq};
 ghost use Rattle.octets.specs.declared.limits.TheConstants.{RED_HEADER, RED_PDU_MAX};
 ghost use Rattle.stack_engine.specs.Keeping.{Keeping, has_part};
 
-use crate::notes::{Notes, Remark};
+use crate::notes::{KeptNote, Notes};
 use crate::telegrams::Telegrams;
 use crate::texts::Texts;
 use channels::{ChannelFault, Channels, Note};
@@ -32,7 +32,7 @@ pub struct Keeper<A: Allocator = Global> {
     /// How many sendings have failed, those on the other channels among them, modulo 2^64.
     failed_sends: u64,
     /// What the end did, in order.
-    remarks: VecDeque<Remark, A>,
+    remarks: VecDeque<KeptNote, A>,
     /// How many telegrams its application took.
     takes: usize,
 }
@@ -170,7 +170,7 @@ impl<A: Allocator + Copy> Channels for Keeper<A> {
         }
         let place = self.datagrams.len();
         self.datagrams.add((), datagram);
-        remark(&mut self.remarks, Remark::Made(place));
+        remark(&mut self.remarks, KeptNote::Made(place));
         Ok(())
     }
 
@@ -181,13 +181,13 @@ impl<A: Allocator + Copy> Channels for Keeper<A> {
 
     fn note(&mut self, note: &Note<'_>) {
         let made = match note {
-            Note::Redundancy(number, event) => Remark::Redundancy(*number, *event),
-            Note::Step(number, step) => Remark::Step(*number, *step),
-            Note::Take(_, _) => Remark::Take(self.takes),
-            Note::State(state) => Remark::State(*state),
-            Note::Phase(phase) => Remark::Phase(*phase),
+            Note::Redundancy(number, event) => KeptNote::Redundancy(*number, *event),
+            Note::Step(number, step) => KeptNote::Step(*number, *step),
+            Note::Take(_, _) => KeptNote::Take(self.takes),
+            Note::State(state) => KeptNote::State(*state),
+            Note::Phase(phase) => KeptNote::Phase(*phase),
         };
-        if let Remark::Take(place) = made {
+        if let KeptNote::Take(place) = made {
             self.takes = place.wrapping_add(1);
         }
         remark(&mut self.remarks, made);
@@ -195,14 +195,14 @@ impl<A: Allocator + Copy> Channels for Keeper<A> {
 }
 
 /// Adds a remark, where there is room for it.
-fn remark<A: Allocator>(remarks: &mut VecDeque<Remark, A>, made: Remark) {
+fn remark<A: Allocator>(remarks: &mut VecDeque<KeptNote, A>, made: KeptNote) {
     if remarks.len() < remarks.capacity() {
         remarks.push_back_reserved(made);
     }
 }
 
 /// Forgets remarks from the first on, `count` of them.
-fn forget_first<A: Allocator>(remarks: &mut VecDeque<Remark, A>, count: usize) {
+fn forget_first<A: Allocator>(remarks: &mut VecDeque<KeptNote, A>, count: usize) {
     for _ in 0..count {
         let _forgotten = remarks.pop_front();
     }

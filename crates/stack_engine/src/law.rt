@@ -72,7 +72,7 @@ pub fn pair_law()
     red_layer::order_law();
     safe_pdu::text_law();
     safe_machine::unit_law();
-    packing::one_spelling();
+    pdi_session::packing::one_spelling();
     pdi_session::session_law();
 }
 

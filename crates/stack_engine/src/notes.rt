@@ -11,7 +11,7 @@ use std::collections::VecDeque;
 
 /// One thing that an event did.
 #[derive(Clone, Copy, Debug, PartialEq, Eq)]
-pub enum Told<'a> {
+pub enum NoteView<'a> {
     /// The end made a PDU, and this is its datagram.
     Made(&'a [u8]),
     /// What the end told of its doings.
@@ -20,7 +20,7 @@ pub enum Told<'a> {
 
 /// What is kept of it: datagrams and telegrams stand elsewhere.
 #[derive(Clone, Copy, Debug)]
-pub enum Remark {
+pub enum KeptNote {
     /// The PDU with this place among all that the end made.
     Made(usize),
     /// What the redundancy layer did with a datagram, and its number where it has one.
@@ -39,7 +39,7 @@ pub enum Remark {
 #[derive(Clone, Copy)]
 pub struct Notes<'a, A: Allocator = Global> {
     /// What the layers did, in order.
-    pub(crate) remarks: &'a VecDeque<Remark, A>,
+    pub(crate) remarks: &'a VecDeque<KeptNote, A>,
     /// How many of the first remarks are those of an earlier event.
     pub(crate) earlier: usize,
     /// The datagrams that were made.
@@ -60,23 +60,23 @@ impl<'a, A: Allocator> Notes<'a, A> {
     }
 
     /// The thing at a place, from 0.
-    pub fn get(&self, place: usize) -> Option<Told<'a>> {
+    pub fn get(&self, place: usize) -> Option<NoteView<'a>> {
         let remark = self.remarks.get(self.earlier.checked_add(place)?)?;
         match *remark {
-            Remark::Made(place) => {
+            KeptNote::Made(place) => {
                 let (_, datagram) = self.datagrams.get(place)?;
-                Some(Told::Made(datagram))
+                Some(NoteView::Made(datagram))
             }
-            Remark::Take(place) => {
+            KeptNote::Take(place) => {
                 let (kind, payload) = self.taken.get(place)?;
-                Some(Told::Note(Note::Take(*kind, payload)))
+                Some(NoteView::Note(Note::Take(*kind, payload)))
             }
-            Remark::Redundancy(number, event) => {
-                Some(Told::Note(Note::Redundancy(number, event)))
+            KeptNote::Redundancy(number, event) => {
+                Some(NoteView::Note(Note::Redundancy(number, event)))
             }
-            Remark::Step(number, step) => Some(Told::Note(Note::Step(number, step))),
-            Remark::State(state) => Some(Told::Note(Note::State(state))),
-            Remark::Phase(phase) => Some(Told::Note(Note::Phase(phase))),
+            KeptNote::Step(number, step) => Some(NoteView::Note(Note::Step(number, step))),
+            KeptNote::State(state) => Some(NoteView::Note(Note::State(state))),
+            KeptNote::Phase(phase) => Some(NoteView::Note(Note::Phase(phase))),
         }
     }
 }

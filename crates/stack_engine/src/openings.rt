@@ -18,6 +18,7 @@ use crate::notes::Notes;
 use crate::report::{Entry, report_on};
 use crate::{ApplyFault, event};
 use end_settings::{EndConfig, Side};
+use octets::Milliseconds;
 use stack_end::End;
 use std::alloc::{Allocator, Global};
 
@@ -52,7 +53,7 @@ impl<A: Allocator + Copy> Openings<A> {
     /// # Errors
     ///
     /// Refused, and the first that holds is named: `EndNotOpen`, `Clock`.
-    pub(crate) fn admits_call(&self, now: u64) -> Result<(), ApplyFault>
+    pub(crate) fn admits_call(&self, now: Milliseconds) -> Result<(), ApplyFault>
         ensures refusal { (xs : List EndState) (c : Call) → SideStands self.now xs → time_of c ≡ now
             → MatchResult result (λ _. IsOfSession (call_refusal c (latest xs)))
             (λ fault. NamesRefusal fault (call_refusal c (latest xs))) }
@@ -71,7 +72,11 @@ impl<A: Allocator + Copy> Openings<A> {
     /// # Errors
     ///
     /// Refused, and the first that holds is named: `EndNotOpen`, `Clock`, `Memory`, `Put` and `Init` with their faults.
-    pub(crate) fn call(&mut self, call: &event::Call<'_>, now: u64) -> Result<(), ApplyFault>
+    pub(crate) fn call(
+        &mut self,
+        call: &event::Call<'_>,
+        now: Milliseconds,
+    ) -> Result<(), ApplyFault>
         ensures does { OnOk result (SideDoes (call_of call.now now) self.old self.new) }
         ensures unchanged { OnErr result ((xs : List EndState) → SideStands self.old xs → SideStands self.new xs) }
         ensures joins { joins_of self.new ≡ joins_of self.old }
@@ -98,7 +103,7 @@ impl<A: Allocator + Copy> Openings<A> {
         &self,
         side: Side,
         config: &EndConfig,
-        now: u64,
+        now: Milliseconds,
     ) -> Result<(), ApplyFault>
         ensures refusal { (xs : List EndState) → SideStands self.now xs
             → MatchResult result (λ _. open_refusal (side_of side) (settings_of config.now) now (latest xs) ≡ None)
@@ -131,7 +136,7 @@ impl<A: Allocator + Copy> Openings<A> {
         side: Side,
         config: EndConfig,
         first_sn: u32,
-        now: u64,
+        now: Milliseconds,
     ) -> Result<(), ApplyFault>
         requires few { are_fit (side_of side) (settings_of config) ≡ true
             → FewFirst (opened_end side config first_sn now) }
@@ -287,7 +292,7 @@ impl<A: Allocator + Copy> Openings<A> {
         ensures { (xs ys : List EndState) → SideStands self.now xs → SideStands peer.now ys
             → result ≡ breaks_at (latest xs) (latest ys) dead datagram.now }
     {
-        match red_pdu::decode(datagram) {
+        match red_layer::pdu::decode(datagram) {
             Ok(pdu) => self.breaks_by(peer, dead, pdu.upper),
             Err(_) => false,
         }

@@ -19,6 +19,7 @@ use crate::notes::Notes;
 use crate::openings::Openings;
 use crate::report::Entry;
 use end_settings::{EndConfig, Side};
+use octets::Milliseconds;
 use stack_end::End;
 use std::alloc::{Allocator, Global};
 
@@ -102,7 +103,12 @@ impl<A: Allocator + Copy> Sides<A> {
     }
 
     /// An end is called.
-    fn call(&mut self, side: Side, call: &event::Call<'_>, now: u64) -> Result<(), ApplyFault>
+    fn call(
+        &mut self,
+        side: Side,
+        call: &event::Call<'_>,
+        now: Milliseconds,
+    ) -> Result<(), ApplyFault>
         ensures does { OnOk result (SidesDo (Calls (side_of side) (call_of call.now now)) self.old self.new) }
         ensures unchanged { OnErr result ((w : World) → SidesStand self.old w → SidesStand self.new w) }
         ensures refusal { (w : World) → SidesStand self.old w
@@ -116,7 +122,7 @@ impl<A: Allocator + Copy> Sides<A> {
     }
 
     /// The field element is called: where it takes a ConnReq, it is joined to the latest interlocking that made it.
-    fn call_fe(&mut self, call: &event::Call<'_>, now: u64) -> Result<(), ApplyFault>
+    fn call_fe(&mut self, call: &event::Call<'_>, now: Milliseconds) -> Result<(), ApplyFault>
         ensures does { OnOk result (SidesDo (Calls Fe (call_of call.now now)) self.old self.new) }
         ensures unchanged { OnErr result ((w : World) → SidesStand self.old w → SidesStand self.new w) }
         ensures refusal { (w : World) → SidesStand self.old w
@@ -143,7 +149,7 @@ impl<A: Allocator + Copy> Sides<A> {
         side: Side,
         config: EndConfig,
         first_sn: u32,
-        now: u64,
+        now: Milliseconds,
     ) -> Result<(), ApplyFault>
         requires first { FewFirstLaw }
         ensures does { OnOk result (SidesDo (Open (side_of side) (settings_of config) first_sn now) self.old self.new) }

@@ -6,10 +6,10 @@ use Rattle.std.proofs.lemmas.Bool.{ltb-false, true≢false}
 use Rattle.std.proofs.lemmas.List.{length-append}
 use Rattle.byteorder.specs.Endian.{little_bytes}
 use Rattle.octets.specs.declared.limits.TheConstants.{PAYLOAD_MAX}
-use Rattle.sci_telegram.specs.Names.{filled}
-use Rattle.sci_telegram.specs.Tele.{Tele}
-use Rattle.sci_telegram.specs.TeleText.{TeleText, tele_text}
-use Rattle.sci_telegram.proofs.TeleLemmas.{length-filled, tele_read}
+use Rattle.pdi_session.specs.telegram.Names.{filled}
+use Rattle.pdi_session.specs.telegram.Tele.{Tele}
+use Rattle.pdi_session.specs.telegram.TeleText.{TeleText, tele_text}
+use Rattle.pdi_session.proofs.TeleLemmas.{length-filled, tele_read}
 use Rattle.octets.specs.declared.limits.TheConstants.{WAITING_MAX}
 use Rattle.pdi_session.specs.declared.TheConstants.{CHECKSUM_MAX}
 use Rattle.pdi_session.specs.declared.Notice.{Notice}

@@ -1,7 +1,7 @@
 -- How a history grows.
 use Rattle.std.proofs.Common.{◌≡◌, ℕ, List, ◌++◌, sym, ap, ◌∙◌, append_assoc}
 use Rattle.std.proofs.lemmas.List.{map-append}
-use Rattle.sci_telegram.specs.TeleText.{tele_text}
+use Rattle.pdi_session.specs.telegram.TeleText.{tele_text}
 use Rattle.pdi_session.specs.SessionStep.{Event, SessionState, added_by, after, texts}
 use Rattle.pdi_session.specs.Histories.{History, StandsFor, grown}
 

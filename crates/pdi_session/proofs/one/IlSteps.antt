@@ -5,11 +5,11 @@ use Rattle.std.proofs.lemmas.Bool.{eqb-true, false≢true, true≢false}
 use Rattle.std.proofs.lemmas.List.{append-nil, length-append}
 use Rattle.octets.specs.declared.limits.TheConstants.{PAYLOAD_MAX}
 use Rattle.octets.specs.declared.limits.TheConstants.{WAITING_MAX}
-use Rattle.sci_telegram.specs.Tele.{Tele}
+use Rattle.pdi_session.specs.telegram.Tele.{Tele}
 use Rattle.pdi_session.specs.declared.TheConstants.{INITIALISATION_COMPLETED}
 use Rattle.pdi_session.specs.declared.Phase.{Phase}
 use Rattle.pdi_session.specs.declared.Phase.TheVariants.{Idle, Checking, Requesting, AwaitCheck, AwaitRequest, Refused, Initialising, Established, Ended}
-use Rattle.pdi_session.specs.declared.Detail.TheVariants as detail
+use Rattle.pdi_session.specs.declared.SessionDetail.TheVariants as detail
 use Rattle.pdi_session.specs.declared.Notice.{Notice}
 use Rattle.pdi_session.specs.declared.Notice.TheVariants as notice
 use Rattle.pdi_session.specs.declared.Form.TheVariants.{Notifies, Item}

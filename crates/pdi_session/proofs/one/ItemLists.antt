@@ -4,11 +4,11 @@ use Rattle.std.specs.Prelude.{is_none}
 use Rattle.std.proofs.lemmas.Bool.{false≢true, true≢false}
 use Rattle.std.proofs.lemmas.List.{append-nil}
 use Rattle.octets.specs.Lists.{IsBeginning}
-use Rattle.sci_telegram.specs.Tele.{Tele}
+use Rattle.pdi_session.specs.telegram.Tele.{Tele}
 use Rattle.pdi_session.specs.declared.Phase.{Phase}
 use Rattle.pdi_session.specs.declared.Phase.TheVariants.{Idle, Checking, Requesting, AwaitCheck, AwaitRequest, Refused, Initialising, Established, Ended}
-use Rattle.pdi_session.specs.declared.Detail.{Detail}
-use Rattle.pdi_session.specs.declared.Detail.TheVariants as detail
+use Rattle.pdi_session.specs.declared.SessionDetail.{SessionDetail}
+use Rattle.pdi_session.specs.declared.SessionDetail.TheVariants as detail
 use Rattle.pdi_session.specs.declared.Form.{Form}
 use Rattle.pdi_session.specs.declared.PutFault.{PutFault}
 use Rattle.pdi_session.specs.declared.Verdict.{Verdict}
@@ -94,9 +94,9 @@ table_over : (role : Role) (form : Form) → table role Ended form ≡ Ends deta
 table_over (Interlocking version) form = refl
 table_over (Field versions checksum) form = refl
 
-pub judged_over : (s : SessionState) (t : Tele) → s.phase ≡ Ended → (why : Detail) × (judged s t ≡ Ends why)
+pub judged_over : (s : SessionState) (t : Tele) → s.phase ≡ Ended → (why : SessionDetail) × (judged s t ≡ Ends why)
 judged_over s t over =
-    by_cond (λ v. (why : Detail) × (v ≡ Ends why)) (is_addressed s.addressing t) _ _
+    by_cond (λ v. (why : SessionDetail) × (v ≡ Ends why)) (is_addressed s.addressing t) _ _
     (λ _. (detail.OutOfOrder, ap (λ p. table s.role p (form_of t.kind t.payload)) over ∙ table_over s.role (form_of t.kind t.payload)))
     (λ _. (detail.NotOfThisPair, refl))
 

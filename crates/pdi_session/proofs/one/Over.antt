@@ -1,10 +1,10 @@
 -- A session is over by a telegram that ends it or by a closing alone, and one that has begun is never idle again.
 use Rattle.std.proofs.Common.{◌≡◌, ◌≢◌, ℕ, List, Option, Some, None, Bool, true, false, not, ◌&&◌, refl, sym, ap, ◌∙◌}
 use Rattle.std.specs.Prelude.{is_none}
-use Rattle.sci_telegram.specs.Tele.{Tele}
+use Rattle.pdi_session.specs.telegram.Tele.{Tele}
 use Rattle.pdi_session.specs.declared.Phase.{Phase}
 use Rattle.pdi_session.specs.declared.Phase.TheVariants.{Idle, Checking, Requesting, AwaitCheck, AwaitRequest, Refused, Initialising, Established, Ended}
-use Rattle.pdi_session.specs.declared.Detail.{Detail}
+use Rattle.pdi_session.specs.declared.SessionDetail.{SessionDetail}
 use Rattle.pdi_session.specs.declared.Form.{Form}
 use Rattle.pdi_session.specs.declared.Verdict.{Verdict}
 use Rattle.pdi_session.specs.declared.Verdict.TheVariants.{Ends}
@@ -64,7 +64,7 @@ up-on (Field versions checksum) Ended on = on
 done-on : (s : SessionState) (waits : ℕ) → is_ended s.phase ≡ false → is_ended (phase_after (InitDone waits) s) ≡ false
 done-on s waits on = by_cond (λ p. is_ended p ≡ false) (is_none (init_refusal s waits)) Established s.phase (λ _. refl) (λ _. on)
 
-not-ending : (b : Bool) (o : Option Detail) → b ≡ false → (not b && not (is_none o)) ≡ false → o ≡ None
+not-ending : (b : Bool) (o : Option SessionDetail) → b ≡ false → (not b && not (is_none o)) ≡ false → o ≡ None
 not-ending true o on quiet = cc
 not-ending false None on quiet = refl
 not-ending false (Some why) on quiet = cc

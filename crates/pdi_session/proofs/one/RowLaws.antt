@@ -3,12 +3,12 @@ use Rattle.std.proofs.Common.{◌≡◌, ◌≢◌, ℕ, ◌<◌, Bool, true, fa
 use Rattle.std.specs.Prelude.{is_none}
 use Rattle.std.proofs.lemmas.Bool.{false≢true}
 use Rattle.std.proofs.lemmas.List.{length-append}
-use Rattle.sci_telegram.specs.Tele.{Tele}
+use Rattle.pdi_session.specs.telegram.Tele.{Tele}
 use Rattle.octets.specs.declared.limits.TheConstants.{WAITING_MAX}
 use Rattle.pdi_session.specs.declared.Phase.{Phase}
 use Rattle.pdi_session.specs.declared.Phase.TheVariants.{Idle, Checking, Requesting, AwaitCheck, AwaitRequest, Refused, Initialising, Established, Ended}
-use Rattle.pdi_session.specs.declared.Detail.{Detail}
-use Rattle.pdi_session.specs.declared.Detail.TheVariants as detail
+use Rattle.pdi_session.specs.declared.SessionDetail.{SessionDetail}
+use Rattle.pdi_session.specs.declared.SessionDetail.TheVariants as detail
 use Rattle.pdi_session.specs.declared.Notice.{Notice}
 use Rattle.pdi_session.specs.declared.Notice.TheVariants as notice
 use Rattle.pdi_session.specs.declared.Form.TheVariants.{Notifies, Item}
@@ -25,7 +25,7 @@ use Rattle.pdi_session.proofs.one.Rows.{InterlockingRow, IlOver, IlEqual, IlBegi
 
 -- what a verdict on a telegram can be
 pub data Outcome (t : Tele) (verdict : Verdict) : Type 0 where
-  Closed : (why : Detail) → verdict ≡ Ends why → Outcome t verdict
+  Closed : (why : SessionDetail) → verdict ≡ Ends why → Outcome t verdict
   Went : (n : Notice) → form_of t.kind t.payload ≡ Notifies n → (next : Phase) → verdict ≡ Goes next → Outcome t verdict
   Answered : (n : Notice) → form_of t.kind t.payload ≡ Notifies n → (next : Phase) → (answer : Notice) → verdict ≡ Answers next answer → Outcome t verdict
   Took : form_of t.kind t.payload ≡ Item → verdict ≡ Takes → Outcome t verdict

@@ -5,8 +5,8 @@ use Rattle.std.specs.List.{list_any}
 use Rattle.pdi_session.specs.declared.TheConstants.{VERSION_CHECK, VERSION_ANSWER, INITIALISATION_REQUEST, START_INITIALISATION, INITIALISATION_COMPLETED, CHECKSUM_MAX, EQUAL, DIFFERENT}
 use Rattle.pdi_session.specs.declared.Phase.{Phase}
 use Rattle.pdi_session.specs.declared.Phase.TheVariants.{Idle, Checking, Requesting, AwaitCheck, AwaitRequest, Refused, Initialising, Established, Ended}
-use Rattle.pdi_session.specs.declared.Detail.{Detail}
-use Rattle.pdi_session.specs.declared.Detail.TheVariants as detail
+use Rattle.pdi_session.specs.declared.SessionDetail.{SessionDetail}
+use Rattle.pdi_session.specs.declared.SessionDetail.TheVariants as detail
 use Rattle.pdi_session.specs.declared.Notice.{Notice}
 use Rattle.pdi_session.specs.declared.Notice.TheVariants as notice
 use Rattle.pdi_session.specs.declared.Form.{Form}
@@ -20,7 +20,7 @@ use Rattle.pdi_session.proofs.one.TableLemmas.{by_cond}
 
 -- the rows of the interlocking: in which phase and on what each verdict is
 pub data InterlockingRow (own : ℕ) (phase : Phase) (form : Form) (verdict : Verdict) : Type 0 where
-  IlOver : (why : Detail) → verdict ≡ Ends why → InterlockingRow own phase form verdict
+  IlOver : (why : SessionDetail) → verdict ≡ Ends why → InterlockingRow own phase form verdict
   IlEqual : phase ≡ Checking → form ≡ Notifies (notice.VersionEqual own) → verdict ≡ Answers Requesting notice.InitialisationRequest → InterlockingRow own phase form verdict
   IlBegins : phase ≡ Requesting → form ≡ Notifies notice.StartInitialisation → verdict ≡ Goes Initialising → InterlockingRow own phase form verdict
   IlInitial : phase ≡ Initialising → form ≡ Item → verdict ≡ Takes → InterlockingRow own phase form verdict
@@ -29,7 +29,7 @@ pub data InterlockingRow (own : ℕ) (phase : Phase) (form : Form) (verdict : Ve
 
 -- the rows of the field element
 pub data FieldRow (versions : List ℕ) (phase : Phase) (form : Form) (verdict : Verdict) : Type 0 where
-  FeOver : (why : Detail) → verdict ≡ Ends why → FieldRow versions phase form verdict
+  FeOver : (why : SessionDetail) → verdict ≡ Ends why → FieldRow versions phase form verdict
   FeEqual : (version : ℕ) → phase ≡ AwaitCheck → form ≡ Notifies (notice.VersionCheck version) → verdict ≡ Answers AwaitRequest (notice.VersionEqual version) → FieldRow versions phase form verdict
   FeDiffers : (version : ℕ) → phase ≡ AwaitCheck → form ≡ Notifies (notice.VersionCheck version) → verdict ≡ Answers Refused (notice.VersionDiffers (first_version versions)) → FieldRow versions phase form verdict
   FeAsked : phase ≡ AwaitRequest → form ≡ Notifies notice.InitialisationRequest → verdict ≡ Answers Initialising notice.StartInitialisation → FieldRow versions phase form verdict

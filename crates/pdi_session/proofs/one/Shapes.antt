@@ -1,7 +1,7 @@
 -- What the queue of a session and the telegrams it judged look like in each phase.
 use Rattle.std.proofs.Common.{◌≡◌, ◌≢◌, ◌⊎◌, ℕ, ◌+◌, ◌≤◌, ◌==◌, true, cond, List, [], ◌∷◌, ◌++◌, length, arith, inl, inr}
 use Rattle.std.specs.List.{AllByRecursion}
-use Rattle.sci_telegram.specs.Tele.{Tele}
+use Rattle.pdi_session.specs.telegram.Tele.{Tele}
 use Rattle.pdi_session.specs.declared.TheConstants.{INITIALISATION_COMPLETED}
 use Rattle.pdi_session.specs.declared.Phase.{Phase}
 use Rattle.pdi_session.specs.declared.Phase.TheVariants.{Idle, Checking, Requesting, AwaitCheck, AwaitRequest, Refused, Initialising, Established, Ended}

@@ -4,11 +4,11 @@ use Rattle.std.specs.Prelude.{is_none, unwrap_or}
 use Rattle.std.proofs.lemmas.Bool.{false≢true, true≢false}
 use Rattle.std.proofs.lemmas.List.{append-nil}
 use Rattle.octets.specs.Lists.{IsBeginning}
-use Rattle.sci_telegram.specs.Tele.{Tele}
+use Rattle.pdi_session.specs.telegram.Tele.{Tele}
 use Rattle.pdi_session.specs.declared.TheConstants.{CHECKSUM_MAX}
 use Rattle.pdi_session.specs.declared.Phase.{Phase}
 use Rattle.pdi_session.specs.declared.Phase.TheVariants.{Idle, Checking, Requesting, AwaitCheck, AwaitRequest, Refused, Initialising, Established, Ended}
-use Rattle.pdi_session.specs.declared.Detail.TheVariants as detail
+use Rattle.pdi_session.specs.declared.SessionDetail.TheVariants as detail
 use Rattle.pdi_session.specs.declared.Form.{Form}
 use Rattle.pdi_session.specs.declared.Verdict.{Verdict}
 use Rattle.pdi_session.specs.declared.Verdict.TheVariants.{Takes, Goes, Answers, Ends}

@@ -4,7 +4,7 @@ use Rattle.std.specs.Prelude.{is_none}
 use Rattle.std.specs.List.{list_any}
 use Rattle.std.proofs.lemmas.Bool.{false≢true, true≢false}
 use Rattle.octets.specs.Lists.{IsBeginning}
-use Rattle.sci_telegram.specs.Tele.{Tele}
+use Rattle.pdi_session.specs.telegram.Tele.{Tele}
 use Rattle.pdi_session.specs.declared.Phase.{Phase}
 use Rattle.pdi_session.specs.declared.Phase.TheVariants.{Idle, Checking, Requesting, AwaitCheck, AwaitRequest, Refused, Initialising, Established, Ended}
 use Rattle.pdi_session.specs.declared.Notice.TheVariants as notice

@@ -1,24 +1,133 @@
--- The properties of an arrival, from its turn.
-use Rattle.safe_machine.proofs.Words.{◌≡◌, ◌≢◌, ℕ, ◌+◌, ◌<◌, List, [], ◌∷◌, Bool, true, false, refl, sym, ap, subst, ◌∙◌, arith, Result, Ok, Err, if◌then◌else◌}
-use Rattle.safe_machine.proofs.Words.{◌&&◌, FoldsTo, eq-eqb, SafeFault, Pdu, Up, carries, State, opened, Decision, decide, distance, is_goodbye, is_stranger}
-use Rattle.safe_machine.proofs.Words.{by_table, cts_step, cell, Shuts, Takes, moved, IsReached, Turn, arrives, both_confirmed, carries_out, handed_by, hands}
-use Rattle.safe_machine.proofs.Words.{passed, takes_unit, View, kept_of, heard, hears_units, handed, safe_seen, HandsIf, IsNextData, IsRecent, is_live}
-use Rattle.std.proofs.Common.{◌==◌}
-use Rattle.safe_machine.proofs.one.Deciding.{Fits, decide-fits, listens-live}
-use Rattle.safe_machine.proofs.one.StepCases.{by_guard-cases}
-use Rattle.safe_machine.proofs.code.Arriving.{arrives-goes, hands-goes}
-use Rattle.safe_machine.proofs.order.OrderDecide.{decided, table-takes}
+-- What the functions rely on: a decision's branch, the guard before it, units that are made again, and the properties of an arrival.
+use Rattle.safe_machine.proofs.Words.{◌≡◌, ℕ, ◌-◌, ◌<◌, List, [], length, refl, sym, ap, subst, ◌∙◌, ltb-true, leb-true, Pdu, IsBody, Down, Reason, Detail}
+use Rattle.safe_machine.proofs.Words.{Decision, decide, Takes, View, Turn, arrives, goes_on, guards, handed_by, hands, leaves, responds, still, Allows, Passes}
+use Rattle.safe_machine.proofs.Words.{overdue, append-nil, Option, Some, None, ◌+◌, ◌≤◌, ◌∷◌, ◌++◌, arith, IfSome, get_or, nat_lt, slice_get, nat_tests}
+use Rattle.safe_machine.proofs.Words.{map-append, take_more, All-filter, slice_get-get_or, FoldsTo, FoldsTo-append, Numbered, above, octets_of, CodeRule}
+use Rattle.safe_machine.proofs.Words.{Heartbeat, RetrData, RetrResp, Settings, Out, counted, replies, resends, says, text_of, texts, AllUnits, take, ◌≢◌}
+use Rattle.safe_machine.proofs.Words.{Result, Ok, Err, if◌then◌else◌, SafeFault, Up, carries, State, opened, cts_step, moved, IsReached, both_confirmed}
+use Rattle.safe_machine.proofs.Words.{carries_out, passed, takes_unit, kept_of, heard, hears_units, handed, safe_seen, HandsIf, IsNextData, IsRecent, rules}
+use Rattle.safe_machine.proofs.one.Deciding.{Fits, Tested}
+use Rattle.safe_machine.specs.Turns.{next_made}
+use Rattle.safe_machine.proofs.one.Runs.{octets_of-append}
 
--- who hands up is live behind its guard
-recent-decided : (p : Pdu) (now : ℕ) (d : Decision) (v : View) → Fits v p now d → handed_by d p ≢ [] → is_live v.connection ≡ true
-recent-decided p now (Takes to) v f h = listens-live v.connection v.settings.client f.table.listens_now
-recent-decided p now _ v f h = absurd (h refl)
+-- What a decision allows its branch to rely on, and what the guard before it makes of an arrival.
+passes-from : (v : View) (p : Pdu) (now : ℕ) → Tested v p now → Passes v p now
+passes-from v p now t = (ltb-true _ (v.made - v.confirmed) t.cs, leb-true _ (now - v.confirmed_at) t.cts)
+
+pub allowed : (v : View) (p : Pdu) (now : ℕ) (d : Decision) → IsBody p.kind p.body → (v.connection ≡ Down → v.ring ≡ []) → Fits v p now d → Allows v p now d
+allowed v p now d body down h = grind (arith, passes-from, ltb-true)
+
+-- the guard, and what is handed up, by what is overdue
+abbrev left_by : ℕ → View → Option (Reason × Detail) → Turn
+left_by now v None = still v
+left_by now v (Some (reason, detail)) = leaves reason detail now v
+
+abbrev handed_behind : List (List ℕ) → Option (Reason × Detail) → List (List ℕ)
+handed_behind units None = units
+handed_behind units (Some (reason, detail)) = []
+
+guards-is : (now : ℕ) (v : View) (o : Option (Reason × Detail)) → overdue now v ≡ o → guards now v ≡ left_by now v o
+guards-is now v o e = grind arith
+
+hands-is : (p : Pdu) (now : ℕ) (v : View) (o : Option (Reason × Detail)) → overdue now v ≡ o → hands p now v ≡ handed_behind (handed_by (decide v p now) p) o
+hands-is p now v o e = grind arith
+
+-- who is closed by its guard makes nothing of an arrival
+pub arrives-left : (p : Pdu) (now : ℕ) (v : View) (reason : Reason) (detail : Detail) → Some (reason, detail) ≡ overdue now v
+    → arrives p now v ≡ leaves reason detail now v
+arrives-left p now v reason detail e =
+    let t = leaves reason detail now v in
+    ap (λ q. goes_on q (responds p now)) (guards-is now v (Some (reason, detail)) (sym e)) ∙ ap (λ ms. record { left = t.left; made = ms }) (append-nil t.made)
+
+pub arrives-goes : (p : Pdu) (now : ℕ) (v : View) → None ≡ overdue now v → arrives p now v ≡ responds p now v
+arrives-goes p now v e = ap (λ q. goes_on q (responds p now)) (guards-is now v None (sym e))
+
+pub hands-left : (p : Pdu) (now : ℕ) (v : View) (reason : Reason) (detail : Detail) → Some (reason, detail) ≡ overdue now v → hands p now v ≡ []
+hands-left p now v reason detail e = hands-is p now v (Some (reason, detail)) (sym e)
+
+pub hands-goes : (p : Pdu) (now : ℕ) (v : View) → None ≡ overdue now v → hands p now v ≡ handed_by (decide v p now) p
+hands-goes p now v e = hands-is p now v None (sym e)
+
+-- Units that are made again, one by one, and what a confirmation leaves of them.
+resends-append : (a b : List (List ℕ)) (now : ℕ) (v : View) → resends (a ++ b) now v ≡ goes_on (resends a now v) (resends b now)
+resends-append [] b now v = refl
+resends-append (u ∷ a) b now v =
+    ap (λ (t : Turn). record { left = t.left; made = next_made v RetrData u now ∷ t.made }) (resends-append a b now (counted now v))
+
+-- every part of what is kept that a PDU made leaves
+resends-keeps : {X : Type 0} (part : View → X) → ((now : ℕ) (v : View) → part (counted now v) ≡ part v) → (us : List (List ℕ)) (now : ℕ) (v : View)
+    → part (resends us now v).left ≡ part v
+resends-keeps part one [] now v = refl
+resends-keeps part one (u ∷ us) now v = resends-keeps part one us now (counted now v) ∙ one now v
+
+no_unit : Numbered
+no_unit = record { number = 0; octets = [] }
+
+-- one unit more is made again
+pub resends-more : {O : Type 0} (makes : O → List ℕ → O → Type 0) (first m n : View) (a b d : O) (now place : ℕ) → place < length first.ring →
+    m ≡ (resends (octets_of (take place first.ring)) now first).left →
+    Out makes first.settings.rule a (resends (octets_of (take place first.ring)) now first) b → n ≡ counted now m →
+    IfSome (slice_get m.ring place) (λ u. makes b (text_of m.settings.rule (next_made m RetrData u.octets now)) d) →
+    (n ≡ (resends (octets_of (take (place + 1) first.ring)) now first).left) × Out makes first.settings.rule a
+    (resends (octets_of (take (place + 1) first.ring)) now first) d
+resends-more makes first m n a b d now place inside left out counts after =
+    let ring = first.ring in
+    let rule = first.settings.rule in
+    let us = octets_of (take place ring) in
+    let t = resends us now first in
+    let u : Numbered = get_or ring place no_unit in
+    let held : m.ring ≡ ring = ap (λ (v : View). v.ring) left ∙ resends-keeps (λ (v : View). v.ring) (λ now v. refl) us now first in
+    let same : m.settings ≡ first.settings = ap (λ (v : View). v.settings) left ∙ resends-keeps (λ (v : View). v.settings) (λ now v. refl) us now first in
+    let there : slice_get m.ring place ≡ Some u = ap (λ r. slice_get r place) held ∙ slice_get-get_or ring place no_unit inside in
+    let split : octets_of (take (place + 1) ring) ≡ us ++ u.octets ∷ [] =
+    ap octets_of (take_more ring place no_unit inside) ∙ octets_of-append (take place ring) (u ∷ []) in
+    let more : resends (octets_of (take (place + 1) ring)) now first ≡ goes_on t (says RetrData u.octets now) =
+    ap (λ xs. resends xs now first) split ∙ resends-append us (u.octets ∷ []) now first in
+    let here : makes b (text_of m.settings.rule (next_made m RetrData u.octets now)) d =
+    subst (λ o. IfSome o (λ (w : Numbered). makes b (text_of m.settings.rule (next_made m RetrData w.octets now)) d)) there after in
+    let at : makes b (text_of rule (next_made t.left RetrData u.octets now)) d =
+    subst (λ (v : View). makes b (text_of rule (next_made v RetrData u.octets now)) d) left
+    (subst (λ (x : Settings). makes b (text_of x.rule (next_made m RetrData u.octets now)) d) same here) in
+    let one = next_made t.left RetrData u.octets now in
+    subst (λ (q : Turn). (n ≡ q.left) × Out makes rule a q d) (sym more) (
+      counts ∙ ap (counted now) left,
+      subst (λ xs. FoldsTo makes a xs d) (sym (map-append (text_of rule) t.made (one ∷ [])))
+          (FoldsTo-append makes (texts rule t.made) (texts rule (one ∷ [])) a b d out (d, at, refl)),
+    )
+
+-- one turn, and then another
+pub out-then : {O : Type 0} (makes : O → List ℕ → O → Type 0) (rule : CodeRule) (t : Turn) (next : View → Turn) (a b c : O) → Out makes rule a t b
+    → Out makes rule b (next t.left) c → Out makes rule a (goes_on t next) c
+out-then makes rule t next a b c h k =
+    let more = (next t.left).made in
+    subst (λ xs. FoldsTo makes a xs c) (sym (map-append (text_of rule) t.made more)) (FoldsTo-append makes (texts rule t.made) (texts rule more) a b c h k)
+
+pub replies-settings : (now : ℕ) (v : View) → (replies now v).left.settings ≡ v.settings
+replies-settings now v = resends-keeps (λ (v : View). v.settings) (λ now v. refl) (octets_of v.ring) now (counted now v)
+
+-- an answer: what is made first, each unit, and the heartbeat
+pub replies-out : {O : Type 0} (makes : O → List ℕ → O → Type 0) (now : ℕ) (v : View) (a b c d : O)
+    → makes a (text_of v.settings.rule (next_made v RetrResp [] now)) b →
+    Out makes v.settings.rule b (resends (octets_of v.ring) now (counted now v)) c →
+    (let u = (resends (octets_of v.ring) now (counted now v)).left in makes c (text_of u.settings.rule (next_made u Heartbeat [] now)) d)
+    → Out makes v.settings.rule a (replies now v) d
+replies-out makes now v a b c d first again last =
+    let t = resends (octets_of v.ring) now (counted now v) in
+    let beaten = subst (λ (x : Settings). makes c (text_of x.rule (next_made t.left Heartbeat [] now)) d) (replies-settings now v) last in
+    (b, first, out-then makes v.settings.rule t (says Heartbeat [] now) b c d again (d, beaten, refl))
+
+-- what is confirmed keeps the bounds of the units
+pub short-above : (number : ℕ) (us : List Numbered) → length (above number us) ≤ length us
+short-above number [] = omega arith
+short-above number (u ∷ us) = grind (arith, nat_tests, short-above number us)
+
+pub sized-above : (number : ℕ) (us : List Numbered) → AllUnits us → AllUnits (above number us)
+sized-above number us h = All-filter (λ (u : Numbered). nat_lt number u.number) (λ (u : Numbered). IsBody RetrData u.octets) us h
+
+-- The properties of an arrival, from its turn.
 
 recent-hands : (p : Pdu) (now : ℕ) (v : View) → hands p now v ≢ [] → now < v.confirmed_at + cts_step v p + v.settings.t_max
-recent-hands p now v =
-    let d = decide v p now in
-    by_guard-cases (λ (us : List (List ℕ)). us ≢ [] → now < v.confirmed_at + cts_step v p + v.settings.t_max) now v (λ reason detail. []) (handed_by d p)
-    (λ reason detail some. absurd (some refl)) (λ in_time some. omega (arith, (in_time (recent-decided p now d v (decide-fits v p now) some)).0))
+recent-hands p now v = search rules
 
 pub hands-recent : {U : Type 0} (takes : U → List ℕ → U → Type 0) (a b : U) (p : Pdu) (now : ℕ) (v : View) →
     FoldsTo takes a (hands p now v) b → HandsIf takes a b (now < v.confirmed_at + cts_step v p + v.settings.t_max)
@@ -26,8 +135,7 @@ hands-recent takes a b p now v h = (hands p now v, h, recent-hands p now v)
 
 -- the same of octets
 read-recent : (read : Result Pdu SafeFault) (now : ℕ) (v : View) → handed (heard read now) v ≢ [] → IsRecent read now v
-read-recent (Ok p) now v some = recent-hands p now v some
-read-recent (Err fault) now v some = absurd (some refl)
+read-recent read now v some = grind (arith, recent-hands)
 
 pub recent_law_holds : (octets : List ℕ) (now : ℕ) (v : View) → hears_units octets now v ≢ [] → IsRecent (safe_seen v.settings.rule octets) now v
 recent_law_holds octets now v some = read-recent (safe_seen v.settings.rule octets) now v some
@@ -37,13 +145,7 @@ unit-connection : (p : Pdu) (now : ℕ) (v : View) → (takes_unit p now v).left
 unit-connection p now v = grind arith
 
 next-decided : (read : Result Pdu SafeFault) (p : Pdu) (now : ℕ) (s : State) → IsNextData read p now (kept_of s) → decide (kept_of s) p now ≡ Takes Up
-next-decided read p now s h =
-    let meant : is_stranger s p ≡ false =
-    ap (λ (b : Bool). if b && (p.sender == s.settings.peer) then false else true) (eq-eqb p.receiver s.settings.own h.receiver)
-    ∙ ap (λ (b : Bool). if b then false else true) (eq-eqb p.sender s.settings.peer h.sender) in
-    decided s p now Up h.is_up meant
-    ∙ (ap (λ k. if is_goodbye k then Shuts else by_table (kept_of s) p now (distance (kept_of s) p)) h.kind
-    ∙ table-takes s p now (record { next = h.next; cs = h.confirms; cts = h.timely }) (ap (λ c. cell c true p.kind) h.is_up ∙ ap (λ k. cell Up true k) h.kind))
+next-decided read p now s h = grind arith
 
 -- it goes up alone, and the end stays in Up, as a machine has it
 pub reached-passes : (read : Result Pdu SafeFault) (p : Pdu) (now : ℕ) (v : View) → IsReached v → IsNextData read p now v →

@@ -1,26 +1,25 @@
 -- What holds of every machine, since it stands for a state that moves lead to from an opening.
-use Rattle.safe_machine.proofs.Words.{◌≡◌, ℕ, zero, suc, ◌+◌, ◌<◌, ◌≤◌, List, [], ◌∷◌, ◌++◌, length, drop, true, refl, sym, ap, subst, ◌∙◌, arith, ◌⊎◌, inl}
-use Rattle.safe_machine.proofs.Words.{inr, ⊎_elim, ◌&&◌, ◌==◌, nat_le, list_all, leb-true, false≢true, cond_both, and_parts, drop_all, length-drop, All-nil}
-use Rattle.safe_machine.proofs.Words.{All-cons, All-push, All-weaker, Numbered, octets_of, after_at, carried_at, ring_of, Kind, ConnReq, ConnResp, RetrResp}
-use Rattle.safe_machine.proofs.Words.{Heartbeat, Data, RetrData, Pdu, IsBody, window_of, version_of, is_digit, is_zero, HasNumbers, Down, Start, Reason, Detail}
-use Rattle.safe_machine.proofs.Words.{Made, opening_body, Settings, is_legal, Decision, decide, distance, Nothing, Drops, Shuts, Leaves, Takes, Resumes}
-use Rattle.safe_machine.proofs.Words.{AnswersNext, AnswersEarly, take_unit, tests_passed, carry_out, guard, respond, heartbeat, send, confirm_units, Move, move}
-use Rattle.safe_machine.proofs.Words.{moved, IsUnitSized, Guards, Hears, Ticks, Sends, LeavesNow, State, opened, blank, make, move_to, pass, note_request}
-use Rattle.safe_machine.proofs.Words.{resend, reply, unconfirmed, leave, IsRead, AreRead, IsReached, AllBelow, AllUnits, Sound, MaySend, turn, View, kept_of}
-use Rattle.safe_machine.proofs.Words.{is_connected}
-use Rattle.safe_machine.proofs.one.Ring.{octets_of-length, ring_of-units}
+use Rattle.safe_machine.proofs.Words.{◌≡◌, ℕ, ◌+◌, ◌<◌, ◌≤◌, List, [], ◌∷◌, ◌++◌, length, drop, true, refl, sym, ap, subst, ◌∙◌, arith, ◌⊎◌, inl, inr}
+use Rattle.safe_machine.proofs.Words.{false≢true, cond_both, and_parts, drop_all, length-drop, All-nil, All-cons, All-push, All-weaker, Numbered, octets_of}
+use Rattle.safe_machine.proofs.Words.{after_at, carried_at, ring_of, Kind, ConnReq, ConnResp, RetrResp, Heartbeat, Data, RetrData, Pdu, IsBody, window_of}
+use Rattle.safe_machine.proofs.Words.{HasNumbers, Down, Reason, Detail, Made, opening_body, Settings, is_legal, Decision, decide, distance, Nothing, Drops}
+use Rattle.safe_machine.proofs.Words.{Shuts, Leaves, Takes, Resumes, AnswersNext, AnswersEarly, take_unit, tests_passed, carry_out, respond, send}
+use Rattle.safe_machine.proofs.Words.{confirm_units, Move, move, moved, IsUnitSized, Hears, Sends, State, opened, make, move_to, pass, note_request, resend}
+use Rattle.safe_machine.proofs.Words.{reply, unconfirmed, leave, IsRead, AreRead, IsReached, AllBelow, AllUnits, Sound, MaySend, turn, View, kept_of}
+use Rattle.safe_machine.proofs.Words.{is_connected, arrive, arrives, guards, index_step, ◌-◌, length-append, ltb-true, above, renumbered, RetrReq, DiscReq}
+use Rattle.safe_machine.proofs.Words.{WrongVersion, Unspecified, leaving_body, next_made, hand_up, ask, cs_fits, cs_step, Rejects, Accepts, Connects, Asks}
+use Rattle.safe_machine.proofs.Words.{set_window, beside, StopsOnly, octets-renumbered, may_send, FewLaw}
+use Rattle.safe_machine.proofs.one.Runs.{octets_of-length, ring_of-units, legal as lawful, resend-settings, resend-connection, leave-cases, unit-cases}
+use Rattle.safe_machine.proofs.one.Runs.{early-cases, turn-connected, turn-live, connected-up, legal, resend-expected, ring-resend, plain-ring, ring-step}
+use Rattle.safe_machine.proofs.one.Runs.{answer-ring, quiet-cases, arrive-cases, when}
 use Rattle.safe_machine.proofs.two.Invariant.{is_opening}
-use Rattle.safe_machine.proofs.one.Deciding.{Fits, decide-fits}
-use Rattle.safe_machine.proofs.two.Lone.{arrive-by}
-use Rattle.safe_machine.proofs.one.Counting.{Bounded, bounded-guard, bounded-respond, bounded-heartbeat, bounded-send, bounded-leave}
-use Rattle.safe_machine.proofs.one.Kept.{Kept, AllowsMove, Anything, anything, kept-move}
-use Rattle.safe_machine.proofs.one.Legal.{legal as lawful}
-use Rattle.safe_machine.proofs.one.Texts.{Texts, own-legal, kept-texts, texts-make, AllSized, sized-run, texts-drop}
+use Rattle.safe_machine.proofs.one.Deciding.{Fits, decide-fits, Bounded, bounded-respond, bounded-leave, unconfirmed-make, length-make, resend-length}
+use Rattle.safe_machine.proofs.one.Deciding.{run_of-shrinks, bounded-move, bounded-opened}
+use Rattle.safe_machine.proofs.one.Kept.{AllowsMove, kept-move, Texts, own-legal, kept-texts, AllSized, sized-run, texts-drop, kept-moved, kept-lists}
+use Rattle.safe_machine.proofs.one.Kept.{texts-opened}
 use Rattle.safe_machine.proofs.one.Turning.{tells_law_holds, turns_law_holds}
-use Rattle.safe_machine.proofs.one.Resending.{resend-settings, resend-connection}
-use Rattle.safe_machine.proofs.one.StepCases.{leave-cases, guard-cases, heartbeat-cases, unit-cases, send-cases, early-cases}
-use Rattle.safe_machine.proofs.one.ConnectionFacts.{turn-connected, turn-live, connected-up}
 
+-- What holds of every machine, since it stands for a state that moves lead to from an opening.
 moved-snoc : (ms : List Move) (m : Move) (s : State) → moved (ms ++ m ∷ []) s ≡ move m (moved ms s)
 moved-snoc [] m s = refl
 moved-snoc (n ∷ ms) m s = moved-snoc ms m (move n s)
@@ -36,16 +35,10 @@ pub record Sure (s : State) : Type 0 where
   pub since : s.since < s.settings.mwa
 
 opening-small : (body : List ℕ) → IsBody ConnReq body → window_of body ≤ 32
-opening-small body b =
-    let a = and_parts (length body == 14)
-    (nat_le 1 (window_of body) && (nat_le (window_of body) 32 && (list_all is_digit (version_of body) && list_all is_zero (drop 6 body)))) b in
-    let d = and_parts (nat_le 1 (window_of body)) (nat_le (window_of body) 32 && (list_all is_digit (version_of body) && list_all is_zero (drop 6 body))) a.1 in
-    leb-true (window_of body) 32 (and_parts (nat_le (window_of body) 32) (list_all is_digit (version_of body) && list_all is_zero (drop 6 body)) d.1).0
+opening-small body b = grind arith
 
 opening-window : (kind : Kind) (body : List ℕ) → IsBody kind body → 1 ≤ is_opening kind → window_of body ≤ 32
-opening-window ConnReq body b h = opening-small body b
-opening-window ConnResp body b h = opening-small body b
-opening-window _ body b h = absurd (omega arith)
+opening-window kind body b h = grind (arith, opening-small)
 
 abbrev Waits : State → Type 0
 Waits s = (s.connection ≡ Down → s.made ≡ []) × (s.since < s.settings.mwa)
@@ -53,26 +46,15 @@ Waits s = (s.connection ≡ Down → s.made ≡ []) × (s.since < s.settings.mwa
 waits-leave : (reason : Reason) (detail : Detail) (now : ℕ) (s : State) → Waits s → Waits (leave reason detail now s)
 waits-leave reason detail now s h = leave-cases Waits reason detail now s (λ _. (λ e. cc, omega (arith, h.1))) (λ _. (λ e. cc, h.1))
 
-waits-guard : (now : ℕ) (s : State) → Waits s → Waits (guard now s)
-waits-guard now s h = guard-cases Waits now s (λ reason detail. waits-leave reason detail now s h) (λ _. h)
-
 -- a connected end that has made a PDU
 waits-made : (kind : Kind) (body : List ℕ) (now : ℕ) (s : State) → is_connected s.connection ≡ true → s.since < s.settings.mwa → Waits (make kind body now s)
 waits-made kind body now s on h = (λ e. absurd (connected-up s.connection on e), omega (arith, h))
 
 waits-reply : (now : ℕ) (s : State) → is_connected s.connection ≡ true → s.since < s.settings.mwa → Waits (reply now s)
-waits-reply now s on h =
-    let a = make RetrResp [] now s in
-    let us = unconfirmed s in
-    let same : (resend us now a).connection ≡ s.connection = resend-connection us now a in
-    let kept : (resend us now a).settings.mwa ≡ s.settings.mwa = ap (λ (k : Settings). k.mwa) (resend-settings us now a) in
-    (λ e. absurd (connected-up s.connection on (sym same ∙ e)), omega (arith, h, kept))
+waits-reply now s on h = grind (arith, resend-connection, resend-settings, connected-up)
 
 waits-unit : (p : Pdu) (now : ℕ) (s : State) → is_connected s.connection ≡ true → s.since < s.settings.mwa → Waits (take_unit p now s)
-waits-unit p now s on h =
-    unit-cases Waits p now s (λ _. (λ e. absurd (connected-up s.connection on e), omega (arith, h)))
-    (λ _ few. (λ e. absurd (connected-up s.connection on e), few))
-    (λ _. (λ e. absurd (connected-up s.connection on e), h))
+waits-unit p now s on h = grind arith
 
 waits-decided : (p : Pdu) (now : ℕ) (d : Decision) (s : State) → Fits (kept_of s) p now d → Waits s → Waits (carry_out p now d s)
 waits-decided p now Nothing s f h = h
@@ -89,12 +71,6 @@ waits-decided p now AnswersEarly s f h =
     early-cases Waits p now s (λ _. (λ e. cc, omega (arith, w.1))) w
 waits-decided p now _ s f h = (λ e. cc, omega (arith, h.1))
 
-waits-tick : (now : ℕ) (s : State) → Waits s → Waits (heartbeat now s)
-waits-tick now s h = heartbeat-cases Waits now s (λ connected. waits-made Heartbeat [] now s connected h.1) h
-
-waits-send : (unit : List ℕ) (now : ℕ) (s : State) → Waits s → Waits (send unit now s)
-waits-send unit now s h = send-cases Waits unit now s (λ turn _. waits-made Data unit now s (turn-connected s.connection turn) h.1) h
-
 sure : (s : State) → Bounded s → Waits s → Sure s
 sure s b w = record { bounded = b; down = w.0; since = w.1 }
 
@@ -102,46 +78,25 @@ waits : (s : State) → Sure s → Waits s
 waits s h = (h.down, h.since)
 
 sure-move : (m : Move) (s : State) → IsRead m → Sure s → Sure (move m s)
-sure-move (Guards now) s a h = sure (guard now s) (bounded-guard now s h.bounded).0 (waits-guard now s (waits s h))
 sure-move (Hears p now) s a h =
-    let g = guard now s in
-    let b = bounded-guard now s h.bounded in
-    let w = waits-guard now s (waits s h) in
-    arrive-by Sure p now s (sure g b.0 w)
-    (λ _ _. sure (respond p now g) (bounded-respond now p g b.0 b.1 w.0 (opening-window p.kind p.body a.1))
-    (waits-decided p now (decide (kept_of g) p now) g (decide-fits (kept_of g) p now) w))
-sure-move (Ticks now) s a h =
-    let g = guard now s in
-    let b = bounded-guard now s h.bounded in
-    sure (heartbeat now g) (bounded-heartbeat now g b.0 b.1) (waits-tick now g (waits-guard now s (waits s h)))
-sure-move (Sends unit now) s a h = sure (send unit now s) (bounded-send unit now s h.bounded) (waits-send unit now s (waits s h))
-sure-move (LeavesNow reason detail now) s a h = sure (leave reason detail now s) (bounded-leave reason detail now s h.bounded)
-    (waits-leave reason detail now s (waits s h))
+    arrive-cases Sure p now s h
+    (λ reason detail.
+    sure (leave reason detail now s) (bounded-leave reason detail now s h.bounded) (waits-leave reason detail now s (waits s h)))
+    (λ _ _ in_time.
+    sure (respond p now s) (bounded-respond now p s h.bounded (λ live. (in_time live).1) h.down (opening-window p.kind p.body a.1))
+    (waits-decided p now (decide (kept_of s) p now) s (decide-fits (kept_of s) p now) (waits s h)))
+sure-move m s a h =
+    sure (move m s) (bounded-move m s tt h.bounded)
+    (quiet-cases Waits m s tt (waits s h) (λ reason detail. waits-leave reason detail (when m) s (waits s h))
+    (λ connected _. waits-made Heartbeat [] (when m) s connected h.since)
+    (λ unit turn _. waits-made Data unit (when m) s (turn-connected s.connection turn) h.since))
 
 pub sure-moved : (ms : List Move) (s : State) → AreRead ms → Sure s → Sure (moved ms s)
 sure-moved [] s a h = h
 sure-moved (m ∷ ms) s a h = sure-moved ms (move m s) a.1 (sure-move m s a.0 h)
 
-legal-kept : Kept Anything Anything (λ (s : State). is_legal s.settings ≡ true)
-legal-kept =
-    record {
-      silent = λ s t same h. ap is_legal same.0 ∙ h;
-      plain = λ kind body now s is fits h. h;
-      passes = λ p d s a h. h;
-      confirms = λ p s fits h. h;
-      accepts = λ now s h. h;
-      sends = λ unit now s a h. h;
-      replies = λ now s h. ap is_legal (resend-settings (unconfirmed s) now (make RetrResp [] now s)) ∙ h;
-    }
-
-legal-moved : (ms : List Move) (s : State) → is_legal s.settings ≡ true → is_legal (moved ms s).settings ≡ true
-legal-moved [] s h = h
-legal-moved (m ∷ ms) s h = legal-moved ms (move m s) (kept-move Anything Anything (λ (t : State). is_legal t.settings ≡ true) legal-kept m s (anything m) h)
-
 read-allows : (m : Move) → IsRead m → AllowsMove HasNumbers IsUnitSized m
-read-allows (Hears p now) h = h.0
-read-allows (Sends unit now) h = h
-read-allows _ h = tt
+read-allows m h = grind arith
 
 texts-moved : (ms : List Move) (s : State) → AreRead ms → Texts s → Texts (moved ms s)
 texts-moved [] s a h = h
@@ -149,53 +104,9 @@ texts-moved (m ∷ ms) s a h = texts-moved ms (move m s) a.1 (kept-move HasNumbe
 
 pub opened-sure : (settings : Settings) (first now : ℕ) → is_legal settings ≡ true → Sure (opened settings first now)
 opened-sure settings first now legal =
-    let r = lawful settings legal in
-    let begun : State = blank settings first now Start in
-    let m = make ConnReq (opening_body settings.n_sendmax) now begun in
-    cond_both settings.client m (blank settings first now Down) Sure
-    (λ _. record {
-      bounded = record {
-        small = r.window_most;
-        limit = r.limit_most;
-        few = omega arith;
-        few_live = λ live. omega arith;
-        window_small = omega arith;
-        in_window = omega arith;
-        none_in_start = λ start. omega arith;
-        confirmed_made = λ live. omega arith;
-      };
-      down = λ e. cc;
-      since = r.mwa_least;
-    })
-    (λ _. record {
-      bounded = record {
-        small = r.window_most;
-        limit = r.limit_most;
-        few = omega arith;
-        few_live = λ live. omega arith;
-        window_small = omega arith;
-        in_window = omega arith;
-        none_in_start = λ start. omega arith;
-        confirmed_made = λ live. absurd (false≢true live);
-      };
-      down = λ e. refl;
-      since = r.mwa_least;
-    })
-
-opened-texts : (settings : Settings) (first now : ℕ) → is_legal settings ≡ true → Texts (opened settings first now)
-opened-texts settings first now legal =
-    let own = own-legal settings legal in
-    let begun : State = blank settings first now Start in
-    let before : Texts begun = record { own = own; sn = omega arith; ts = omega arith; texts = tt } in
-    cond_both settings.client (make ConnReq (opening_body settings.n_sendmax) now begun) (blank settings first now Down) Texts
-    (λ _. texts-make ConnReq (opening_body settings.n_sendmax) now begun own.window (omega arith) before)
-    (λ _. record { own = own; sn = omega arith; ts = omega arith; texts = tt })
-
-opened-legal : (settings : Settings) (first now : ℕ) → is_legal settings ≡ true → is_legal (opened settings first now).settings ≡ true
-opened-legal settings first now legal =
-    cond_both settings.client (make ConnReq (opening_body settings.n_sendmax) now (blank settings first now Start)) (blank settings first now Down)
-    (λ (s : State). is_legal s.settings ≡ true)
-    (λ _. legal) (λ _. legal)
+    let since = (lawful settings legal).mwa_least in
+    let waits : Waits (opened settings first now) = cond_both settings.client _ _ Waits (λ _. ((λ e. cc), since)) (λ _. ((λ e. refl), since)) in
+    sure (opened settings first now) (bounded-opened settings first now legal) waits
 
 -- the ring of a state
 units-of : (us : List Numbered) → AllSized (octets_of us) → AllUnits us
@@ -210,34 +121,21 @@ below-push n us body h = All-push (λ (u : Numbered). u.number < n + 1) us (reco
     (omega arith)
 
 below-after : (kind : Kind) (body : List ℕ) (n : ℕ) (us : List Numbered) → AllBelow n us → AllBelow (n + 1) (after_at kind body n us)
-below-after Data body n us h = below-push n us body h
-below-after RetrData body n us h = below-push n us body h
-below-after RetrResp body n us h = All-nil (λ (u : Numbered). u.number < n + 1)
-below-after _ body n us h = below-more n (n + 1) us (omega arith) h
+below-after kind body n us h = grind (arith, below-push, below-more)
 
 below-carried : (n end : ℕ) (us : List Numbered) (ms : List Made) → n + length ms ≤ end → AllBelow n us → AllBelow end (carried_at n us ms)
 below-carried n end us [] h k = below-more n end us (omega arith) k
 below-carried n end us (m ∷ ms) h k = below-carried (n + 1) end (after_at m.pdu.kind m.pdu.body n us) ms (omega arith)
     (below-after m.pdu.kind m.pdu.body n us k)
 
-le_total : (a b : ℕ) → (a ≤ b) ⊎ (b ≤ a)
-le_total zero b = inl (omega arith)
-le_total (suc a) zero = inr (omega arith)
-le_total (suc a) (suc b) = ⊎_elim (λ h. inl (omega arith)) (λ h. inr (omega arith)) (le_total a b)
-
 below-ring : (s : State) → AllBelow (length s.made) (ring_of s)
-below-ring s =
-    ⊎_elim
-    (λ (inside : s.confirmed + 1 ≤ length s.made).
-    below-carried (s.confirmed + 1) (length s.made) [] (drop (s.confirmed + 1) s.made) (omega (arith, length-drop (s.confirmed + 1) s.made))
-    (All-nil (λ (u : Numbered). u.number < s.confirmed + 1)))
-    (λ (past : length s.made ≤ s.confirmed + 1).
-    subst (AllBelow (length s.made)) (sym (ap (carried_at (s.confirmed + 1) []) (drop_all (s.confirmed + 1) s.made past)))
-    (All-nil (λ (u : Numbered). u.number < length s.made)))
-    (le_total (s.confirmed + 1) (length s.made))
+below-ring s = grind (arith, below-carried, length-drop, drop_all)
 
 pub legal-reached : (v : View) (r : IsReached v) → is_legal (moved r.moves (opened r.settings r.first r.began)).settings ≡ true
-legal-reached v r = legal-moved r.moves (opened r.settings r.first r.began) (opened-legal r.settings r.first r.began r.legal)
+legal-reached v r =
+    let P : State → Type 0 = λ s. is_legal s.settings ≡ true in
+    kept-moved P (kept-lists P (λ s t e f h. ap is_legal e ∙ h) (λ kind body now s h. h)) r.moves (opened r.settings r.first r.began)
+    (cond_both r.settings.client _ _ P (λ _. r.legal) (λ _. r.legal))
 
 sure-reached : (v : View) (r : IsReached v) → Sure (moved r.moves (opened r.settings r.first r.began))
 sure-reached v r = sure-moved r.moves (opened r.settings r.first r.began) r.read (opened-sure r.settings r.first r.began r.legal)
@@ -248,7 +146,7 @@ reached-sound v r =
     let t : State = moved r.moves s in
     let h : Sure t = sure-reached v r in
     let legal : is_legal t.settings ≡ true = legal-reached v r in
-    let texts : Texts t = texts-moved r.moves s r.read (opened-texts r.settings r.first r.began r.legal) in
+    let texts : Texts t = texts-moved r.moves s r.read (texts-opened r.settings r.first r.began r.legal) in
     let ranges = lawful t.settings legal in
     let same : octets_of (ring_of t) ≡ unconfirmed t = ring_of-units t in
     let sized : AllSized (unconfirmed t) = sized-run [] (drop (t.confirmed + 1) t.made) (texts-drop (t.confirmed + 1) t.made texts.texts) tt in
@@ -292,3 +190,155 @@ reached-window v r =
     let count : length v.ring ≡ length (unconfirmed t) = (tells_law_holds v t r.stands).awaiting in
     let window : v.window ≡ t.window = ap (λ (w : View). w.window) r.stands in
     omega (arith, (sure-reached v r).bounded.in_window)
+
+-- How far the index of the peer's next PDU moves.
+leave-expected : (reason : Reason) (detail : Detail) (now : ℕ) (s : State) → (leave reason detail now s).expected ≡ s.expected
+leave-expected reason detail now s = leave-cases (λ t. t.expected ≡ s.expected) reason detail now s (λ _. refl) (λ _. refl)
+
+unit-expected : (p : Pdu) (now : ℕ) (s : State) → (take_unit p now s).expected ≡ s.expected
+unit-expected p now s = unit-cases (λ t. t.expected ≡ s.expected) p now s (λ _. refl) (λ _ _. refl) (λ _. refl)
+
+near-decided : (p : Pdu) (now : ℕ) (d : Decision) (s : State) → s.settings.n_sendmax ≤ 32 → Fits (kept_of s) p now d → (carry_out p now d s).expected
+    ≤ s.expected + index_step
+near-decided p now d s small f = grind (arith, leave-expected, unit-expected, resend-expected, early-cases)
+
+near-arrive : (p : Pdu) (now : ℕ) (s : State) → s.settings.n_sendmax ≤ 32 → (arrive p now s).expected ≤ s.expected + index_step
+near-arrive p now s small =
+    arrive-cases (λ (t : State). t.expected ≤ s.expected + index_step) p now s (omega arith)
+    (λ reason detail. omega (arith, leave-expected reason detail now s))
+    (λ _ _ _. near-decided p now (decide (kept_of s) p now) s small (decide-fits (kept_of s) p now))
+
+-- one arrival
+pub reached-near : (p : Pdu) (now : ℕ) (v w : View) → IsReached v → w ≡ (arrives p now v).left → w.expected ≤ v.expected + index_step
+reached-near p now v w r e =
+    let t = moved r.moves (opened r.settings r.first r.began) in
+    let stands = (turns_law_holds (Hears p now) v t tt r.stands).stands in
+    let before : v.expected ≡ t.expected = ap (λ (x : View). x.expected) r.stands in
+    let after : w.expected ≡ (arrive p now t).expected = ap (λ (x : View). x.expected) (e ∙ stands) in
+    omega (arith, before, after, near-arrive p now t (legal t.settings (legal-reached v r)).window_most)
+
+-- octets that are no PDU move it not at all
+pub reached-still : (now : ℕ) (v w : View) → IsReached v → w ≡ (guards now v).left → w.expected ≡ v.expected
+reached-still now v w r e = grind arith
+
+-- Which units an arrival confirms.
+abbrev Stops : Pdu → State → State → Type 0
+Stops p s t = (octets_of (ring_of t) ≡ octets_of (ring_of s)) ⊎ (octets_of (ring_of t) ≡ octets_of (above (s.confirmed + cs_step (kept_of s) p) (ring_of s)))
+
+ring-leave : (reason : Reason) (detail : Detail) (now : ℕ) (s : State) → ring_of (leave reason detail now s) ≡ ring_of s
+ring-leave reason detail now s = grind (arith, leave-cases, plain-ring)
+
+ring-unit : (p : Pdu) (now : ℕ) (s : State) → ring_of (take_unit p now s) ≡ ring_of s
+ring-unit p now s = unit-cases (λ t. ring_of t ≡ ring_of s) p now s (λ _. plain-ring Heartbeat [] now (hand_up p s) refl) (λ _ _. refl) (λ _. refl)
+
+-- an answer keeps the units
+ring-reply : (now : ℕ) (y : State) → y.confirmed < length y.made → octets_of (ring_of (reply now y)) ≡ octets_of (ring_of y)
+ring-reply now y within =
+    let t = make RetrResp [] now y in
+    let us = unconfirmed y in
+    let r = resend us now t in
+    let more : length t.made ≡ length y.made + 1 = length-append y.made (next_made y RetrResp [] now ∷ []) in
+    ap octets_of
+    (plain-ring Heartbeat [] now r refl
+    ∙ (ring-resend us now t (omega arith) ∙ ap (λ cs. cs ++ renumbered (length t.made) us) (answer-ring now y within)))
+    ∙ (octets-renumbered (length t.made) us ∙ sym (ring_of-units y))
+
+-- a server that was just opened has no unit, and none when it has answered
+ring-none : (ms : List Made) (m : Made) → carried_at (length ms + 1) [] (drop (length ms + 1) (ms ++ m ∷ [])) ≡ []
+ring-none ms m = go (drop (length ms + 1) (ms ++ m ∷ [])) (length-drop (length ms + 1) (ms ++ m ∷ []) ∙ omega (arith, length-append ms (m ∷ [])))
+  where
+    go : (rest : List Made) → length rest ≡ 0 → carried_at (length ms + 1) [] rest ≡ []
+    go [] e = refl
+    go (a ∷ rest) e = absurd (omega (arith, e))
+
+fits-within : (p : Pdu) (s : State) → cs_fits (kept_of s) p ≡ true → cs_step (kept_of s) p < length s.made - s.confirmed
+fits-within p s e = ltb-true (cs_step (kept_of s) p) (length s.made - s.confirmed) e
+
+confirmed-stops : (p : Pdu) (s t : State) → cs_fits (kept_of s) p ≡ true → octets_of (ring_of t) ≡ octets_of (ring_of (confirm_units p s)) → Stops p s t
+confirmed-stops p s t fits e = inr (e ∙ ap octets_of (sym (ring-step p s (fits-within p s fits))))
+
+stops-decided : (p : Pdu) (now : ℕ) (d : Decision) (s : State) → (s.connection ≡ Down → ring_of s ≡ []) → Fits (kept_of s) p now d
+    → Stops p s (carry_out p now d s)
+stops-decided p now Nothing s down f = inl refl
+stops-decided p now (Drops cause) s down f = inl refl
+stops-decided p now Shuts s down f = inl refl
+stops-decided p now (Leaves reason detail) s down f = inl (ap octets_of (ring-leave reason detail now s))
+stops-decided p now Rejects s down f = inl (ap octets_of (plain-ring DiscReq (leaving_body WrongVersion Unspecified) now (pass p 0 s) refl))
+stops-decided p now Accepts s down f = grind (arith, ring-none)
+stops-decided p now Connects s down f =
+    let y = set_window (window_of p.body) (pass p 0 (tests_passed p s)) in
+    confirmed-stops p s (carry_out p now Connects s) f.3.cs (ap octets_of (plain-ring Heartbeat [] now y refl))
+stops-decided p now (Takes to) s down f =
+    let y = move_to to (pass p 0 (tests_passed p s)) in
+    confirmed-stops p s (carry_out p now (Takes to) s) f.passed.cs (ap octets_of (ring-unit p now y))
+stops-decided p now Asks s down f = inl (ap octets_of (plain-ring RetrReq [] now s refl))
+stops-decided p now Resumes s down f = confirmed-stops p s (carry_out p now Resumes s) f.passed.cs refl
+stops-decided p now AnswersNext s down f =
+    let y = pass p 0 (note_request 0 (tests_passed p s)) in
+    confirmed-stops p s (reply now y) f.0.cs (ring-reply now y (omega (arith, fits-within p s f.0.cs)))
+stops-decided p now AnswersEarly s down f =
+    let y = note_request (distance (kept_of s) p) (confirm_units p s) in
+    let t = reply now y in
+    let same = ring-reply now y (omega (arith, fits-within p s f.cs)) in
+    early-cases (Stops p s) p now s (λ _. confirmed-stops p s (ask now t) f.cs (ap octets_of (plain-ring RetrReq [] now t refl) ∙ same))
+    (confirmed-stops p s t f.cs same)
+
+stops-arrive : (p : Pdu) (now : ℕ) (s : State) → (s.connection ≡ Down → ring_of s ≡ []) → Stops p s (arrive p now s)
+stops-arrive p now s down =
+    arrive-cases (Stops p s) p now s (inl refl) (λ reason detail. inl (ap octets_of (ring-leave reason detail now s)))
+    (λ _ _ _. stops-decided p now (decide (kept_of s) p now) s down (decide-fits (kept_of s) p now))
+
+-- as a machine has it
+pub reached-stops : (p : Pdu) (now : ℕ) (v w : View) → IsReached v → w ≡ (arrives p now v).left → StopsOnly (v.confirmed + cs_step v p) v w
+reached-stops p now v w r is =
+    let t = moved r.moves (opened r.settings r.first r.began) in
+    let down : t.connection ≡ Down → ring_of t ≡ [] =
+    λ e. sym (ap (λ (x : View). x.ring) r.stands) ∙ (reached-sound v r).down (ap (λ (x : View). x.connection) r.stands ∙ e) in
+    subst (λ (x : View). StopsOnly (x.confirmed + cs_step x p) x w) (sym r.stands)
+    (subst (λ (y : View). StopsOnly (t.confirmed + cs_step (kept_of t) p) (beside (ring_of t) t) y)
+    (sym (is ∙ (turns_law_holds (Hears p now) v t tt r.stands).stands)) (stops-arrive p now t down))
+
+pub reached-keeps : (now : ℕ) (v w : View) → IsReached v → w ≡ (guards now v).left → octets_of w.ring ≡ octets_of v.ring
+reached-keeps now v w r is = grind arith
+
+-- How few PDUs a move makes.
+few-leave : (reason : Reason) (detail : Detail) (now : ℕ) (s : State) → length (leave reason detail now s).made ≤ length s.made + 1
+few-leave reason detail now s = grind (arith, leave-cases, length-make)
+
+reply-length : (now : ℕ) (s : State) → length (reply now s).made ≡ length s.made + 2 + length (unconfirmed s)
+reply-length now s = grind (arith, length-make, resend-length)
+
+-- a PDU that confirms leaves no more units unconfirmed
+shrinks : (p : Pdu) (s : State) → length (unconfirmed (confirm_units p s)) ≤ length (unconfirmed s)
+shrinks p s = run_of-shrinks (s.confirmed + 1) (s.confirmed + cs_step (kept_of s) p + 1) s.made (omega arith)
+
+few-carry : (p : Pdu) (now : ℕ) (d : Decision) (s : State) → length (unconfirmed s) ≤ 32 → length (carry_out p now d s).made ≤ length s.made + 35
+few-carry p now (Leaves reason detail) s h = omega (arith, few-leave reason detail now s)
+few-carry p now Rejects s h = omega (arith, length-make DiscReq (leaving_body WrongVersion Unspecified) now (pass p 0 s))
+few-carry p now Accepts s h = omega (arith, length-make ConnResp (opening_body s.settings.n_sendmax) now (set_window (window_of p.body) (pass p 0 s)))
+few-carry p now Connects s h = omega (arith, length-make Heartbeat [] now (set_window (window_of p.body) (pass p 0 (tests_passed p s))))
+few-carry p now (Takes to) s h =
+    let y = move_to to (pass p 0 (tests_passed p s)) in
+    unit-cases (λ t. length t.made ≤ length s.made + 35) p now y (λ _. omega (arith, length-make Heartbeat [] now (hand_up p y))) (λ _ _. omega arith)
+    (λ _. omega arith)
+few-carry p now Asks s h = omega (arith, length-make RetrReq [] now s)
+few-carry p now AnswersNext s h =
+    let y = pass p 0 (note_request 0 (tests_passed p s)) in
+    let few : length (unconfirmed y) ≤ length (unconfirmed s) = shrinks p s in
+    omega (arith, reply-length now y)
+few-carry p now AnswersEarly s h =
+    let y = note_request (distance (kept_of s) p) (confirm_units p s) in
+    let z = reply now y in
+    let few : length (unconfirmed y) ≤ length (unconfirmed s) = shrinks p s in
+    let more = reply-length now y in
+    early-cases (λ t. length t.made ≤ length s.made + 35) p now s (λ _. omega (arith, length-make RetrReq [] now z)) (omega arith)
+few-carry p now _ s h = omega arith
+
+few-move : (m : Move) (s : State) → Bounded s → length (move m s).made ≤ length s.made + 36
+few-move m s b = grind (arith, arrive-cases, few-leave, few-carry, quiet-cases, length-make)
+
+sending-one : (s : State) → Bounded s → (unit : List ℕ) (now : ℕ) → may_send s ≡ true → length (unconfirmed (send unit now s)) ≡ length (unconfirmed s) + 1
+sending-one s b unit now may = grind (arith, turn-live, and_parts, unconfirmed-make, length-append, false≢true)
+
+pub few_law_holds : FewLaw
+few_law_holds settings first now ms m legal read reads = grind (arith, sure-moved, opened-sure, few-move, sending-one)

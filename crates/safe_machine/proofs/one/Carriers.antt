@@ -1,18 +1,13 @@
 -- The run of unconfirmed units is the list of those whose carrier lies behind the last PDU confirmed.
 use Rattle.safe_machine.proofs.Words.{◌≡◌, ◌⊎◌, inl, inr, ℕ, suc, ◌+◌, ◌-◌, ◌<◌, ◌≤◌, List, [], ◌∷◌, ◌++◌, length, take, drop, Bool, true, false, refl, sym, ap}
 use Rattle.safe_machine.proofs.Words.{subst, ◌∙◌, arith, append_assoc, length-append, if◌then◌else◌, nat_lt, drop-append-le, length-drop, take-append_seam}
-use Rattle.safe_machine.proofs.Words.{drop-append_seam, lt-ltb, ltb-true, cond_both, nat_tests, Kind, ConnReq, ConnResp, RetrReq, RetrResp, DiscReq, Heartbeat}
-use Rattle.safe_machine.proofs.Words.{Data, RetrData, Start, Down, Made, units, first_sent, opening_body, Settings, State, next_made, make, resend, reply}
-use Rattle.safe_machine.proofs.Words.{unconfirmed, opened, blank, Numbered, above, renumbered, octets_of, after_at, carried_at, is_resent, resent}
-use Rattle.safe_machine.proofs.Words.{carried_again, after_carrier, carriers_from, carriers, Move, moved, move, ReachedState, ReachedLaw, octets-renumbered}
-use Rattle.safe_machine.proofs.Words.{cs_step, kept_of}
-use Rattle.std.proofs.Common.{append-nil}
-use Rattle.safe_machine.proofs.one.Runs.{units-append}
-use Rattle.safe_machine.proofs.one.OneMachine.{plain-reply}
-use Rattle.safe_machine.proofs.one.Ring.{octets_of-append, octets_of-length, carried_at-append, above-append, carried_at-above, ring_of-units, ring-confirm}
-use Rattle.safe_machine.proofs.one.Ring.{ring-resend}
-use Rattle.safe_machine.proofs.one.Kept.{Kept, Anything, anything, kept-move, is_plain}
-use Rattle.safe_machine.proofs.one.Resending.{resend-confirmed}
+use Rattle.safe_machine.proofs.Words.{drop-append_seam, lt-ltb, ltb-true, nat_tests, Kind, ConnResp, RetrResp, Heartbeat, Data, RetrData, Made, units}
+use Rattle.safe_machine.proofs.Words.{first_sent, opening_body, Settings, State, next_made, make, resend, reply, unconfirmed, opened, Numbered, above}
+use Rattle.safe_machine.proofs.Words.{renumbered, octets_of, after_at, carried_at, is_resent, resent, carried_again, after_carrier, carriers_from, carriers}
+use Rattle.safe_machine.proofs.Words.{moved, ReachedState, ReachedLaw, octets-renumbered, cs_step, kept_of, append-nil}
+use Rattle.safe_machine.proofs.one.Runs.{units-append, octets_of-append, octets_of-length, carried_at-append, above-append, carried_at-above, ring_of-units}
+use Rattle.safe_machine.proofs.one.Runs.{ring-confirm, ring-resend, resend-confirmed}
+use Rattle.safe_machine.proofs.one.Kept.{Kept, Anything, is_plain, kept-unsent, kept-moved}
 
 -- Carriers of a list that grows. A RetrData at its front would be counted with a RetrResp before it.
 abbrev Begins : List Made → Type 0
@@ -54,10 +49,7 @@ rises-push low high unit [] h = (h, omega arith)
 rises-push low high unit (c ∷ cs) h = (h.0, rises-push (c.number + 1) high unit cs h.1)
 
 rises-after : (low high : ℕ) (kind : Kind) (body : List ℕ) (cs : List Numbered) → Rises low high cs → Rises low (high + 1) (after_at kind body high cs)
-rises-after low high Data body cs h = rises-push low high body cs h
-rises-after low high RetrData body cs h = rises-push low high body cs h
-rises-after low high RetrResp body cs h = omega (arith, rises-bounds low high cs h)
-rises-after low high _ body cs h = rises-weaken low high cs h
+rises-after low high kind body cs h = grind (arith, rises-push, rises-bounds, rises-weaken)
 
 rises-carried : (low high : ℕ) (cs : List Numbered) (ms : List Made) → Rises low high cs → Rises low (high + length ms) (carried_at high cs ms)
 rises-carried low high cs [] h = subst (λ (n : ℕ). Rises low n cs) (omega arith) h
@@ -125,48 +117,30 @@ is_new RetrData = false
 is_new _ = true
 
 new-begins : (kind : Kind) → is_new kind ≡ true → is_resent kind ≡ false
-new-begins RetrData h = cc
-new-begins _ h = refl
+new-begins kind h = grind arith
 
 -- what a new PDU carries
 new-carrier : (kind : Kind) (body : List ℕ) (index n : ℕ) (cs : List Numbered) → is_new kind ≡ true → after_carrier kind body index n cs ≡ cs ++ after_at kind
     body index []
-new-carrier RetrData body index n cs h = cc
-new-carrier RetrResp body index n cs h = cc
-new-carrier Data body index n cs h = refl
-new-carrier _ body index n cs h = sym (append-nil cs)
+new-carrier kind body index n cs h = grind (arith, append-nil)
 
 new-ring : (kind : Kind) (body : List ℕ) (index : ℕ) (cs : List Numbered) → is_new kind ≡ true → after_at kind body index cs ≡ cs ++ after_at kind body index []
-new-ring RetrData body index cs h = cc
-new-ring RetrResp body index cs h = cc
-new-ring Data body index cs h = refl
-new-ring _ body index cs h = sym (append-nil cs)
+new-ring kind body index cs h = grind (arith, append-nil)
 
 new-units : (kind : Kind) (body : List ℕ) (index : ℕ) → is_new kind ≡ true → octets_of (after_at kind body index []) ≡ first_sent kind body
-new-units RetrData body index h = cc
-new-units RetrResp body index h = cc
-new-units _ body index h = refl
+new-units kind body index h = grind arith
 
 new-first : (kind : Kind) (body : List ℕ) → above 0 (after_at kind body 0 []) ≡ []
-new-first RetrData body = refl
-new-first _ body = refl
+new-first kind body = grind arith
 
 -- the ring after one PDU more
 ring-push : (confirmed : ℕ) (made : List Made) (m : Made) → confirmed < length made → Ring confirmed (made ++ m ∷ []) ≡ after_at m.pdu.kind m.pdu.body
     (length made) (Ring confirmed made)
-ring-push confirmed made m h =
-    let behind = drop (confirmed + 1) made in
-    let size : length behind ≡ length made - (confirmed + 1) = length-drop (confirmed + 1) made in
-    ap (carried_at (confirmed + 1) []) (drop-append-le (confirmed + 1) made (m ∷ []) (omega arith))
-    ∙ (carried_at-append (confirmed + 1) [] behind (m ∷ [])
-    ∙ ap (λ (n : ℕ). after_at m.pdu.kind m.pdu.body n (Ring confirmed made)) (omega arith))
+ring-push confirmed made m h = grind (arith, length-drop, drop-append-le, carried_at-append)
 
 carriers-push : (made : List Made) (m : Made) → is_new m.pdu.kind ≡ true → carriers (made ++ m ∷ []) ≡ carriers made ++ after_at m.pdu.kind m.pdu.body
     (length made) []
-carriers-push made m new =
-    carriers-append 0 [] made (m ∷ []) (new-begins m.pdu.kind new)
-    ∙ (new-carrier m.pdu.kind m.pdu.body (0 + length made) 0 (carriers made) new
-    ∙ ap (λ (n : ℕ). carriers made ++ after_at m.pdu.kind m.pdu.body n []) (omega arith))
+carriers-push made m new = grind (arith, carriers-append, new-begins, new-carrier)
 
 push : (made : List Made) (confirmed : ℕ) (m : Made) → is_new m.pdu.kind ≡ true → CarriersOf made confirmed → CarriersOf (made ++ m ∷ []) confirmed
 push made confirmed m new h =
@@ -249,21 +223,14 @@ again front ring us index e =
 
 ring-answer : (confirmed : ℕ) (made : List Made) (m : Made) → m.pdu.kind ≡ RetrResp → (confirmed < length made) ⊎ ((made ≡ []) × (confirmed ≡ 0))
     → Ring confirmed (made ++ m ∷ []) ≡ []
-ring-answer confirmed made m is (inl less) = ring-push confirmed made m less ∙ ap (λ kind. after_at kind m.pdu.body (length made) (Ring confirmed made)) is
-ring-answer confirmed made m is (inr empty) = ap (λ ms. carried_at (confirmed + 1) [] (drop (confirmed + 1) (ms ++ m ∷ []))) empty.0
-    ∙ ap (λ (n : ℕ). Ring n (m ∷ [])) empty.1
+ring-answer confirmed made m is h = grind (arith, ring-push)
 
 -- the units made end in the unconfirmed ones
 ended : (s : State) (h : Carriers s) → octets_of h.front ++ unconfirmed s ≡ units s.made
-ended s h =
-    ap (λ us. octets_of h.front ++ us) (sym (ring_of-units s))
-    ∙ (sym (octets_of-append h.front (Ring s.confirmed s.made)) ∙ (sym (ap octets_of h.is) ∙ h.all))
+ended s h = grind (arith, ring_of-units, octets_of-append)
 
 plain-new : (kind : Kind) → is_plain kind ≡ true → is_new kind ≡ true
-plain-new Heartbeat h = refl
-plain-new RetrReq h = refl
-plain-new DiscReq h = refl
-plain-new _ h = cc
+plain-new kind h = grind arith
 
 replied : (now : ℕ) (s : State) → Carriers s → Carriers (reply now s)
 replied now s h =
@@ -303,7 +270,7 @@ replied now s h =
           ap octets_of new
           ∙ (octets_of-append h.front (renumbered (length s.made + 1) us)
           ∙ (ap (λ xs. octets_of h.front ++ xs) (octets-renumbered (length s.made + 1) us)
-          ∙ (ended s h ∙ sym (plain-reply now s).sent)));
+          ∙ (ended s h ∙ sym ((kept-unsent (units s.made)).replies now s refl))));
     }
 
 kept-carriers : Kept Anything Anything Carriers
@@ -325,15 +292,8 @@ kept-carriers =
       replies = λ now s h. replied now s h;
     }
 
-carriers-moved : (ms : List Move) (s : State) → Carriers s → Carriers (moved ms s)
-carriers-moved [] s h = h
-carriers-moved (m ∷ ms) s h = carriers-moved ms (move m s) (kept-move Anything Anything Carriers kept-carriers m s (anything m) h)
-
 carriers-opened : (settings : Settings) (first now : ℕ) → Carriers (opened settings first now)
-carriers-opened settings first now =
-    let none : CarriersOf [] 0 = record { front = []; is = refl; none = refl; placed = inr (refl, refl); all = refl } in
-    cond_both settings.client (make ConnReq (opening_body settings.n_sendmax) now (blank settings first now Start)) (blank settings first now Down) Carriers
-    (λ _. push [] 0 (next_made (blank settings first now Start) ConnReq (opening_body settings.n_sendmax) now) refl none) (λ _. none)
+carriers-opened settings first now = grind arith
 
 reached : (s : State) → Carriers s → ReachedState s
 reached s h =
@@ -350,4 +310,4 @@ reached s h =
 
 pub reached_law_holds : ReachedLaw
 reached_law_holds settings first now ms = reached (moved ms (opened settings first now))
-    (carriers-moved ms (opened settings first now) (carriers-opened settings first now))
+    (kept-moved Carriers kept-carriers ms (opened settings first now) (carriers-opened settings first now))

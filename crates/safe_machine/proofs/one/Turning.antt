@@ -1,24 +1,23 @@
 -- A history's view takes the view's turn, and the history grows by what the turn made and what it handed up.
 use Rattle.safe_machine.proofs.Words.{◌≡◌, ℕ, ◌+◌, ◌-◌, ◌<◌, List, [], ◌∷◌, ◌++◌, length, Bool, true, false, refl, sym, ap, subst, ◌∙◌, arith, append_assoc}
 use Rattle.safe_machine.proofs.Words.{length-append, Result, Ok, Err, if◌then◌else◌, nat_le, ltb-true, and_parts, drop_all, Numbered, octets_of, renumbered}
-use Rattle.safe_machine.proofs.Words.{Kind, ConnReq, ConnResp, RetrReq, RetrResp, DiscReq, Heartbeat, Data, RetrData, Pdu, window_of, safe_seen, SafeFault}
-use Rattle.safe_machine.proofs.Words.{ConnectionState, Closed, Down, Start, Up, Requesting, RetrRun, Reason, Timeout, ProtocolError, WrongVersion, Detail}
-use Rattle.safe_machine.proofs.Words.{Unspecified, Limit, Decision, Nothing, Drops, Shuts, Leaves, Rejects, Accepts, Connects, Takes, Asks, Resumes}
-use Rattle.safe_machine.proofs.Words.{AnswersNext, AnswersEarly, in_turn, is_live, beat_due, by_guard, cs_fits, cs_step, decide, distance, carries}
-use Rattle.safe_machine.proofs.Words.{leaving_body, opening_body, Move, move, Guards, Hears, Ticks, Sends, LeavesNow, arrive_octets, heard, hears, hears_units}
-use Rattle.safe_machine.proofs.Words.{carried_at, ring_of, Settings, State, ask, blank, hand_up, leave, make, move_to, next_made, note_request, opened, pass}
-use Rattle.safe_machine.proofs.Words.{reply, resend, unconfirmed, answered_ahead, arrive, beat, carry_out, confirm_to, confirm_units, guard, heartbeat}
-use Rattle.safe_machine.proofs.Words.{may_send, respond, send, set_window, take_unit, tests_passed, tick, MaySend, OpenedTurn, Tells, Turned, handed, turn}
-use Rattle.safe_machine.proofs.Words.{Turn, answers_ahead, arrives, asks, beats, both_confirmed, carried, carries_out, confirmed_to, counted, goes_on, guards}
-use Rattle.safe_machine.proofs.Words.{hands, handed_by, has_room, is_open, leaves, moved_to, opens, passed, renumbers, replies, requested, resends, responds}
-use Rattle.safe_machine.proofs.Words.{says, sends, sends_unit, still, takes_unit, units_confirmed, unsaid, windowed, View, StandsFor, beside, kept_of}
-use Rattle.std.proofs.Common.{append-nil}
-use Rattle.safe_machine.proofs.one.Deciding.{Fits, decide-fits}
-use Rattle.safe_machine.proofs.one.OneMachine.{plain-guard}
-use Rattle.safe_machine.proofs.one.StepCases.{early-cases, heartbeat-cases, leave-cases, send-cases, unit-cases}
-use Rattle.safe_machine.proofs.one.Ring.{octets_of-length, ring_of-units, ring-resend}
-use Rattle.safe_machine.proofs.one.RingMoves.{answer-ring, data-ring, made-beside, plain-ring, ring-step}
-use Rattle.safe_machine.proofs.one.Resending.{resend-taken}
+use Rattle.safe_machine.proofs.Words.{Kind, ConnResp, RetrReq, RetrResp, DiscReq, Heartbeat, Data, RetrData, Pdu, window_of, safe_seen, SafeFault}
+use Rattle.safe_machine.proofs.Words.{ConnectionState, Closed, Start, Up, Requesting, RetrRun, Reason, WrongVersion, Detail, Unspecified, Decision, Nothing}
+use Rattle.safe_machine.proofs.Words.{Drops, Shuts, Leaves, Rejects, Accepts, Connects, Takes, Asks, Resumes, AnswersNext, AnswersEarly, in_turn, is_live}
+use Rattle.safe_machine.proofs.Words.{beat_due, cs_fits, cs_step, decide, distance, carries, leaving_body, opening_body, Move, move, Guards, Hears, Sends}
+use Rattle.safe_machine.proofs.Words.{arrive_octets, heard, hears, hears_units, carried_at, ring_of, Settings, State, ask, hand_up, leave, make, move_to}
+use Rattle.safe_machine.proofs.Words.{next_made, note_request, pass, reply, resend, unconfirmed, answered_ahead, arrive, beat, carry_out, confirm_to}
+use Rattle.safe_machine.proofs.Words.{confirm_units, guard, heartbeat, may_send, respond, send, set_window, take_unit, tests_passed, MaySend, OpenedTurn, Tells}
+use Rattle.safe_machine.proofs.Words.{Turned, handed, turn, Turn, answers_ahead, arrives, asks, beats, both_confirmed, carries_out, confirmed_to, counted}
+use Rattle.safe_machine.proofs.Words.{goes_on, guards, has_room, is_open, leaves, moved_to, passed, renumbers, replies, requested, resends, responds, says}
+use Rattle.safe_machine.proofs.Words.{sends, sends_unit, still, takes_unit, units_confirmed, windowed, View, StandsFor, beside, kept_of, append-nil, false≢true}
+use Rattle.safe_machine.proofs.Words.{HasMade}
+use Rattle.safe_machine.proofs.one.Deciding.{Fits, decide-fits, confirmed-made, length-make, replied}
+use Rattle.safe_machine.proofs.one.Runs.{octets_of-length, ring_of-units, ring-resend, answer-ring, data-ring, made-beside, plain-ring, ring-step, taken-move}
+use Rattle.safe_machine.proofs.one.Runs.{by_guard-two, quiet-cases, arrive-cases}
+use Rattle.safe_machine.proofs.one.Kept.{Anything, Kept, kept-decided}
+
+-- A history's view takes the view's turn, and the history grows by what the turn made and what it handed up.
 
 -- What is left stands for the history beside these units, which has grown by what was made.
 abbrev FollowsAt : List Numbered → Turn → State → State → Type 0
@@ -32,14 +31,11 @@ stays s = (refl, sym (append-nil s.made))
 
 then-at : (end : List Numbered) (ring : List Numbered) (t : Turn) (next : View → Turn) (s u w : State) → FollowsAt ring t s u
     → FollowsAt end (next (beside ring u)) u w → FollowsAt end (goes_on t next) s w
-then-at end ring t next s u w h k =
-    let q = subst (λ v. FollowsAt end (next v) u w) (sym h.0) k in
-    (q.0, q.1 ∙ (ap (λ ms. ms ++ (next t.left).made) h.1 ∙ append_assoc s.made t.made (next t.left).made))
+then-at end ring t next s u w h k = grind (arith, append_assoc)
 
 choose : (b : Bool) (t r : Turn) (s u w : State) → (b ≡ true → Follows t s u) → (b ≡ false → Follows r s w)
     → Follows (if b then t else r) s (if b then u else w)
-choose true t r s u w h k = h refl
-choose false t r s u w h k = k refl
+choose b t r s u w h k = grind arith
 
 moved : (connection : ConnectionState) (t : Turn) (s u : State) → Follows t s u → Follows (moved_to connection t) s (move_to connection u)
 moved connection t s u h = (ap (λ (v : View). record v { connection = connection }) h.0, h.1)
@@ -60,22 +56,6 @@ leaves-follows reason detail now s =
     (if is_live s.connection then make DiscReq body now s else s)
     (choose (is_live s.connection) (says DiscReq body now (kept_of s)) (still (kept_of s)) s (make DiscReq body now s) s
     (λ _. said DiscReq body now s (plain-ring DiscReq body now s refl)) (λ _. stays s))
-
--- two answers of the guard
-pub by_guard-two : {A B : Type 0} (R : A → B → Type 0) (now : ℕ) (v : View) (leaves_a : Reason → Detail → A) (goes_a : A) (leaves_b : Reason → Detail → B)
-    (goes_b : B) →
-    ((reason : Reason) (detail : Detail) → R (leaves_a reason detail) (leaves_b reason detail)) → R goes_a goes_b
-    → R (by_guard now v leaves_a goes_a) (by_guard now v leaves_b goes_b)
-by_guard-two R now v leaves_a goes_a leaves_b goes_b left on = go (is_live v.connection) (nat_le (v.confirmed_at + v.settings.t_max) now)
-    (nat_le v.settings.pdu_limit v.made)
-  where
-    go : (live late full : Bool) →
-        R (if live then (if late then leaves_a Timeout Unspecified else if full then leaves_a ProtocolError Limit else goes_a) else goes_a)
-        (if live then (if late then leaves_b Timeout Unspecified else if full then leaves_b ProtocolError Limit else goes_b) else goes_b)
-    go true true full = left Timeout Unspecified
-    go true false true = left ProtocolError Limit
-    go true false false = on
-    go false late full = on
 
 guards-follows : (now : ℕ) (s : State) → Follows (guards now (kept_of s)) s (guard now s)
 guards-follows now s =
@@ -222,61 +202,13 @@ sends-follows unit now s made =
     (choose (may_send s) (sends_unit unit now (kept_of s)) (still (kept_of s)) s u s sent (λ _. stays s))
 
 arrives-follows : (p : Pdu) (now : ℕ) (s : State) → Follows (arrives p now (kept_of s)) s (arrive p now s)
-arrives-follows p now s =
-    let g = guard now s in
-    then-at (ring_of (arrive p now s)) (ring_of g) (guards now (kept_of s)) (responds p now) s g (arrive p now s) (guards-follows now s)
-    (responds-follows p now g)
+arrives-follows p now s = grind (arith, then-at, guards-follows, responds-follows)
 
--- what is handed up
-same-taken : (s t : State) → t.taken ≡ s.taken → t.taken ≡ s.taken ++ []
-same-taken s t e = e ∙ sym (append-nil s.taken)
-
-leave-taken : (reason : Reason) (detail : Detail) (now : ℕ) (s : State) → (leave reason detail now s).taken ≡ s.taken
-leave-taken reason detail now s = leave-cases (λ t. t.taken ≡ s.taken) reason detail now s (λ _. refl) (λ _. refl)
-
-unit-taken : (p : Pdu) (now : ℕ) (s : State) → (take_unit p now s).taken ≡ s.taken ++ carried p
-unit-taken p now s =
-    let up : carries p.kind ≡ true → s.taken ++ p.body ∷ [] ≡ s.taken ++ carried p = λ e. rw e refl in
-    unit-cases (λ t. t.taken ≡ s.taken ++ carried p) p now s up (λ e _. up e) (λ e. rw e (sym (append-nil s.taken)))
-
-decided-taken : (p : Pdu) (now : ℕ) (d : Decision) (s : State) → (carry_out p now d s).taken ≡ s.taken ++ handed_by d p
-decided-taken p now (Leaves reason detail) s = same-taken s (leave reason detail now s) (leave-taken reason detail now s)
-decided-taken p now (Takes to) s = unit-taken p now (move_to to (pass p 0 (tests_passed p s)))
-decided-taken p now AnswersNext s =
-    let z = pass p 0 (note_request 0 (tests_passed p s)) in
-    same-taken s (reply now z) (resend-taken (unconfirmed z) now (make RetrResp [] now z))
-decided-taken p now AnswersEarly s =
-    let z = note_request (distance (kept_of s) p) (confirm_units p s) in
-    let t = reply now z in
-    let e : t.taken ≡ s.taken = resend-taken (unconfirmed z) now (make RetrResp [] now z) in
-    early-cases (λ u. u.taken ≡ s.taken ++ []) p now s (λ _. same-taken s (ask now t) e) (same-taken s t e)
-decided-taken p now _ s = sym (append-nil s.taken)
-
-arrive-taken : (p : Pdu) (now : ℕ) (s : State) → (arrive p now s).taken ≡ s.taken ++ hands p now (kept_of s)
-arrive-taken p now s =
-    by_guard-two (λ (g : State) (us : List (List ℕ)). (respond p now g).taken ≡ s.taken ++ us) now (kept_of s) (λ reason detail. leave reason detail now s) s
-    (λ reason detail. [])
-    (handed_by (decide (kept_of s) p now) p) (λ reason detail. leave-taken reason detail now s ∙ sym (append-nil s.taken))
-    (decided-taken p now (decide (kept_of s) p now) s)
+follows : (m : Move) (s : State) → MaySend m (kept_of s) → Follows (turn m (kept_of s)) s (move m s)
+follows m s may = grind (arith, guards-follows, arrives-follows, then-at, beats-follows, sends-follows, leaves-follows)
 
 turned-of : (m : Move) (s : State) → MaySend m (kept_of s) → Turned (turn m (kept_of s)) (handed m (kept_of s)) s (move m s)
-turned-of (Guards now) s may =
-    let h = guards-follows now s in
-    record { stands = h.0; made = h.1; taken = same-taken s (guard now s) (plain-guard now s).taken }
-turned-of (Hears p now) s may =
-    let h = arrives-follows p now s in
-    record { stands = h.0; made = h.1; taken = arrive-taken p now s }
-turned-of (Ticks now) s may =
-    let g = guard now s in
-    let h = then-at (ring_of (tick now s)) (ring_of g) (guards now (kept_of s)) (beats now) s g (tick now s) (guards-follows now s) (beats-follows now g) in
-    let beaten = heartbeat-cases (λ t. t.taken ≡ g.taken) now g (λ _. refl) refl in
-    record { stands = h.0; made = h.1; taken = same-taken s (tick now s) (beaten ∙ (plain-guard now s).taken) }
-turned-of (Sends unit now) s may =
-    let h = sends-follows unit now s may in
-    record { stands = h.0; made = h.1; taken = same-taken s (send unit now s) (send-cases (λ t. t.taken ≡ s.taken) unit now s (λ _ _. refl) refl) }
-turned-of (LeavesNow reason detail now) s may =
-    let h = leaves-follows reason detail now s in
-    record { stands = h.0; made = h.1; taken = same-taken s (leave reason detail now s) (leave-taken reason detail now s) }
+turned-of m s may = let h = follows m s may in record { stands = h.0; made = h.1; taken = taken-move m s }
 
 pub turns_law_holds : (m : Move) (v : View) (s : State) → MaySend m v → StandsFor v s → Turned (turn m v) (handed m v) s (move m s)
 turns_law_holds m v s may h = subst (λ w. Turned (turn m w) (handed m w) s (move m s)) (sym h) (turned-of m s (subst (MaySend m) h may))
@@ -294,13 +226,43 @@ octets_law_holds octets now v s h =
     (heard-turns (safe_seen v.settings.rule octets) now v s h)
 
 pub opening_law_holds : (settings : Settings) (first now : ℕ) → OpenedTurn settings first now
-opening_law_holds settings first now =
-    let body = opening_body settings.n_sendmax in
-    let begun = blank settings first now Start in
-    let waits = blank settings first now Down in
-    let asked : Follows (says ConnReq body now (kept_of begun)) begun (make ConnReq body now begun) = said ConnReq body now begun
-    (plain-ring ConnReq body now begun refl) in
-    let h : Follows (opens settings first now) begun (opened settings first now) =
-    choose settings.client (says ConnReq body now (unsaid settings first now Start)) (still (unsaid settings first now Down)) begun
-    (make ConnReq body now begun) waits (λ _. asked) (λ _. stays waits) in
-    record { stands = h.0; made = h.1 }
+opening_law_holds settings first now = grind arith
+
+-- An end that sends in turn has made the PDU that was last confirmed, and every move keeps that.
+
+-- more PDUs were made than confirmed
+abbrev IsAhead : State → Type 0
+IsAhead s = s.confirmed < length s.made
+
+ahead-kept : Kept Anything Anything IsAhead
+ahead-kept = grind (arith, length-make, confirmed-made, replied)
+
+-- a PDU that confirms finds one to confirm
+was-ahead : (p : Pdu) (s : State) → cs_fits (kept_of s) p ≡ true → IsAhead s
+was-ahead p s fits = omega (arith, ltb-true (cs_step (kept_of s) p) (length s.made - s.confirmed) fits)
+
+leave-made : (reason : Reason) (detail : Detail) (now : ℕ) (s : State) → HasMade (kept_of (leave reason detail now s))
+leave-made reason detail now s = grind arith
+
+by-fit : (p : Pdu) (now : ℕ) (d : Decision) (s : State) → Fits (kept_of s) p now d → cs_fits (kept_of s) p ≡ true → HasMade (kept_of (carry_out p now d s))
+by-fit p now d s f fits turn = kept-decided Anything Anything IsAhead ahead-kept p now d s tt f (was-ahead p s fits)
+
+decided-made : (p : Pdu) (now : ℕ) (d : Decision) (s : State) → Fits (kept_of s) p now d → HasMade (kept_of s) → HasMade (kept_of (carry_out p now d s))
+decided-made p now d s f h = grind (arith, leave-made, by-fit, false≢true)
+
+move-made : (m : Move) (s : State) → HasMade (kept_of s) → HasMade (kept_of (move m s))
+move-made (Hears p now) s h =
+    arrive-cases (λ t. HasMade (kept_of t)) p now s h (λ reason detail. leave-made reason detail now s)
+    (λ _ _ _. decided-made p now (decide (kept_of s) p now) s (decide-fits (kept_of s) p now) h)
+move-made m s h = grind (arith, quiet-cases, leave-made, length-make)
+
+-- the same of what is kept
+pub made_law_holds : (m : Move) (v : View) (s : State) → HasMade v → StandsFor v s → HasMade (turn m v).left
+made_law_holds m v s h stands =
+    let kept : HasMade (kept_of s) = subst HasMade stands h in
+    let may : MaySend m v = may-send m v h in
+    subst HasMade (sym (turns_law_holds m v s may stands).stands) (move-made m s kept)
+  where
+    may-send : (m : Move) (v : View) → HasMade v → MaySend m v
+    may-send (Sends unit now) v h = h
+    may-send _ v h = tt

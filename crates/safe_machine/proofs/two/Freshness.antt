@@ -1,76 +1,37 @@
--- Over every list of events with clocks that never go back, what is taken is fresh.
+-- Every event keeps the times, and what is said of the incarnations and of one event more.
 use Rattle.safe_machine.proofs.Words.{◌≡◌, ◌≢◌, ◌⊎◌, inl, inr, ℕ, suc, zero, ◌+◌, ◌-◌, ◌<◌, ◌≤◌, List, [], ◌∷◌, ◌++◌, length, drop, true, refl, sym, ap, subst}
-use Rattle.safe_machine.proofs.Words.{◌∙◌, arith, false≢true, cond_both, Il, Fe, ConnReq, RetrResp, ConnectionState, Closed, Down, Start, Pdu, Made}
-use Rattle.safe_machine.proofs.Words.{opening_body, sn_of, Settings, is_legal, State, unconfirmed, make, move_to, pass, note_request, reply, leave, opened}
-use Rattle.safe_machine.proofs.Words.{blank, next_made, Decision, decide, distance, Leaves, Takes, AnswersNext, AnswersEarly, guard, respond, arrive, carry_out}
-use Rattle.safe_machine.proofs.Words.{tick, send, tests_passed, confirm_units, World, Event, start, changed, run, event_end, event_time, at_end, Timely}
-use Rattle.safe_machine.proofs.Words.{happens, GenuineAt, GenuineEvent, Genuine, as_role, open_il, open_fe, with_il, with_fe, Open, Send, Close, Guard, Tick}
-use Rattle.safe_machine.proofs.Words.{Arrive, Fresh, FreshEvent, AllFresh, FreshLaw, FreshAtLastLaw, is_live, kept_of}
-use Rattle.safe_machine.proofs.one.Legal.{legal as lawful}
-use Rattle.safe_machine.proofs.one.Runs.{Every, every-at, every-weaken, every-drop_all, at-length, numbered-at}
-use Rattle.safe_machine.proofs.two.Invariant.{NotOpening, Solo, Half, Pair, Told}
-use Rattle.safe_machine.proofs.one.Deciding.{Fits, listens-live, decide-fits}
-use Rattle.safe_machine.proofs.one.Counting.{Bounded, bounded-guard}
-use Rattle.safe_machine.proofs.two.Receiving.{Incoming}
-use Rattle.safe_machine.proofs.two.Lone.{Lone, lone-leave, lone-guard, lone-tick, lone-send, pair-guard, arrive-by, among-dropped}
-use Rattle.safe_machine.proofs.two.Status.{Mute, Met, Status, Untouched, mute-leave, mute-guard, mute-tick, mute-send, mute-arrive, deaf-arrive, still-arrive}
+use Rattle.safe_machine.proofs.Words.{◌∙◌, arith, cond_both, Il, Fe, ConnReq, ConnectionState, Closed, Down, Start, Pdu, Made, opening_body, Settings, is_legal}
+use Rattle.safe_machine.proofs.Words.{State, unconfirmed, leave, opened, blank, next_made, Decision, decide, Takes, respond, arrive, carry_out, World, Event}
+use Rattle.safe_machine.proofs.Words.{start, changed, run, event_end, event_time, at_end, Timely, happens, GenuineAt, GenuineEvent, Genuine, as_role, open_il}
+use Rattle.safe_machine.proofs.Words.{open_fe, with_il, with_fe, Open, Send, Close, Guard, Tick, Arrive, Fresh, FreshEvent, AllFresh, FreshLaw, FreshAtLastLaw}
+use Rattle.safe_machine.proofs.Words.{is_live, kept_of, take, Bool, false, Option, Some, None, if◌then◌else◌, nat_tests, units, Served, unopened, Among, joins}
+use Rattle.safe_machine.proofs.Words.{Move, move, Guards, Hears, Ticks, Sends, next_bound, JoinsFall, IsJoined, is_number, taken_from_il, UnitLaw, LossLaw}
+use Rattle.safe_machine.proofs.Words.{JoinedLaw, ◌==◌, LeavesNow, cond, by_test, TimelyEvent, InOrder, InOrderEvent, heard_by_il, heard_by_fe, all_heard_by_il}
+use Rattle.safe_machine.proofs.Words.{all_heard_by_fe, is_close, has_close, OneMoreLaw, append-nil, HearsNothing}
+use Rattle.safe_machine.specs.Numbers.{sn_of}
+use Rattle.safe_machine.proofs.one.Runs.{legal as lawful, Every, every-at, every-weaken, at-length, numbered-at, when, arrive-cases, decided-taken}
+use Rattle.safe_machine.proofs.two.Invariant.{Solo, Half, Pair, Told}
+use Rattle.safe_machine.proofs.one.Deciding.{Fits, listens-live, decide-fits, Bounded}
+use Rattle.safe_machine.proofs.two.Lone.{Incoming, lone-leave, among-dropped, incoming-at}
+use Rattle.safe_machine.proofs.two.Status.{Untouched, mute-arrive, deaf-arrive, still-arrive, incarnation, TakesBeginnings, AllTakeBeginnings, OnlyJoinedTake}
+use Rattle.safe_machine.proofs.two.Status.{taken_from_fe}
 use Rattle.safe_machine.proofs.two.Status.Status.{met, il_later, fe_later}
-use Rattle.safe_machine.proofs.two.Times.{Timed, Steps, Stamped, timed-receiver, timed-sender}
-use Rattle.safe_machine.proofs.two.Timing.{Makes, makes-then, makes-leave, makes-guard, makes-heartbeat, makes-send, steps-none, steps-then, steps-carry}
-use Rattle.safe_machine.proofs.two.Timing.{guard-passed, fresh-take}
-use Rattle.safe_machine.proofs.two.Worlds.{Inv, inv-event, inv-open_il, inv-open_fe, inv-start, nobody-among, mute-il, still-lone, on-lone}
-use Rattle.safe_machine.proofs.one.Resending.{resend-settings, resend-taken}
-use Rattle.safe_machine.proofs.one.StepCases.{guard-cases, unit-cases, early-cases}
-use Rattle.safe_machine.proofs.one.ConnectionFacts.{down_or}
+use Rattle.safe_machine.proofs.two.Timing.{Timed, Steps, Stamped, timed-receiver, timed-sender, Makes, makes-leave, steps-none, steps-then, steps-carry}
+use Rattle.safe_machine.proofs.two.Timing.{fresh-take, makes-move, makes-none}
+use Rattle.safe_machine.proofs.two.Worlds.{Inv, inv-open_il, inv-open_fe, inv-start, inv-run, il-quiet, fe-quiet, unheard-arrive, Lawful, MetIn, inv-same}
+use Rattle.safe_machine.proofs.two.Worlds.{il-arrive, fe-arrive}
+use Rattle.safe_machine.proofs.one.Kept.{joins-down, moves_law_holds, settings_law_holds}
+use Rattle.safe_machine.specs.Law as Public
 
--- what a decision hands up, and that settings stay
+-- Over every list of events with clocks that never go back, what is taken is fresh.
+
+-- what a decision hands up
 carry-taken : (p : Pdu) (now : ℕ) (s : State) (e : Decision) → ((to : ConnectionState) × (e ≡ Takes to)) ⊎ ((carry_out p now e s).taken ≡ s.taken)
-carry-taken p now s (Leaves reason detail) = inr (lone-leave reason detail now s).taken
-carry-taken p now s (Takes to) = inl (to, refl)
-carry-taken p now s AnswersNext =
-    let z = pass p 0 (note_request 0 (tests_passed p s)) in
-    inr (resend-taken (unconfirmed z) now (make RetrResp [] now z))
-carry-taken p now s AnswersEarly =
-    let z = note_request (distance (kept_of s) p) (confirm_units p s) in
-    let same : (reply now z).taken ≡ s.taken = resend-taken (unconfirmed z) now (make RetrResp [] now z) in
-    inr (early-cases (λ u. u.taken ≡ s.taken) p now s (λ _. same) same)
-carry-taken p now s _ = inr refl
-
-carry-settings : (p : Pdu) (now : ℕ) (s : State) (e : Decision) → (carry_out p now e s).settings ≡ s.settings
-carry-settings p now s (Leaves reason detail) = (lone-leave reason detail now s).settings
-carry-settings p now s (Takes to) =
-    let z = move_to to (pass p 0 (tests_passed p s)) in
-    unit-cases (λ u. u.settings ≡ s.settings) p now z (λ _. refl) (λ _ _. refl) (λ _. refl)
-carry-settings p now s AnswersNext =
-    let z = pass p 0 (note_request 0 (tests_passed p s)) in
-    resend-settings (unconfirmed z) now (make RetrResp [] now z)
-carry-settings p now s AnswersEarly =
-    let z = note_request (distance (kept_of s) p) (confirm_units p s) in
-    let same : (reply now z).settings ≡ s.settings = resend-settings (unconfirmed z) now (make RetrResp [] now z) in
-    early-cases (λ u. u.settings ≡ s.settings) p now s (λ _. same) same
-carry-settings p now s _ = refl
-
-arrive-settings : (p : Pdu) (now : ℕ) (s : State) → (arrive p now s).settings ≡ s.settings
-arrive-settings p now s = let g = guard now s in carry-settings p now g (decide (kept_of g) p now) ∙ (lone-guard now s).settings
-
--- a live end passed its guard as it was
-guard-live : (now : ℕ) (s : State) → is_live (guard now s).connection ≡ true → guard now s ≡ s
-guard-live now s = guard-cases (λ t. is_live t.connection ≡ true → t ≡ s) now s (λ _ _ live. absurd (false≢true live)) (λ _ _. refl)
+carry-taken p now s e = grind (arith, decided-taken, append-nil)
 
 -- a later clock
 timed-later : (clock now : ℕ) (x y : State) → clock ≤ now → Timed clock x y → Timed now x y
-timed-later clock now x y h t =
-    record {
-      rises = t.rises;
-      past = every-weaken (λ m. m.time ≤ clock) (λ m. m.time ≤ now) x.made (λ m k. omega arith) t.past;
-      confirmed_past = omega (arith, t.confirmed_past);
-      stamped = t.stamped;
-      behind_rises = t.behind_rises;
-      cts = t.cts;
-      last = t.last;
-      based = t.based;
-      ahead_of = t.ahead_of;
-    }
+timed-later clock now x y h t = grind (arith, every-weaken)
 
 -- one step of x, for both directions
 pub record Both (clock other : ℕ) (t y : State) : Type 0 where
@@ -91,48 +52,42 @@ pub record Arrived (clock other now : ℕ) (p : Pdu) (x t y : State) : Type 0 wh
   pub fresh : t.taken ≢ x.taken → Fresh x p now y.made
 
 pub met-arrive : (clock other now n : ℕ) (p : Pdu) (x y : State) → clock ≤ now → Pair x y → Solo y → Bounded x → Bounded y → x.settings.t_max ≤ 60000
-    → Both clock other x y →
-    GenuineAt x p (drop n y.made) → Arrived clock other now p x (arrive p now x) y
+    → Both clock other x y → GenuineAt x p (drop n y.made) → Arrived clock other now p x (arrive p now x) y
 met-arrive clock other now n p x y later h peer bounded bounded_peer short both genuine =
-    let s = guard now x in
-    let hs = pair-guard now x y h in
-    let bs = bounded-guard now x bounded in
-    let lone = lone-guard now x in
-    let both_s = both-makes clock other now x s y later h.1 h.2 both (makes-guard now x) in
-    let guarded : is_live s.connection ≡ true → now < s.confirmed_at + s.settings.t_max = guard-passed now x in
-    let short_s : s.settings.t_max ≤ 60000 = omega (arith, ap (λ (k : Settings). k.t_max) lone.settings) in
-    arrive-by (λ t. Arrived clock other now p x t y) p now x (record { both = both_s; fresh = λ new. absurd (new lone.taken) })
-    (λ on meant.
+    arrive-cases (λ t. Arrived clock other now p x t y) p now x
+    (record { both = both-makes clock other now x x y later h.1 h.2 both (makes-none now x); fresh = λ new. absurd (new refl) })
+    (λ reason detail. record {
+      both = both-makes clock other now x (leave reason detail now x) y later h.1 h.2 both (makes-leave reason detail now x);
+      fresh = λ new. absurd (new (lone-leave reason detail now x).taken);
+    })
+    (λ on meant in_time.
     let r = among-dropped p n y.made (genuine on meant) in
     let m = r.1 in
-    let incoming : Incoming r.0 m r.2 s y =
-    record { pair = hs; peer = peer; few = omega (arith, bs.0.few); few_peer = omega (arith, bounded_peer.few); small = bs.0.small; at = r.3 } in
-    let fits = decide-fits (kept_of s) m.pdu now in
-    let steps : Steps now s (respond m.pdu now s) y =
-    steps-carry now other now r.0 m r.2 s y (omega arith) (λ live. omega (arith, guarded live)) incoming both_s.receives both_s.sends
-    (decide (kept_of s) m.pdu now) fits in
-    subst (λ (q : Pdu). Arrived clock other now q x (respond q now s) y) r.4
+    let d = decide (kept_of x) m.pdu now in
+    let fits = decide-fits (kept_of x) m.pdu now in
+    let incoming = incoming-at p n x y h peer bounded bounded_peer (genuine on meant) in
+    let guarded : is_live x.connection ≡ true → now < x.confirmed_at + x.settings.t_max = λ live. (in_time live).0 in
+    subst (λ (q : Pdu). Arrived clock other now q x (respond q now x) y) r.4
     (record {
-      both = both-step now other now s (respond m.pdu now s) y (omega arith) hs.1 hs.2 both_s steps;
-      fresh = took_fresh clock now r.0 m r.2 x y incoming lone.taken short_s guarded both_s.receives (decide (kept_of s) m.pdu now) fits;
+      both =
+          both-step clock other now x (respond m.pdu now x) y later h.1 h.2 both
+          (steps-carry clock other now r.0 m r.2 x y later (λ live. omega (arith, guarded live)) incoming both.receives both.sends d fits);
+      fresh = took_fresh m r.2 r.0 incoming guarded d fits;
     }))
   where
-    took_fresh : (clock now i : ℕ) (m : Made) (rest : List Made) (x y : State) → Incoming i m rest (guard now x) y → (guard now x).taken ≡ x.taken
-        → (guard now x).settings.t_max ≤ 60000 →
-        (is_live (guard now x).connection ≡ true → now < (guard now x).confirmed_at + (guard now x).settings.t_max) → Timed now (guard now x) y →
-        (e : Decision) → Fits (kept_of (guard now x)) m.pdu now e → (carry_out m.pdu now e (guard now x)).taken ≢ x.taken → Fresh x m.pdu now y.made
-    took_fresh clock now i m rest x y a same short guarded h e f new =
-        elim (carry-taken m.pdu now (guard now x) e) [
-          | inr nothing ↦ absurd (new (nothing ∙ same))
+    took_fresh : (m : Made) (rest : List Made) (i : ℕ) → Incoming i m rest x y → (is_live x.connection ≡ true → now < x.confirmed_at + x.settings.t_max) →
+        (e : Decision) → Fits (kept_of x) m.pdu now e → (carry_out m.pdu now e x).taken ≢ x.taken → Fresh x m.pdu now y.made
+    took_fresh m rest i a guarded e f new =
+        elim (carry-taken m.pdu now x e) [
+          | inr nothing ↦ absurd (new nothing)
           | inl is ↦
-              let g = guard now x in
-              let took : Fits (kept_of g) m.pdu now (Takes is.0) = subst (λ (d : Decision). Fits (kept_of g) m.pdu now d) is.1 f in
-              let live = listens-live g.connection g.settings.client took.table.listens_now in
-              let r = fresh-take now now i m rest g y is.0 (omega arith) (guarded live) short a h took in
-              let whole : g ≡ x = guard-live now x live in
-              let told : Told g.first y.expected m = every-at (Told g.first y.expected) 0 i y.made m rest a.pair.1.told (omega arith) a.at in
-              let own = numbered-at g.first 0 (m.behind - 1) g.made r.0 r.1 a.pair.0.numbered r.3 in
-              let stamped : Stamped r.0 = every-at Stamped 0 (m.behind - 1) g.made r.0 r.1 h.stamped (omega arith) r.3 in
+              let took : Fits (kept_of x) m.pdu now (Takes is.0) = subst (λ (d : Decision). Fits (kept_of x) m.pdu now d) is.1 f in
+              let live = listens-live x.connection x.settings.client took.table.listens_now in
+              let t = both.receives in
+              let r = fresh-take clock now i m rest x y is.0 later (guarded live) short a t took in
+              let told : Told x.first y.expected m = every-at (Told x.first y.expected) 0 i y.made m rest a.pair.1.told (omega arith) a.at in
+              let own = numbered-at x.first 0 (m.behind - 1) x.made r.0 r.1 a.pair.0.numbered r.3 in
+              let stamped : Stamped r.0 = every-at Stamped 0 (m.behind - 1) x.made r.0 r.1 t.stamped (omega arith) r.3 in
               record {
                 index = i;
                 carrier = m;
@@ -142,108 +97,87 @@ met-arrive clock other now n p x y later h peer bounded bounded_peer short both 
                 has_basis = r.2;
                 basis = r.0;
                 own_rest = r.1;
-                own_at = subst (λ (z : State). drop (m.behind - 1) z.made ≡ r.0 ∷ r.1) whole r.3;
-                number = own ∙ (ap (sn_of g.first) (omega arith) ∙ sym (told.cs r.2));
-                stamp = stamped ∙ sym (h.cts i (m.behind - 1) m r.0 rest r.1 a.at r.3 (omega (arith, r.2)));
-                recent = subst (λ (z : State). now < r.0.time + z.settings.t_max) whole r.4;
+                own_at = r.3;
+                number = own ∙ (ap (sn_of x.first) (omega arith) ∙ sym (told.cs r.2));
+                stamp = stamped ∙ sym (t.cts i (m.behind - 1) m r.0 rest r.1 a.at r.3 (omega (arith, r.2)));
+                recent = r.4;
               }
         ]
 
--- The times, by the status in which the present incarnations stand.
-pub record ApartIl (il fe : State) (dead_fe : ℕ) : Type 0 where
-  mute : Mute il
-  started : fe.connection ≢ Down
-  dead : Every NotOpening (drop dead_fe fe.made)
-
-pub record ApartFe (il fe : State) (dead_il fe_clock : ℕ) : Type 0 where
-  connection : (fe.connection ≡ Down) ⊎ (fe.connection ≡ Closed)
-  made : fe.made ≡ []
-  dead : Every NotOpening (drop dead_il il.made)
-  past : fe.confirmed_at ≤ fe_clock
-
-pub data TimesOf (il fe : State) (dead_il dead_fe il_clock fe_clock : ℕ) : Type 0 where
-  together : Both il_clock fe_clock il fe → TimesOf il fe dead_il dead_fe il_clock fe_clock
-  apart_il : ApartIl il fe dead_fe → TimesOf il fe dead_il dead_fe il_clock fe_clock
-  apart_fe : ApartFe il fe dead_il fe_clock → TimesOf il fe dead_il dead_fe il_clock fe_clock
-
-pub record TInv (w : World) (il_clock fe_clock : ℕ) : Type 0 where
-  pub inv : Inv w
+-- Either the two have met and keep times together, or nothing can be taken.
+pub record TInv (w : World) (ci cf : ℕ) : Type 0 where
+  pub inv : Inv (Both ci cf w.il w.fe) (w.fe.confirmed_at ≤ cf) w
   pub short_il : w.il.settings.t_max ≤ 60000
   pub short_fe : w.fe.settings.t_max ≤ 60000
-  pub times : TimesOf w.il w.fe w.dead_il w.dead_fe il_clock fe_clock
-
--- Either the two have met and keep times together, or nothing can be taken.
-data Now (w : World) (il_clock fe_clock : ℕ) : Type 0 where
-  at_met : Met (length w.il_before) w.il w.fe w.joined w.fe_before → Both il_clock fe_clock w.il w.fe → Now w il_clock fe_clock
-  at_il : ApartIl w.il w.fe w.dead_fe → Now w il_clock fe_clock
-  at_fe : ApartFe w.il w.fe w.dead_il fe_clock → Now w il_clock fe_clock
-
-now_of : (w : World) (il_clock fe_clock : ℕ) → TInv w il_clock fe_clock → Now w il_clock fe_clock
-now_of w il_clock fe_clock h = go h.times h.inv.status
-  where
-    go : TimesOf w.il w.fe w.dead_il w.dead_fe il_clock fe_clock → Status (length w.il_before) w.il w.fe w.joined w.fe_before w.dead_il w.dead_fe
-        → Now w il_clock fe_clock
-    go (together b) (met m) = at_met m b
-    go (together b) (il_later s) = at_il (record { mute = s.mute; started = s.started; dead = s.dead })
-    go (together b) (fe_later s) = at_fe (record { connection = s.connection; made = s.made; dead = s.dead; past = b.sends.confirmed_past })
-    go (apart_il s) k = at_il s
-    go (apart_fe s) k = at_fe s
 
 swapped : (clock other : ℕ) (x y : State) → Both clock other x y → Both other clock y x
 swapped clock other x y b = record { receives = b.sends; sends = b.receives }
 
--- a step of the interlocking without a taking
-il-lone_times : (w : World) (ci cf now : ℕ) (t : State) → ci ≤ now → TInv w ci cf → Lone w.il t → Makes now w.il t → (Mute w.il → Mute t)
-    → TimesOf t w.fe w.dead_il w.dead_fe now cf
-il-lone_times w ci cf now t later h l m mute = go (now_of w ci cf h)
-  where
-    go : Now w ci cf → TimesOf t w.fe w.dead_il w.dead_fe now cf
-    go (at_met s b) = together (both-makes ci cf now w.il t w.fe later s.il_sends s.fe_sends b m)
-    go (at_il s) = apart_il (record { mute = mute s.mute; started = s.started; dead = s.dead })
-    go (at_fe s) = apart_fe (record { connection = s.connection; made = s.made; dead = l.opening w.dead_il s.dead; past = s.past })
+short-same : (s t : State) → t.settings ≡ s.settings → s.settings.t_max ≤ 60000 → t.settings.t_max ≤ 60000
+short-same s t e h = omega (arith, ap (λ (k : Settings). k.t_max) e)
 
-fe-lone_times : (w : World) (ci cf now : ℕ) (t : State) → cf ≤ now → TInv w ci cf → Lone w.fe t → Makes now w.fe t → TimesOf w.il t w.dead_il w.dead_fe ci now
-fe-lone_times w ci cf now t later h l m = go (now_of w ci cf h)
-  where
-    go : Now w ci cf → TimesOf w.il t w.dead_il w.dead_fe ci now
-    go (at_met s b) = together (swapped now ci t w.il (both-makes cf ci now w.fe t w.il later s.fe_sends s.il_sends (swapped ci cf w.il w.fe b) m))
-    go (at_il s) = apart_il (record { mute = s.mute; started = on-lone w.fe t l s.started; dead = l.opening w.dead_fe s.dead })
-    go (at_fe s) = let k = still-lone w.fe t l s.connection in apart_fe
-        (record { connection = k.0; made = k.1 ∙ s.made; dead = s.dead; past = omega (arith, m.confirmed_at, s.past) })
+-- a move of the interlocking that is no arrival
+il-quiet_times : (w : World) (ci cf : ℕ) (m : Move) → HearsNothing m → ci ≤ when m → TInv w ci cf → TInv (with_il (move m w.il) w) (when m) cf
+il-quiet_times w ci cf m quiet later h =
+    let both : MetIn w → Both ci cf w.il w.fe → Both (when m) cf (move m w.il) w.fe =
+    λ s b. both-makes ci cf (when m) w.il (move m w.il) w.fe later s.il_sends s.fe_sends b (makes-move m w.il quiet) in
+    record {
+      inv = il-quiet w m quiet both (λ past. past) h.inv;
+      short_il = short-same w.il (move m w.il) (settings_law_holds m w.il) h.short_il;
+      short_fe = h.short_fe;
+    }
 
--- arrivals
+fe-quiet_times : (w : World) (ci cf : ℕ) (m : Move) → HearsNothing m → cf ≤ when m → TInv w ci cf → TInv (with_fe (move m w.fe) w) ci (when m)
+fe-quiet_times w ci cf m quiet later h =
+    let t = move m w.fe in
+    let makes = makes-move m w.fe quiet in
+    let both : MetIn w → Both ci cf w.il w.fe → Both ci (when m) w.il t =
+    λ s b. swapped (when m) ci t w.il (both-makes cf ci (when m) w.fe t w.il later s.fe_sends s.il_sends (swapped ci cf w.il w.fe b) makes) in
+    record {
+      inv = fe-quiet w m quiet both (λ past. omega (arith, makes.confirmed_at, past)) h.inv;
+      short_il = h.short_il;
+      short_fe = short-same w.fe t (settings_law_holds m w.fe) h.short_fe;
+    }
+
+-- arrivals, and that what they hand up is fresh
 il-arrive_times : (w : World) (ci cf now : ℕ) (p : Pdu) → ci ≤ now → TInv w ci cf → GenuineAt w.il p (drop w.dead_fe w.fe.made) →
-    TimesOf (arrive p now w.il) w.fe w.dead_il w.dead_fe now cf × ((arrive p now w.il).taken ≢ w.il.taken → Fresh w.il p now w.fe.made)
-il-arrive_times w ci cf now p later h genuine = go (now_of w ci cf h)
+    TInv (with_il (arrive p now w.il) w) now cf × ((arrive p now w.il).taken ≢ w.il.taken → Fresh w.il p now w.fe.made)
+il-arrive_times w ci cf now p later h genuine = (
+  record {
+    inv = il-arrive w p now (λ s b. (arrived s b).both) (λ past. past) h.inv genuine;
+    short_il = short-same w.il (arrive p now w.il) (settings_law_holds (Hears p now) w.il) h.short_il;
+    short_fe = h.short_fe;
+  },
+  λ new. elim h.inv.status [
+    | met s b ↦ (arrived s b).fresh new
+    | il_later s ↦ absurd (new (mute-arrive now w.dead_fe p w.il w.fe.made s.mute h.inv.bounded_il s.dead genuine).1.taken)
+    | fe_later s past ↦ absurd (new (unheard-arrive p now w.dead_fe w.il w.fe h.inv.bounded_il s.made genuine).0.taken)
+  ],
+)
   where
-    go : Now w ci cf → TimesOf (arrive p now w.il) w.fe w.dead_il w.dead_fe now cf × ((arrive p now w.il).taken ≢ w.il.taken → Fresh w.il p now w.fe.made)
-    go (at_met s b) =
-        let r = met-arrive ci cf now w.dead_fe p w.il w.fe later (s.solo_il, s.il_sends, s.fe_sends) s.solo_fe h.inv.bounded_il h.inv.bounded_fe h.short_il b
-        genuine in
-        (together r.both, r.fresh)
-    go (at_il s) =
-        let r = mute-arrive now w.dead_fe p w.il w.fe.made s.mute h.inv.bounded_il s.dead genuine in
-        (apart_il (record { mute = r.0; started = s.started; dead = s.dead }), λ new. absurd (new r.1.taken))
-    go (at_fe s) =
-        let r : Lone w.il (arrive p now w.il) =
-        arrive-by (λ t. Lone w.il t) p now w.il (lone-guard now w.il) (λ on meant. absurd (nobody-among p w.dead_fe w.fe.made s.made (genuine on meant))) in
-        (apart_fe (record { connection = s.connection; made = s.made; dead = r.opening w.dead_il s.dead; past = s.past }), λ new. absurd (new r.taken))
+    arrived : MetIn w → Both ci cf w.il w.fe → Arrived ci cf now p w.il (arrive p now w.il) w.fe
+    arrived s b =
+        met-arrive ci cf now w.dead_fe p w.il w.fe later (s.solo_il, s.il_sends, s.fe_sends) s.solo_fe h.inv.bounded_il h.inv.bounded_fe h.short_il b genuine
 
 fe-arrive_times : (w : World) (ci cf now : ℕ) (p : Pdu) → cf ≤ now → TInv w ci cf → GenuineAt w.fe p (drop w.dead_il w.il.made) →
-    TimesOf w.il (arrive p now w.fe) w.dead_il w.dead_fe ci now × ((arrive p now w.fe).taken ≢ w.fe.taken → Fresh w.fe p now w.il.made)
-fe-arrive_times w ci cf now p later h genuine = go (now_of w ci cf h)
+    TInv (with_fe (arrive p now w.fe) w) ci now × ((arrive p now w.fe).taken ≢ w.fe.taken → Fresh w.fe p now w.il.made)
+fe-arrive_times w ci cf now p later h genuine = (
+  record {
+    inv = fe-arrive w p now (λ s b. swapped now ci (arrive p now w.fe) w.il (arrived s b).both) (λ same past. omega (arith, same, past)) h.inv genuine;
+    short_il = h.short_il;
+    short_fe = short-same w.fe (arrive p now w.fe) (settings_law_holds (Hears p now) w.fe) h.short_fe;
+  },
+  λ new. elim h.inv.status [
+    | met s b ↦ (arrived s b).fresh new
+    | il_later s ↦ absurd (new (deaf-arrive now w.dead_il p w.fe w.il.made s.started h.inv.bounded_fe s.mute.quiet genuine).1.taken)
+    | fe_later s past ↦ absurd (new (still-arrive now w.dead_il p w.fe w.il.made s.connection h.inv.bounded_fe s.dead genuine).0.taken)
+  ],
+)
   where
-    go : Now w ci cf → TimesOf w.il (arrive p now w.fe) w.dead_il w.dead_fe ci now × ((arrive p now w.fe).taken ≢ w.fe.taken → Fresh w.fe p now w.il.made)
-    go (at_met s b) =
-        let r = met-arrive cf ci now w.dead_il p w.fe w.il later (s.solo_fe, s.fe_sends, s.il_sends) s.solo_il h.inv.bounded_fe h.inv.bounded_il h.short_fe
-        (swapped ci cf w.il w.fe b) genuine in
-        (together (swapped now ci (arrive p now w.fe) w.il r.both), r.fresh)
-    go (at_il s) =
-        let r = deaf-arrive now w.dead_il p w.fe w.il.made s.started h.inv.bounded_fe s.mute.quiet genuine in
-        (apart_il (record { mute = s.mute; started = r.0; dead = r.1.opening w.dead_fe s.dead }), λ new. absurd (new r.1.taken))
-    go (at_fe s) =
-        let r = still-arrive now w.dead_il p w.fe w.il.made s.connection h.inv.bounded_fe s.dead genuine in
-        (apart_fe (record { connection = r.2; made = r.3 ∙ s.made; dead = s.dead; past = omega (arith, r.4, s.past) }), λ new. absurd (new r.0.taken))
+    arrived : MetIn w → Both ci cf w.il w.fe → Arrived cf ci now p w.fe (arrive p now w.fe) w.il
+    arrived s b =
+        met-arrive cf ci now w.dead_il p w.fe w.il later (s.solo_fe, s.fe_sends, s.il_sends) s.solo_il h.inv.bounded_fe h.inv.bounded_il h.short_fe
+        (swapped ci cf w.il w.fe b) genuine
 
 -- openings
 pub no_index : {P : Type 0} (k : ℕ) (ms : List Made) (m : Made) (rest : List Made) → ms ≡ [] → drop k ms ≡ m ∷ rest → P
@@ -299,139 +233,61 @@ opened-times settings first now cf fe k past =
         let y = only_index j (first_made settings first now) b rb eb in
         omega (arith, ap (λ (m : Made). m.behind) x.0, ap (λ (m : Made). m.behind) y.0)
 
--- a later clock of either end
-il-later_times : (il fe : State) (di df ci cf now : ℕ) → ci ≤ now → TimesOf il fe di df ci cf → TimesOf il fe di df now cf
-il-later_times il fe di df ci cf now later (together b) = together (record { receives = timed-later ci now il fe later b.receives; sends = b.sends })
-il-later_times il fe di df ci cf now later (apart_il s) = apart_il s
-il-later_times il fe di df ci cf now later (apart_fe s) = apart_fe s
-
-fe-later_times : (il fe : State) (di df ci cf now : ℕ) → cf ≤ now → TimesOf il fe di df ci cf → TimesOf il fe di df ci now
-fe-later_times il fe di df ci cf now later (together b) = together (record { receives = b.receives; sends = timed-later cf now fe il later b.sends })
-fe-later_times il fe di df ci cf now later (apart_il s) = apart_il s
-fe-later_times il fe di df ci cf now later (apart_fe s) =
-    apart_fe (record { connection = s.connection; made = s.made; dead = s.dead; past = omega (arith, s.past) })
-
 pub fe-past : (w : World) (ci cf : ℕ) → TInv w ci cf → w.fe.connection ≡ Down → w.fe.confirmed_at ≤ cf
-fe-past w ci cf h down = go (now_of w ci cf h)
-  where
-    go : Now w ci cf → w.fe.confirmed_at ≤ cf
-    go (at_met s b) = b.sends.confirmed_past
-    go (at_il s) = absurd (s.started down)
-    go (at_fe s) = s.past
-
-t-open_il : (settings : Settings) (first now : ℕ) (w : World) (ci cf : ℕ) → ci ≤ now → TInv w ci cf → is_legal settings ≡ true
-    → TInv (open_il settings first now w) now cf
-t-open_il settings first now w ci cf later h legal =
-    record {
-      inv = inv-open_il settings first now w h.inv legal;
-      short_il = (lawful settings legal).t_max_most;
-      short_fe = h.short_fe;
-      times =
-          elim (down_or w.fe.connection) [
-            | inl down ↦ together (opened-times settings first now cf w.fe (h.inv.idle down).0 (fe-past w ci cf h down))
-            | inr on ↦ apart_il (record { mute = mute-il settings first now; started = on; dead = every-drop_all NotOpening w.fe.made })
-          ];
-    }
-
-t-open_fe : (settings : Settings) (first now : ℕ) (w : World) (ci cf : ℕ) → cf ≤ now → TInv w ci cf → is_legal settings ≡ true
-    → TInv (open_fe settings first now w) ci now
-t-open_fe settings first now w ci cf later h legal =
-    record {
-      inv = inv-open_fe settings first now w h.inv legal;
-      short_il = h.short_il;
-      short_fe = (lawful settings legal).t_max_most;
-      times = apart_fe (record { connection = inl refl; made = refl; dead = every-drop_all NotOpening w.il.made; past = omega arith });
-    }
-
-short-same : (s t : State) → t.settings ≡ s.settings → s.settings.t_max ≤ 60000 → t.settings.t_max ≤ 60000
-short-same s t e h = omega (arith, ap (λ (k : Settings). k.t_max) e)
-
-t-il : (w : World) (ci cf now : ℕ) (t : State) → TInv w ci cf → Inv (with_il t w) → t.settings ≡ w.il.settings → TimesOf t w.fe w.dead_il w.dead_fe now cf
-    → TInv (with_il t w) now cf
-t-il w ci cf now t h inv same times = record { inv = inv; short_il = short-same w.il t same h.short_il; short_fe = h.short_fe; times = times }
-
-t-fe : (w : World) (ci cf now : ℕ) (t : State) → TInv w ci cf → Inv (with_fe t w) → t.settings ≡ w.fe.settings → TimesOf w.il t w.dead_il w.dead_fe ci now
-    → TInv (with_fe t w) ci now
-t-fe w ci cf now t h inv same times = record { inv = inv; short_il = h.short_il; short_fe = short-same w.fe t same h.short_fe; times = times }
-
-t-il_lone : (w : World) (ci cf now : ℕ) (t : State) → ci ≤ now → TInv w ci cf → Inv (with_il t w) → Lone w.il t → Makes now w.il t → (Mute w.il → Mute t)
-    → TInv (with_il t w) now cf
-t-il_lone w ci cf now t later h inv l m mute = t-il w ci cf now t h inv l.settings (il-lone_times w ci cf now t later h l m mute)
-
-t-fe_lone : (w : World) (ci cf now : ℕ) (t : State) → cf ≤ now → TInv w ci cf → Inv (with_fe t w) → Lone w.fe t → Makes now w.fe t → TInv (with_fe t w) ci now
-t-fe_lone w ci cf now t later h inv l m = t-fe w ci cf now t h inv l.settings (fe-lone_times w ci cf now t later h l m)
-
-pub makes-tick : (now : ℕ) (s : State) → Makes now s (tick now s)
-makes-tick now s = makes-then now s (guard now s) (tick now s) (makes-guard now s) (makes-heartbeat now (guard now s))
+fe-past w ci cf h down = grind arith
 
 -- Every event keeps the times, and what it takes is fresh.
 t-changed : (w : World) (e : Event) (ci cf : ℕ) → TInv w ci cf → GenuineEvent w e → at_end (event_end e) ci cf ≤ event_time e →
     TInv (changed w e) (at_end (event_end e) (event_time e) ci) (at_end (event_end e) cf (event_time e)) × FreshEvent w e
 t-changed w (Open Il settings first now) ci cf h g later = (
   cond_both (is_legal settings) (open_il settings first now w) w (λ v. TInv v now cf)
-      (λ legal. t-open_il settings first now w ci cf later h legal)
-      (λ _. record { inv = h.inv; short_il = h.short_il; short_fe = h.short_fe; times = il-later_times w.il w.fe w.dead_il w.dead_fe ci cf now later h.times }),
+      (λ legal. record {
+        inv = inv-open_il settings first now w h.inv legal
+            (λ down. opened-times settings first now cf w.fe (h.inv.idle down).0 (fe-past w ci cf h down));
+        short_il = (lawful settings legal).t_max_most;
+        short_fe = h.short_fe;
+      })
+      (λ _. record {
+        inv = inv-same w (λ b. record { receives = timed-later ci now w.il w.fe later b.receives; sends = b.sends }) (λ past. past) h.inv;
+        short_il = h.short_il;
+        short_fe = h.short_fe;
+      }),
   tt,
 )
 t-changed w (Open Fe settings first now) ci cf h g later = (
   cond_both (is_legal settings) (open_fe settings first now w) w (λ v. TInv v ci now)
-      (λ legal. t-open_fe settings first now w ci cf later h legal)
-      (λ _. record { inv = h.inv; short_il = h.short_il; short_fe = h.short_fe; times = fe-later_times w.il w.fe w.dead_il w.dead_fe ci cf now later h.times }),
+      (λ legal. record {
+        inv = inv-open_fe settings first now w h.inv legal (omega arith);
+        short_il = h.short_il;
+        short_fe = (lawful settings legal).t_max_most;
+      })
+      (λ _. record {
+        inv = inv-same w (λ b. record { receives = b.receives; sends = timed-later cf now w.fe w.il later b.sends }) (λ past. omega (arith, past)) h.inv;
+        short_il = h.short_il;
+        short_fe = h.short_fe;
+      }),
   tt,
 )
-t-changed w (Send Il unit now) ci cf h g later = (
-  t-il_lone w ci cf now (send unit now w.il) later h (inv-event w (Send Il unit now) h.inv g) (lone-send unit now w.il h.inv.bounded_il)
-      (makes-send unit now w.il) (mute-send unit now w.il),
-  tt,
-)
-t-changed w (Send Fe unit now) ci cf h g later = (
-  t-fe_lone w ci cf now (send unit now w.fe) later h (inv-event w (Send Fe unit now) h.inv g) (lone-send unit now w.fe h.inv.bounded_fe)
-      (makes-send unit now w.fe),
-  tt,
-)
-t-changed w (Close Il reason detail now) ci cf h g later = (
-  t-il_lone w ci cf now (leave reason detail now w.il) later h (inv-event w (Close Il reason detail now) h.inv g) (lone-leave reason detail now w.il)
-      (makes-leave reason detail now w.il) (mute-leave reason detail now w.il),
-  tt,
-)
-t-changed w (Close Fe reason detail now) ci cf h g later = (
-  t-fe_lone w ci cf now (leave reason detail now w.fe) later h (inv-event w (Close Fe reason detail now) h.inv g) (lone-leave reason detail now w.fe)
-      (makes-leave reason detail now w.fe),
-  tt,
-)
-t-changed w (Guard Il now) ci cf h g later =
-    (t-il_lone w ci cf now (guard now w.il) later h (inv-event w (Guard Il now) h.inv g) (lone-guard now w.il) (makes-guard now w.il) (mute-guard now w.il), tt)
-t-changed w (Guard Fe now) ci cf h g later =
-    (t-fe_lone w ci cf now (guard now w.fe) later h (inv-event w (Guard Fe now) h.inv g) (lone-guard now w.fe) (makes-guard now w.fe), tt)
-t-changed w (Tick Il now) ci cf h g later = (
-  t-il_lone w ci cf now (tick now w.il) later h (inv-event w (Tick Il now) h.inv g) (lone-tick now w.il h.inv.bounded_il) (makes-tick now w.il)
-      (mute-tick now w.il),
-  tt,
-)
-t-changed w (Tick Fe now) ci cf h g later =
-    (t-fe_lone w ci cf now (tick now w.fe) later h (inv-event w (Tick Fe now) h.inv g) (lone-tick now w.fe h.inv.bounded_fe) (makes-tick now w.fe), tt)
-t-changed w (Arrive Il p now) ci cf h g later =
-    let r = il-arrive_times w ci cf now p later h g in
-    (t-il w ci cf now (arrive p now w.il) h (inv-event w (Arrive Il p now) h.inv g) (arrive-settings p now w.il) r.0, r.1)
-t-changed w (Arrive Fe p now) ci cf h g later =
-    let r = fe-arrive_times w ci cf now p later h g in
-    (t-fe w ci cf now (arrive p now w.fe) h (inv-event w (Arrive Fe p now) h.inv g) (arrive-settings p now w.fe) r.0, r.1)
+t-changed w (Send Il unit now) ci cf h g later = (il-quiet_times w ci cf (Sends unit now) tt later h, tt)
+t-changed w (Send Fe unit now) ci cf h g later = (fe-quiet_times w ci cf (Sends unit now) tt later h, tt)
+t-changed w (Close Il reason detail now) ci cf h g later = (il-quiet_times w ci cf (LeavesNow reason detail now) tt later h, tt)
+t-changed w (Close Fe reason detail now) ci cf h g later = (fe-quiet_times w ci cf (LeavesNow reason detail now) tt later h, tt)
+t-changed w (Guard Il now) ci cf h g later = (il-quiet_times w ci cf (Guards now) tt later h, tt)
+t-changed w (Guard Fe now) ci cf h g later = (fe-quiet_times w ci cf (Guards now) tt later h, tt)
+t-changed w (Tick Il now) ci cf h g later = (il-quiet_times w ci cf (Ticks now) tt later h, tt)
+t-changed w (Tick Fe now) ci cf h g later = (fe-quiet_times w ci cf (Ticks now) tt later h, tt)
+t-changed w (Arrive Il p now) ci cf h g later = il-arrive_times w ci cf now p later h g
+t-changed w (Arrive Fe p now) ci cf h g later = fe-arrive_times w ci cf now p later h g
 
 -- the noted times are not a matter of the invariant
 pub t-event : (w : World) (e : Event) (ci cf : ℕ) → TInv w ci cf → GenuineEvent w e → at_end (event_end e) ci cf ≤ event_time e →
     TInv (happens w e) (at_end (event_end e) (event_time e) ci) (at_end (event_end e) cf (event_time e)) × FreshEvent w e
 t-event w e ci cf h g later =
     let r = t-changed w e ci cf h g later in
-    (record { inv = r.0.inv; short_il = r.0.short_il; short_fe = r.0.short_fe; times = r.0.times }, r.1)
+    (record { inv = r.0.inv; short_il = r.0.short_il; short_fe = r.0.short_fe }, r.1)
 
 pub t-start : TInv start 0 0
-t-start =
-    record {
-      inv = inv-start;
-      short_il = omega arith;
-      short_fe = omega arith;
-      times = apart_il (record { mute = record { client = refl; connection = inr refl; taken = refl; quiet = tt }; started = λ e. cc; dead = tt });
-    }
+t-start = record { inv = inv-start; short_il = omega arith; short_fe = omega arith }
 
 t-run : (events : List Event) (w : World) → TInv w w.clock_il w.clock_fe → Genuine events w → Timely events w → AllFresh events w
 t-run [] w h g k = tt
@@ -450,3 +306,237 @@ fresh-last (a ∷ es) e w h = fresh-last es e (happens w a) h.1
 
 pub fresh_at_last_law_holds : FreshAtLastLaw
 fresh_at_last_law_holds events e genuine timely = fresh-last events e start (fresh_law_holds (events ++ e ∷ []) genuine timely)
+
+-- From the law over all ends that ever stood to that over the incarnations, which are those that were opened.
+
+-- a list without its last entry
+length-front : {A : Type 0} (x : A) (xs : List A) → length (take (length xs) (x ∷ xs)) ≡ length xs
+length-front x [] = refl
+length-front x (y ∷ ys) = ap suc (length-front y ys)
+
+differ : (a b : ℕ) → a ≢ b → (a == b) ≡ false
+differ a b h = grind (arith, nat_tests, h)
+
+-- the same incarnation by its number
+found : (x : State) (xs : List State) (number : ℕ) → 1 ≤ number → incarnation (x ∷ xs) number ≡ Public.incarnation (take (length xs) (x ∷ xs)) number
+found x [] number late = ap (λ (t : Bool). if t then Some x else None) (differ number 0 (omega (arith, late)))
+found x (y ∷ ys) number late =
+    let count : length (y ∷ ys) ≡ length (take (length ys) (y ∷ ys)) + 1 = omega (arith, length-front y ys) in
+    ap (λ (n : ℕ). if number == n then Some x else incarnation (y ∷ ys) number) count
+    ∙ ap (λ o. if number == length (take (length ys) (y ∷ ys)) + 1 then Some x else o) (found y ys number late)
+
+-- nobody is joined to what stood there before the first opening
+abbrev pub Late : Option ℕ → Type 0
+Late None = Unit {0}
+Late (Some number) = 1 ≤ number
+
+abbrev pub AllLate : List Served → Type 0
+AllLate [] = Unit {0}
+AllLate (f ∷ fs) = Late f.joined × AllLate fs
+
+takes : (x : State) (xs : List State) (fe : State) (joined : Option ℕ) → Late joined → TakesBeginnings (x ∷ xs) fe joined
+    → Public.TakesBeginnings (take (length xs) (x ∷ xs)) fe joined
+takes x xs fe joined late h = grind (arith, found)
+
+all-takes : (x : State) (xs : List State) (fs : List Served) (n : ℕ) → AllLate fs → AllTakeBeginnings (x ∷ xs) fs
+    → Public.AllTakeBeginnings (take (length xs) (x ∷ xs)) (take n fs)
+all-takes x xs [] zero late h = tt
+all-takes x xs [] (suc n) late h = tt
+all-takes x xs (f ∷ fs) zero late h = tt
+all-takes x xs (f ∷ fs) (suc n) late h = (takes x xs f.machine f.joined late.0 h.0, all-takes x xs fs n late.1 h.1)
+
+falls-take : (bound n : ℕ) (fs : List Served) → JoinsFall bound fs → JoinsFall bound (take n fs)
+falls-take bound zero fs h = tt
+falls-take bound (suc n) [] h = tt
+falls-take bound (suc n) (f ∷ fs) h = (h.0, falls-take (next_bound bound f.joined) n fs h.1)
+
+-- what stood there before the first opening: the last of the lists
+abbrev pub LastIl : State → List State → Type 0
+LastIl s [] = s ≡ unopened
+LastIl s (t ∷ ts) = LastIl t ts
+
+abbrev pub LastFe : Served → List Served → Type 0
+LastFe f [] = (f.machine ≡ unopened) × (f.joined ≡ None)
+LastFe f (g ∷ gs) = LastFe g gs
+
+is-joined : (number : ℕ) (f : Served) (fs : List Served) → LastFe f fs → IsJoined number (f ∷ fs) → IsJoined number (take (length fs) (f ∷ fs))
+is-joined number f [] last (inl e) = absurd (none-some (sym last.1 ∙ e))
+  where
+    none-some : None ≡ Some number → ⊥
+    none-some e = cc
+is-joined number f [] last (inr h) = absurd h
+is-joined number f (g ∷ gs) last (inl e) = inl e
+is-joined number f (g ∷ gs) last (inr h) = inr (is-joined number g gs last h)
+
+only : (f : Served) (fs : List Served) (x : State) (xs : List State) → LastFe f fs → OnlyJoinedTake (f ∷ fs) (x ∷ xs)
+    → Public.OnlyJoinedTake (take (length fs) (f ∷ fs)) (take (length xs) (x ∷ xs))
+only f fs x [] last h = tt
+only f fs x (y ∷ ys) last h =
+    let count : length (y ∷ ys) ≡ length (take (length ys) (y ∷ ys)) + 1 = omega (arith, length-front y ys) in (
+      elim h.0 [
+        | inl none ↦ inl none
+        | inr is ↦ inr (subst (λ (n : ℕ). IsJoined n (take (length fs) (f ∷ fs))) count (is-joined (length (y ∷ ys)) f fs last is))
+      ],
+      only f fs y ys last h.1,
+    )
+
+taken-same : (number : ℕ) (f : Served) (fs : List Served) → LastFe f fs → taken_from_il number (f ∷ fs) ≡ taken_from_il number (take (length fs) (f ∷ fs))
+taken-same number f [] last = ap (λ o. if is_number number o then length f.machine.taken else 0) last.1
+taken-same number f (g ∷ gs) last = ap (λ (n : ℕ). if is_number number f.joined then length f.machine.taken else n) (taken-same number g gs last)
+
+taken-found : (x : State) (xs : List State) (joined : Option ℕ) → Late joined → taken_from_fe (x ∷ xs) joined ≡ Public.taken_from_fe (take (length xs) (x ∷ xs))
+    joined
+taken-found x xs joined late = grind (arith, found)
+
+-- The lists are so in every world.
+abbrev pub entry : World → Served
+entry w = record { machine = w.fe; joined = w.joined }
+
+pub record Shaped (w : World) : Type 0 where
+  pub il : LastIl w.il w.il_before
+  pub fe : LastFe (entry w) w.fe_before
+  pub late : AllLate (entry w ∷ w.fe_before)
+
+shaped-law : (w : World) → Lawful w → Shaped w → Public.Law w
+shaped-law w h s = grind (arith, all-takes, length-front, falls-take, only)
+
+shaped-losses : (w : World) → Lawful w → Shaped w → Public.LosesNothing w
+shaped-losses w h s =
+    record {
+      from_il = λ on.
+          subst (λ (n : ℕ). length (units w.il.made) ≤ n + length (unconfirmed w.il))
+          (taken-same (length w.il_before) (entry w) w.fe_before s.fe
+          ∙ ap (λ (n : ℕ). taken_from_il n (take (length w.fe_before) (entry w ∷ w.fe_before))) (sym (length-front w.il w.il_before)))
+          (h.loses_nothing.from_il on);
+      from_fe = λ on.
+          subst (λ (n : ℕ). length (units w.fe.made) ≤ n + length (unconfirmed w.fe)) (taken-found w.il w.il_before w.joined s.late.0)
+          (h.loses_nothing.from_fe on);
+    }
+
+il-moved : (m : Move) (s : State) (before : List State) → LastIl s before → LastIl (move m s) before
+il-moved m s [] e = (moves_law_holds m s).closed (ap (λ t. t.connection) e) ∙ e
+il-moved m s (b ∷ bs) h = h
+
+among-none : (n : ℕ) (p : Pdu) → Among p (drop n []) → ⊥
+among-none n p h = grind arith
+
+-- who has made a PDU was opened
+was-opened : (n : ℕ) (p : Pdu) (s : State) (before : List State) → LastIl s before → Among p (drop n s.made) → 1 ≤ length before
+was-opened n p s [] e h = absurd (among-none n p (subst (λ t. Among p (drop n t.made)) e h))
+was-opened n p s (b ∷ bs) e h = omega arith
+
+-- An arrival that starts a connection is of a PDU that the present interlocking has made.
+abbrev came : Move → World → Type 0
+came (Hears p now) w = GenuineAt w.fe p (drop w.dead_il w.il.made)
+came _ w = Unit {0}
+
+starts-late : (m : Move) (w : World) → Shaped w → came m w → joins w.fe.connection (move m w.fe).connection ≡ true → 1 ≤ length w.il_before
+starts-late m w s g e = grind (arith, joins-down, was-opened)
+
+fe-moved : (m : Move) (w : World) → Shaped w → came m w → Shaped (with_fe (move m w.fe) w)
+fe-moved m w s g =
+    let t = move m w.fe in
+    record {
+      il = s.il;
+      fe = last w.fe_before s.fe;
+      late = (
+        cond_both (joins w.fe.connection t.connection) (Some (length w.il_before)) w.joined Late (λ e. starts-late m w s g e) (λ _. s.late.0),
+        s.late.1,
+      );
+    }
+  where
+    last : (before : List Served) → LastFe (entry w) before → LastFe (entry (with_fe (move m w.fe) w)) before
+    last [] e =
+        let closed : w.fe.connection ≡ Closed = ap (λ x. x.connection) e.0 in (
+          (moves_law_holds m w.fe).closed closed ∙ e.0,
+          ap (λ c. if joins c (move m w.fe).connection then Some (length w.il_before) else w.joined) closed ∙ e.1,
+        )
+    last (f ∷ fs) h = h
+
+il-step : (m : Move) (w : World) → Shaped w → Shaped (with_il (move m w.il) w)
+il-step m w s = record { il = il-moved m w.il w.il_before s.il; fe = s.fe; late = s.late }
+
+shaped-changed : (w : World) (e : Event) → Shaped w → GenuineEvent w e → Shaped (changed w e)
+shaped-changed w (Open Il settings first now) s g =
+    cond_both (is_legal settings) (open_il settings first now w) w Shaped (λ _. record { il = s.il; fe = s.fe; late = s.late }) (λ _. s)
+shaped-changed w (Open Fe settings first now) s g =
+    cond_both (is_legal settings) (open_fe settings first now w) w Shaped (λ _. record { il = s.il; fe = s.fe; late = (tt, s.late) }) (λ _. s)
+shaped-changed w (Send Il unit now) s g = il-step (Sends unit now) w s
+shaped-changed w (Send Fe unit now) s g = fe-moved (Sends unit now) w s tt
+shaped-changed w (Close Il reason detail now) s g = il-step (LeavesNow reason detail now) w s
+shaped-changed w (Close Fe reason detail now) s g = fe-moved (LeavesNow reason detail now) w s tt
+shaped-changed w (Guard Il now) s g = il-step (Guards now) w s
+shaped-changed w (Guard Fe now) s g = fe-moved (Guards now) w s tt
+shaped-changed w (Tick Il now) s g = il-step (Ticks now) w s
+shaped-changed w (Tick Fe now) s g = fe-moved (Ticks now) w s tt
+shaped-changed w (Arrive Il p now) s g = il-step (Hears p now) w s
+shaped-changed w (Arrive Fe p now) s g = fe-moved (Hears p now) w s g
+
+shaped-event : (w : World) (e : Event) → Shaped w → GenuineEvent w e → Shaped (happens w e)
+shaped-event w e s g = let h = shaped-changed w e s g in record { il = h.il; fe = h.fe; late = h.late }
+
+shaped-run : (events : List Event) (w : World) → Shaped w → Genuine events w → Shaped (run events w)
+shaped-run [] w s g = s
+shaped-run (e ∷ es) w s g = shaped-run es (happens w e) (shaped-event w e s g.0) g.1
+
+shaped-start : Shaped start
+shaped-start = record { il = refl; fe = (refl, refl); late = (tt, tt) }
+
+-- The laws.
+pub unit_law_holds : UnitLaw
+unit_law_holds events genuine = shaped-law (run events start) (inv-run events start inv-start genuine) (shaped-run events start shaped-start genuine)
+
+pub loss_law_holds : LossLaw
+loss_law_holds events genuine = shaped-losses (run events start) (inv-run events start inv-start genuine) (shaped-run events start shaped-start genuine)
+
+genuine-last : (events : List Event) (e : Event) (w : World) → Genuine (events ++ e ∷ []) w → GenuineEvent (run events w) e
+genuine-last [] e w h = h.0
+genuine-last (a ∷ es) e w h = genuine-last es e (happens w a) h.1
+
+among-drop : (n : ℕ) (p : Pdu) (ms : List Made) → Among p (drop n ms) → Among p ms
+among-drop zero p ms h = h
+among-drop (suc n) p [] h = h
+among-drop (suc n) p (m ∷ ms) h = inr (among-drop n p ms h)
+
+joins-event : (w : World) (e : Event) → GenuineEvent w e → Public.JoinsEvent w e
+joins-event w e g = grind (arith, among-drop)
+
+pub joined_law_holds : JoinedLaw
+joined_law_holds events e genuine = joins-event (run events start) e (genuine-last events e start genuine)
+
+-- One event more, at the end of a list.
+leads-more : (es : List Event) (e : Event) (w : World) → run (es ++ e ∷ []) w ≡ happens (run es w) e
+leads-more [] e w = refl
+leads-more (d ∷ es) e w = leads-more es e (happens w d)
+
+genuine-more : (es : List Event) (e : Event) (w : World) → Genuine es w → GenuineEvent (run es w) e → Genuine (es ++ e ∷ []) w
+genuine-more [] e w h g = (g, tt)
+genuine-more (d ∷ es) e w h g = (h.0, genuine-more es e (happens w d) h.1 g)
+
+timely-more : (es : List Event) (e : Event) (w : World) → Timely es w → TimelyEvent (run es w) e → Timely (es ++ e ∷ []) w
+timely-more [] e w h t = (t, tt)
+timely-more (d ∷ es) e w h t = (h.0, timely-more es e (happens w d) h.1 t)
+
+in_order-more : (es : List Event) (e : Event) (il fe : ℕ) (w : World) → InOrder il fe es w
+    → InOrderEvent (all_heard_by_il es il) (all_heard_by_fe es fe) (run es w) e → InOrder il fe (es ++ e ∷ []) w
+in_order-more [] e il fe w h k = (k, tt)
+in_order-more (d ∷ es) e il fe w h k = (h.0, in_order-more es e (heard_by_il d il) (heard_by_fe d fe) (happens w d) h.1 k)
+
+il-heard-more : (es : List Event) (e : Event) (n : ℕ) → all_heard_by_il (es ++ e ∷ []) n ≡ heard_by_il e (all_heard_by_il es n)
+il-heard-more [] e n = refl
+il-heard-more (d ∷ es) e n = il-heard-more es e (heard_by_il d n)
+
+fe-heard-more : (es : List Event) (e : Event) (n : ℕ) → all_heard_by_fe (es ++ e ∷ []) n ≡ heard_by_fe e (all_heard_by_fe es n)
+fe-heard-more [] e n = refl
+fe-heard-more (d ∷ es) e n = fe-heard-more es e (heard_by_fe d n)
+
+one-close : (b : Bool) → cond b true false ≡ b
+one-close b = grind arith
+
+closes-more : (es : List Event) (e : Event) → has_close (es ++ e ∷ []) ≡ cond (has_close es) true (is_close e)
+closes-more [] e = one-close (is_close e)
+closes-more (d ∷ es) e = by_test (λ b. cond b true (has_close (es ++ e ∷ [])) ≡ cond (cond b true (has_close es)) true (is_close e)) (is_close d) (λ _. refl)
+    (λ _. closes-more es e)
+
+pub one_more_law_holds : OneMoreLaw
+one_more_law_holds es e = grind (arith, leads-more, genuine-more, timely-more, in_order-more, il-heard-more, fe-heard-more, closes-more)

@@ -1,16 +1,133 @@
--- The three ways in which the present incarnations can stand to each other.
-use Rattle.safe_machine.proofs.Words.{◌≡◌, ◌≢◌, ◌⊎◌, inl, inr, ℕ, ◌+◌, List, [], ◌∷◌, drop, Option, Some, None, Bool, true, false, refl, sym, ap, subst, ◌∙◌}
-use Rattle.safe_machine.proofs.Words.{arith, false≢true, DiscReq, ConnectionState, Closed, Down, Start, Pdu, Made, units, leaving_body, State, next_made}
-use Rattle.safe_machine.proofs.Words.{move_to, leave, Decision, decide, Nothing, Drops, Shuts, Leaves, Rejects, Accepts, Connects, AnswersNext, AnswersEarly}
-use Rattle.safe_machine.proofs.Words.{guard, respond, arrive, carry_out, tick, send, Served, GenuineAt, JoinsFall, Reason, Detail, is_live, in_turn}
-use Rattle.safe_machine.proofs.Words.{is_connected, kept_of}
-use Rattle.safe_machine.proofs.one.Runs.{Every, every-at, every-push}
+-- How the present incarnations can stand to each other, and what each step leaves of that.
+use Rattle.safe_machine.proofs.Words.{◌==◌, MatchOption, if◌then◌else◌, IsBeginning, Closed, units, State, unconfirmed, Served, JoinsFall, IsJoined}
+use Rattle.safe_machine.proofs.Words.{taken_from_il, taken_count, ℕ, ◌+◌, ◌≡◌, ◌≢◌, ◌≤◌, ◌⊎◌, Option, Some, None, List, [], ◌∷◌, length, inl, inr, Bool, false}
+use Rattle.safe_machine.proofs.Words.{refl, sym, ap, subst, ◌∙◌, arith, eq-eqb, eqb_tells, JoinedBelow, next_bound, drop, true, false≢true, ConnectionState}
+use Rattle.safe_machine.proofs.Words.{Down, Start, Pdu, Made, move_to, leave, Decision, decide, arrive, carry_out, GenuineAt, Reason, Detail, is_live, in_turn}
+use Rattle.safe_machine.proofs.Words.{is_connected, kept_of, ◌++◌, length-append, append-nil, Kind, first_sent, Move, ConnReq, HearsNothing, ConnResp, move}
+use Rattle.safe_machine.proofs.two.Lone.{Lone, beginning_trans, lone-refl, lone-leave, lone-closed, among-dropped}
+use Rattle.safe_machine.proofs.one.Runs.{Every, every-at, every-push, leave-cases, closed≢down, quiet-cases, arrive-cases, when, every-drop}
 use Rattle.safe_machine.proofs.two.Invariant.{is_opening, needs_peer, NotOpening, Solo, Half}
-use Rattle.safe_machine.proofs.one.Deciding.{Fits, listens, decide-fits}
-use Rattle.safe_machine.proofs.one.Counting.{Bounded, bounded-guard, bounded-leave, bounded-closed}
-use Rattle.safe_machine.proofs.two.Lone.{Lone, lone-refl, lone-trans, lone-leave, lone-guard, lone-closed, arrive-by, among-dropped}
-use Rattle.safe_machine.proofs.one.StepCases.{leave-cases, guard-cases, guard-idle, heartbeat-cases, send-cases}
-use Rattle.safe_machine.proofs.one.ConnectionFacts.{closed≢down}
+use Rattle.safe_machine.proofs.one.Deciding.{Fits, listens, decide-fits, Bounded, bounded-leave, bounded-closed, run_of-shrinks}
+
+-- The law over all ends that ever stood, with the end before its first opening as number 0 and last of its list.
+
+-- the incarnation with this number, counted from 0
+abbrev pub incarnation : List State → ℕ → Option State
+incarnation [] number = None
+incarnation (s ∷ before) number = if number == length before then Some s else incarnation before number
+
+-- An incarnation of the field element without a joined has taken nothing;
+-- with one, each has taken a beginning of the units that the other sent.
+abbrev pub TakesBeginnings : List State → State → Option ℕ → Type 0
+TakesBeginnings ils fe None = fe.taken ≡ []
+TakesBeginnings ils fe (Some number) =
+    MatchOption (incarnation ils number) ⊥ (λ il. IsBeginning fe.taken (units il.made) × IsBeginning il.taken (units fe.made))
+
+abbrev pub AllTakeBeginnings : List State → List Served → Type 0
+AllTakeBeginnings ils [] = Unit {0}
+AllTakeBeginnings ils (f ∷ fs) = TakesBeginnings ils f.machine f.joined × AllTakeBeginnings ils fs
+
+abbrev pub OnlyJoinedTake : List Served → List State → Type 0
+OnlyJoinedTake fes [] = Unit {0}
+OnlyJoinedTake fes (s ∷ before) = ((s.taken ≡ []) ⊎ IsJoined (length before) fes) × OnlyJoinedTake fes before
+
+pub record LawOf (ils : List State) (fes : List Served) : Type 0 where
+  pub beginnings : AllTakeBeginnings ils fes
+  pub joins_fall : JoinsFall (length ils) fes
+  pub only_joined : OnlyJoinedTake fes ils
+
+abbrev pub taken_from_fe : List State → Option ℕ → ℕ
+taken_from_fe ils None = 0
+taken_from_fe ils (Some number) = taken_count (incarnation ils number)
+
+pub record LosesNothingOf (il : State) (il_before : List State) (fe : State) (joined : Option ℕ) (fe_before : List Served) : Type 0 where
+  pub from_il : il.connection ≢ Closed → length (units il.made) ≤ taken_from_il (length il_before) (record { machine = fe; joined = joined } ∷ fe_before)
+      + length (unconfirmed il)
+  pub from_fe : fe.connection ≢ Closed → length (units fe.made) ≤ taken_from_fe (il ∷ il_before) joined + length (unconfirmed fe)
+
+-- The law over the lists of incarnations: what an opening and a step change.
+abbrev pub Linked : State → State → Type 0
+Linked fe il = IsBeginning fe.taken (units il.made) × IsBeginning il.taken (units fe.made)
+
+-- the incarnation with the greatest number is the latest
+pub latest : (s : State) (before : List State) → incarnation (s ∷ before) (length before) ≡ Some s
+latest s before = ap (λ (b : Bool). if b then Some s else incarnation before (length before)) (eq-eqb (length before) (length before) refl)
+
+-- the present pair
+pub linked-latest : (il fe : State) (before : List State) → Linked fe il → TakesBeginnings (il ∷ before) fe (Some (length before))
+linked-latest il fe before h = subst (λ (o : Option State). MatchOption o ⊥ (λ g. Linked fe g)) (sym (latest il before)) h
+
+linked-of : (il fe : State) (before : List State) → TakesBeginnings (il ∷ before) fe (Some (length before)) → Linked fe il
+linked-of il fe before h = subst (λ (o : Option State). MatchOption o ⊥ (λ g. Linked fe g)) (latest il before) h
+
+-- an earlier joined does not depend on what is the latest
+pub takes-other : (s t : State) (before : List State) (fe : State) (p : Option ℕ) → JoinedBelow (length before) p → TakesBeginnings (s ∷ before) fe p
+    → TakesBeginnings (t ∷ before) fe p
+takes-other s t before fe p below h = grind arith
+
+pub takes-pushed : (t : State) (ils : List State) (fe : State) (p : Option ℕ) → JoinedBelow (length ils) p → TakesBeginnings ils fe p
+    → TakesBeginnings (t ∷ ils) fe p
+takes-pushed t ils fe p below h = grind arith
+
+-- the interlocking takes nothing and sends more
+pub takes-il_lone : (s t : State) (before : List State) (fe : State) (p : Option ℕ) → JoinedBelow (length before + 1) p → Lone s t
+    → TakesBeginnings (s ∷ before) fe p → TakesBeginnings (t ∷ before) fe p
+takes-il_lone s t before fe None below l h = h
+takes-il_lone s t before fe (Some number) below l h =
+    elim (eqb_tells number (length before)) [
+      | inl same ↦
+          let at_latest : TakesBeginnings (s ∷ before) fe (Some (length before)) = subst (λ (n : ℕ). TakesBeginnings (s ∷ before) fe (Some n)) same.1 h in
+          let k = linked-of s fe before at_latest in
+          let after : TakesBeginnings (t ∷ before) fe (Some (length before)) =
+          linked-latest t fe before (
+            beginning_trans fe.taken (units s.made) (units t.made) k.0 l.longer,
+            subst (λ us. IsBeginning us (units fe.made))
+                (sym l.taken) k.1,
+          ) in
+          subst (λ (n : ℕ). TakesBeginnings (t ∷ before) fe (Some n)) (sym same.1) after
+      | inr other ↦ takes-other s t before fe (Some number) (omega (arith, other.1)) h
+    ]
+
+-- the field element takes nothing and sends more
+pub takes-fe_lone : (ils : List State) (s t : State) (p : Option ℕ) → Lone s t → TakesBeginnings ils s p → TakesBeginnings ils t p
+takes-fe_lone ils s t None l h = l.taken ∙ h
+takes-fe_lone ils s t (Some number) l h = with_il (incarnation ils number) h
+  where
+    with_il : (o : Option State) → MatchOption o ⊥ (λ g. Linked s g) → MatchOption o ⊥ (λ g. Linked t g)
+    with_il None k = k
+    with_il (Some g) k = (subst (λ us. IsBeginning us (units g.made)) (sym l.taken) k.0, beginning_trans g.taken (units s.made) (units t.made) k.1 l.longer)
+
+-- lists of such
+pub below-more : (a b : ℕ) (p : Option ℕ) → a ≤ b → JoinedBelow a p → JoinedBelow b p
+below-more a b p h k = grind arith
+
+fall-joined : (a b : ℕ) (fs : List Served) (p : Option ℕ) → (JoinsFall a fs → JoinsFall b fs) → JoinsFall (next_bound a p) fs → JoinsFall (next_bound b p) fs
+fall-joined a b fs p f m = grind arith
+
+pub fall-more : (a b : ℕ) (fes : List Served) → a ≤ b → JoinsFall a fes → JoinsFall b fes
+fall-more a b [] h k = tt
+fall-more a b (f ∷ fs) h k = (below-more a b f.joined h k.0, fall-joined a b fs f.joined (λ m. fall-more a b fs h m) k.1)
+
+bound-le : (bound : ℕ) (p : Option ℕ) → JoinedBelow bound p → next_bound bound p ≤ bound
+bound-le bound p h = grind arith
+
+-- what each entry with a joined below the bound keeps, all keep
+pub all-takes : (ils ils' : List State) (bound : ℕ) (fes : List Served) → JoinsFall bound fes →
+    ((fe : State) (p : Option ℕ) → JoinedBelow bound p → TakesBeginnings ils fe p → TakesBeginnings ils' fe p) →
+    AllTakeBeginnings ils fes → AllTakeBeginnings ils' fes
+all-takes ils ils' bound [] fall f h = tt
+all-takes ils ils' bound (e ∷ es) fall f h =
+    let rest : JoinsFall bound es = fall-more (next_bound bound e.joined) bound es (bound-le bound e.joined fall.0) fall.1 in
+    (f e.machine e.joined fall.0 h.0, all-takes ils ils' bound es rest f h.1)
+
+-- joined ones that stay joined ones
+pub only-weaken : (fes fes' : List Served) (ils : List State) → ((number : ℕ) → IsJoined number fes → IsJoined number fes') → OnlyJoinedTake fes ils
+    → OnlyJoinedTake fes' ils
+only-weaken fes fes' [] f h = tt
+only-weaken fes fes' (s ∷ before) f h =
+    (elim h.0 [ inl none ↦ inl none | inr is ↦ inr (f (length before) is) ], only-weaken fes fes' before f h.1)
+
+-- The three ways in which the present incarnations can stand to each other.
 
 -- a field element that has not joined
 abbrev pub Settled : State → Type 0
@@ -55,10 +172,11 @@ pub record FeLater (index : ℕ) (il fe : State) (joined : Option ℕ) (fe_befor
   pub none : joined ≡ None
   pub falls : JoinsFall (index + 1) fe_before
 
-pub data Status (index : ℕ) (il fe : State) (joined : Option ℕ) (fe_before : List Served) (dead_il dead_fe : ℕ) : Type 0 where
-  met : Met index il fe joined fe_before → Status index il fe joined fe_before dead_il dead_fe
-  il_later : IlLater index il fe joined fe_before dead_fe → Status index il fe joined fe_before dead_il dead_fe
-  fe_later : FeLater index il fe joined fe_before dead_il → Status index il fe joined fe_before dead_il dead_fe
+-- One of the three, with T of two that have met, and P of a field element that was opened later.
+pub data Status (T P : Type 0) (index : ℕ) (il fe : State) (joined : Option ℕ) (fe_before : List Served) (dead_il dead_fe : ℕ) : Type 0 where
+  met : Met index il fe joined fe_before → T → Status T P index il fe joined fe_before dead_il dead_fe
+  il_later : IlLater index il fe joined fe_before dead_fe → Status T P index il fe joined fe_before dead_il dead_fe
+  fe_later : FeLater index il fe joined fe_before dead_il → P → Status T P index il fe joined fe_before dead_il dead_fe
 
 -- a field element in Down is as it was opened
 pub record Untouched (s : State) : Type 0 where
@@ -70,141 +188,123 @@ pub record Untouched (s : State) : Type 0 where
 
 -- a mute interlocking
 mute-deaf : (connection : ConnectionState) (client : Bool) → client ≡ true → (connection ≡ Start) ⊎ (connection ≡ Closed) → listens connection client ≡ false
-mute-deaf Start true c h = refl
-mute-deaf Start false c h = cc
-mute-deaf Closed client c h = refl
-mute-deaf Down client c h = refl
-mute-deaf _ client c (inl h) = cc
-mute-deaf _ client c (inr h) = cc
+mute-deaf connection client c h = grind arith
 
 mute-not_connected : (connection : ConnectionState) → (connection ≡ Start) ⊎ (connection ≡ Closed) → (is_connected connection ≡ false)
     × (in_turn connection ≡ false)
-mute-not_connected Start h = (refl, refl)
-mute-not_connected Closed h = (refl, refl)
-mute-not_connected Down h = (refl, refl)
-mute-not_connected _ (inl h) = cc
-mute-not_connected _ (inr h) = cc
+mute-not_connected connection h = grind arith
 
 pub mute-leave : (reason : Reason) (detail : Detail) (now : ℕ) (s : State) → Mute s → Mute (leave reason detail now s)
-mute-leave reason detail now s h =
-    leave-cases Mute reason detail now s
-    (λ _. record {
-      client = h.client;
-      connection = inr refl;
-      taken = h.taken;
-      quiet = every-push Quiet s.made (next_made s DiscReq (leaving_body reason detail) now) h.quiet refl;
-    })
-    (λ _. record { client = h.client; connection = inr refl; taken = h.taken; quiet = h.quiet })
+mute-leave reason detail now s h = grind (arith, leave-cases, every-push)
 
-pub mute-guard : (now : ℕ) (s : State) → Mute s → Mute (guard now s)
-mute-guard now s h = guard-cases Mute now s (λ reason detail. mute-leave reason detail now s h) (λ _. h)
+pub mute-move : (m : Move) (s : State) → HearsNothing m → Mute s → Mute (move m s)
+mute-move m s quiet h =
+    let silent = mute-not_connected s.connection h.connection in
+    quiet-cases Mute m s quiet h (λ reason detail. mute-leave reason detail (when m) s h) (λ connected _. absurd (false≢true (sym silent.0 ∙ connected)))
+    (λ unit turn _. absurd (false≢true (sym silent.1 ∙ turn)))
 
-pub mute-tick : (now : ℕ) (s : State) → Mute s → Mute (tick now s)
-mute-tick now s h =
-    let t = guard now s in
-    let m = mute-guard now s h in
-    heartbeat-cases Mute now t (λ connected. absurd (false≢true (sym (mute-not_connected t.connection m.connection).0 ∙ connected))) m
+-- an end that no PDU opens, and for which the table decides nothing
+record Deaf (s : State) (p : Pdu) : Type 0 where
+  down : s.connection ≡ Down → p.kind ≡ ConnReq → ⊥
+  start : s.connection ≡ Start → p.kind ≡ ConnResp → ⊥
+  table : listens s.connection s.settings.client ≡ true → needs_peer p.kind ≡ 1 → ⊥
 
-pub mute-send : (unit : List ℕ) (now : ℕ) (s : State) → Mute s → Mute (send unit now s)
-mute-send unit now s h = send-cases Mute unit now s (λ turn _. absurd (false≢true (sym (mute-not_connected s.connection h.connection).1 ∙ turn))) h
+deaf-carry : (P : State → Type 0) (p : Pdu) (now : ℕ) (s : State) (d : Decision) → Deaf s p → Fits (kept_of s) p now d → P s → P (move_to Closed s) →
+    ((reason : Reason) (detail : Detail) → P (leave reason detail now s)) → P (carry_out p now d s)
+deaf-carry P p now s d deaf f same closed left = grind arith
+
+-- what comes to it is among PDUs of this sort
+deaf-hears : (P : State → Type 0) (Q : Made → Type 0) (now n : ℕ) (p : Pdu) (s : State) (made : List Made) → Every Q (drop n made) →
+    GenuineAt s p (drop n made) → ((m : Made) → Q m → Deaf s m.pdu) → P s → P (move_to Closed s) →
+    ((reason : Reason) (detail : Detail) → P (leave reason detail now s)) → P (arrive p now s)
+deaf-hears P Q now n p s made all genuine deaf same closed left =
+    arrive-cases P p now s same left
+    (λ on meant _.
+    let r = among-dropped p n made (genuine on meant) in
+    let here : Deaf s p = subst (Deaf s) r.4 (deaf r.1 (every-at Q n r.0 made r.1 r.2 all r.5 r.3)) in
+    deaf-carry P p now s (decide (kept_of s) p now) here (decide-fits (kept_of s) p now) same closed left)
 
 -- what comes in at a mute interlocking is no ConnResp
 pub mute-arrive : (now n : ℕ) (p : Pdu) (il : State) (made : List Made) → Mute il → Bounded il → Every NotOpening (drop n made) → GenuineAt il p (drop n made) →
     Mute (arrive p now il) × Lone il (arrive p now il) × Bounded (arrive p now il)
 mute-arrive now n p il made h b dead genuine =
-    let s = guard now il in
-    let hs = mute-guard now il h in
-    let ls = lone-guard now il in
-    let bs = (bounded-guard now il b).0 in
-    let P : State → Type 0 = λ t. Mute t × Lone il t × Bounded t in
-    arrive-by P p now il (hs, ls, bs)
-    (λ on meant.
-    let r = among-dropped p n made (genuine on meant) in
-    let plain : is_opening p.kind ≡ 0 = ap (λ (q : Pdu). is_opening q.kind) (sym r.4) ∙ every-at NotOpening n r.0 made r.1 r.2 dead r.5 r.3 in
-    mute-carry p now il s plain hs ls bs (decide (kept_of s) p now) (decide-fits (kept_of s) p now))
-  where
-    mute-carry : (p : Pdu) (now : ℕ) (il s : State) → is_opening p.kind ≡ 0 → Mute s → Lone il s → Bounded s → (e : Decision) → Fits (kept_of s) p now e →
-        Mute (carry_out p now e s) × Lone il (carry_out p now e s) × Bounded (carry_out p now e s)
-    mute-carry p now il s plain h l b Nothing f = (h, l, b)
-    mute-carry p now il s plain h l b (Drops cause) f = (h, l, b)
-    mute-carry p now il s plain h l b Shuts f = (
-      record { client = h.client; connection = inr refl; taken = h.taken; quiet = h.quiet },
-      lone-trans il s (move_to Closed s) l (lone-closed s),
-      bounded-closed s b,
-    )
-    mute-carry p now il s plain h l b (Leaves reason detail) f =
-        (mute-leave reason detail now s h, lone-trans il s (leave reason detail now s) l (lone-leave reason detail now s), bounded-leave reason detail now s b)
-    mute-carry p now il s plain h l b Rejects f = absurd (omega (arith, ap is_opening f.1, plain))
-    mute-carry p now il s plain h l b Accepts f = absurd (omega (arith, ap is_opening f.1, plain))
-    mute-carry p now il s plain h l b Connects f = absurd (omega (arith, ap is_opening f.2, plain))
-    mute-carry p now il s plain h l b AnswersNext f =
-        absurd (false≢true (sym (mute-deaf s.connection s.settings.client h.client h.connection) ∙ f.0.table.listens_now))
-    mute-carry p now il s plain h l b _ f = absurd (false≢true (sym (mute-deaf s.connection s.settings.client h.client h.connection) ∙ f.table.listens_now))
+    let deaf = mute-deaf il.connection il.settings.client h.client h.connection in
+    deaf-hears (λ t. Mute t × Lone il t × Bounded t) NotOpening now n p il made dead genuine
+    (λ m plain. record {
+      down = λ _ is. absurd (omega (arith, ap is_opening is, plain));
+      start = λ _ is. absurd (omega (arith, ap is_opening is, plain));
+      table = λ on _. false≢true (sym deaf ∙ on);
+    })
+    (h, lone-refl il, b)
+    (record { client = h.client; connection = inr refl; taken = h.taken; quiet = h.quiet }, lone-closed il, bounded-closed il b)
+    (λ reason detail. (mute-leave reason detail now il h, lone-leave reason detail now il, bounded-leave reason detail now il b))
 
 -- a field element that is on, and hears only what a mute interlocking says
 pub deaf-arrive : (now n : ℕ) (p : Pdu) (fe : State) (made : List Made) → fe.connection ≢ Down → Bounded fe → Every Quiet made → GenuineAt fe p (drop n made) →
     ((arrive p now fe).connection ≢ Down) × Lone fe (arrive p now fe) × Bounded (arrive p now fe)
-deaf-arrive now n p fe made on_fe b quiet genuine =
-    let s = guard now fe in
-    let ls = lone-guard now fe in
-    let bs = (bounded-guard now fe b).0 in
-    let P : State → Type 0 = λ t. (t.connection ≢ Down) × Lone fe t × Bounded t in
-    let on_s : s.connection ≢ Down = λ e. elim ls.connection [ inl same ↦ on_fe (sym same ∙ e) | inr closed ↦ closed≢down (sym closed ∙ e) ] in
-    arrive-by P p now fe (on_s, ls, bs)
-    (λ on meant.
-    let r = among-dropped p n made (genuine on meant) in
-    let plain : needs_peer p.kind ≡ 0 = ap (λ (q : Pdu). needs_peer q.kind) (sym r.4) ∙ every-at Quiet 0 r.0 made r.1 r.2 quiet (omega arith) r.3 in
-    deaf-carry p now fe s plain on_s ls bs (decide (kept_of s) p now) (decide-fits (kept_of s) p now))
-  where
-    deaf-carry : (p : Pdu) (now : ℕ) (fe s : State) → needs_peer p.kind ≡ 0 → s.connection ≢ Down → Lone fe s → Bounded s → (e : Decision)
-        → Fits (kept_of s) p now e →
-        ((carry_out p now e s).connection ≢ Down) × Lone fe (carry_out p now e s) × Bounded (carry_out p now e s)
-    deaf-carry p now fe s plain on l b Nothing f = (on, l, b)
-    deaf-carry p now fe s plain on l b (Drops cause) f = (on, l, b)
-    deaf-carry p now fe s plain on l b Shuts f = ((λ e. cc), lone-trans fe s (move_to Closed s) l (lone-closed s), bounded-closed s b)
-    deaf-carry p now fe s plain on l b (Leaves reason detail) f =
-        ((λ e. cc), lone-trans fe s (leave reason detail now s) l (lone-leave reason detail now s), bounded-leave reason detail now s b)
-    deaf-carry p now fe s plain on l b Rejects f = absurd (on f.0)
-    deaf-carry p now fe s plain on l b Accepts f = absurd (on f.0)
-    deaf-carry p now fe s plain on l b Connects f = absurd (omega (arith, ap needs_peer f.2, plain))
-    deaf-carry p now fe s plain on l b AnswersNext f = absurd (omega (arith, ap needs_peer f.0.request, plain))
-    deaf-carry p now fe s plain on l b AnswersEarly f = absurd (omega (arith, ap needs_peer f.request, plain))
-    deaf-carry p now fe s plain on l b _ f = absurd (omega (arith, f.needs, plain))
+deaf-arrive now n p fe made on b quiet genuine =
+    deaf-hears (λ t. (t.connection ≢ Down) × Lone fe t × Bounded t) Quiet now n p fe made (every-drop Quiet n made quiet) genuine
+    (λ m plain. record {
+      down = λ down _. on down;
+      start = λ _ is. absurd (omega (arith, ap needs_peer is, plain));
+      table = λ _ needs. absurd (omega (arith, needs, plain));
+    })
+    (on, lone-refl fe, b) (closed≢down, lone-closed fe, bounded-closed fe b)
+    (λ reason detail. (closed≢down, lone-leave reason detail now fe, bounded-leave reason detail now fe b))
 
 -- a field element in Down or Closed that hears no opening
 still_deaf : (connection : ConnectionState) (client : Bool) → (connection ≡ Down) ⊎ (connection ≡ Closed) → (listens connection client ≡ false)
     × (is_live connection ≡ false)
-still_deaf Down client h = (refl, refl)
-still_deaf Closed client h = (refl, refl)
-still_deaf _ client (inl h) = cc
-still_deaf _ client (inr h) = cc
+still_deaf connection client h = grind arith
 
 pub still-arrive : (now n : ℕ) (p : Pdu) (fe : State) (made : List Made) → (fe.connection ≡ Down) ⊎ (fe.connection ≡ Closed) → Bounded fe
     → Every NotOpening (drop n made) → GenuineAt fe p (drop n made) →
     Lone fe (arrive p now fe) × Bounded (arrive p now fe) × (((arrive p now fe).connection ≡ Down) ⊎ ((arrive p now fe).connection ≡ Closed))
     × ((arrive p now fe).made ≡ fe.made) × ((arrive p now fe).confirmed_at ≡ fe.confirmed_at)
 still-arrive now n p fe made still b dead genuine =
-    let s = guard now fe in
-    let same : s ≡ fe = guard-idle now fe (still_deaf fe.connection fe.settings.client still).1 in
     let P : State → Type 0 = λ t. Lone fe t × Bounded t × ((t.connection ≡ Down) ⊎ (t.connection ≡ Closed)) × (t.made ≡ fe.made)
     × (t.confirmed_at ≡ fe.confirmed_at) in
-    let here : P fe = (lone-refl fe, b, still, refl, refl) in
-    arrive-by P p now fe (subst P (sym same) here)
-    (λ on meant.
-    let r = among-dropped p n made (genuine on meant) in
-    let plain : is_opening p.kind ≡ 0 = ap (λ (q : Pdu). is_opening q.kind) (sym r.4) ∙ every-at NotOpening n r.0 made r.1 r.2 dead r.5 r.3 in
-    subst (λ t. P (respond p now t)) (sym same) (still-carry p now fe plain still b (decide (kept_of fe) p now) (decide-fits (kept_of fe) p now)))
-  where
-    still-carry : (p : Pdu) (now : ℕ) (s : State) → is_opening p.kind ≡ 0 → (s.connection ≡ Down) ⊎ (s.connection ≡ Closed) → Bounded s → (e : Decision)
-        → Fits (kept_of s) p now e →
-        Lone s (carry_out p now e s) × Bounded (carry_out p now e s) × (((carry_out p now e s).connection ≡ Down) ⊎ ((carry_out p now e s).connection ≡ Closed))
-        × ((carry_out p now e s).made ≡ s.made) × ((carry_out p now e s).confirmed_at ≡ s.confirmed_at)
-    still-carry p now s plain h b Nothing f = (lone-refl s, b, h, refl, refl)
-    still-carry p now s plain h b (Drops cause) f = (lone-refl s, b, h, refl, refl)
-    still-carry p now s plain h b Shuts f = (lone-closed s, bounded-closed s b, inr refl, refl, refl)
-    still-carry p now s plain h b (Leaves reason detail) f = absurd (false≢true (sym (still_deaf s.connection s.settings.client h).1 ∙ f))
-    still-carry p now s plain h b Rejects f = absurd (omega (arith, ap is_opening f.1, plain))
-    still-carry p now s plain h b Accepts f = absurd (omega (arith, ap is_opening f.1, plain))
-    still-carry p now s plain h b Connects f = absurd (omega (arith, ap is_opening f.2, plain))
-    still-carry p now s plain h b AnswersNext f = absurd (false≢true (sym (still_deaf s.connection s.settings.client h).0 ∙ f.0.table.listens_now))
-    still-carry p now s plain h b _ f = absurd (false≢true (sym (still_deaf s.connection s.settings.client h).0 ∙ f.table.listens_now))
+    let silent = still_deaf fe.connection fe.settings.client still in
+    let closed : P (move_to Closed fe) = (lone-closed fe, bounded-closed fe b, inr refl, refl, refl) in
+    deaf-hears P NotOpening now n p fe made dead genuine
+    (λ m plain. record {
+      down = λ _ is. absurd (omega (arith, ap is_opening is, plain));
+      start = λ _ is. absurd (omega (arith, ap is_opening is, plain));
+      table = λ on _. false≢true (sym silent.0 ∙ on);
+    })
+    (lone-refl fe, b, still, refl, refl) closed
+    (λ reason detail. leave-cases P reason detail now fe (λ live. absurd (false≢true (sym silent.1 ∙ live))) (λ _. closed))
+
+-- What is neither taken nor unconfirmed was not sent.
+
+-- one direction
+pub half-owes : (x y : State) → Half x y → length (units x.made) ≤ length y.taken + length (unconfirmed x)
+half-owes x y h = grind (arith, append-nil, length-append, run_of-shrinks)
+
+quiet-none : (kind : Kind) (body : List ℕ) → needs_peer kind ≡ 0 → first_sent kind body ≡ []
+quiet-none kind body e = grind arith
+
+pub quiet-units : (ms : List Made) → Every Quiet ms → units ms ≡ []
+quiet-units [] h = refl
+quiet-units (m ∷ ms) h = ap (λ us. us ++ units ms) (quiet-none m.pdu.kind m.pdu.body h.0) ∙ quiet-units ms h.1
+
+-- where the two have met
+pub met-loses_nothing : (il : State) (before : List State) (fe : State) (joined : Option ℕ) (fe_before : List Served)
+    → Met (length before) il fe joined fe_before → LosesNothingOf il before fe joined fe_before
+met-loses_nothing il before fe joined fe_before m = grind (arith, half-owes, eq-eqb)
+
+-- an earlier joined does not depend on the latest
+pub taken-other : (s t : State) (before : List State) (p : Option ℕ) → JoinedBelow (length before) p → taken_from_fe (s ∷ before) p ≡ taken_from_fe (t ∷ before)
+    p
+taken-other s t before p below = grind arith
+
+pub taken-pushed : (t : State) (ils : List State) (p : Option ℕ) → JoinedBelow (length ils) p → taken_from_fe ils p ≡ taken_from_fe (t ∷ ils) p
+taken-pushed t ils p below = grind arith
+
+-- a step in which nothing is taken
+pub lone-owes : (s t : State) (n : ℕ) → Lone s t → (s.connection ≢ Closed → length (units s.made) ≤ n + length (unconfirmed s)) → t.connection ≢ Closed
+    → length (units t.made) ≤ n + length (unconfirmed t)
+lone-owes s t n l h on = grind arith
+
+pub mute-loses_nothing : (il : State) (n : ℕ) → Mute il → length (units il.made) ≤ n + length (unconfirmed il)
+mute-loses_nothing il n h = omega (arith, ap length (quiet-units il.made h.quiet))

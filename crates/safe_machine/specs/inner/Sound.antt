@@ -1,7 +1,7 @@
 -- The bounds that every machine keeps.
 use Rattle.std.specs.Prelude.{◌≡◌, ◌<◌, ◌≤◌, ◌^◌, ℕ, true, List, length, [], All}
 use Rattle.octets.specs.declared.limits.TheConstants.{WINDOW_MAX}
-use Rattle.retrans.specs.Units.{Numbered}
+use Rattle.safe_machine.specs.retrans.Units.{Numbered}
 use Rattle.safe_pdu.specs.Bodies.{IsBody}
 use Rattle.safe_pdu.specs.declared.Kind.TheVariants.{ConnReq, RetrData}
 use Rattle.safe_machine.specs.declared.ConnectionState.TheVariants.{Down}

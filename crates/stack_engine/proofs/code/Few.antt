@@ -1,58 +1,88 @@
--- How few PDUs and telegrams one call of an end makes.
-use Rattle.stack_engine.proofs.Words.{◌≡◌, inl, inr, ℕ, zero, suc, ◌+◌, ◌*◌, ◌≤◌, List, [], ◌∷◌, ◌++◌, length, take, drop, Option, Some, None, Result, Ok, Err}
-use Rattle.stack_engine.proofs.Words.{Bool, true, false, cond, refl, sym, ap, subst, ◌∙◌, arith, append-nil, nat_lt, nat_le, ◌&&◌, AllByRecursion, nat_tests}
-use Rattle.stack_engine.proofs.Words.{length-drop, drop-append_seam, by_cond, PAYLOAD_MAX, MESSAGE_MIN, MESSAGE_MAX, UNIT_MESSAGES, PackFault, is_piece}
-use Rattle.stack_engine.proofs.Words.{first_message, behind_first, after_read, unit_text, TeleFault, Tele, read_named, name_seen, sender_field, receiver_field}
-use Rattle.stack_engine.proofs.Words.{Part, is_nil, Input, Datagram, RedTick, passed_by, Reason, ClosedByUser, Detail, Unspecified, State, leave, make, move_to}
-use Rattle.stack_engine.proofs.Words.{next_made, says_goodbye, unconfirmed, guard, tick, may_send, Move, move, IsTakenBy, MovesLaw, Guards, Ticks, Sends}
-use Rattle.stack_engine.proofs.Words.{Leaves, Hears, heard_as, seen_by, arrive_octets, IsRead, FewMade, FewLaw, Side, Il, Fe, GoesUp, Arrives, Puts, Completes}
-use Rattle.stack_engine.proofs.Words.{Closes, Item, judged, taken_as, taken_by, Verdict, Takes, Goes, Answers, Ends, Dialogue, Judged, Leaving, meets}
-use Rattle.stack_engine.proofs.Words.{unless_leaving, judge_read, judge_messages, judge_unpacked, judge_units, EndState, new_end, is_shut, with_machine}
-use Rattle.stack_engine.proofs.Words.{with_session, settle, moved, handed_up, answered, rises, comes_up, leaves, heard, part, parts, with_input, receives}
-use Rattle.stack_engine.proofs.Words.{packed, packed_up_to, sends, goes_on, Call, did, call, time_of, Close, Put, InitDone, Tick, Deliver, DiscReq, Data}
-use Rattle.stack_engine.proofs.Words.{Closed, leaving_body, Receiver, EndSettings, connection_of, are_fit, IsSmallItem, AreOctets}
-use Rattle.std.proofs.Common.{length-append}
-use Rattle.std.specs.Prelude.{◌==◌}
-use Rattle.packing.specs.Places.{unit_seen, pieces_seen}
-use Rattle.sci_telegram.specs.Places.{tele_seen}
-use Rattle.pdi_session.specs.SessionStep.{Event}
-use Rattle.stack_engine.proofs.one.Keeping.{Keeps, IsTypedInput, IsTypedCall, keep-part, keep-settle, call-keeps}
-use Rattle.stack_engine.proofs.one.Spoken.{Below}
-use Rattle.stack_engine.proofs.one.Sending.{and-parts, legal-of, limits-of}
-use Rattle.stack_engine.proofs.one.Machined.{RedLaws, Whole, OctetsUp, OctetPart, whole-keeps, red-keeps, read-heard, legal-role}
-use Rattle.stack_engine.proofs.code.Passing.{passing}
+-- How few PDUs and telegrams one event makes, over every list of events.
+use Rattle.stack_engine.proofs.Words.{[], after, after_read, after_release, after_run, AllByRecursion, answered, ap, append-nil, are_fit, AreOctets, AreTyped}
+use Rattle.stack_engine.proofs.Words.{arith, arrival, arrive_octets, Arrives, AtOpened, Bool, by_cond, Call, call, call_fe, call_il, Calls, changed, Close}
+use Rattle.stack_engine.proofs.Words.{ClosedByUser, code_octets, CodeLength, CodeRule, comes_up, Completes, cond, connection_of, Data, Datagram, deferred}
+use Rattle.stack_engine.proofs.Words.{Deliver, Detail, Dialogue, did, drop, drop-append_seam, Eight, ends_of, EndSettings, EndState, Err, Event, false, Fe}
+use Rattle.stack_engine.proofs.Words.{FewFirstLaw, FewLaw, FewMade, FewMore, FewMoreLaw, follow, goes_on, GoesUp, guard, Guards, handed_up, happens, HaveTexts}
+use Rattle.stack_engine.proofs.Words.{heard, heard_as, Hears, Il, InitDone, inl, Input, inr, is_due, is_nil, is_shut, IsRead, IsSmallItem, IsSmallPdu}
+use Rattle.stack_engine.proofs.Words.{IsTakenBy, IsTyped, Item, JoinedEnd, judge_messages, judge_read, judge_units, judge_unpacked, Judged, judged, latest}
+use Rattle.stack_engine.proofs.Words.{least_waiting, leave, Leaves, leaves, Leaving, length, length-append, length-drop, List, Made, make, may_send, meets}
+use Rattle.stack_engine.proofs.Words.{MESSAGE_MAX, MESSAGE_MIN, most_pdus, Move, move, moved, MovesLaw, nat_tests, new_end, next_made, None, Ok, Open, Option}
+use Rattle.stack_engine.proofs.Words.{packed, packed_up_to, PackFault, Part, part, parts, passed_by, PAYLOAD_MAX, pieces_seen, present, Put, put_in, Puts}
+use Rattle.stack_engine.proofs.Words.{QueueLaw, read_named, Reason, Receiver, receives, RedFault, RedTick, refl, refusal, released, Result, rises, rule_of, run}
+use Rattle.stack_engine.proofs.Words.{run_from, seen_by, Sends, sends, SessionEvent, settle, Side, Sixteen, Some, start, State, Stepped, subst, suc, sym, take}
+use Rattle.stack_engine.proofs.Words.{taken_as, taken_by, Takes, Tele, tele_seen, TeleFault, Tick, tick, Ticks, time_of, true, unconfirmed, unit_seen}
+use Rattle.stack_engine.proofs.Words.{unit_text, unless_leaving, Unspecified, Verdict, with_input, with_machine, with_session, World, Zero, zero, ℕ, ◌*◌, ◌++◌}
+use Rattle.stack_engine.proofs.Words.{◌+◌, ◌∙◌, ◌∷◌, ◌≡◌, ◌≤◌}
+use Rattle.red_layer.specs.Redundancy.{heard as red_heard}
+use Rattle.stack_engine.proofs.one.Heeding.{legal-role, machined-texts, OctetPart, OctetsUp, read-heard, red-keeps, Whole, whole-keeps}
+use Rattle.stack_engine.proofs.one.Speaking.{all-append, call-keeps, goes-of, IsTypedCall, IsTypedInput, keep-part, keep-settle, Keeps, Laws, leaves-same}
+use Rattle.stack_engine.proofs.one.Speaking.{legal-of, limits-of}
 use Rattle.stack_engine.proofs.two.Mapping.{octets-call}
-use Rattle.stack_engine.proofs.two.Worlds.{new-whole}
+use Rattle.stack_engine.proofs.two.Worlds.{new-whole, opens, typed-call, unless}
+
+-- a list's run and the rest of it
+run-and-rest : (n : ℕ) (es : List Part) → length (run_from n es) + length (after_run n es) ≡ length es
+run-and-rest n [] = refl
+run-and-rest n (e ∷ es) = grind (arith, run-and-rest (n + 1) es)
+
+-- What goes up and what is left are no more than what waited and what arrived; and no more wait than there are places.
+pub record Passing (arrived : ℕ) (r : Receiver) (passed : List Part) (left : Receiver) : Type 0 where
+  pub q : left.q ≡ r.q
+  pub count : length passed + length left.waiting ≤ length r.waiting + arrived
+  pub few : length r.waiting ≤ r.q → length left.waiting ≤ left.q
+
+-- a step that answers so
+abbrev Counts : Receiver → Stepped → Type 0
+Counts r s = Passing 1 r s.passed s.left
+
+passing-none : (r : Receiver) → Passing 1 r [] r
+passing-none r = record { q = refl; count = omega arith; few = λ h. h }
+
+passing-release : (now : ℕ) (r : Receiver) → Passing 0 r (released now r) (after_release now r)
+passing-release now r = go (is_due now r)
+  where
+    go : (b : Bool) → Passing 0 r (cond b (run_from (least_waiting r.waiting) r.waiting) []) (cond b (follow now (least_waiting r.waiting) r) r)
+    go true =
+        let split = run-and-rest (least_waiting r.waiting) r.waiting in
+        record { q = refl; count = omega arith; few = λ h. omega arith }
+    go false = record { q = refl; count = omega arith; few = λ h. h }
+
+put_in-length : (n : ℕ) (x : List ℕ) (es : List Part) → length (put_in n x es) ≡ length es + 1
+put_in-length n x [] = refl
+put_in-length n x (e ∷ es) = grind (arith, put_in-length n x es)
+
+passing-deferred : (now : ℕ) (p : Part) (r : Receiver) → Counts r (deferred now p r)
+passing-deferred now p r = grind (arith, nat_tests, passing-none, put_in-length)
+
+passing-arrival : (now : ℕ) (p : Part) (r : Receiver) → Counts r (arrival now p r)
+passing-arrival now p r = grind (arith, nat_tests, passing-deferred, passing-none, run-and-rest)
+
+passing-heard : (now : ℕ) (said : Result Part RedFault) (r : Receiver) → Counts r (red_heard now said r)
+passing-heard now (Ok p) r = passing-arrival now p r
+passing-heard now (Err fault) r = passing-none r
+
+pub passing : (i : Input) (r : Receiver) → Passing 1 r (passed_by i r) (after i r)
+passing (Datagram octets now) r = grind (arith, nat_tests, length-append, passing-heard, passing-release)
+passing (RedTick now) r = grind (arith, nat_tests, passing-release)
 
 -- what a message says is small
 named-small : (m : List ℕ) (t : Tele) (a b : Option (List ℕ)) → length m ≤ MESSAGE_MAX → read_named a b m ≡ Ok t → length t.payload ≤ PAYLOAD_MAX
-named-small m t (Some a) (Some b) h e =
-    let same : drop MESSAGE_MIN m ≡ t.payload = cc in
-    omega (arith, ap (λ (o : List ℕ). length o) same, length-drop MESSAGE_MIN m)
+named-small m t (Some a) (Some b) h e = grind (arith, length-drop MESSAGE_MIN m)
 named-small m t (Some a) None h e = cc
 named-small m t None b h e = cc
 
 small-tele : (m : List ℕ) (t : Tele) → tele_seen m ≡ Ok t → length t.payload ≤ PAYLOAD_MAX
 unfolding tele_seen
-small-tele m t e =
-    let P : Result Tele TeleFault → Type 0 = λ r. r ≡ Ok t → length t.payload ≤ PAYLOAD_MAX in
-    by_cond P (nat_lt (length m) MESSAGE_MIN) _ _ (λ _ no. cc) (λ _.
-    by_cond P (nat_lt MESSAGE_MAX (length m)) _ _ (λ _ no. cc) (λ short.
-    let most : length m ≤ MESSAGE_MAX = grind (arith, nat_tests) in
-    named-small m t (name_seen (sender_field m)) (name_seen (receiver_field m)) most)) e
+small-tele m t e = grind (arith, nat_tests, named-small)
 
 -- Of telegrams taken: at most `n` more, each of them small.
 pub record Takes_ (n : ℕ) (d e : Dialogue) : Type 0 where
   pub few : length e.history.taken ≤ length d.history.taken + n
   pub small : AllByRecursion IsSmallItem d.history.taken → AllByRecursion IsSmallItem e.history.taken
 
-small-behind : (is js : List Item) → AllByRecursion IsSmallItem is → AllByRecursion IsSmallItem js → AllByRecursion IsSmallItem (is ++ js)
-small-behind [] js h k = k
-small-behind (i ∷ is) js h k = (h.0, small-behind is js h.1 k)
-
 takes-same : (d e : Dialogue) → e.history.taken ≡ d.history.taken → Takes_ 0 d e
-takes-same d e same =
-    record { few = omega (arith, ap (λ (is : List Item). length is) same); small = λ h. subst (AllByRecursion IsSmallItem) (sym same) h }
+takes-same d e same = grind (arith, nat_tests)
 
 takes-then : (m n : ℕ) (d e f : Dialogue) → Takes_ m d e → Takes_ n e f → Takes_ (m + n) d f
 takes-then m n d e f a b = record { few = omega (arith, a.few, b.few); small = λ h. b.small (a.small h) }
@@ -62,14 +92,8 @@ takes-more m n d e le a = record { few = omega (arith, a.few); small = a.small }
 
 -- a telegram that arrives is taken at most
 takes-as : (t : Tele) (d e : Dialogue) (v : Verdict) → length t.payload ≤ PAYLOAD_MAX → e.history.taken ≡ d.history.taken ++ taken_as t v → Takes_ 1 d e
-takes-as t d e Takes small same =
-    record {
-      few = omega (arith, ap (λ (is : List Item). length is) same, length-append d.history.taken ((t.kind, t.payload) ∷ []));
-      small = λ h. subst (AllByRecursion IsSmallItem) (sym same) (small-behind d.history.taken ((t.kind, t.payload) ∷ []) h (small, tt));
-    }
-takes-as t d e (Goes next) small same = takes-more 0 1 d e (omega arith) (takes-same d e (same ∙ append-nil d.history.taken))
-takes-as t d e (Answers next notice) small same = takes-more 0 1 d e (omega arith) (takes-same d e (same ∙ append-nil d.history.taken))
-takes-as t d e (Ends why) small same = takes-more 0 1 d e (omega arith) (takes-same d e (same ∙ append-nil d.history.taken))
+takes-as t d e Takes small same = grind (arith, nat_tests, all-append, length-append)
+takes-as t d e _ small same = takes-more 0 1 d e (omega arith) (takes-same d e (same ∙ append-nil d.history.taken))
 
 takes-read : (m : List ℕ) (d : Dialogue) (r : Result Tele TeleFault) → tele_seen m ≡ r → Takes_ 1 d (judge_read r d).left
 takes-read m d (Ok t) e = takes-as t d (meets (Arrives t) d) (judged d.history.state t) (small-tele m t e) refl
@@ -91,29 +115,16 @@ takes-messages (m ∷ ms) d =
 -- a unit has three messages at most
 after-few : (n : ℕ) (m : List ℕ) (r : Result (List (List ℕ)) PackFault) (ms : List (List ℕ)) → after_read (m ∷ []) r ≡ Ok ms
     → ((ns : List (List ℕ)) → r ≡ Ok ns → length ns ≤ n) → length ms ≤ n + 1
-after-few n m (Ok ns) ms e h =
-    let same : m ∷ ns ≡ ms = cc in
-    omega (arith, ap (λ (xs : List (List ℕ)). length xs) same, h ns refl)
-after-few n m (Err fault) ms e h = cc
+after-few n m r ms h k = grind (arith, nat_tests)
 
 pieces-few : (n : ℕ) (octets : List ℕ) (ms : List (List ℕ)) → pieces_seen n octets ≡ Ok ms → length ms ≤ n
 unfolding pieces_seen
-pieces-few zero octets ms e =
-    by_cond (λ (r : Result (List (List ℕ)) PackFault). r ≡ Ok ms → length ms ≤ 0) (length octets == 0) (Ok []) _
-    (λ _ same. let none : [] ≡ ms = cc in omega (arith, ap (λ (xs : List (List ℕ)). length xs) none)) (λ _ no. cc) e
-pieces-few (suc n) octets ms e =
-    let P : Result (List (List ℕ)) PackFault → Type 0 = λ r. r ≡ Ok ms → length ms ≤ suc n in
-    by_cond P (length octets == 0) (Ok []) _
-    (λ _ same. let none : [] ≡ ms = cc in omega (arith, ap (λ (xs : List (List ℕ)). length xs) none)) (λ _.
-    by_cond P (is_piece octets) (after_read (first_message octets ∷ []) (pieces_seen n (behind_first octets))) _
-    (λ _ same. omega (arith, after-few n (first_message octets) (pieces_seen n (behind_first octets)) ms same (λ ns. pieces-few n (behind_first octets) ns)))
-    (λ _ no. cc)) e
+pieces-few zero octets ms e = grind arith
+pieces-few (suc n) octets ms e = grind (arith, after-few, pieces-few n)
 
 unit-few : (u : List ℕ) (ms : List (List ℕ)) → unit_seen u ≡ Ok ms → length ms ≤ 3
 unfolding unit_seen
-unit-few u ms e =
-    by_cond (λ (r : Result (List (List ℕ)) PackFault). r ≡ Ok ms → length ms ≤ 3) (length u == 0) _ (pieces_seen UNIT_MESSAGES u) (λ _ no. cc)
-    (λ _. pieces-few UNIT_MESSAGES u ms) e
+unit-few u ms e = grind (arith, pieces-few)
 
 takes-unpacked : (u : List ℕ) (d : Dialogue) (r : Result (List (List ℕ)) PackFault) → unit_seen u ≡ r → Takes_ 3 d (judge_unpacked r d).left
 takes-unpacked u d (Ok ms) e = takes-more (length ms) 3 d (judge_messages ms d).left (unit-few u ms e) (takes-messages ms d)
@@ -168,15 +179,10 @@ grows-same : (x : EndState) → Grows 0 0 x x
 grows-same x = record { made = omega arith; takes = takes-same x.session x.session refl }
 
 grows-settle : (x : EndState) → Grows 0 0 x (settle x)
-grows-settle x =
-    by_cond (Grows 0 0 x) (is_shut x) (with_session (meets Closes x.session) x) x
-    (λ _. record { made = omega arith; takes = takes-same x.session (meets Closes x.session) (append-nil x.session.history.taken) }) (λ _. grows-same x)
+grows-settle x = grind (arith, nat_tests, append-nil, grows-same, takes-same)
 
 leave-few : (reason : Reason) (detail : Detail) (now : ℕ) (s : State) → length (leave reason detail now s).made ≤ length s.made + 1
-leave-few reason detail now s =
-    let m = make DiscReq (leaving_body reason detail) now s in
-    by_cond (λ (t : State). length (move_to Closed t).made ≤ length s.made + 1) (says_goodbye s.connection) m s
-    (λ _. omega (arith, length-append s.made (next_made s DiscReq (leaving_body reason detail) now ∷ []))) (λ _. omega arith)
+leave-few reason detail now s = grind (arith, length-append s.made)
 
 -- What holds of an end by itself, so that its next call makes little.
 pub record Sized (side : Side) (x : EndState) : Type 0 where
@@ -184,12 +190,6 @@ pub record Sized (side : Side) (x : EndState) : Type 0 where
   pub q : x.red.q ≡ x.settings.q
   pub few : length x.red.waiting ≤ x.red.q
   pub small : AllByRecursion IsSmallItem x.session.history.taken
-
--- the laws of the layers below that this rests on
-pub record Layers : Type 0 where
-  pub below : Below
-  pub redundancy : RedLaws
-  pub few : FewLaw
 
 -- a move in a state that is read
 few-made : FewLaw → (side : Side) (m : Move) (x : EndState) → IsRead m → Sized side x → FewMade m x.machine
@@ -199,22 +199,17 @@ few-made law side m x read h =
     (law (connection_of side x.settings) w.machined.first w.machined.began w.machined.moves m
     (legal-role side x.settings (legal-of side x.settings w.spoken.fit)) w.machined.read read)
 
-small-leaves : (now : ℕ) (why : Option Leaving) (y : EndState) → (leaves now why y).red ≡ y.red × ((leaves now why y).settings ≡ y.settings)
-    × ((leaves now why y).session ≡ y.session)
-small-leaves now None y = (refl, refl, refl)
-small-leaves now (Some why) y = (refl, refl, refl)
-
 grows-leaves : (now : ℕ) (why : Option Leaving) (y : EndState) → Grows 1 0 y (leaves now why y)
 grows-leaves now None y = grows-more 0 1 0 0 y y (omega arith) (omega arith) (grows-same y)
 grows-leaves now (Some why) y = record { made = leave-few why.0 why.1 now y.machine; takes = takes-same y.session y.session refl }
 
 -- a part that goes up
-grows-heard : Layers → (side : Side) (now : ℕ) (octets : List ℕ) (x : EndState) → AreOctets octets → Sized side x → Grows 37 3 x (heard now octets x)
+grows-heard : Laws → (side : Side) (now : ℕ) (octets : List ℕ) (x : EndState) → AreOctets octets → Sized side x → Grows 37 3 x (heard now octets x)
 grows-heard laws side now octets x octs h =
     let s = arrive_octets octets now x.machine in
     let m = heard_as (seen_by x.machine octets) now in
-    let few = few-made laws.few side m x (read-heard laws.below.heard now octets x.machine octs (seen_by x.machine octets) refl) h in
-    let up = takes-units (handed_up x s) x.session (handed-few laws.below.moves m x) in
+    let few = few-made laws.few side m x (read-heard laws.heard now octets x.machine octs (seen_by x.machine octets) refl) h in
+    let up = takes-units (handed_up x s) x.session (handed-few laws.moves m x) in
     let y = answered octets x s in
     let d = (judge_units (handed_up x s) x.session).left in
     let one : Grows 36 3 x y = record {
@@ -225,9 +220,9 @@ grows-heard laws side now octets x octs h =
     grows-more (36 + 1) 37 (3 + 0) 3 x (heard now octets x) (omega arith) (omega arith)
     (grows-then 36 1 3 0 x y (heard now octets x) one (grows-leaves now (judge_units (handed_up x s) x.session).leaving y))
 
-sized-keeps : Layers → (side : Side) (now : ℕ) → Keeps now OctetsUp (Sized side)
+sized-keeps : Laws → (side : Side) (now : ℕ) → Keeps now OctetsUp (Sized side)
 sized-keeps laws side now =
-    let k : Keeps now OctetsUp (Whole side) = whole-keeps laws.below laws.redundancy side now in
+    let k : Keeps now OctetsUp (Whole side) = whole-keeps laws side now in
     record {
       guards = λ x h. record { whole = k.guards x h.whole; q = h.q; few = h.few; small = h.small };
       ticks = λ x h. record { whole = k.ticks x h.whole; q = h.q; few = h.few; small = h.small };
@@ -244,11 +239,11 @@ sized-keeps laws side now =
           record { whole = k.inputs i x t h.whole; q = p.q ∙ h.q; few = p.few h.few; small = h.small };
       hears = λ octets x q h.
           let s = arrive_octets octets now x.machine in
-          let same = small-leaves now (judge_units (handed_up x s) x.session).leaving (answered octets x s) in
+          let same = leaves-same now (judge_units (handed_up x s) x.session).leaving (answered octets x s) in
           record {
             whole = k.hears octets x q h.whole;
-            q = ap (λ (r : Receiver). r.q) same.0 ∙ h.q ∙ ap (λ (c : EndSettings). c.q) (sym same.1);
-            few = subst (λ (r : Receiver). length r.waiting ≤ r.q) (sym same.0) h.few;
+            q = ap (λ (r : Receiver). r.q) same.3 ∙ h.q ∙ ap (λ (c : EndSettings). c.q) (sym same.0);
+            few = subst (λ (r : Receiver). length r.waiting ≤ r.q) (sym same.3) h.few;
             small = (grows-heard laws side now octets x q h).takes.small h.small;
           };
       sends = λ x may some h. record { whole = k.sends x may some h.whole; q = h.q; few = h.few; small = h.small };
@@ -272,14 +267,10 @@ sized-keeps laws side now =
 
 -- an end lets eight parts wait at most
 few-places : (side : Side) (s : EndSettings) → are_fit side s ≡ true → s.q ≤ 8
-few-places side s h =
-    let p = and-parts (nat_le 1 s.n_maxpacket && nat_le s.n_maxpacket UNIT_MESSAGES) _
-    (and-parts (nat_le 1 s.channels && nat_le s.channels 4) _ (limits-of side s h)).1 in
-    let q = and-parts (nat_le 1 s.q) (nat_le s.q 8) (and-parts (nat_le 1 s.q && nat_le s.q 8) _ p.1).0 in
-    let l = q.1 in grind (arith, nat_tests)
+few-places side s h = grind (arith, nat_tests, limits-of side s h)
 
 -- the parts of one input
-module _ (laws : Layers) (side : Side) (now : ℕ) where
+module _ (laws : Laws) (side : Side) (now : ℕ) where
   k : Keeps now OctetsUp (Sized side)
   k = sized-keeps laws side now
 
@@ -293,7 +284,7 @@ module _ (laws : Layers) (side : Side) (now : ℕ) where
   grows-parts [] x octs h = (grows-same x, h)
   grows-parts (p ∷ ps) x octs h =
       let y = part now p.1 x in
-      let rest = grows-parts ps y octs.1 (keep-part now OctetsUp (Sized side) k p.1 x octs.0 h) in (
+      let rest = grows-parts ps y octs.1 (keep-part now OctetsUp (Sized side) (goes-of now OctetsUp (Sized side) k) p.1 x octs.0 h) in (
         grows-more (37 + 37 * length ps) (37 * length (p ∷ ps)) (3 + 3 * length ps) (3 * length (p ∷ ps)) x (parts now ps y) (omega arith) (omega arith)
             (grows-then 37 (37 * length ps) 3 (3 * length ps) x y (parts now ps y) (grows-part p.1 x octs.0 h) rest.0),
         rest.1,
@@ -333,7 +324,7 @@ module _ (laws : Layers) (side : Side) (now : ℕ) where
       let q = few-places side x.settings h.whole.spoken.fit in
       let nine : length ps ≤ 9 = omega (arith, p.count, h.few, h.q) in
       let begun : Sized side y = k.inputs i x t h in
-      let through = grows-parts ps y (red-keeps laws.redundancy i x.red t h.whole.machined.waits).0 begun in
+      let through = grows-parts ps y (red-keeps laws i x.red t h.whole.machined.waits).0 begun in
       let z = receives now i x in
       let zero : Grows 0 0 x y = record { made = omega arith; takes = takes-same x.session y.session refl } in
       grows-more (0 + (37 * length ps + 32)) 365 (0 + (3 * length ps + 0)) 27 x (sends now z) (omega arith) (omega arith)
@@ -355,7 +346,7 @@ module _ (laws : Layers) (side : Side) (now : ℕ) where
       (grows-then 36 365 0 27 x (moved m x) (goes_on now i (moved m x)) (grows-moved m x read h) (grows-goes_on i (moved m x) t after))
 
   -- an event of the session that is no arrival
-  grows-meets : (e : Event) (x : EndState) → taken_by e x.session.history.state ≡ [] → Sized side (with_session (meets e x.session) x)
+  grows-meets : (e : SessionEvent) (x : EndState) → taken_by e x.session.history.state ≡ [] → Sized side (with_session (meets e x.session) x)
       → Grows 401 27 x (sends now (with_session (meets e x.session) x))
   grows-meets e x none after =
       let y = with_session (meets e x.session) x in
@@ -368,7 +359,7 @@ module _ (laws : Layers) (side : Side) (now : ℕ) where
 grows-time : (n j : ℕ) (now : ℕ) (x y : EndState) → Grows n j x y → Grows n j x (record y { time = now })
 grows-time n j now x y g = record { made = g.made; takes = g.takes }
 
-pub grows-call : Layers → (side : Side) (c : Call) (x : EndState) → IsTypedCall c → Sized side x → Grows 401 27 x (call c x)
+pub grows-call : Laws → (side : Side) (c : Call) (x : EndState) → IsTypedCall c → Sized side x → Grows 401 27 x (call c x)
 grows-call laws side (Close now) x t h =
     grows-time 401 27 now x (moved (Leaves ClosedByUser Unspecified now) x)
     (grows-more 36 401 0 27 x (moved (Leaves ClosedByUser Unspecified now) x) (omega arith) (omega arith)
@@ -384,19 +375,107 @@ grows-call laws side (Tick now) x t h =
     grows-time 401 27 now x (did (Tick now) x)
     (by_cond (Grows 401 27 x) (is_shut x) x (goes_on now (RedTick now) (moved (Ticks now) x))
     (λ _. grows-more 0 401 0 27 x x (omega arith) (omega arith) (grows-same x)) (λ _.
-    grows-on laws side now (Ticks now) (RedTick now) x tt tt h (keep-settle now OctetsUp (Sized side) k (with_machine (tick now x.machine) x) (k.ticks x h))))
+    grows-on laws side now (Ticks now) (RedTick now) x tt tt h
+    (keep-settle now OctetsUp (Sized side) (goes-of now OctetsUp (Sized side) k) (with_machine (tick now x.machine) x) (k.ticks x h))))
 grows-call laws side (Deliver channel octets now) x t h =
     let k = sized-keeps laws side now in
     grows-time 401 27 now x (did (Deliver channel octets now) x)
     (by_cond (Grows 401 27 x) (is_shut x) x (goes_on now (Datagram octets now) (moved (Guards now) x))
     (λ _. grows-more 0 401 0 27 x x (omega arith) (omega arith) (grows-same x)) (λ _.
     grows-on laws side now (Guards now) (Datagram octets now) x tt t h
-    (keep-settle now OctetsUp (Sized side) k (with_machine (guard now x.machine) x) (k.guards x h))))
+    (keep-settle now OctetsUp (Sized side) (goes-of now OctetsUp (Sized side) k) (with_machine (guard now x.machine) x) (k.guards x h))))
 
-pub sized-call : Layers → (side : Side) (c : Call) (x : EndState) → IsTypedCall c → Sized side x → Sized side (call c x)
+pub sized-call : Laws → (side : Side) (c : Call) (x : EndState) → IsTypedCall c → Sized side x → Sized side (call c x)
 sized-call laws side c x t h =
-    call-keeps c OctetsUp (Sized side) x (sized-keeps laws side (time_of c)) t (octets-call laws.redundancy c x t h.whole.machined.waits) h
+    call-keeps c OctetsUp (Sized side) x (sized-keeps laws side (time_of c)) t (octets-call laws c x t h.whole.machined.waits) h
 
 pub sized-new : (side : Side) (s : EndSettings) (first now : ℕ) → are_fit side s ≡ true → Sized side (new_end side s first now)
 sized-new Il s first now fit = record { whole = new-whole Il s first now fit; q = refl; few = omega arith; small = tt }
 sized-new Fe s first now fit = record { whole = new-whole Fe s first now fit; q = refl; few = omega arith; small = tt }
+
+-- an end has a channel
+some-channels : (side : Side) (s : EndSettings) → are_fit side s ≡ true → 1 ≤ s.channels
+some-channels side s h = grind (arith, nat_tests, limits-of side s h)
+
+-- each end that was opened
+abbrev pub AllSized : World → Type 0
+AllSized w = AtOpened (Sized Il) (present Il w) × AtOpened (Sized Fe) (present Fe w)
+
+module _ (laws : Laws) where
+  sized-il : (c : Call) (ils : List EndState) → IsTyped (Calls Il c) → AtOpened (Sized Il) (latest ils) → AtOpened (Sized Il) (latest (call_il c ils))
+  sized-il c [] t h = tt
+  sized-il c (x ∷ before) t h = sized-call laws Il c x (typed-call Il c t) h
+
+  sized-fe : (c : Call) (ils : List EndState) (fes : List JoinedEnd) → IsTyped (Calls Fe c) → AtOpened (Sized Fe) (latest (ends_of fes))
+      → AtOpened (Sized Fe) (latest (ends_of (call_fe c ils fes)))
+  sized-fe c ils [] t h = tt
+  sized-fe c ils (f ∷ before) t h = sized-call laws Fe c f.end (typed-call Fe c t) h
+
+  sized-event : (e : Event) (w : World) → IsTyped e → refusal e w ≡ None → AllSized w → AllSized (changed e w)
+  sized-event (Open Il s first now) w t e h = (sized-new Il s first now (opens Il s now (present Il w) e).fit, h.1)
+  sized-event (Open Fe s first now) w t e h = (h.0, sized-new Fe s first now (opens Fe s now (present Fe w) e).fit)
+  sized-event (Calls Il c) w t e h = (sized-il c w.ils t h.0, h.1)
+  sized-event (Calls Fe c) w t e h = (h.0, sized-fe c w.ils w.fes t h.1)
+
+  pub sized-happens : (e : Event) (w : World) → IsTyped e → AllSized w → AllSized (happens w e)
+  sized-happens e w t h = unless AllSized (refusal e w) w (changed e w) h (λ none. sized-event e w t none h)
+
+  pub sized-run : (es : List Event) (w : World) → AreTyped es → AllSized w → AllSized (run es w)
+  sized-run [] w t h = h
+  sized-run (e ∷ es) w t h = sized-run es (happens w e) t.1 (sized-happens e w t.0 h)
+
+  -- the PDUs of an end have texts, which are not long
+  short-code : (rule : CodeRule) → code_octets rule.length ≤ 16
+  short-code rule = elim rule.length as (λ (n : CodeLength). code_octets n ≤ 16) [ Zero ↦ omega arith | Eight ↦ omega arith | Sixteen ↦ omega arith ]
+
+  small-texts : (s : EndSettings) (ms : List Made) → HaveTexts ms → AllByRecursion (IsSmallPdu s) ms
+  small-texts s [] h = tt
+  small-texts s (m ∷ ms) h = (omega (arith, (h.0 (rule_of s)).size, short-code (rule_of s)), small-texts s ms h.1)
+
+  few-more : (side : Side) (c : Call) (x : EndState) → IsTyped (Calls side c) → Sized side x → FewMore x (call c x)
+  few-more side c x t h =
+      let y = call c x in
+      let g = grows-call laws side c x (typed-call side c t) h in
+      let after = sized-call laws side c x (typed-call side c t) h in
+      record {
+        channels = some-channels side x.settings h.whole.spoken.fit;
+        pdus = g.made;
+        takes = g.takes.few;
+        small_pdus = small-texts y.settings y.machine.made (machined-texts laws.texts side y after.whole.spoken.fit after.whole.machined);
+        small_items = after.small;
+      }
+
+  few-opened : (side : Side) (c : Call) (x : Option EndState) → IsTyped (Calls side c) → AtOpened (Sized side) x
+      → AtOpened (λ y. FewMore y (call c y)) x
+  few-opened side c None t h = tt
+  few-opened side c (Some x) t h = few-more side c x t h
+
+  pub few-more-holds : FewMoreLaw
+  few-more-holds es typed Il c t = few-opened Il c (present Il (run es start)) t (sized-run es start typed (tt, tt)).0
+  few-more-holds es typed Fe c t = few-opened Fe c (present Fe (run es start)) t (sized-run es start typed (tt, tt)).1
+
+  few-deferred : (side : Side) (x : Option EndState) → AtOpened (Sized side) x → AtOpened (λ y. length y.red.waiting ≤ y.settings.q) x
+  few-deferred side x h = grind (arith, nat_tests)
+
+  pub queue-holds : QueueLaw
+  queue-holds es typed Il = few-deferred Il (present Il (run es start)) (sized-run es start typed (tt, tt)).0
+  queue-holds es typed Fe = few-deferred Fe (present Fe (run es start)) (sized-run es start typed (tt, tt)).1
+
+  pub few-first-holds : FewFirstLaw
+  few-first-holds side s first now fit =
+      let x = new_end side s first now in
+      let h = sized-new side s first now fit in
+      record {
+        channels = some-channels side s fit;
+        pdus = first-made side;
+        takes = first-taken side;
+        small_pdus = small-texts s x.machine.made (machined-texts laws.texts side x fit h.whole.machined);
+      }
+    where
+      first-made : (side : Side) → length (new_end side s first now).machine.made ≤ most_pdus
+      first-made Il = omega arith
+      first-made Fe = omega arith
+
+      first-taken : (side : Side) → (new_end side s first now).session.history.taken ≡ []
+      first-taken Il = refl
+      first-taken Fe = refl

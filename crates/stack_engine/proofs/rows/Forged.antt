@@ -1,17 +1,14 @@
 -- Datagrams of an interlocking that was never opened: the field element sets up a session with them and takes a command, and nobody made it.
-use Rattle.stack_engine.proofs.Words.{not, ◌&&◌, is_none, refl, ap, subst, Part, is_nil, Datagram, passed_by, Made, Guards, Il, Fe, EndState, is_shut, moved}
-use Rattle.stack_engine.proofs.Words.{part, with_input, Deliver, World, Event, start, happens, made_of, present, refusal, Calls, taken_at, AllFresh, FreshCall}
-use Rattle.stack_engine.proofs.Words.{FreshEvent, TakesFresh, AtOpened, AtParts}
-use Rattle.std.specs.Prelude.{ℕ, ◌≡◌, ◌==◌, Bool, true, false, Option, Some, None, List, [], ◌∷◌, length}
-use Rattle.md4.specs.Digest.{four_steps, after_round, after_block, digest}
-use Rattle.safe_machine.specs.Numbers.{sn_of, ahead}
-use Rattle.packing.specs.Places.{pieces_seen, unit_seen}
-use Rattle.sci_telegram.specs.Places.{tele_seen}
-use Rattle.red_layer.specs.Redundancy.{decoded}
-use Rattle.stack_engine.proofs.two.Confirmed.{nil-is, not-true}
-use Rattle.stack_engine.proofs.one.Sending.{and-parts}
-use Rattle.stack_engine.proofs.rows.GenuineEvents.{e23, e25, e27, e28, e30, e32, e36}
+use Rattle.stack_engine.proofs.Words.{[], after_block, after_round, ahead, AllFresh, ap, AtOpened, AtParts, Bool, Calls, Datagram, decoded, Deliver, digest}
+use Rattle.stack_engine.proofs.Words.{EndState, Event, false, Fe, four_steps, FreshCall, FreshEvent, Guards, happens, Il, InitDone, is_nil, is_none, is_shut}
+use Rattle.stack_engine.proofs.Words.{length, List, Made, made_of, moved, None, not, Open, Option, Part, part, passed_by, pieces_seen, present, refl, refusal}
+use Rattle.stack_engine.proofs.Words.{run, sn_of, Some, start, subst, taken_at, TakesFresh, tele_seen, true, unit_seen, with_input, World, ℕ, ◌&&◌, ◌++◌, ◌==◌}
+use Rattle.stack_engine.proofs.Words.{◌∷◌, ◌≡◌}
+use Rattle.stack_engine.proofs.one.Speaking.{and-parts, came}
 use Rattle.stack_engine.proofs.rows.Drops.{differ, none-found}
+use Rattle.stack_engine.proofs.rows.GenuineRow.{i0b, i1b, i2b, i3b, i4b}
+use Rattle.stack_engine.proofs.rows.RowSettings.{fe_of}
+use Rattle.stack_engine.proofs.two.Confirmed.{nil-is, not-true}
 
 -- something is taken at the first part, as a test that a computation answers
 abbrev takes_first : ℕ → List Part → EndState → Bool
@@ -62,32 +59,22 @@ event-unmade (Calls Fe (Deliver channel octets now)) w h fresh =
     (fresh (none-is (refusal (Calls Fe (Deliver channel octets now)) w) one.0)))
 event-unmade _ w h fresh = not-so h
 
-unfoldable v1 : World
-v1 = happens start e23
-
-unfoldable v2 : World
-v2 = happens v1 e25
-
-unfoldable v3 : World
-v3 = happens v2 e27
-
-unfoldable v4 : World
-v4 = happens v3 e28
-
-unfoldable v5 : World
-v5 = happens v4 e30
-
-unfoldable v6 : World
-v6 = happens v5 e32
-
 abbrev forged : List Event
-forged = e23 ∷ e25 ∷ e27 ∷ e28 ∷ e30 ∷ e32 ∷ e36 ∷ []
+forged =
+    Open Fe (fe_of 20 10) 700 5060 ∷ Calls Fe (Deliver 1 i0b 5060) ∷ Calls Fe (Deliver 1 i1b 5060) ∷ Calls Fe (Deliver 1 i2b 5060) ∷
+    Calls Fe (Deliver 1 i3b 5060) ∷ Calls Fe (InitDone 5060) ∷ []
+
+abbrev last : Event
+last = Calls Fe (Deliver 1 i4b 5060)
 
 -- the last event is accepted, and what it takes came from nobody
-taken-last : (refusal e36 v6 ≡ None → FreshEvent e36 v6) → ⊥
-unfolding v1 v2 v3 v4 v5 v6 sn_of ahead four_steps after_round after_block digest pieces_seen unit_seen tele_seen decoded
-taken-last h = event-unmade e36 v6 refl h
+taken-last : takes_unmade last (run forged start) ≡ true
+unfolding sn_of ahead four_steps after_round after_block digest pieces_seen unit_seen tele_seen decoded
+taken-last = refl
+
+fresh-at : (before : List Event) (e : Event) (w : World) → AllFresh (before ++ e ∷ []) w → refusal e (run before w) ≡ None → FreshEvent e (run before w)
+fresh-at [] e w h = h.0
+fresh-at (b ∷ before) e w h = fresh-at before e (happens w b) h.1
 
 pub taken-from-nobody : (es : List Event) × (AllFresh es start → ⊥)
-unfolding v1 v2 v3 v4 v5 v6
-taken-from-nobody = (forged, λ h. taken-last h.1.1.1.1.1.1.0)
+taken-from-nobody = (forged ++ last ∷ [], λ h. event-unmade last (run forged start) taken-last (fresh-at forged last start h))

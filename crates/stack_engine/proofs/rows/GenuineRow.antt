@@ -1,366 +1,215 @@
 -- A genuine list of events, computed: a command is lost and sent again, the one behind it is deferred, and status is taken; then both ends are opened
 -- anew, and in the second session both ways are used. At its end both ends are settled.
-use Rattle.stack_engine.proofs.Words.{◌≡◌, List, [], ◌∷◌, true, refl, Some, None, Il, Fe, is_settled, start, refusal, present, ends_of, option_map, map}
-use Rattle.stack_engine.proofs.Words.{Faithful, FaithfulEvent, taken_at, joins_in, GenuineInstance, Genuine, GenuineEvent}
-use Rattle.md4.specs.Digest.{four_steps, after_round, after_block, digest}
-use Rattle.safe_machine.specs.Numbers.{sn_of, ahead}
-use Rattle.packing.specs.Places.{pieces_seen, unit_seen}
-use Rattle.sci_telegram.specs.Places.{tele_seen}
-use Rattle.red_layer.specs.Redundancy.{decoded}
-use Rattle.stack_engine.proofs.rows.PremiseTests.{all-typed}
-use Rattle.stack_engine.proofs.rows.GenuineEvents.{events, e1, e2, e3, e4, e5, e6, e7, e8, e9, e10, e11, e12, e13, e14, e15, e16, e17, e18, e19, e20, e21, e22}
-use Rattle.stack_engine.proofs.rows.GenuineEvents.{e23, e24, e25, e26, e27, e28, e29, e30, e31, e32, e33, e34, e35, e36, e37, e38, e39, e40, e41, w1, w2, w3}
-use Rattle.stack_engine.proofs.rows.GenuineEvents.{w4, w5, w6, w7, w8, w9, w10, w11, w12, w13, w14, w15, w16, w17, w18, w19, w20, w21, w22, w23, w24, w25, w26}
-use Rattle.stack_engine.proofs.rows.GenuineEvents.{w27, w28, w29, w30, w31, w32, w33, w34, w35, w36, w37, w38, w39, w40, w41}
+use Rattle.stack_engine.proofs.Words.{[], after_block, after_round, ahead, Calls, decoded, Deliver, digest, drop, ends_of, Event, Faithful, Fe, four_steps}
+use Rattle.stack_engine.proofs.Words.{Genuine, GenuineInstance, Il, InitDone, is_settled, joins_in, List, map, Open, option_map, pieces_seen, present, Put}
+use Rattle.stack_engine.proofs.Words.{refl, run, sn_of, Some, start, taken_at, tele_seen, Tick, true, unit_seen, ℕ, ◌++◌, ◌∷◌, ◌≡◌}
+use Rattle.stack_engine.proofs.rows.FaithfulTests.{all-genuine, all-typed, are_good, faithful-at}
+use Rattle.stack_engine.proofs.rows.RowSettings.{fe_of, il_of}
+
+-- the datagrams that the ends make, each under its index; those of the second opening with a b
+abbrev i0 : List ℕ
+i0 =
+    58 ∷ 0 ∷ 0 ∷ 0 ∷ 0 ∷ 0 ∷ 0 ∷ 0 ∷ 50 ∷ 0 ∷ 56 ∷ 24 ∷ 2 ∷ 0 ∷ 0 ∷ 0 ∷ 1 ∷ 0 ∷ 0 ∷ 0 ∷ 100 ∷ 0 ∷ 0 ∷ 0 ∷ 0 ∷ 0 ∷ 0 ∷ 0 ∷ 100 ∷ 0 ∷ 0 ∷ 0 ∷ 0 ∷ 0 ∷ 0 ∷ 0 ∷ 48 ∷
+    51 ∷ 48 ∷ 51 ∷ 20 ∷ 0 ∷ 0 ∷ 0 ∷ 0 ∷ 0 ∷ 0 ∷ 0 ∷ 0 ∷ 0 ∷ 131 ∷ 202 ∷ 171 ∷ 11 ∷ 113 ∷ 188 ∷ 81 ∷ 240 ∷ []
+
+abbrev f0 : List ℕ
+f0 =
+    58 ∷ 0 ∷ 0 ∷ 0 ∷ 0 ∷ 0 ∷ 0 ∷ 0 ∷ 50 ∷ 0 ∷ 57 ∷ 24 ∷ 1 ∷ 0 ∷ 0 ∷ 0 ∷ 2 ∷ 0 ∷ 0 ∷ 0 ∷ 244 ∷ 1 ∷ 0 ∷ 0 ∷ 100 ∷ 0 ∷ 0 ∷ 0 ∷ 136 ∷ 19 ∷ 0 ∷ 0 ∷ 100 ∷ 0 ∷ 0 ∷ 0 ∷
+    48 ∷ 51 ∷ 48 ∷ 51 ∷ 20 ∷ 0 ∷ 0 ∷ 0 ∷ 0 ∷ 0 ∷ 0 ∷ 0 ∷ 0 ∷ 0 ∷ 113 ∷ 97 ∷ 230 ∷ 133 ∷ 162 ∷ 237 ∷ 2 ∷ 138 ∷ []
+
+abbrev i1 : List ℕ
+i1 =
+    44 ∷ 0 ∷ 0 ∷ 0 ∷ 1 ∷ 0 ∷ 0 ∷ 0 ∷ 36 ∷ 0 ∷ 76 ∷ 24 ∷ 2 ∷ 0 ∷ 0 ∷ 0 ∷ 1 ∷ 0 ∷ 0 ∷ 0 ∷ 101 ∷ 0 ∷ 0 ∷ 0 ∷ 244 ∷ 1 ∷ 0 ∷ 0 ∷ 100 ∷ 0 ∷ 0 ∷ 0 ∷ 136 ∷ 19 ∷ 0 ∷ 0 ∷
+    246 ∷ 180 ∷ 181 ∷ 146 ∷ 188 ∷ 49 ∷ 60 ∷ 218 ∷ []
+
+abbrev i2 : List ℕ
+i2 =
+    90 ∷ 0 ∷ 0 ∷ 0 ∷ 2 ∷ 0 ∷ 0 ∷ 0 ∷ 82 ∷ 0 ∷ 96 ∷ 24 ∷ 2 ∷ 0 ∷ 0 ∷ 0 ∷ 1 ∷ 0 ∷ 0 ∷ 0 ∷ 102 ∷ 0 ∷ 0 ∷ 0 ∷ 244 ∷ 1 ∷ 0 ∷ 0 ∷ 100 ∷ 0 ∷ 0 ∷ 0 ∷ 136 ∷ 19 ∷ 0 ∷ 0 ∷
+    44 ∷ 0 ∷ 1 ∷ 36 ∷ 0 ∷ 73 ∷ 76 ∷ 49 ∷ 95 ∷ 95 ∷ 95 ∷ 95 ∷ 95 ∷ 95 ∷ 95 ∷ 95 ∷ 95 ∷ 95 ∷ 95 ∷ 95 ∷ 95 ∷ 95 ∷ 95 ∷ 95 ∷ 95 ∷ 70 ∷ 69 ∷ 49 ∷ 95 ∷ 95 ∷ 95 ∷ 95 ∷
+    95 ∷ 95 ∷ 95 ∷ 95 ∷ 95 ∷ 95 ∷ 95 ∷ 95 ∷ 95 ∷ 95 ∷ 95 ∷ 95 ∷ 95 ∷ 3 ∷ 193 ∷ 122 ∷ 76 ∷ 17 ∷ 86 ∷ 108 ∷ 41 ∷ 1 ∷ []
+
+abbrev f1 : List ℕ
+f1 =
+    92 ∷ 0 ∷ 0 ∷ 0 ∷ 1 ∷ 0 ∷ 0 ∷ 0 ∷ 84 ∷ 0 ∷ 96 ∷ 24 ∷ 1 ∷ 0 ∷ 0 ∷ 0 ∷ 2 ∷ 0 ∷ 0 ∷ 0 ∷ 245 ∷ 1 ∷ 0 ∷ 0 ∷ 102 ∷ 0 ∷ 0 ∷ 0 ∷ 136 ∷ 19 ∷ 0 ∷ 0 ∷ 100 ∷ 0 ∷ 0 ∷ 0 ∷
+    46 ∷ 0 ∷ 1 ∷ 37 ∷ 0 ∷ 70 ∷ 69 ∷ 49 ∷ 95 ∷ 95 ∷ 95 ∷ 95 ∷ 95 ∷ 95 ∷ 95 ∷ 95 ∷ 95 ∷ 95 ∷ 95 ∷ 95 ∷ 95 ∷ 95 ∷ 95 ∷ 95 ∷ 95 ∷ 73 ∷ 76 ∷ 49 ∷ 95 ∷ 95 ∷ 95 ∷ 95 ∷
+    95 ∷ 95 ∷ 95 ∷ 95 ∷ 95 ∷ 95 ∷ 95 ∷ 95 ∷ 95 ∷ 95 ∷ 95 ∷ 95 ∷ 95 ∷ 2 ∷ 3 ∷ 0 ∷ 206 ∷ 4 ∷ 125 ∷ 210 ∷ 53 ∷ 173 ∷ 34 ∷ 34 ∷ []
+
+abbrev i3 : List ℕ
+i3 =
+    89 ∷ 0 ∷ 0 ∷ 0 ∷ 3 ∷ 0 ∷ 0 ∷ 0 ∷ 81 ∷ 0 ∷ 96 ∷ 24 ∷ 2 ∷ 0 ∷ 0 ∷ 0 ∷ 1 ∷ 0 ∷ 0 ∷ 0 ∷ 103 ∷ 0 ∷ 0 ∷ 0 ∷ 245 ∷ 1 ∷ 0 ∷ 0 ∷ 100 ∷ 0 ∷ 0 ∷ 0 ∷ 136 ∷ 19 ∷ 0 ∷ 0 ∷
+    43 ∷ 0 ∷ 1 ∷ 33 ∷ 0 ∷ 73 ∷ 76 ∷ 49 ∷ 95 ∷ 95 ∷ 95 ∷ 95 ∷ 95 ∷ 95 ∷ 95 ∷ 95 ∷ 95 ∷ 95 ∷ 95 ∷ 95 ∷ 95 ∷ 95 ∷ 95 ∷ 95 ∷ 95 ∷ 70 ∷ 69 ∷ 49 ∷ 95 ∷ 95 ∷ 95 ∷ 95 ∷
+    95 ∷ 95 ∷ 95 ∷ 95 ∷ 95 ∷ 95 ∷ 95 ∷ 95 ∷ 95 ∷ 95 ∷ 95 ∷ 95 ∷ 95 ∷ 44 ∷ 249 ∷ 229 ∷ 96 ∷ 134 ∷ 224 ∷ 77 ∷ 203 ∷ []
+
+abbrev f2 : List ℕ
+f2 =
+    89 ∷ 0 ∷ 0 ∷ 0 ∷ 2 ∷ 0 ∷ 0 ∷ 0 ∷ 81 ∷ 0 ∷ 96 ∷ 24 ∷ 1 ∷ 0 ∷ 0 ∷ 0 ∷ 2 ∷ 0 ∷ 0 ∷ 0 ∷ 246 ∷ 1 ∷ 0 ∷ 0 ∷ 103 ∷ 0 ∷ 0 ∷ 0 ∷ 136 ∷ 19 ∷ 0 ∷ 0 ∷ 100 ∷ 0 ∷ 0 ∷ 0 ∷
+    43 ∷ 0 ∷ 1 ∷ 34 ∷ 0 ∷ 70 ∷ 69 ∷ 49 ∷ 95 ∷ 95 ∷ 95 ∷ 95 ∷ 95 ∷ 95 ∷ 95 ∷ 95 ∷ 95 ∷ 95 ∷ 95 ∷ 95 ∷ 95 ∷ 95 ∷ 95 ∷ 95 ∷ 95 ∷ 73 ∷ 76 ∷ 49 ∷ 95 ∷ 95 ∷ 95 ∷ 95 ∷
+    95 ∷ 95 ∷ 95 ∷ 95 ∷ 95 ∷ 95 ∷ 95 ∷ 95 ∷ 95 ∷ 95 ∷ 95 ∷ 95 ∷ 95 ∷ 195 ∷ 113 ∷ 43 ∷ 213 ∷ 176 ∷ 3 ∷ 178 ∷ 178 ∷ []
+
+abbrev f3 : List ℕ
+f3 =
+    89 ∷ 0 ∷ 0 ∷ 0 ∷ 3 ∷ 0 ∷ 0 ∷ 0 ∷ 81 ∷ 0 ∷ 96 ∷ 24 ∷ 1 ∷ 0 ∷ 0 ∷ 0 ∷ 2 ∷ 0 ∷ 0 ∷ 0 ∷ 247 ∷ 1 ∷ 0 ∷ 0 ∷ 103 ∷ 0 ∷ 0 ∷ 0 ∷ 136 ∷ 19 ∷ 0 ∷ 0 ∷ 100 ∷ 0 ∷ 0 ∷ 0 ∷
+    43 ∷ 0 ∷ 1 ∷ 35 ∷ 0 ∷ 70 ∷ 69 ∷ 49 ∷ 95 ∷ 95 ∷ 95 ∷ 95 ∷ 95 ∷ 95 ∷ 95 ∷ 95 ∷ 95 ∷ 95 ∷ 95 ∷ 95 ∷ 95 ∷ 95 ∷ 95 ∷ 95 ∷ 95 ∷ 73 ∷ 76 ∷ 49 ∷ 95 ∷ 95 ∷ 95 ∷ 95 ∷
+    95 ∷ 95 ∷ 95 ∷ 95 ∷ 95 ∷ 95 ∷ 95 ∷ 95 ∷ 95 ∷ 95 ∷ 95 ∷ 95 ∷ 95 ∷ 62 ∷ 215 ∷ 239 ∷ 157 ∷ 17 ∷ 191 ∷ 169 ∷ 221 ∷ []
+
+abbrev i5 : List ℕ
+i5 =
+    90 ∷ 0 ∷ 0 ∷ 0 ∷ 5 ∷ 0 ∷ 0 ∷ 0 ∷ 82 ∷ 0 ∷ 96 ∷ 24 ∷ 2 ∷ 0 ∷ 0 ∷ 0 ∷ 1 ∷ 0 ∷ 0 ∷ 0 ∷ 105 ∷ 0 ∷ 0 ∷ 0 ∷ 247 ∷ 1 ∷ 0 ∷ 0 ∷ 100 ∷ 0 ∷ 0 ∷ 0 ∷ 136 ∷ 19 ∷ 0 ∷ 0 ∷
+    44 ∷ 0 ∷ 1 ∷ 0 ∷ 1 ∷ 73 ∷ 76 ∷ 49 ∷ 95 ∷ 95 ∷ 95 ∷ 95 ∷ 95 ∷ 95 ∷ 95 ∷ 95 ∷ 95 ∷ 95 ∷ 95 ∷ 95 ∷ 95 ∷ 95 ∷ 95 ∷ 95 ∷ 95 ∷ 70 ∷ 69 ∷ 49 ∷ 95 ∷ 95 ∷ 95 ∷ 95 ∷
+    95 ∷ 95 ∷ 95 ∷ 95 ∷ 95 ∷ 95 ∷ 95 ∷ 95 ∷ 95 ∷ 95 ∷ 95 ∷ 95 ∷ 95 ∷ 2 ∷ 45 ∷ 136 ∷ 26 ∷ 158 ∷ 36 ∷ 156 ∷ 233 ∷ 233 ∷ []
+
+abbrev f4 : List ℕ
+f4 =
+    44 ∷ 0 ∷ 0 ∷ 0 ∷ 4 ∷ 0 ∷ 0 ∷ 0 ∷ 36 ∷ 0 ∷ 68 ∷ 24 ∷ 1 ∷ 0 ∷ 0 ∷ 0 ∷ 2 ∷ 0 ∷ 0 ∷ 0 ∷ 248 ∷ 1 ∷ 0 ∷ 0 ∷ 103 ∷ 0 ∷ 0 ∷ 0 ∷ 186 ∷ 19 ∷ 0 ∷ 0 ∷ 100 ∷ 0 ∷ 0 ∷ 0 ∷
+    5 ∷ 108 ∷ 188 ∷ 199 ∷ 234 ∷ 56 ∷ 198 ∷ 249 ∷ []
+
+abbrev i6 : List ℕ
+i6 =
+    44 ∷ 0 ∷ 0 ∷ 0 ∷ 6 ∷ 0 ∷ 0 ∷ 0 ∷ 36 ∷ 0 ∷ 69 ∷ 24 ∷ 2 ∷ 0 ∷ 0 ∷ 0 ∷ 1 ∷ 0 ∷ 0 ∷ 0 ∷ 106 ∷ 0 ∷ 0 ∷ 0 ∷ 248 ∷ 1 ∷ 0 ∷ 0 ∷ 150 ∷ 0 ∷ 0 ∷ 0 ∷ 186 ∷ 19 ∷ 0 ∷ 0 ∷
+    130 ∷ 12 ∷ 166 ∷ 159 ∷ 98 ∷ 80 ∷ 215 ∷ 74 ∷ []
+
+abbrev i7 : List ℕ
+i7 =
+    90 ∷ 0 ∷ 0 ∷ 0 ∷ 7 ∷ 0 ∷ 0 ∷ 0 ∷ 82 ∷ 0 ∷ 97 ∷ 24 ∷ 2 ∷ 0 ∷ 0 ∷ 0 ∷ 1 ∷ 0 ∷ 0 ∷ 0 ∷ 107 ∷ 0 ∷ 0 ∷ 0 ∷ 248 ∷ 1 ∷ 0 ∷ 0 ∷ 150 ∷ 0 ∷ 0 ∷ 0 ∷ 186 ∷ 19 ∷ 0 ∷ 0 ∷
+    44 ∷ 0 ∷ 1 ∷ 0 ∷ 1 ∷ 73 ∷ 76 ∷ 49 ∷ 95 ∷ 95 ∷ 95 ∷ 95 ∷ 95 ∷ 95 ∷ 95 ∷ 95 ∷ 95 ∷ 95 ∷ 95 ∷ 95 ∷ 95 ∷ 95 ∷ 95 ∷ 95 ∷ 95 ∷ 70 ∷ 69 ∷ 49 ∷ 95 ∷ 95 ∷ 95 ∷ 95 ∷
+    95 ∷ 95 ∷ 95 ∷ 95 ∷ 95 ∷ 95 ∷ 95 ∷ 95 ∷ 95 ∷ 95 ∷ 95 ∷ 95 ∷ 95 ∷ 1 ∷ 26 ∷ 191 ∷ 252 ∷ 120 ∷ 72 ∷ 9 ∷ 211 ∷ 119 ∷ []
+
+abbrev i8 : List ℕ
+i8 =
+    90 ∷ 0 ∷ 0 ∷ 0 ∷ 8 ∷ 0 ∷ 0 ∷ 0 ∷ 82 ∷ 0 ∷ 97 ∷ 24 ∷ 2 ∷ 0 ∷ 0 ∷ 0 ∷ 1 ∷ 0 ∷ 0 ∷ 0 ∷ 108 ∷ 0 ∷ 0 ∷ 0 ∷ 248 ∷ 1 ∷ 0 ∷ 0 ∷ 150 ∷ 0 ∷ 0 ∷ 0 ∷ 186 ∷ 19 ∷ 0 ∷ 0 ∷
+    44 ∷ 0 ∷ 1 ∷ 0 ∷ 1 ∷ 73 ∷ 76 ∷ 49 ∷ 95 ∷ 95 ∷ 95 ∷ 95 ∷ 95 ∷ 95 ∷ 95 ∷ 95 ∷ 95 ∷ 95 ∷ 95 ∷ 95 ∷ 95 ∷ 95 ∷ 95 ∷ 95 ∷ 95 ∷ 70 ∷ 69 ∷ 49 ∷ 95 ∷ 95 ∷ 95 ∷ 95 ∷
+    95 ∷ 95 ∷ 95 ∷ 95 ∷ 95 ∷ 95 ∷ 95 ∷ 95 ∷ 95 ∷ 95 ∷ 95 ∷ 95 ∷ 95 ∷ 2 ∷ 31 ∷ 102 ∷ 18 ∷ 16 ∷ 247 ∷ 120 ∷ 45 ∷ 102 ∷ []
+
+abbrev i9 : List ℕ
+i9 =
+    44 ∷ 0 ∷ 0 ∷ 0 ∷ 9 ∷ 0 ∷ 0 ∷ 0 ∷ 36 ∷ 0 ∷ 76 ∷ 24 ∷ 2 ∷ 0 ∷ 0 ∷ 0 ∷ 1 ∷ 0 ∷ 0 ∷ 0 ∷ 109 ∷ 0 ∷ 0 ∷ 0 ∷ 248 ∷ 1 ∷ 0 ∷ 0 ∷ 150 ∷ 0 ∷ 0 ∷ 0 ∷ 186 ∷ 19 ∷ 0 ∷ 0 ∷
+    239 ∷ 169 ∷ 217 ∷ 15 ∷ 82 ∷ 183 ∷ 112 ∷ 54 ∷ []
+
+abbrev f5 : List ℕ
+f5 =
+    90 ∷ 0 ∷ 0 ∷ 0 ∷ 5 ∷ 0 ∷ 0 ∷ 0 ∷ 82 ∷ 0 ∷ 96 ∷ 24 ∷ 1 ∷ 0 ∷ 0 ∷ 0 ∷ 2 ∷ 0 ∷ 0 ∷ 0 ∷ 249 ∷ 1 ∷ 0 ∷ 0 ∷ 109 ∷ 0 ∷ 0 ∷ 0 ∷ 186 ∷ 19 ∷ 0 ∷ 0 ∷ 150 ∷ 0 ∷ 0 ∷ 0 ∷
+    44 ∷ 0 ∷ 1 ∷ 0 ∷ 2 ∷ 70 ∷ 69 ∷ 49 ∷ 95 ∷ 95 ∷ 95 ∷ 95 ∷ 95 ∷ 95 ∷ 95 ∷ 95 ∷ 95 ∷ 95 ∷ 95 ∷ 95 ∷ 95 ∷ 95 ∷ 95 ∷ 95 ∷ 95 ∷ 73 ∷ 76 ∷ 49 ∷ 95 ∷ 95 ∷ 95 ∷ 95 ∷
+    95 ∷ 95 ∷ 95 ∷ 95 ∷ 95 ∷ 95 ∷ 95 ∷ 95 ∷ 95 ∷ 95 ∷ 95 ∷ 95 ∷ 95 ∷ 3 ∷ 40 ∷ 117 ∷ 125 ∷ 229 ∷ 67 ∷ 61 ∷ 230 ∷ 142 ∷ []
+
+abbrev pub i0b : List ℕ
+i0b =
+    58 ∷ 0 ∷ 0 ∷ 0 ∷ 0 ∷ 0 ∷ 0 ∷ 0 ∷ 50 ∷ 0 ∷ 56 ∷ 24 ∷ 2 ∷ 0 ∷ 0 ∷ 0 ∷ 1 ∷ 0 ∷ 0 ∷ 0 ∷ 44 ∷ 1 ∷ 0 ∷ 0 ∷ 0 ∷ 0 ∷ 0 ∷ 0 ∷ 160 ∷ 0 ∷ 0 ∷ 0 ∷ 0 ∷ 0 ∷ 0 ∷ 0 ∷ 48 ∷
+    51 ∷ 48 ∷ 51 ∷ 20 ∷ 0 ∷ 0 ∷ 0 ∷ 0 ∷ 0 ∷ 0 ∷ 0 ∷ 0 ∷ 0 ∷ 63 ∷ 181 ∷ 153 ∷ 119 ∷ 252 ∷ 46 ∷ 143 ∷ 69 ∷ []
+
+abbrev f0b : List ℕ
+f0b =
+    58 ∷ 0 ∷ 0 ∷ 0 ∷ 0 ∷ 0 ∷ 0 ∷ 0 ∷ 50 ∷ 0 ∷ 57 ∷ 24 ∷ 1 ∷ 0 ∷ 0 ∷ 0 ∷ 2 ∷ 0 ∷ 0 ∷ 0 ∷ 188 ∷ 2 ∷ 0 ∷ 0 ∷ 44 ∷ 1 ∷ 0 ∷ 0 ∷ 196 ∷ 19 ∷ 0 ∷ 0 ∷ 160 ∷ 0 ∷ 0 ∷ 0 ∷
+    48 ∷ 51 ∷ 48 ∷ 51 ∷ 20 ∷ 0 ∷ 0 ∷ 0 ∷ 0 ∷ 0 ∷ 0 ∷ 0 ∷ 0 ∷ 0 ∷ 51 ∷ 49 ∷ 194 ∷ 70 ∷ 68 ∷ 35 ∷ 150 ∷ 215 ∷ []
+
+abbrev pub i1b : List ℕ
+i1b =
+    44 ∷ 0 ∷ 0 ∷ 0 ∷ 1 ∷ 0 ∷ 0 ∷ 0 ∷ 36 ∷ 0 ∷ 76 ∷ 24 ∷ 2 ∷ 0 ∷ 0 ∷ 0 ∷ 1 ∷ 0 ∷ 0 ∷ 0 ∷ 45 ∷ 1 ∷ 0 ∷ 0 ∷ 188 ∷ 2 ∷ 0 ∷ 0 ∷ 160 ∷ 0 ∷ 0 ∷ 0 ∷ 196 ∷ 19 ∷ 0 ∷ 0 ∷
+    119 ∷ 142 ∷ 182 ∷ 47 ∷ 152 ∷ 107 ∷ 78 ∷ 230 ∷ []
+
+abbrev pub i2b : List ℕ
+i2b =
+    90 ∷ 0 ∷ 0 ∷ 0 ∷ 2 ∷ 0 ∷ 0 ∷ 0 ∷ 82 ∷ 0 ∷ 96 ∷ 24 ∷ 2 ∷ 0 ∷ 0 ∷ 0 ∷ 1 ∷ 0 ∷ 0 ∷ 0 ∷ 46 ∷ 1 ∷ 0 ∷ 0 ∷ 188 ∷ 2 ∷ 0 ∷ 0 ∷ 160 ∷ 0 ∷ 0 ∷ 0 ∷ 196 ∷ 19 ∷ 0 ∷ 0 ∷
+    44 ∷ 0 ∷ 1 ∷ 36 ∷ 0 ∷ 73 ∷ 76 ∷ 49 ∷ 95 ∷ 95 ∷ 95 ∷ 95 ∷ 95 ∷ 95 ∷ 95 ∷ 95 ∷ 95 ∷ 95 ∷ 95 ∷ 95 ∷ 95 ∷ 95 ∷ 95 ∷ 95 ∷ 95 ∷ 70 ∷ 69 ∷ 49 ∷ 95 ∷ 95 ∷ 95 ∷ 95 ∷
+    95 ∷ 95 ∷ 95 ∷ 95 ∷ 95 ∷ 95 ∷ 95 ∷ 95 ∷ 95 ∷ 95 ∷ 95 ∷ 95 ∷ 95 ∷ 3 ∷ 214 ∷ 161 ∷ 231 ∷ 33 ∷ 3 ∷ 207 ∷ 49 ∷ 97 ∷ []
+
+abbrev f1b : List ℕ
+f1b =
+    92 ∷ 0 ∷ 0 ∷ 0 ∷ 1 ∷ 0 ∷ 0 ∷ 0 ∷ 84 ∷ 0 ∷ 96 ∷ 24 ∷ 1 ∷ 0 ∷ 0 ∷ 0 ∷ 2 ∷ 0 ∷ 0 ∷ 0 ∷ 189 ∷ 2 ∷ 0 ∷ 0 ∷ 46 ∷ 1 ∷ 0 ∷ 0 ∷ 196 ∷ 19 ∷ 0 ∷ 0 ∷ 160 ∷ 0 ∷ 0 ∷ 0 ∷
+    46 ∷ 0 ∷ 1 ∷ 37 ∷ 0 ∷ 70 ∷ 69 ∷ 49 ∷ 95 ∷ 95 ∷ 95 ∷ 95 ∷ 95 ∷ 95 ∷ 95 ∷ 95 ∷ 95 ∷ 95 ∷ 95 ∷ 95 ∷ 95 ∷ 95 ∷ 95 ∷ 95 ∷ 95 ∷ 73 ∷ 76 ∷ 49 ∷ 95 ∷ 95 ∷ 95 ∷ 95 ∷
+    95 ∷ 95 ∷ 95 ∷ 95 ∷ 95 ∷ 95 ∷ 95 ∷ 95 ∷ 95 ∷ 95 ∷ 95 ∷ 95 ∷ 95 ∷ 2 ∷ 3 ∷ 0 ∷ 139 ∷ 175 ∷ 111 ∷ 151 ∷ 110 ∷ 244 ∷ 55 ∷ 8 ∷ []
+
+abbrev pub i3b : List ℕ
+i3b =
+    89 ∷ 0 ∷ 0 ∷ 0 ∷ 3 ∷ 0 ∷ 0 ∷ 0 ∷ 81 ∷ 0 ∷ 96 ∷ 24 ∷ 2 ∷ 0 ∷ 0 ∷ 0 ∷ 1 ∷ 0 ∷ 0 ∷ 0 ∷ 47 ∷ 1 ∷ 0 ∷ 0 ∷ 189 ∷ 2 ∷ 0 ∷ 0 ∷ 160 ∷ 0 ∷ 0 ∷ 0 ∷ 196 ∷ 19 ∷ 0 ∷ 0 ∷
+    43 ∷ 0 ∷ 1 ∷ 33 ∷ 0 ∷ 73 ∷ 76 ∷ 49 ∷ 95 ∷ 95 ∷ 95 ∷ 95 ∷ 95 ∷ 95 ∷ 95 ∷ 95 ∷ 95 ∷ 95 ∷ 95 ∷ 95 ∷ 95 ∷ 95 ∷ 95 ∷ 95 ∷ 95 ∷ 70 ∷ 69 ∷ 49 ∷ 95 ∷ 95 ∷ 95 ∷ 95 ∷
+    95 ∷ 95 ∷ 95 ∷ 95 ∷ 95 ∷ 95 ∷ 95 ∷ 95 ∷ 95 ∷ 95 ∷ 95 ∷ 95 ∷ 95 ∷ 136 ∷ 21 ∷ 5 ∷ 53 ∷ 137 ∷ 80 ∷ 39 ∷ 251 ∷ []
+
+abbrev f2b : List ℕ
+f2b =
+    89 ∷ 0 ∷ 0 ∷ 0 ∷ 2 ∷ 0 ∷ 0 ∷ 0 ∷ 81 ∷ 0 ∷ 96 ∷ 24 ∷ 1 ∷ 0 ∷ 0 ∷ 0 ∷ 2 ∷ 0 ∷ 0 ∷ 0 ∷ 190 ∷ 2 ∷ 0 ∷ 0 ∷ 47 ∷ 1 ∷ 0 ∷ 0 ∷ 196 ∷ 19 ∷ 0 ∷ 0 ∷ 160 ∷ 0 ∷ 0 ∷ 0 ∷
+    43 ∷ 0 ∷ 1 ∷ 34 ∷ 0 ∷ 70 ∷ 69 ∷ 49 ∷ 95 ∷ 95 ∷ 95 ∷ 95 ∷ 95 ∷ 95 ∷ 95 ∷ 95 ∷ 95 ∷ 95 ∷ 95 ∷ 95 ∷ 95 ∷ 95 ∷ 95 ∷ 95 ∷ 95 ∷ 73 ∷ 76 ∷ 49 ∷ 95 ∷ 95 ∷ 95 ∷ 95 ∷
+    95 ∷ 95 ∷ 95 ∷ 95 ∷ 95 ∷ 95 ∷ 95 ∷ 95 ∷ 95 ∷ 95 ∷ 95 ∷ 95 ∷ 95 ∷ 19 ∷ 116 ∷ 232 ∷ 122 ∷ 48 ∷ 114 ∷ 235 ∷ 27 ∷ []
+
+abbrev f3b : List ℕ
+f3b =
+    89 ∷ 0 ∷ 0 ∷ 0 ∷ 3 ∷ 0 ∷ 0 ∷ 0 ∷ 81 ∷ 0 ∷ 96 ∷ 24 ∷ 1 ∷ 0 ∷ 0 ∷ 0 ∷ 2 ∷ 0 ∷ 0 ∷ 0 ∷ 191 ∷ 2 ∷ 0 ∷ 0 ∷ 47 ∷ 1 ∷ 0 ∷ 0 ∷ 196 ∷ 19 ∷ 0 ∷ 0 ∷ 160 ∷ 0 ∷ 0 ∷ 0 ∷
+    43 ∷ 0 ∷ 1 ∷ 35 ∷ 0 ∷ 70 ∷ 69 ∷ 49 ∷ 95 ∷ 95 ∷ 95 ∷ 95 ∷ 95 ∷ 95 ∷ 95 ∷ 95 ∷ 95 ∷ 95 ∷ 95 ∷ 95 ∷ 95 ∷ 95 ∷ 95 ∷ 95 ∷ 95 ∷ 73 ∷ 76 ∷ 49 ∷ 95 ∷ 95 ∷ 95 ∷ 95 ∷
+    95 ∷ 95 ∷ 95 ∷ 95 ∷ 95 ∷ 95 ∷ 95 ∷ 95 ∷ 95 ∷ 95 ∷ 95 ∷ 95 ∷ 95 ∷ 254 ∷ 110 ∷ 17 ∷ 10 ∷ 132 ∷ 233 ∷ 6 ∷ 214 ∷ []
+
+abbrev pub i4b : List ℕ
+i4b =
+    90 ∷ 0 ∷ 0 ∷ 0 ∷ 4 ∷ 0 ∷ 0 ∷ 0 ∷ 82 ∷ 0 ∷ 96 ∷ 24 ∷ 2 ∷ 0 ∷ 0 ∷ 0 ∷ 1 ∷ 0 ∷ 0 ∷ 0 ∷ 48 ∷ 1 ∷ 0 ∷ 0 ∷ 191 ∷ 2 ∷ 0 ∷ 0 ∷ 160 ∷ 0 ∷ 0 ∷ 0 ∷ 196 ∷ 19 ∷ 0 ∷ 0 ∷
+    44 ∷ 0 ∷ 1 ∷ 0 ∷ 1 ∷ 73 ∷ 76 ∷ 49 ∷ 95 ∷ 95 ∷ 95 ∷ 95 ∷ 95 ∷ 95 ∷ 95 ∷ 95 ∷ 95 ∷ 95 ∷ 95 ∷ 95 ∷ 95 ∷ 95 ∷ 95 ∷ 95 ∷ 95 ∷ 70 ∷ 69 ∷ 49 ∷ 95 ∷ 95 ∷ 95 ∷ 95 ∷
+    95 ∷ 95 ∷ 95 ∷ 95 ∷ 95 ∷ 95 ∷ 95 ∷ 95 ∷ 95 ∷ 95 ∷ 95 ∷ 95 ∷ 95 ∷ 4 ∷ 242 ∷ 248 ∷ 237 ∷ 220 ∷ 193 ∷ 5 ∷ 232 ∷ 252 ∷ []
+
+abbrev f4b : List ℕ
+f4b =
+    90 ∷ 0 ∷ 0 ∷ 0 ∷ 4 ∷ 0 ∷ 0 ∷ 0 ∷ 82 ∷ 0 ∷ 96 ∷ 24 ∷ 1 ∷ 0 ∷ 0 ∷ 0 ∷ 2 ∷ 0 ∷ 0 ∷ 0 ∷ 192 ∷ 2 ∷ 0 ∷ 0 ∷ 47 ∷ 1 ∷ 0 ∷ 0 ∷ 196 ∷ 19 ∷ 0 ∷ 0 ∷ 160 ∷ 0 ∷ 0 ∷ 0 ∷
+    44 ∷ 0 ∷ 1 ∷ 0 ∷ 2 ∷ 70 ∷ 69 ∷ 49 ∷ 95 ∷ 95 ∷ 95 ∷ 95 ∷ 95 ∷ 95 ∷ 95 ∷ 95 ∷ 95 ∷ 95 ∷ 95 ∷ 95 ∷ 95 ∷ 95 ∷ 95 ∷ 95 ∷ 95 ∷ 73 ∷ 76 ∷ 49 ∷ 95 ∷ 95 ∷ 95 ∷ 95 ∷
+    95 ∷ 95 ∷ 95 ∷ 95 ∷ 95 ∷ 95 ∷ 95 ∷ 95 ∷ 95 ∷ 95 ∷ 95 ∷ 95 ∷ 95 ∷ 5 ∷ 234 ∷ 209 ∷ 22 ∷ 68 ∷ 149 ∷ 164 ∷ 15 ∷ 44 ∷ []
+
+abbrev i5b : List ℕ
+i5b =
+    44 ∷ 0 ∷ 0 ∷ 0 ∷ 5 ∷ 0 ∷ 0 ∷ 0 ∷ 36 ∷ 0 ∷ 76 ∷ 24 ∷ 2 ∷ 0 ∷ 0 ∷ 0 ∷ 1 ∷ 0 ∷ 0 ∷ 0 ∷ 49 ∷ 1 ∷ 0 ∷ 0 ∷ 192 ∷ 2 ∷ 0 ∷ 0 ∷ 204 ∷ 1 ∷ 0 ∷ 0 ∷ 196 ∷ 19 ∷ 0 ∷ 0 ∷
+    102 ∷ 78 ∷ 65 ∷ 227 ∷ 221 ∷ 36 ∷ 140 ∷ 239 ∷ []
+
+abbrev f5b : List ℕ
+f5b =
+    44 ∷ 0 ∷ 0 ∷ 0 ∷ 5 ∷ 0 ∷ 0 ∷ 0 ∷ 36 ∷ 0 ∷ 76 ∷ 24 ∷ 1 ∷ 0 ∷ 0 ∷ 0 ∷ 2 ∷ 0 ∷ 0 ∷ 0 ∷ 193 ∷ 2 ∷ 0 ∷ 0 ∷ 48 ∷ 1 ∷ 0 ∷ 0 ∷ 240 ∷ 20 ∷ 0 ∷ 0 ∷ 160 ∷ 0 ∷ 0 ∷ 0 ∷
+    128 ∷ 214 ∷ 6 ∷ 88 ∷ 220 ∷ 184 ∷ 202 ∷ 125 ∷ []
+
+-- a command is lost in the first session, both ends are opened anew, and both ways are used in the second
+abbrev first : List Event
+first =
+    Open Fe (fe_of 20 10) 500 5000 ∷ Open Il (il_of 20 10) 100 100 ∷ Calls Fe (Deliver 1 i0 5000) ∷ Calls Il (Deliver 1 f0 100) ∷
+    Calls Fe (Deliver 1 i1 5000) ∷ Calls Fe (Deliver 1 i2 5000) ∷ Calls Il (Deliver 1 f1 100) ∷ Calls Fe (Deliver 1 i3 5000) ∷ Calls Il (Deliver 1 f2 100) ∷
+    Calls Fe (InitDone 5000) ∷ Calls Il (Deliver 1 f3 100) ∷ Calls Il (Put 256 (1 ∷ []) 100) ∷ Calls Il (Put 256 (2 ∷ []) 100) ∷
+    Calls Fe (Deliver 1 i5 5000) ∷ Calls Fe (Tick 5050) ∷ Calls Il (Deliver 1 f4 150) ∷ Calls Fe (Deliver 1 i6 5050) ∷ Calls Fe (Deliver 1 i7 5050) ∷
+    Calls Fe (Deliver 1 i8 5050) ∷ Calls Fe (Deliver 1 i9 5050) ∷ Calls Fe (Put 512 (3 ∷ []) 5050) ∷ Calls Il (Deliver 1 f5 150) ∷ []
+
+abbrev second : List Event
+second =
+    Open Fe (fe_of 20 10) 700 5060 ∷ Open Il (il_of 20 10) 300 160 ∷ Calls Fe (Deliver 1 i0b 5060) ∷ Calls Il (Deliver 1 f0b 160) ∷
+    Calls Fe (Deliver 1 i1b 5060) ∷ Calls Fe (Deliver 1 i2b 5060) ∷ Calls Il (Deliver 1 f1b 160) ∷ Calls Fe (Deliver 1 i3b 5060) ∷
+    Calls Il (Deliver 1 f2b 160) ∷ Calls Fe (InitDone 5060) ∷ Calls Il (Deliver 1 f3b 160) ∷ Calls Il (Put 256 (4 ∷ []) 160) ∷
+    Calls Fe (Put 512 (5 ∷ []) 5060) ∷ Calls Fe (Deliver 1 i4b 5060) ∷ Calls Il (Deliver 1 f4b 160) ∷ Calls Fe (Tick 5360) ∷ Calls Il (Tick 460) ∷
+    Calls Fe (Deliver 1 i5b 5360) ∷ Calls Il (Deliver 1 f5b 460) ∷ []
+
+abbrev pub events : List Event
+events = first ++ second
+
+told : are_good events start ≡ true
+unfolding sn_of ahead four_steps after_round after_block digest pieces_seen unit_seen tele_seen decoded
+told = refl
 
 opens : {X : Type 0} {x : X} {xs : List X} → x ∷ xs ≡ [] → ⊥
 opens e = cc
 
--- each event is genuine, in the world before it
-genuine1 : refusal e1 start ≡ None → GenuineEvent e1 start
-unfolding sn_of ahead four_steps after_round after_block digest pieces_seen unit_seen tele_seen decoded
-genuine1 = λ on. tt
-
-genuine2 : refusal e2 w1 ≡ None → GenuineEvent e2 w1
-unfolding w1 sn_of ahead four_steps after_round after_block digest pieces_seen unit_seen tele_seen decoded
-genuine2 = λ on. tt
-
-genuine3 : refusal e3 w2 ≡ None → GenuineEvent e3 w2
-unfolding w1 w2 sn_of ahead four_steps after_round after_block digest pieces_seen unit_seen tele_seen decoded
-genuine3 = λ on. (((λ up asked. refl), tt), λ up still. ((λ up asked. refl), tt))
-
-genuine4 : refusal e4 w3 ≡ None → GenuineEvent e4 w3
-unfolding w1 w2 w3 sn_of ahead four_steps after_round after_block digest pieces_seen unit_seen tele_seen decoded
-genuine4 = λ on. (((λ up asked. refl), tt), λ up still. ((λ up asked. refl), tt))
-
-genuine5 : refusal e5 w4 ≡ None → GenuineEvent e5 w4
-unfolding w1 w2 w3 w4 sn_of ahead four_steps after_round after_block digest pieces_seen unit_seen tele_seen decoded
-genuine5 = λ on. (((λ up asked. refl), tt), λ up still. ((λ up asked. refl), tt))
-
-genuine6 : refusal e6 w5 ≡ None → GenuineEvent e6 w5
-unfolding w1 w2 w3 w4 w5 sn_of ahead four_steps after_round after_block digest pieces_seen unit_seen tele_seen decoded
-genuine6 = λ on. (((λ up asked. refl), tt), λ up still. ((λ up asked. refl), tt))
-
-genuine7 : refusal e7 w6 ≡ None → GenuineEvent e7 w6
-unfolding w1 w2 w3 w4 w5 w6 sn_of ahead four_steps after_round after_block digest pieces_seen unit_seen tele_seen decoded
-genuine7 = λ on. (((λ up asked. refl), tt), λ up still. ((λ up asked. refl), tt))
-
-genuine8 : refusal e8 w7 ≡ None → GenuineEvent e8 w7
-unfolding w1 w2 w3 w4 w5 w6 w7 sn_of ahead four_steps after_round after_block digest pieces_seen unit_seen tele_seen decoded
-genuine8 = λ on. (((λ up asked. refl), tt), λ up still. ((λ up asked. refl), tt))
-
-genuine9 : refusal e9 w8 ≡ None → GenuineEvent e9 w8
-unfolding w1 w2 w3 w4 w5 w6 w7 w8 sn_of ahead four_steps after_round after_block digest pieces_seen unit_seen tele_seen decoded
-genuine9 = λ on. (((λ up asked. refl), tt), λ up still. ((λ up asked. refl), tt))
-
-genuine10 : refusal e10 w9 ≡ None → GenuineEvent e10 w9
-unfolding w1 w2 w3 w4 w5 w6 w7 w8 w9 sn_of ahead four_steps after_round after_block digest pieces_seen unit_seen tele_seen decoded
-genuine10 = λ on. (tt, tt)
-
-genuine11 : refusal e11 w10 ≡ None → GenuineEvent e11 w10
-unfolding w1 w2 w3 w4 w5 w6 w7 w8 w9 w10 sn_of ahead four_steps after_round after_block digest pieces_seen unit_seen tele_seen decoded
-genuine11 = λ on. (((λ up asked. refl), tt), λ up still. ((λ up asked. refl), tt))
-
-genuine12 : refusal e12 w11 ≡ None → GenuineEvent e12 w11
-unfolding w1 w2 w3 w4 w5 w6 w7 w8 w9 w10 w11 sn_of ahead four_steps after_round after_block digest pieces_seen unit_seen tele_seen decoded
-genuine12 = λ on. (tt, tt)
-
-genuine13 : refusal e13 w12 ≡ None → GenuineEvent e13 w12
-unfolding w1 w2 w3 w4 w5 w6 w7 w8 w9 w10 w11 w12 sn_of ahead four_steps after_round after_block digest pieces_seen unit_seen tele_seen decoded
-genuine13 = λ on. (tt, tt)
-
-genuine14 : refusal e14 w13 ≡ None → GenuineEvent e14 w13
-unfolding w1 w2 w3 w4 w5 w6 w7 w8 w9 w10 w11 w12 w13 sn_of ahead four_steps after_round after_block digest pieces_seen unit_seen tele_seen decoded
-genuine14 = λ on. (((λ up asked. refl), tt), λ up still. tt)
-
-genuine15 : refusal e15 w14 ≡ None → GenuineEvent e15 w14
-unfolding w1 w2 w3 w4 w5 w6 w7 w8 w9 w10 w11 w12 w13 w14 sn_of ahead four_steps after_round after_block digest pieces_seen unit_seen tele_seen decoded
-genuine15 = λ on. (tt, λ up still. ((λ up asked. refl), tt))
-
-genuine16 : refusal e16 w15 ≡ None → GenuineEvent e16 w15
-unfolding w1 w2 w3 w4 w5 w6 w7 w8 w9 w10 w11 w12 w13 w14 w15 sn_of ahead four_steps after_round after_block digest pieces_seen unit_seen tele_seen decoded
-genuine16 = λ on. (((λ up asked. refl), tt), λ up still. ((λ up asked. refl), tt))
-
-genuine17 : refusal e17 w16 ≡ None → GenuineEvent e17 w16
-unfolding w1 w2 w3 w4 w5 w6 w7 w8 w9 w10 w11 w12 w13 w14 w15 w16 sn_of ahead four_steps after_round after_block digest pieces_seen unit_seen tele_seen decoded
-genuine17 = λ on. (((λ up asked. refl), tt), λ up still. ((λ up asked. refl), tt))
-
-genuine18 : refusal e18 w17 ≡ None → GenuineEvent e18 w17
-unfolding w1 w2 w3 w4 w5 w6 w7 w8 w9 w10 w11 w12 w13 w14 w15 w16 w17 sn_of ahead four_steps after_round after_block digest pieces_seen unit_seen tele_seen
-    decoded
-genuine18 = λ on. (((λ up asked. refl), tt), λ up still. ((λ up asked. refl), tt))
-
-genuine19 : refusal e19 w18 ≡ None → GenuineEvent e19 w18
-unfolding w1 w2 w3 w4 w5 w6 w7 w8 w9 w10 w11 w12 w13 w14 w15 w16 w17 w18 sn_of ahead four_steps after_round after_block digest pieces_seen unit_seen tele_seen
-    decoded
-genuine19 = λ on. (((λ up asked. refl), tt), λ up still. ((λ up asked. refl), tt))
-
-genuine20 : refusal e20 w19 ≡ None → GenuineEvent e20 w19
-unfolding w1 w2 w3 w4 w5 w6 w7 w8 w9 w10 w11 w12 w13 w14 w15 w16 w17 w18 w19 sn_of ahead four_steps after_round after_block digest pieces_seen unit_seen
-    tele_seen decoded
-genuine20 = λ on. (((λ up asked. refl), tt), λ up still. ((λ up asked. refl), tt))
-
-genuine21 : refusal e21 w20 ≡ None → GenuineEvent e21 w20
-unfolding w1 w2 w3 w4 w5 w6 w7 w8 w9 w10 w11 w12 w13 w14 w15 w16 w17 w18 w19 w20 sn_of ahead four_steps after_round after_block digest pieces_seen unit_seen
-    tele_seen decoded
-genuine21 = λ on. (tt, tt)
-
-genuine22 : refusal e22 w21 ≡ None → GenuineEvent e22 w21
-unfolding w1 w2 w3 w4 w5 w6 w7 w8 w9 w10 w11 w12 w13 w14 w15 w16 w17 w18 w19 w20 w21 sn_of ahead four_steps after_round after_block digest pieces_seen unit_seen
-    tele_seen decoded
-genuine22 = λ on. (((λ up asked. refl), tt), λ up still. ((λ up asked. refl), tt))
-
-genuine23 : refusal e23 w22 ≡ None → GenuineEvent e23 w22
-unfolding w1 w2 w3 w4 w5 w6 w7 w8 w9 w10 w11 w12 w13 w14 w15 w16 w17 w18 w19 w20 w21 w22 sn_of ahead four_steps after_round after_block digest pieces_seen
-    unit_seen tele_seen decoded
-genuine23 = λ on. tt
-
-genuine24 : refusal e24 w23 ≡ None → GenuineEvent e24 w23
-unfolding w1 w2 w3 w4 w5 w6 w7 w8 w9 w10 w11 w12 w13 w14 w15 w16 w17 w18 w19 w20 w21 w22 w23 sn_of ahead four_steps after_round after_block digest pieces_seen
-    unit_seen tele_seen decoded
-genuine24 = λ on. tt
-
-genuine25 : refusal e25 w24 ≡ None → GenuineEvent e25 w24
-unfolding w1 w2 w3 w4 w5 w6 w7 w8 w9 w10 w11 w12 w13 w14 w15 w16 w17 w18 w19 w20 w21 w22 w23 w24 sn_of ahead four_steps after_round after_block digest
-    pieces_seen unit_seen tele_seen decoded
-genuine25 = λ on. (((λ up asked. refl), tt), λ up still. ((λ up asked. refl), tt))
-
-genuine26 : refusal e26 w25 ≡ None → GenuineEvent e26 w25
-unfolding w1 w2 w3 w4 w5 w6 w7 w8 w9 w10 w11 w12 w13 w14 w15 w16 w17 w18 w19 w20 w21 w22 w23 w24 w25 sn_of ahead four_steps after_round after_block digest
-    pieces_seen unit_seen tele_seen decoded
-genuine26 = λ on. (((λ up asked. refl), tt), λ up still. ((λ up asked. refl), tt))
-
-genuine27 : refusal e27 w26 ≡ None → GenuineEvent e27 w26
-unfolding w1 w2 w3 w4 w5 w6 w7 w8 w9 w10 w11 w12 w13 w14 w15 w16 w17 w18 w19 w20 w21 w22 w23 w24 w25 w26 sn_of ahead four_steps after_round after_block digest
-    pieces_seen unit_seen tele_seen decoded
-genuine27 = λ on. (((λ up asked. refl), tt), λ up still. ((λ up asked. refl), tt))
-
-genuine28 : refusal e28 w27 ≡ None → GenuineEvent e28 w27
-unfolding w1 w2 w3 w4 w5 w6 w7 w8 w9 w10 w11 w12 w13 w14 w15 w16 w17 w18 w19 w20 w21 w22 w23 w24 w25 w26 w27 sn_of ahead four_steps after_round after_block
-    digest pieces_seen unit_seen tele_seen decoded
-genuine28 = λ on. (((λ up asked. refl), tt), λ up still. ((λ up asked. refl), tt))
-
-genuine29 : refusal e29 w28 ≡ None → GenuineEvent e29 w28
-unfolding w1 w2 w3 w4 w5 w6 w7 w8 w9 w10 w11 w12 w13 w14 w15 w16 w17 w18 w19 w20 w21 w22 w23 w24 w25 w26 w27 w28 sn_of ahead four_steps after_round after_block
-    digest pieces_seen unit_seen tele_seen decoded
-genuine29 = λ on. (((λ up asked. refl), tt), λ up still. ((λ up asked. refl), tt))
-
-genuine30 : refusal e30 w29 ≡ None → GenuineEvent e30 w29
-unfolding w1 w2 w3 w4 w5 w6 w7 w8 w9 w10 w11 w12 w13 w14 w15 w16 w17 w18 w19 w20 w21 w22 w23 w24 w25 w26 w27 w28 w29 sn_of ahead four_steps after_round
-    after_block digest pieces_seen unit_seen tele_seen decoded
-genuine30 = λ on. (((λ up asked. refl), tt), λ up still. ((λ up asked. refl), tt))
-
-genuine31 : refusal e31 w30 ≡ None → GenuineEvent e31 w30
-unfolding w1 w2 w3 w4 w5 w6 w7 w8 w9 w10 w11 w12 w13 w14 w15 w16 w17 w18 w19 w20 w21 w22 w23 w24 w25 w26 w27 w28 w29 w30 sn_of ahead four_steps after_round
-    after_block digest pieces_seen unit_seen tele_seen decoded
-genuine31 = λ on. (((λ up asked. refl), tt), λ up still. ((λ up asked. refl), tt))
-
-genuine32 : refusal e32 w31 ≡ None → GenuineEvent e32 w31
-unfolding w1 w2 w3 w4 w5 w6 w7 w8 w9 w10 w11 w12 w13 w14 w15 w16 w17 w18 w19 w20 w21 w22 w23 w24 w25 w26 w27 w28 w29 w30 w31 sn_of ahead four_steps after_round
-    after_block digest pieces_seen unit_seen tele_seen decoded
-genuine32 = λ on. (tt, tt)
-
-genuine33 : refusal e33 w32 ≡ None → GenuineEvent e33 w32
-unfolding w1 w2 w3 w4 w5 w6 w7 w8 w9 w10 w11 w12 w13 w14 w15 w16 w17 w18 w19 w20 w21 w22 w23 w24 w25 w26 w27 w28 w29 w30 w31 w32 sn_of ahead four_steps
-    after_round after_block digest pieces_seen unit_seen tele_seen decoded
-genuine33 = λ on. (((λ up asked. refl), tt), λ up still. ((λ up asked. refl), tt))
-
-genuine34 : refusal e34 w33 ≡ None → GenuineEvent e34 w33
-unfolding w1 w2 w3 w4 w5 w6 w7 w8 w9 w10 w11 w12 w13 w14 w15 w16 w17 w18 w19 w20 w21 w22 w23 w24 w25 w26 w27 w28 w29 w30 w31 w32 w33 sn_of ahead four_steps
-    after_round after_block digest pieces_seen unit_seen tele_seen decoded
-genuine34 = λ on. (tt, tt)
-
-genuine35 : refusal e35 w34 ≡ None → GenuineEvent e35 w34
-unfolding w1 w2 w3 w4 w5 w6 w7 w8 w9 w10 w11 w12 w13 w14 w15 w16 w17 w18 w19 w20 w21 w22 w23 w24 w25 w26 w27 w28 w29 w30 w31 w32 w33 w34 sn_of ahead four_steps
-    after_round after_block digest pieces_seen unit_seen tele_seen decoded
-genuine35 = λ on. (tt, tt)
-
-genuine36 : refusal e36 w35 ≡ None → GenuineEvent e36 w35
-unfolding w1 w2 w3 w4 w5 w6 w7 w8 w9 w10 w11 w12 w13 w14 w15 w16 w17 w18 w19 w20 w21 w22 w23 w24 w25 w26 w27 w28 w29 w30 w31 w32 w33 w34 w35 sn_of ahead
-    four_steps after_round after_block digest pieces_seen unit_seen tele_seen decoded
-genuine36 = λ on. (((λ up asked. refl), tt), λ up still. ((λ up asked. refl), tt))
-
-genuine37 : refusal e37 w36 ≡ None → GenuineEvent e37 w36
-unfolding w1 w2 w3 w4 w5 w6 w7 w8 w9 w10 w11 w12 w13 w14 w15 w16 w17 w18 w19 w20 w21 w22 w23 w24 w25 w26 w27 w28 w29 w30 w31 w32 w33 w34 w35 w36 sn_of ahead
-    four_steps after_round after_block digest pieces_seen unit_seen tele_seen decoded
-genuine37 = λ on. (((λ up asked. refl), tt), λ up still. ((λ up asked. refl), tt))
-
-genuine38 : refusal e38 w37 ≡ None → GenuineEvent e38 w37
-unfolding w1 w2 w3 w4 w5 w6 w7 w8 w9 w10 w11 w12 w13 w14 w15 w16 w17 w18 w19 w20 w21 w22 w23 w24 w25 w26 w27 w28 w29 w30 w31 w32 w33 w34 w35 w36 w37 sn_of ahead
-    four_steps after_round after_block digest pieces_seen unit_seen tele_seen decoded
-genuine38 = λ on. (tt, λ up still. tt)
-
-genuine39 : refusal e39 w38 ≡ None → GenuineEvent e39 w38
-unfolding w1 w2 w3 w4 w5 w6 w7 w8 w9 w10 w11 w12 w13 w14 w15 w16 w17 w18 w19 w20 w21 w22 w23 w24 w25 w26 w27 w28 w29 w30 w31 w32 w33 w34 w35 w36 w37 w38 sn_of
-    ahead four_steps after_round after_block digest pieces_seen unit_seen tele_seen decoded
-genuine39 = λ on. (tt, λ up still. tt)
-
-genuine40 : refusal e40 w39 ≡ None → GenuineEvent e40 w39
-unfolding w1 w2 w3 w4 w5 w6 w7 w8 w9 w10 w11 w12 w13 w14 w15 w16 w17 w18 w19 w20 w21 w22 w23 w24 w25 w26 w27 w28 w29 w30 w31 w32 w33 w34 w35 w36 w37 w38 w39
-    sn_of ahead four_steps after_round after_block digest pieces_seen unit_seen tele_seen decoded
-genuine40 = λ on. (((λ up asked. refl), tt), λ up still. ((λ up asked. refl), tt))
-
-genuine41 : refusal e41 w40 ≡ None → GenuineEvent e41 w40
-unfolding w1 w2 w3 w4 w5 w6 w7 w8 w9 w10 w11 w12 w13 w14 w15 w16 w17 w18 w19 w20 w21 w22 w23 w24 w25 w26 w27 w28 w29 w30 w31 w32 w33 w34 w35 w36 w37 w38 w39 w40
-    sn_of ahead four_steps after_round after_block digest pieces_seen unit_seen tele_seen decoded
-genuine41 = λ on. (((λ up asked. refl), tt), λ up still. ((λ up asked. refl), tt))
-
-pub genuine : Genuine events start
-unfolding w1 w2 w3 w4 w5 w6 w7 w8 w9 w10 w11 w12 w13 w14 w15 w16 w17 w18 w19 w20 w21 w22 w23 w24 w25 w26 w27 w28 w29 w30 w31 w32 w33 w34 w35 w36 w37 w38 w39 w40
-    w41
-genuine = (
-  genuine1,
-  (
-    genuine2,
-    (
-      genuine3,
-      (
-        genuine4,
-        (
-          genuine5,
-          (
-            genuine6,
-            (
-              genuine7,
-              (
-                genuine8,
-                (
-                  genuine9,
-                  (
-                    genuine10,
-                    (
-                      genuine11,
-                      (
-                        genuine12,
-                        (
-                          genuine13,
-                          (
-                            genuine14,
-                            (
-                              genuine15,
-                              (
-                                genuine16,
-                                (
-                                  genuine17,
-                                  (
-                                    genuine18,
-                                    (
-                                      genuine19,
-                                      (
-                                        genuine20,
-                                        (
-                                          genuine21,
-                                          (
-                                            genuine22,
-                                            (
-                                              genuine23,
-                                              (
-                                                genuine24,
-                                                (
-                                                  genuine25,
-                                                  (
-                                                    genuine26,
-                                                    (
-                                                      genuine27,
-                                                      (
-                                                        genuine28,
-                                                        (
-                                                          genuine29,
-                                                          (
-                                                            genuine30,
-                                                            (
-                                                              genuine31,
-                                                              (
-                                                                genuine32,
-                                                                (
-                                                                  genuine33,
-                                                                  (
-                                                                    genuine34,
-                                                                    (
-                                                                      genuine35,
-                                                                      (
-                                                                        genuine36,
-                                                                        (
-                                                                          genuine37,
-                                                                          (genuine38, (genuine39, (genuine40, (genuine41, tt)))),
-                                                                        ),
-                                                                      ),
-                                                                    ),
-                                                                  ),
-                                                                ),
-                                                              ),
-                                                            ),
-                                                          ),
-                                                        ),
-                                                      ),
-                                                    ),
-                                                  ),
-                                                ),
-                                              ),
-                                            ),
-                                          ),
-                                        ),
-                                      ),
-                                    ),
-                                  ),
-                                ),
-                              ),
-                            ),
-                          ),
-                        ),
-                      ),
-                    ),
-                  ),
-                ),
-              ),
-            ),
-          ),
-        ),
-      ),
-    ),
-  ),
-)
-
 -- the field element is opened a second time
-opened-twice : (refusal e23 w22 ≡ None → FaithfulEvent e23 w22) → ⊥
-unfolding w1 w2 w3 w4 w5 w6 w7 w8 w9 w10 w11 w12 w13 w14 w15 w16 w17 w18 w19 w20 w21 w22 sn_of ahead four_steps after_round after_block digest pieces_seen
-    unit_seen tele_seen decoded
-opened-twice h = opens (h refl)
-
 unfaithful : Faithful events → ⊥
-unfolding w1 w2 w3 w4 w5 w6 w7 w8 w9 w10 w11 w12 w13 w14 w15 w16 w17 w18 w19 w20 w21 w22
-unfaithful h = opened-twice h.events.1.1.1.1.1.1.1.1.1.1.1.1.1.1.1.1.1.1.1.1.1.1.0
+unfolding sn_of ahead four_steps after_round after_block digest pieces_seen unit_seen tele_seen decoded
+unfaithful h = opens (faithful-at first (Open Fe (fe_of 20 10) 700 5060) (drop 1 second) start h.events refl)
 
-joined : joins_in w41.fes ≡ Some 2 ∷ Some 1 ∷ []
-unfolding w1 w2 w3 w4 w5 w6 w7 w8 w9 w10 w11 w12 w13 w14 w15 w16 w17 w18 w19 w20 w21 w22 w23 w24 w25 w26 w27 w28 w29 w30 w31 w32 w33 w34 w35 w36 w37 w38 w39 w40
-    w41 sn_of ahead four_steps after_round after_block digest pieces_seen unit_seen tele_seen decoded
+joined : joins_in (run events start).fes ≡ Some 2 ∷ Some 1 ∷ []
+unfolding sn_of ahead four_steps after_round after_block digest pieces_seen unit_seen tele_seen decoded
 joined = refl
 
-il-took : map taken_at w41.ils ≡ ((512, 5 ∷ []) ∷ []) ∷ ((512, 3 ∷ []) ∷ []) ∷ []
-unfolding w1 w2 w3 w4 w5 w6 w7 w8 w9 w10 w11 w12 w13 w14 w15 w16 w17 w18 w19 w20 w21 w22 w23 w24 w25 w26 w27 w28 w29 w30 w31 w32 w33 w34 w35 w36 w37 w38 w39 w40
-    w41 sn_of ahead four_steps after_round after_block digest pieces_seen unit_seen tele_seen decoded
+il-took : map taken_at (run events start).ils ≡ ((512, 5 ∷ []) ∷ []) ∷ ((512, 3 ∷ []) ∷ []) ∷ []
+unfolding sn_of ahead four_steps after_round after_block digest pieces_seen unit_seen tele_seen decoded
 il-took = refl
 
-fe-took : map taken_at (ends_of w41.fes) ≡ ((256, 4 ∷ []) ∷ []) ∷ ((256, 1 ∷ []) ∷ (256, 2 ∷ []) ∷ []) ∷ []
-unfolding w1 w2 w3 w4 w5 w6 w7 w8 w9 w10 w11 w12 w13 w14 w15 w16 w17 w18 w19 w20 w21 w22 w23 w24 w25 w26 w27 w28 w29 w30 w31 w32 w33 w34 w35 w36 w37 w38 w39 w40
-    w41 sn_of ahead four_steps after_round after_block digest pieces_seen unit_seen tele_seen decoded
+fe-took : map taken_at (ends_of (run events start).fes) ≡ ((256, 4 ∷ []) ∷ []) ∷ ((256, 1 ∷ []) ∷ (256, 2 ∷ []) ∷ []) ∷ []
+unfolding sn_of ahead four_steps after_round after_block digest pieces_seen unit_seen tele_seen decoded
 fe-took = refl
 
-il-settled : option_map is_settled (present Il w41) ≡ Some true
-unfolding w1 w2 w3 w4 w5 w6 w7 w8 w9 w10 w11 w12 w13 w14 w15 w16 w17 w18 w19 w20 w21 w22 w23 w24 w25 w26 w27 w28 w29 w30 w31 w32 w33 w34 w35 w36 w37 w38 w39 w40
-    w41 sn_of ahead four_steps after_round after_block digest pieces_seen unit_seen tele_seen decoded
-il-settled = refl
-
-fe-settled : option_map is_settled (present Fe w41) ≡ Some true
-unfolding w1 w2 w3 w4 w5 w6 w7 w8 w9 w10 w11 w12 w13 w14 w15 w16 w17 w18 w19 w20 w21 w22 w23 w24 w25 w26 w27 w28 w29 w30 w31 w32 w33 w34 w35 w36 w37 w38 w39 w40
-    w41 sn_of ahead four_steps after_round after_block digest pieces_seen unit_seen tele_seen decoded
-fe-settled = refl
+settled : (option_map is_settled (present Il (run events start)) ≡ Some true) × (option_map is_settled (present Fe (run events start)) ≡ Some true)
+unfolding sn_of ahead four_steps after_round after_block digest pieces_seen unit_seen tele_seen decoded
+settled = (refl, refl)
 
 pub instance : GenuineInstance events
-unfolding w1 w2 w3 w4 w5 w6 w7 w8 w9 w10 w11 w12 w13 w14 w15 w16 w17 w18 w19 w20 w21 w22 w23 w24 w25 w26 w27 w28 w29 w30 w31 w32 w33 w34 w35 w36 w37 w38 w39 w40
-    w41
 instance =
     let events-typed = all-typed events refl in
+    let genuine : Genuine events start = all-genuine events start told in
     record {
       typed = events-typed;
       genuine = genuine;

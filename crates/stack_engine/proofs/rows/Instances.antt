@@ -1,9 +1,9 @@
 -- Each clause of a promise refuses a world that all other clauses admit.
-use Rattle.stack_engine.proofs.Words.{arith, refl, sym, ap, subst, inl, inr, lit<, lit≤, IsBeginning, Pdu, Made, Fresh, State, Item, EndState, one, two}
-use Rattle.stack_engine.proofs.Words.{HeadlineInstances, SettledInstances, made_one, confirming, carried, FreshInstances, Instances}
-use Rattle.std.specs.Prelude.{ℕ, ◌≡◌, ◌+◌, ◌-◌, ◌<◌, ◌≤◌, Bool, true, false, Option, Some, None, List, [], ◌∷◌, ◌++◌, drop}
+use Rattle.stack_engine.proofs.Words.{ap, arith, carried, confirming, EndState, Fresh, FreshInstances, HeadlineInstances, inl, inr, Instances, IsBeginning}
+use Rattle.stack_engine.proofs.Words.{Item, lit<, lit≤, Made, made_one, one, Pdu, refl, SettledInstances, State, subst, sym, two}
+use Rattle.std.specs.Prelude.{[], Bool, drop, false, List, None, Option, Some, true, ℕ, ◌++◌, ◌+◌, ◌-◌, ◌<◌, ◌∷◌, ◌≡◌, ◌≤◌}
+use Rattle.stack_engine.proofs.one.Speaking.{nil-front}
 use Rattle.stack_engine.proofs.rows.Drops.{differ, no-item, none-found, one-found}
-use Rattle.stack_engine.proofs.one.Spoken.{nil-front}
 use Rattle.stack_engine.proofs.rows.Forged.{taken-from-nobody}
 
 not-itself : (n : ℕ) → n < n → ⊥

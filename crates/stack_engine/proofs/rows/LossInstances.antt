@@ -1,8 +1,7 @@
 -- Each clause of "nothing lost" refuses a world that all other clauses admit.
-use Rattle.stack_engine.proofs.Words.{arith, refl, inl, inr, Start, Up, Made, Initialising, Established, EndState, AllArrived, AllThere, Match, NothingLost}
-use Rattle.stack_engine.proofs.Words.{one, Course, LossInstances, both, early, fe_with, il_with, lost, plain, starting, waits}
-use Rattle.std.specs.Prelude.{ℕ, ◌≡◌, ◌≢◌, ◌<◌, ◌≤◌, List, [], ◌∷◌}
-use Rattle.sci_telegram.specs.Places.{tele_seen}
+use Rattle.stack_engine.proofs.Words.{[], AllArrived, AllThere, arith, both, Course, early, EndState, Established, fe_with, il_with, Initialising, inl, inr}
+use Rattle.stack_engine.proofs.Words.{List, LossInstances, lost, Made, Match, NothingLost, one, plain, refl, Start, starting, tele_seen, Up, waits, ℕ, ◌<◌, ◌∷◌}
+use Rattle.stack_engine.proofs.Words.{◌≡◌, ◌≢◌, ◌≤◌, ◌⊎◌}
 use Rattle.stack_engine.proofs.rows.Drops.{no-item}
 use Rattle.stack_engine.proofs.rows.Instances.{true-is-false}
 
@@ -31,6 +30,16 @@ not-initialising e = cc
 no-message : {X : Type 0} (x : X) (xs : List X) → x ∷ xs ≢ []
 no-message x xs e = no-item x xs e
 
+-- nothing waits, and an end is up
+idle : {A B : Type 0} → A → ◌≢◌ {A = List (List ℕ)} [] [] → B
+idle on some = absurd (some refl)
+
+up : {A X : Type 0} {x : X} → A → x ≡ x
+up match = refl
+
+steady : {A B C S X Y Z : Type 0} {x : X} {y : Y} {z : Z} → A → B → C → S ⊎ ((x ≡ x) × (y ≡ y) × (z ≡ z))
+steady match il fe = inr (refl, refl, refl)
+
 pub match-plain : (c d : Course) (x : EndState) → Match (il_with c x) (fe_with d x)
 match-plain c d x = record { rule = refl; protocol = refl; version = refl; il_identifier = refl; fe_identifier = refl; il_name = refl; fe_name = refl }
 
@@ -41,86 +50,38 @@ loss-instances x m =
       match = match-plain plain plain x;
       holds =
           record {
-            il_waits = λ up some. absurd (some refl);
-            fe_waits = λ up some. absurd (some refl);
+            il_waits = idle;
+            fe_waits = idle;
             commands = refl;
             status = refl;
-            il_up = λ match. refl;
-            fe_up = λ match. refl;
-            in_step = λ match il fe. inr (refl, refl, refl);
+            il_up = up;
+            fe_up = up;
+            in_step = steady;
           };
       il_asks = λ h. h.il_asks_nothing.0 refl;
       fe_asks = λ h. h.fe_asks_nothing.0 refl;
-      il_waits = (
-        (λ h. not-full ((there waits plain x h).il_waits refl (no-message [] []))),
-        (λ up some. absurd (some refl)),
-        refl,
-        refl,
-        (λ match. refl),
-        (λ match. refl),
-        (λ match il fe. absurd (no-item [] [] il)),
-      );
-      fe_waits = (
-        (λ h. not-full ((there plain waits x h).fe_waits refl (no-message [] []))),
-        (λ up some. absurd (some refl)),
-        refl,
-        refl,
-        (λ match. refl),
-        (λ match. refl),
-        (λ match il fe. absurd (no-item [] [] fe)),
-      );
-      commands = (
-        (λ h. no-item one [] (there lost plain x h).commands),
-        (λ up some. absurd (some refl)),
-        (λ up some. absurd (some refl)),
-        refl,
-        (λ match. refl),
-        (λ match. refl),
-        (λ match il fe. inr (refl, refl, refl)),
-      );
-      status = (
-        (λ h. no-item one [] (there plain lost x h).status),
-        (λ up some. absurd (some refl)),
-        (λ up some. absurd (some refl)),
-        refl,
-        (λ match. refl),
-        (λ match. refl),
-        (λ match il fe. inr (refl, refl, refl)),
-      );
-      il_starts = (
-        (λ h. not-up ((there starting plain x h).il_up (match-plain starting plain x))),
-        (λ up some. absurd (some refl)),
-        (λ up some. absurd (some refl)),
-        refl,
-        refl,
-        (λ match. refl),
-        (λ match il fe. inr (refl, refl, refl)),
-      );
-      fe_starts = (
-        (λ h. not-up ((there plain starting x h).fe_up (match-plain plain starting x))),
-        (λ up some. absurd (some refl)),
-        (λ up some. absurd (some refl)),
-        refl,
-        refl,
-        (λ match. refl),
-        (λ match il fe. inr (refl, refl, refl)),
-      );
+      il_waits = ((λ h. not-full ((there waits plain x h).il_waits refl (no-message [] []))), idle, refl, refl, up, up, (λ m il fe. absurd (no-item [] [] il)));
+      fe_waits = ((λ h. not-full ((there plain waits x h).fe_waits refl (no-message [] []))), idle, refl, refl, up, up, (λ m il fe. absurd (no-item [] [] fe)));
+      commands = ((λ h. no-item one [] (there lost plain x h).commands), idle, idle, refl, up, up, steady);
+      status = ((λ h. no-item one [] (there plain lost x h).status), idle, idle, refl, up, up, steady);
+      il_starts = ((λ h. not-up ((there starting plain x h).il_up (match-plain starting plain x))), idle, idle, refl, refl, up, steady);
+      fe_starts = ((λ h. not-up ((there plain starting x h).fe_up (match-plain plain starting x))), idle, idle, refl, refl, up, steady);
       il_early = (
         (λ h. elim ((there early plain x h).in_step (match-plain early plain x) refl refl) [ inl w ↦ true-is-false w.0 | inr w ↦ not-initialising w.1 ]),
-        (λ up some. absurd (some refl)),
-        (λ up some. absurd (some refl)),
+        idle,
+        idle,
         refl,
         refl,
-        (λ match. refl),
-        (λ match. refl),
+        up,
+        up,
       );
       fe_early = (
         (λ h. elim ((there plain early x h).in_step (match-plain plain early x) refl refl) [ inl w ↦ true-is-false w.0 | inr w ↦ not-initialising w.2 ]),
-        (λ up some. absurd (some refl)),
-        (λ up some. absurd (some refl)),
+        idle,
+        idle,
         refl,
         refl,
-        (λ match. refl),
-        (λ match. refl),
+        up,
+        up,
       );
     }

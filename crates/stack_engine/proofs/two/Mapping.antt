@@ -1,24 +1,147 @@
--- What one call of an end is in the world of machines.
-use Rattle.stack_engine.proofs.Words.{◌≡◌, ◌+◌, ◌≤◌, ℕ, zero, suc, List, [], ◌∷◌, take, length, drop, Option, Some, None, Result, Ok, Err, Bool, true, false}
-use Rattle.stack_engine.proofs.Words.{cond, refl, sym, ap, subst, ◌∙◌, arith, AllByRecursion, by_cond, by_test, unit_text, Part, Receiver, Input, Datagram}
-use Rattle.stack_engine.proofs.Words.{RedTick, passed_by, SafeFault, Pdu, ConnectionState, Closed, Down, Start, Up, Requesting, RetrRun, ClosedByUser}
-use Rattle.stack_engine.proofs.Words.{Unspecified, Made, State, Move, move, MovesLaw, HearsOwn, Guards, Hears, Ticks, Sends, Leaves, heard_as, seen_by}
-use Rattle.stack_engine.proofs.Words.{arrive_octets, Side, joins, Il, Fe, rule_of, Leaving, judge_units, EndState, is_shut, noted, handed_up, settle, answered}
-use Rattle.stack_engine.proofs.Words.{leaves, heard, packed, with_machine, with_input, end_moved, part, Call, Close, Put, InitDone, Tick, Deliver, JoinedEnd}
-use Rattle.stack_engine.proofs.Words.{made_of, has_made, latest, latest_maker, joined_by, is_live, IsGenuine, AtParts, AtInput, AtCall, AreOctets, EventsLaw}
-use Rattle.stack_engine.proofs.one.Keeping.{Keeps, IsTypedCall, IsTypedInput}
-use Rattle.stack_engine.proofs.two.Reached.{Reached, il_at, fe_at, il-moves, fe-moves, GenuineMove, move_time}
-use Rattle.stack_engine.proofs.two.Hearing.{TextLaws, TextsOf, genuine-heard, asked-heard, not-shut}
-use Rattle.stack_engine.proofs.one.Sending.{and-parts}
-use Rattle.stack_engine.proofs.one.Spoken.{Below}
-use Rattle.stack_engine.proofs.one.Machined.{RedLaws, Whole, OctetsUp, OctetPart, whole-keeps, red-keeps}
+-- The machines of two ends during a call: they stay in a world that a genuine list of machine events leads to, in which no clock goes back.
+use Rattle.stack_engine.proofs.Words.{[], AllByRecursion, Among, answered, ap, AreOctets, arith, Arrive, arrive_octets, AtCall, AtInput, AtParts, Bool, by_cond}
+use Rattle.stack_engine.proofs.Words.{by_test, bytes_eq, bytes_eq-Decides, Call, Closed, ClosedByUser, CodeRule, cond, connection_of, ConnectionState, Datagram}
+use Rattle.stack_engine.proofs.Words.{Deliver, Down, drop, end_moved, EndSettings, EndState, eqb-true, Err, EventsLaw, false, Fe, GenuineAt, Guard, Guards}
+use Rattle.stack_engine.proofs.Words.{handed_up, has_made, HaveTexts, heard, heard_as, Hears, HearsOwn, Il, inl, Input, inr, is_asked_of, is_closed, is_live}
+use Rattle.stack_engine.proofs.Words.{is_shut, is_stranger, IsGenuine, joined_by, JoinedEnd, joins, judge_units, latest, latest_maker, Leaves, leaves, Leaving}
+use Rattle.stack_engine.proofs.Words.{length, List, Made, made_of, Move, move, MovesLaw, nat_tests, None, noted, Ok, Option, packed, Part, part, passed_by, Pdu}
+use Rattle.stack_engine.proofs.Words.{Receiver, RedTick, refl, Result, rule_of, safe_seen, safe_text, SafeFault, seen_by, Send, Sends, Settings, settle, Side}
+use Rattle.stack_engine.proofs.Words.{Some, Start, State, subst, suc, sym, take, Tick, Ticks, Timely, TimelyEvent, true, unit_text, Unspecified, upper_of}
+use Rattle.stack_engine.proofs.Words.{with_input, with_machine, zero, ℕ, ◌&&◌, ◌++◌, ◌+◌, ◌==◌, ◌∙◌, ◌∷◌, ◌≡◌, ◌≢◌, ◌≤◌}
+use Rattle.safe_machine.specs.World.{Event, Genuine, GenuineEvent, happens, run, start, World}
+use Rattle.safe_machine.specs.World.Event.{Close as CloseMachine, Tick as TickMachine}
+use Rattle.stack_engine.proofs.one.Heeding.{OctetPart, OctetsUp, red-keeps, Whole, whole-keeps}
+use Rattle.stack_engine.proofs.one.Speaking.{and-parts, IsTypedCall, IsTypedInput, Keeps, Laws, same-length}
 use Rattle.safe_machine.specs.World as M
 
--- the laws of the layers below
-pub record Laws : Type 0 where
-  pub below : Below
-  pub redundancy : RedLaws
-  pub texts_read : TextLaws
+pub record Reached (m : World) : Type 0 where
+  pub events : List Event
+  pub genuine : Genuine events start
+  pub timely : Timely events start
+  pub leads : run events start ≡ m
+
+-- one event more
+pub reached : EventsLaw → (m : World) (e : Event) → GenuineEvent m e → TimelyEvent m e → Reached m → Reached (happens m e)
+reached law m e g t r =
+    let one = law r.events e in
+    record {
+      events = r.events ++ e ∷ [];
+      genuine = one.genuine start r.genuine (subst (λ w. GenuineEvent w e) (sym r.leads) g);
+      timely = one.timely start r.timely (subst (λ w. TimelyEvent w e) (sym r.leads) t);
+      leads = one.leads start ∙ ap (λ w. happens w e) r.leads;
+    }
+
+-- an end in this state, its clock at this time
+abbrev pub il_at : State → ℕ → World → World
+il_at s clock m = record m { il = s; clock_il = clock }
+
+abbrev pub fe_at : State → Option ℕ → ℕ → World → World
+fe_at s joined clock m = record m { fe = s; joined = joined; clock_fe = clock }
+
+-- what the premise asks of a move
+abbrev pub GenuineMove : State → List Made → Move → Type 0
+GenuineMove s live (Hears p now) = GenuineAt s p live
+GenuineMove s live _ = Unit {0}
+
+abbrev pub move_time : Move → ℕ
+move_time (Guards now) = now
+move_time (Hears p now) = now
+move_time (Ticks now) = now
+move_time (Sends unit now) = now
+move_time (Leaves reason detail now) = now
+
+pub il-moves : EventsLaw → (m : World) (s : State) (clock : ℕ) (mv : Move) → clock ≤ move_time mv → GenuineMove s (drop m.dead_fe m.fe.made) mv
+    → Reached (il_at s clock m)
+    → Reached (il_at (move mv s) (move_time mv) m)
+il-moves law m s clock (Guards now) t g r = reached law (il_at s clock m) (Guard Il now) tt t r
+il-moves law m s clock (Hears p now) t g r = reached law (il_at s clock m) (Arrive Il p now) g t r
+il-moves law m s clock (Ticks now) t g r = reached law (il_at s clock m) (TickMachine Il now) tt t r
+il-moves law m s clock (Sends unit now) t g r = reached law (il_at s clock m) (Send Il unit now) tt t r
+il-moves law m s clock (Leaves reason detail now) t g r = reached law (il_at s clock m) (CloseMachine Il reason detail now) tt t r
+
+-- to whom the field element is joined after a move
+abbrev pub joined_after : State → State → Option ℕ → World → Option ℕ
+joined_after s t joined m = cond (joins s.connection t.connection) (Some (length m.il_before)) joined
+
+pub fe-moves : EventsLaw → (m : World) (s : State) (joined : Option ℕ) (clock : ℕ) (mv : Move) → clock ≤ move_time mv
+    → GenuineMove s (drop m.dead_il m.il.made) mv → Reached (fe_at s joined clock m)
+    → Reached (fe_at (move mv s) (joined_after s (move mv s) joined m) (move_time mv) m)
+fe-moves law m s joined clock (Guards now) t g r = reached law (fe_at s joined clock m) (Guard Fe now) tt t r
+fe-moves law m s joined clock (Hears p now) t g r = reached law (fe_at s joined clock m) (Arrive Fe p now) g t r
+fe-moves law m s joined clock (Ticks now) t g r = reached law (fe_at s joined clock m) (TickMachine Fe now) tt t r
+fe-moves law m s joined clock (Sends unit now) t g r = reached law (fe_at s joined clock m) (Send Fe unit now) tt t r
+fe-moves law m s joined clock (Leaves reason detail now) t g r = reached law (fe_at s joined clock m) (CloseMachine Fe reason detail now) tt t r
+
+pub texts-dropped : (n : ℕ) (ms : List Made) → HaveTexts ms → HaveTexts (drop n ms)
+texts-dropped zero ms h = h
+texts-dropped (suc n) [] h = h
+texts-dropped (suc n) (m ∷ ms) h = texts-dropped n ms h.1
+
+-- octets of a PDU that was made read as that PDU, also under another rule of that length
+pub has-among : Laws → (r s : CodeRule) (octets : List ℕ) (p : Pdu) (ms : List Made) → r.length ≡ s.length → safe_seen r octets ≡ Ok p → HaveTexts ms
+    → has_made s octets ms ≡ true → Among p ms
+has-among law r s octets p [] same read texts h = cc
+has-among law r s octets p (m ∷ ms) same read texts h =
+    by_test (λ b. bytes_eq octets (upper_of s m) ≡ b → cond b true (has_made s octets ms) ≡ true → Among p (m ∷ ms)) (bytes_eq octets (upper_of s m))
+    (λ is _ _.
+    let spelled : octets ≡ safe_text s m.pdu = (bytes_eq-Decides octets (upper_of s m)).0 is in
+    inl (sym (law.alike p m.pdu r s octets same read (ap (safe_seen s) spelled ∙ law.complete m.pdu s (safe_text s m.pdu) (texts.0 s)))))
+    (λ _ _ more. inr (has-among law r s octets p ms same read texts.1 more))
+    refl h
+
+pub not-stranger : (b : Bool) → cond b false true ≡ false → b ≡ true
+not-stranger b h = grind (arith, nat_tests)
+
+pub not-shut : (c : ConnectionState) → c ≢ Closed → is_closed c ≡ false
+not-shut c h = grind (arith, nat_tests)
+
+-- what a role leaves of the settings
+pub rule-same : (side : Side) (s : EndSettings) → (connection_of side s).rule ≡ rule_of s
+rule-same side s = grind (arith, nat_tests)
+
+pub own-same : (side : Side) (s : EndSettings) → (connection_of side s).own ≡ s.connection.own
+own-same side s = grind (arith, nat_tests)
+
+pub peer-same : (side : Side) (s : EndSettings) → (connection_of side s).peer ≡ s.connection.peer
+peer-same side s = grind (arith, nat_tests)
+
+-- the peer's PDUs have texts
+abbrev pub TextsOf : Option EndState → Type 0
+TextsOf peer = HaveTexts (made_of peer)
+
+-- octets that are live are of a live PDU
+pub live-among : Laws → (x : EndState) (peer : Option EndState) (dead : ℕ) (octets : List ℕ) (p : Pdu) → TextsOf peer
+    → safe_seen (rule_of x.settings) octets ≡ Ok p
+    → is_live x peer dead octets ≡ true → Among p (drop dead (made_of peer))
+live-among law x None dead octets p texts read h = cc
+live-among law x (Some peer) dead octets p texts read h = grind (arith, nat_tests, and-parts, eqb-true, has-among, same-length, texts-dropped)
+
+-- an end that hears its own identifiers is asked
+pub asked-heard : Laws → (side : Side) (x : EndState) (octets : List ℕ) (p : Pdu) → x.machine.settings ≡ connection_of side x.settings
+    → seen_by x.machine octets ≡ Ok p
+    → is_stranger x.machine p ≡ false → (safe_seen (rule_of x.settings) octets ≡ Ok p) × (is_asked_of x octets ≡ true)
+asked-heard law side x octets p same read ours =
+    let c = x.settings.connection in
+    let rule : x.machine.settings.rule ≡ rule_of x.settings = ap (λ (s : Settings). s.rule) same ∙ rule-same side x.settings in
+    let own : x.machine.settings.own ≡ c.own = ap (λ (s : Settings). s.own) same ∙ own-same side x.settings in
+    let peer : x.machine.settings.peer ≡ c.peer = ap (λ (s : Settings). s.peer) same ∙ peer-same side x.settings in
+    let seen : safe_seen (rule_of x.settings) octets ≡ Ok p = ap (λ (r : CodeRule). safe_seen r octets) (sym rule) ∙ read in
+    let ids : ((p.receiver == c.own) && (p.sender == c.peer)) ≡ true =
+    subst (λ n. ((p.receiver == n) && (p.sender == c.peer)) ≡ true) own
+    (subst (λ n. ((p.receiver == x.machine.settings.own) && (p.sender == n)) ≡ true) peer (not-stranger _ ours))
+    in
+    let parts = and-parts (p.receiver == c.own) (p.sender == c.peer) ids in
+    let asked = law.read_asked p (rule_of x.settings) c.own c.peer octets seen (eqb-true p.receiver c.own parts.0) (eqb-true p.sender c.peer parts.1) in
+    (seen, (law.asked (rule_of x.settings) c.own c.peer octets).1 asked)
+
+pub genuine-heard : Laws → (side : Side) (x : EndState) (peer : Option EndState) (dead now : ℕ) (octets : List ℕ)
+    → x.machine.settings ≡ connection_of side x.settings → TextsOf peer
+    → IsGenuine peer dead x octets → (r : Result Pdu SafeFault) → seen_by x.machine octets ≡ r → GenuineMove x.machine (drop dead (made_of peer))
+    (heard_as r now)
+genuine-heard law side x peer dead now octets same texts g (Err fault) read = tt
+genuine-heard law side x peer dead now octets same texts g (Ok p) read = λ listens ours.
+    let asked = asked-heard law side x octets p same read ours in
+    live-among law x peer dead octets p texts asked.0 (g (not-shut x.machine.connection listens) asked.1)
 
 -- what is asked of a part that goes up
 abbrev pub Comes : Option EndState → ℕ → EndState → List ℕ → Type 0
@@ -40,7 +163,7 @@ pub record IlAt (m : M.World) (now : ℕ) (x : EndState) : Type 0 where
   pub within : clock ≤ now
   pub reached : Reached (il_at x.machine clock m)
 
-at-now : (n : ℕ) → n ≤ n
+pub at-now : (n : ℕ) → n ≤ n
 at-now n = omega arith
 
 il-move : EventsLaw → (m : M.World) (now : ℕ) (mv : Move) (x y : EndState) → move_time mv ≡ now → GenuineMove x.machine (drop m.dead_fe m.fe.made) mv
@@ -57,12 +180,10 @@ il-move law m now mv x y t g whole e h =
     }
 
 il-same : (m : M.World) (now : ℕ) (x y : EndState) → Whole Il y → y.machine ≡ x.machine → IlAt m now x → IlAt m now y
-il-same m now x y whole e h =
-    record { whole = whole; clock = h.clock; within = h.within; reached = subst (λ s. Reached (il_at s h.clock m)) (sym e) h.reached }
+il-same m now x y whole e h = grind (arith, nat_tests, h.clock, h.reached, h.within)
 
 heard-time : (r : Result Pdu SafeFault) (now : ℕ) → move_time (heard_as r now) ≡ now
-heard-time (Ok p) now = refl
-heard-time (Err fault) now = refl
+heard-time r now = grind (arith, nat_tests)
 
 -- the world of machines once octets were heard
 pub il-heard : Laws → (m : M.World) (peer : Option EndState) (dead now : ℕ) → PeerIs peer dead m.fe m.dead_fe → (octets : List ℕ) (x : EndState)
@@ -72,10 +193,10 @@ il-heard laws m peer dead now is octets x q h =
     let r = seen_by x.machine octets in
     let g : GenuineMove x.machine (drop m.dead_fe m.fe.made) (heard_as r now) =
     subst (λ live. GenuineMove x.machine live (heard_as r now)) (live-same peer dead m.fe m.dead_fe is)
-    (genuine-heard laws.texts_read Il x peer dead now octets h.whole.machined.same is.texts q.1 r refl)
+    (genuine-heard laws Il x peer dead now octets h.whole.machined.same is.texts q.1 r refl)
     in
     subst (λ n. Reached (il_at (move (heard_as r now) x.machine) n m)) (heard-time r now)
-    (il-moves laws.below.events m x.machine h.clock (heard_as r now) (subst (λ n. h.clock ≤ n) (sym (heard-time r now)) h.within) g h.reached)
+    (il-moves laws.events m x.machine h.clock (heard_as r now) (subst (λ n. h.clock ≤ n) (sym (heard-time r now)) h.within) g h.reached)
 
 il-leaves : EventsLaw → (m : M.World) (now : ℕ) (why : Option Leaving) (y : EndState) → Reached (il_at y.machine now m) → Whole Il (leaves now why y)
     → IlAt m now (leaves now why y)
@@ -85,18 +206,18 @@ il-leaves law m now (Some why) y h whole =
 
 pub il-keeps : Laws → (m : M.World) (peer : Option EndState) (dead now : ℕ) → PeerIs peer dead m.fe m.dead_fe → Keeps now (Comes peer dead) (IlAt m now)
 il-keeps laws m peer dead now is =
-    let k : Keeps now OctetsUp (Whole Il) = whole-keeps laws.below laws.redundancy Il now in
+    let k : Keeps now OctetsUp (Whole Il) = whole-keeps laws Il now in
     record {
-      guards = λ x h. il-move laws.below.events m now (Guards now) x _ refl tt (k.guards x h.whole) refl h;
-      ticks = λ x h. il-move laws.below.events m now (Ticks now) x _ refl tt (k.ticks x h.whole) refl h;
-      closes = λ x h. il-move laws.below.events m now (Leaves ClosedByUser Unspecified now) x _ refl tt (k.closes x h.whole) refl h;
+      guards = λ x h. il-move laws.events m now (Guards now) x _ refl tt (k.guards x h.whole) refl h;
+      ticks = λ x h. il-move laws.events m now (Ticks now) x _ refl tt (k.ticks x h.whole) refl h;
+      closes = λ x h. il-move laws.events m now (Leaves ClosedByUser Unspecified now) x _ refl tt (k.closes x h.whole) refl h;
       ends = λ x shut h. il-same m now x _ (k.ends x shut h.whole) refl h;
       inputs = λ i x t h. il-same m now x _ (k.inputs i x t h.whole) refl h;
       hears = λ octets x q h.
           let s = arrive_octets octets now x.machine in
-          il-leaves laws.below.events m now (judge_units (handed_up x s) x.session).leaving (answered octets x s)
+          il-leaves laws.events m now (judge_units (handed_up x s) x.session).leaving (answered octets x s)
           (il-heard laws m peer dead now is octets x q h) (k.hears octets x q.0 h.whole);
-      sends = λ x may some h. il-move laws.below.events m now (Sends (unit_text (take x.settings.n_maxpacket x.session.waiting)) now) x (packed now x) refl tt
+      sends = λ x may some h. il-move laws.events m now (Sends (unit_text (take x.settings.n_maxpacket x.session.waiting)) now) x (packed now x) refl tt
           (k.sends x may some h.whole) refl h;
       puts = λ kind payload x fits h. il-same m now x _ (k.puts kind payload x fits h.whole) refl h;
       dones = λ x h. il-same m now x _ (k.dones x h.whole) refl h;
@@ -113,26 +234,13 @@ pub record FeAt (ils : List EndState) (f : JoinedEnd) (m : M.World) (now : ℕ) 
   pub first : x.request ≡ None → f.end.request ≡ None
 
 pub joins-both : (a b : ConnectionState) → joins a b ≡ true → (a ≡ Down) × (b ≡ Start)
-joins-both Down Start e = (refl, refl)
-joins-both Down Closed e = cc
-joins-both Down Down e = cc
-joins-both Down Up e = cc
-joins-both Down Requesting e = cc
-joins-both Down RetrRun e = cc
-joins-both Closed b e = cc
-joins-both Start b e = cc
-joins-both Up b e = cc
-joins-both Requesting b e = cc
-joins-both RetrRun b e = cc
+joins-both a b h = grind (arith, nat_tests)
 
 -- a move that hears nothing joins nobody
 quiet : MovesLaw → (mv : Move) (s : State) → (HearsOwn mv s → ⊥) → joins s.connection (move mv s).connection ≡ false
-quiet law mv s deaf =
-    by_test (λ b. joins s.connection (move mv s).connection ≡ b → b ≡ false) (joins s.connection (move mv s).connection)
-    (λ is _. let both = joins-both s.connection (move mv s).connection is in absurd (deaf ((law mv s).starts both.0 both.1)))
-    (λ _ _. refl) refl
+quiet law mv s deaf = grind (arith, (law mv s).starts, joins-both, deaf)
 
-fe-move : Below → (ils : List EndState) (f : JoinedEnd) (m : M.World) (now : ℕ) (mv : Move) (x y : EndState) → move_time mv ≡ now → (HearsOwn mv x.machine → ⊥)
+fe-move : Laws → (ils : List EndState) (f : JoinedEnd) (m : M.World) (now : ℕ) (mv : Move) (x y : EndState) → move_time mv ≡ now → (HearsOwn mv x.machine → ⊥)
     → GenuineMove x.machine (drop m.dead_il m.il.made) mv → Whole Fe y → y.machine ≡ move mv x.machine → y.request ≡ x.request → FeAt ils f m now x
     → FeAt ils f m now y
 fe-move laws ils f m now mv x y t deaf g whole e same h =
@@ -157,17 +265,7 @@ fe-move laws ils f m now mv x y t deaf g whole e same h =
 
 fe-same : (ils : List EndState) (f : JoinedEnd) (m : M.World) (now : ℕ) (x y : EndState) → Whole Fe y → y.machine ≡ x.machine → y.request ≡ x.request
     → FeAt ils f m now x → FeAt ils f m now y
-fe-same ils f m now x y whole e same h =
-    record {
-      whole = whole;
-      clock = h.clock;
-      within = h.within;
-      reached =
-          subst (λ o. Reached (fe_at y.machine (joined_by ils f.joined f.end.request o) h.clock m)) (sym same)
-          (subst (λ s. Reached (fe_at s (joined_by ils f.joined f.end.request x.request) h.clock m)) (sym e) h.reached);
-      idle = λ down. same ∙ h.idle (ap (λ (s : State). s.connection) (sym e) ∙ down);
-      first = λ none. h.first (sym same ∙ none);
-    }
+fe-same ils f m now x y whole e same h = grind (arith, nat_tests, h.clock, h.first, h.idle, h.reached, h.within)
 
 -- the latest incarnation has made a PDU of these octets
 abbrev pub MadeBy : List EndState → List ℕ → Type 0
@@ -175,8 +273,7 @@ MadeBy [] octets = ⊥
 MadeBy (g ∷ before) octets = has_made (rule_of g.settings) octets g.machine.made ≡ true
 
 maker-latest : (ils : List EndState) (octets : List ℕ) → MadeBy ils octets → latest_maker octets ils ≡ Some (length ils)
-maker-latest [] octets h = absurd h
-maker-latest (g ∷ before) octets h = ap (λ b. cond b (Some (length before + 1)) (latest_maker octets before)) h ∙ ap Some (omega arith)
+maker-latest ils octets h = grind (arith, nat_tests)
 
 made-dropped : (rule : _) (octets : List ℕ) (n : ℕ) (ms : List Made) → has_made rule octets (drop n ms) ≡ true → has_made rule octets ms ≡ true
 made-dropped rule octets zero ms h = h
@@ -185,11 +282,10 @@ made-dropped rule octets (suc n) (m ∷ ms) h = by_cond (λ b. b ≡ true) _ tru
 
 live-made : (ils : List EndState) (x : EndState) (dead : ℕ) (octets : List ℕ) → is_live x (latest ils) dead octets ≡ true → MadeBy ils octets
 live-made [] x dead octets h = cc
-live-made (g ∷ before) x dead octets h = made-dropped (rule_of g.settings) octets dead g.machine.made
-    (and-parts _ (has_made (rule_of g.settings) octets (drop dead g.machine.made)) h).1
+live-made (g ∷ before) x dead octets h = grind (arith, nat_tests, and-parts, made-dropped)
 
 -- who starts on these octets has heard a PDU that the present interlocking made
-joins-made : TextLaws → MovesLaw → (ils : List EndState) (x : EndState) (dead now : ℕ) (octets : List ℕ) → Whole Fe x → IsGenuine (latest ils) dead x octets
+joins-made : Laws → MovesLaw → (ils : List EndState) (x : EndState) (dead now : ℕ) (octets : List ℕ) → Whole Fe x → IsGenuine (latest ils) dead x octets
     → (r : Result Pdu SafeFault) → seen_by x.machine octets ≡ r
     → joins x.machine.connection (move (heard_as r now) x.machine).connection ≡ true → MadeBy ils octets
 joins-made texts law ils x dead now octets whole g (Err fault) read h =
@@ -203,24 +299,19 @@ joins-made texts law ils x dead now octets whole g (Ok p) read h =
 
 joined-first : (ils : List EndState) (old : Option ℕ) (before : Option (List ℕ)) (octets : List ℕ) → before ≡ None → joined_by ils old before (Some octets)
     ≡ latest_maker octets ils
-joined-first ils old None octets e = refl
-joined-first ils old (Some r) octets e = cc
+joined-first ils old before octets h = grind (arith, nat_tests)
 
 joined-noted : (ils : List EndState) (n : ℕ) (f : JoinedEnd) (octets : List ℕ) (request : Option (List ℕ)) (b : Bool) → n ≡ length ils
     → (request ≡ None → f.end.request ≡ None)
     → (b ≡ true → (request ≡ None) × MadeBy ils octets)
     → cond b (Some n) (joined_by ils f.joined f.end.request request) ≡ joined_by ils f.joined f.end.request (noted b octets request)
-joined-noted ils n f octets request false count first h = refl
-joined-noted ils n f octets request true count first h =
-    ap Some count ∙ sym (maker-latest ils octets (h refl).1) ∙ sym (joined-first ils f.joined f.end.request octets (first (h refl).0))
+joined-noted ils n f octets request b h k l = grind (arith, nat_tests, joined-first, maker-latest)
 
 noted-none : (b : Bool) (octets : List ℕ) (request : Option (List ℕ)) → (b ≡ true → ⊥) → request ≡ None → noted b octets request ≡ None
-noted-none true octets request never e = absurd (never refl)
-noted-none false octets request never e = e
+noted-none b octets request h k = grind (arith, nat_tests)
 
 pub noted-first : (b : Bool) (octets : List ℕ) (request : Option (List ℕ)) → noted b octets request ≡ None → request ≡ None
-noted-first true octets request e = cc
-noted-first false octets request e = e
+noted-first b octets request h = grind (arith, nat_tests)
 
 -- the part of a call in which octets are heard, before it may leave
 pub record FeHeard (ils : List EndState) (f : JoinedEnd) (m : M.World) (now : ℕ) (y : EndState) : Type 0 where
@@ -228,7 +319,7 @@ pub record FeHeard (ils : List EndState) (f : JoinedEnd) (m : M.World) (now : �
   pub idle : y.machine.connection ≡ Down → y.request ≡ None
   pub first : y.request ≡ None → f.end.request ≡ None
 
-fe-leaves : Below → (ils : List EndState) (f : JoinedEnd) (m : M.World) (now : ℕ) (why : Option Leaving) (y : EndState) → FeHeard ils f m now y
+fe-leaves : Laws → (ils : List EndState) (f : JoinedEnd) (m : M.World) (now : ℕ) (why : Option Leaving) (y : EndState) → FeHeard ils f m now y
     → Whole Fe (leaves now why y) → FeAt ils f m now (leaves now why y)
 fe-leaves laws ils f m now None y h whole = record { whole = whole; clock = now; within = at-now now; reached = h.there; idle = h.idle; first = h.first }
 fe-leaves laws ils f m now (Some why) y h whole =
@@ -253,18 +344,18 @@ pub fe-heard : Laws → (ils : List EndState) (f : JoinedEnd) (m : M.World) (dea
     → PeerIs (latest ils) dead m.il m.dead_il
     → Comes (latest ils) dead x octets → FeAt ils f m now x → FeHeard ils f m now (answered octets x (arrive_octets octets now x.machine))
 fe-heard laws ils f m dead now octets x count is q h =
-    let law = laws.below.moves in
+    let law = laws.moves in
     let r = seen_by x.machine octets in
     let s = arrive_octets octets now x.machine in
     let joining = joins x.machine.connection s.connection in
     let joined = joined_by ils f.joined f.end.request x.request in
     let g : GenuineMove x.machine (drop m.dead_il m.il.made) (heard_as r now) =
     subst (λ live. GenuineMove x.machine live (heard_as r now)) (live-same (latest ils) dead m.il m.dead_il is)
-    (genuine-heard laws.texts_read Fe x (latest ils) dead now octets h.whole.machined.same is.texts q.1 r refl)
+    (genuine-heard laws Fe x (latest ils) dead now octets h.whole.machined.same is.texts q.1 r refl)
     in
     let moved : Reached (fe_at s (cond joining (Some (length m.il_before)) joined) now m) =
     subst (λ n. Reached (fe_at s (cond joining (Some (length m.il_before)) joined) n m)) (heard-time r now)
-    (fe-moves laws.below.events m x.machine joined h.clock (heard_as r now) (subst (λ n. h.clock ≤ n) (sym (heard-time r now)) h.within) g h.reached)
+    (fe-moves laws.events m x.machine joined h.clock (heard_as r now) (subst (λ n. h.clock ≤ n) (sym (heard-time r now)) h.within) g h.reached)
     in
     record {
       there =
@@ -272,7 +363,7 @@ fe-heard laws ils f m dead now octets x count is q h =
           (joined-noted ils (length m.il_before) f octets x.request joining count h.first
           (λ is-so. (
             h.idle (joins-both x.machine.connection s.connection is-so).0,
-            joins-made laws.texts_read law ils x dead now octets h.whole q.1 r refl
+            joins-made laws law ils x dead now octets h.whole q.1 r refl
                 is-so,
           )))
           moved;
@@ -286,24 +377,24 @@ fe-hears : Laws → (ils : List EndState) (f : JoinedEnd) (m : M.World) (dead no
     → Comes (latest ils) dead x octets → FeAt ils f m now x → FeAt ils f m now (heard now octets x)
 fe-hears laws ils f m dead now octets x count is q h =
     let s = arrive_octets octets now x.machine in
-    fe-leaves laws.below ils f m now (judge_units (handed_up x s) x.session).leaving (answered octets x s)
+    fe-leaves laws ils f m now (judge_units (handed_up x s) x.session).leaving (answered octets x s)
     (fe-heard laws ils f m dead now octets x count is q h)
-    ((whole-keeps laws.below laws.redundancy Fe now).hears octets x q.0 h.whole)
+    ((whole-keeps laws Fe now).hears octets x q.0 h.whole)
 
 pub fe-keeps : Laws → (ils : List EndState) (f : JoinedEnd) (m : M.World) (dead now : ℕ) → length m.il_before ≡ length ils
     → PeerIs (latest ils) dead m.il m.dead_il
     → Keeps now (Comes (latest ils) dead) (FeAt ils f m now)
 fe-keeps laws ils f m dead now count is =
-    let k : Keeps now OctetsUp (Whole Fe) = whole-keeps laws.below laws.redundancy Fe now in
+    let k : Keeps now OctetsUp (Whole Fe) = whole-keeps laws Fe now in
     record {
-      guards = λ x h. fe-move laws.below ils f m now (Guards now) x _ refl (λ no. no) tt (k.guards x h.whole) refl refl h;
-      ticks = λ x h. fe-move laws.below ils f m now (Ticks now) x _ refl (λ no. no) tt (k.ticks x h.whole) refl refl h;
-      closes = λ x h. fe-move laws.below ils f m now (Leaves ClosedByUser Unspecified now) x _ refl (λ no. no) tt (k.closes x h.whole) refl refl h;
+      guards = λ x h. fe-move laws ils f m now (Guards now) x _ refl (λ no. no) tt (k.guards x h.whole) refl refl h;
+      ticks = λ x h. fe-move laws ils f m now (Ticks now) x _ refl (λ no. no) tt (k.ticks x h.whole) refl refl h;
+      closes = λ x h. fe-move laws ils f m now (Leaves ClosedByUser Unspecified now) x _ refl (λ no. no) tt (k.closes x h.whole) refl refl h;
       ends = λ x shut h. fe-same ils f m now x _ (k.ends x shut h.whole) refl refl h;
       inputs = λ i x t h. fe-same ils f m now x _ (k.inputs i x t h.whole) refl refl h;
       hears = λ octets x q h. fe-hears laws ils f m dead now octets x count is q h;
       sends = λ x may some h.
-          fe-move laws.below ils f m now (Sends (unit_text (take x.settings.n_maxpacket x.session.waiting)) now) x (packed now x) refl (λ no. no) tt
+          fe-move laws ils f m now (Sends (unit_text (take x.settings.n_maxpacket x.session.waiting)) now) x (packed now x) refl (λ no. no) tt
           (k.sends x may some h.whole) refl refl h;
       puts = λ kind payload x fits h. fe-same ils f m now x _ (k.puts kind payload x fits h.whole) refl refl h;
       dones = λ x h. fe-same ils f m now x _ (k.dones x h.whole) refl refl h;
@@ -318,7 +409,7 @@ octets-parts now (p ∷ ps) x h = (h.0, octets-parts now ps (part now p.1 x) h.1
 settled-red : (x : EndState) → (settle x).red ≡ x.red
 settled-red x = by_cond (λ (y : EndState). y.red ≡ x.red) (is_shut x) _ x (λ _. refl) (λ _. refl)
 
-octets-input : RedLaws → (now : ℕ) (i : Input) (m : Move) (x : EndState) → IsTypedInput i → AllByRecursion OctetPart x.red.waiting
+octets-input : Laws → (now : ℕ) (i : Input) (m : Move) (x : EndState) → IsTypedInput i → AllByRecursion OctetPart x.red.waiting
     → AtInput OctetsUp now i (end_moved m x)
 octets-input law now i m x t h = λ _.
     let y = end_moved m x in
@@ -326,12 +417,10 @@ octets-input law now i m x t h = λ _.
     octets-parts now (passed_by i y.red) (with_input i y)
     (red-keeps law i y.red t (subst (λ (r : Receiver). AllByRecursion OctetPart r.waiting) (sym same) h)).0
 
-pub octets-call : RedLaws → (c : Call) (x : EndState) → IsTypedCall c → AllByRecursion OctetPart x.red.waiting → AtCall OctetsUp c x
-octets-call law (Close now) x t h = tt
-octets-call law (Put kind payload now) x t h = tt
-octets-call law (InitDone now) x t h = tt
+pub octets-call : Laws → (c : Call) (x : EndState) → IsTypedCall c → AllByRecursion OctetPart x.red.waiting → AtCall OctetsUp c x
 octets-call law (Tick now) x t h = λ _. octets-input law now (RedTick now) (Ticks now) x tt h
 octets-call law (Deliver channel octets now) x t h = λ _. octets-input law now (Datagram octets now) (Guards now) x t h
+octets-call law _ x t h = tt
 
 -- two things that hold of each part
 both-parts : (P Q : EndState → List ℕ → Type 0) (now : ℕ) (ps : List Part) (x : EndState) → AtParts P now ps x → AtParts Q now ps x
@@ -340,11 +429,6 @@ both-parts P Q now [] x h k = tt
 both-parts P Q now (p ∷ ps) x h k = ((h.0, k.0), both-parts P Q now ps (part now p.1 x) h.1 k.1)
 
 pub both-call : (P Q : EndState → List ℕ → Type 0) (c : Call) (x : EndState) → AtCall P c x → AtCall Q c x → AtCall (λ y o. P y o × Q y o) c x
-both-call P Q (Close now) x h k = tt
-both-call P Q (Put kind payload now) x h k = tt
-both-call P Q (InitDone now) x h k = tt
-both-call P Q (Tick now) x h k = λ a b. both-parts P Q now (passed_by (RedTick now) (end_moved (Ticks now) x).red)
-    (with_input (RedTick now) (end_moved (Ticks now) x)) (h a b) (k a b)
-both-call P Q (Deliver channel octets now) x h k = λ a b.
-    both-parts P Q now (passed_by (Datagram octets now) (end_moved (Guards now) x).red) (with_input (Datagram octets now) (end_moved (Guards now) x)) (h a b)
-    (k a b)
+both-call P Q (Tick now) x h k = grind (arith, nat_tests, both-parts)
+both-call P Q (Deliver channel octets now) x h k = grind (arith, nat_tests, both-parts)
+both-call P Q _ x h k = tt

@@ -1,32 +1,187 @@
 -- The sessions of each joined pair are joint, whatever calls come.
-use Rattle.stack_engine.proofs.Words.{◌≡◌, ◌⊎◌, inl, inr, ◌==◌, ◌+◌, ◌≤◌, ◌<◌, ℕ, List, [], ◌∷◌, length, Option, Some, None, Bool, true, false, cond, refl, sym}
-use Rattle.stack_engine.proofs.Words.{ap, subst, ◌∙◌, arith, MatchOption, AllByRecursion, eqb-true, nat_tests, IsBeginning, by_test, units, State, TextsLaw}
-use Rattle.stack_engine.proofs.Words.{arrive_octets, Side, joins, Il, Fe, SessionEvent, Puts, Completes, Closes, History, grown, TakenLaw, IsNext, EndSettings}
-use Rattle.stack_engine.proofs.Words.{Leaving, meets, judge_units, EndState, new_end, with_session, noted, handed_up, answered, leaves, heard, Call, time_of}
-use Rattle.stack_engine.proofs.Words.{call, World, JoinedEnd, Event, start, ends_of, latest, call_refusal, refusal, joined_by, with_joined, call_il, call_fe}
-use Rattle.stack_engine.proofs.Words.{changed, happens, run, Open, Calls, IsGenuine, AtCall, AtOpened, GenuineCall, GenuineEvent, Genuine, IsTyped, AreTyped}
-use Rattle.stack_engine.proofs.Words.{incarnation}
-use Rattle.pdi_session.specs.JoinedSessions.{OneMoreLaw}
-use Rattle.stack_engine.proofs.one.Keeping.{Keeps, IsTypedCall, call-keeps}
-use Rattle.stack_engine.proofs.two.Reached.{Reached, il_at, fe_at}
-use Rattle.stack_engine.proofs.one.Spoken.{Spoken}
-use Rattle.stack_engine.proofs.one.Machined.{Whole}
-use Rattle.stack_engine.proofs.two.Mapping.{Laws, Comes, PeerIs, IlAt, FeAt, FeHeard, il-keeps, fe-keeps, il-heard, fe-heard, joins-both, noted-first}
-use Rattle.stack_engine.proofs.two.Worlds.{states, served, unserved, machines, AllWhole, Mapped, MappedWorld, mapped-event, call-timely, typed-call, at-call}
-use Rattle.stack_engine.proofs.two.Worlds.{made-fe, made-il, texts-latest, joined-same, before-length, states-length, unless}
-use Rattle.stack_engine.proofs.one.Heeding.{Heeds, HeedsKept, heeds-kept}
-use Rattle.stack_engine.proofs.two.Headlines.{law-of, taken-before, il-incarnations, fe-incarnations}
-use Rattle.stack_engine.proofs.two.Joint.{new_pair, Joint, joint-il, joint-fe, joint-hears, joint-new, begins-queue}
-use Rattle.safe_machine.specs.World as M
+use Rattle.stack_engine.proofs.Words.{[], AllByRecursion, answered, ap, append-nil, append_assoc, AreTyped, arith, arrive_octets, Arrives, AtFe, AtIl, AtOpened}
+use Rattle.stack_engine.proofs.Words.{Bool, by_test, Call, call, call_fe, call_il, call_refusal, Calls, changed, Closes, comes_up, Completes, cond, Dialogue}
+use Rattle.stack_engine.proofs.Words.{ends_of, EndSettings, EndState, eqb-true, Err, Event, false, Fe, first_version, found_messages, found_telegram, Genuine}
+use Rattle.stack_engine.proofs.Words.{GenuineCall, GenuineEvent, GoesUp, grown, grown_along, handed_by, handed_up, happen, happens, heard, History, Il}
+use Rattle.stack_engine.proofs.Words.{incarnation, inl, inr, InTurn, is_ended, is_shut, IsBeginning, IsNext, IsTyped, Joined, joined, joined_by, JoinedEnd}
+use Rattle.stack_engine.proofs.Words.{JoinedEvent, joins, judge_messages, judge_read, judge_units, judge_unpacked, Judged, latest, leaves, Leaving, length}
+use Rattle.stack_engine.proofs.Words.{List, MatchOption, messages_in, nat_tests, new_end, None, noted, Ok, Open, Option, OverLaw, PackFault, phase_in, Puts}
+use Rattle.stack_engine.proofs.Words.{refl, refusal, Result, rises, run, SessionEvent, Side, Some, start, State, subst, sym, Tele, tele_seen, TeleFault}
+use Rattle.stack_engine.proofs.Words.{telegrams_in, time_of, true, unit_seen, units, unless_leaving, World, ℕ, ◌++◌, ◌+◌, ◌<◌, ◌==◌, ◌∙◌, ◌∷◌, ◌≡◌, ◌≤◌, ◌⊎◌}
+use Rattle.pdi_session.specs.JoinedSessions.{happens as happens-joined, OneMoreLaw}
+use Rattle.stack_engine.proofs.one.Heeding.{Heeding, heeding-read, heeding-unpacked, IsGood, Reads, Whole}
+use Rattle.stack_engine.proofs.one.Speaking.{all-map, call-keeps, came, hands-up, Hearing, hearing-read, hearing-unpacked, IsTypedCall, Keeps, Laws}
+use Rattle.stack_engine.proofs.one.Speaking.{leaves-same, nil-behind, nil-front, Spoken, telegrams-append}
+use Rattle.stack_engine.proofs.two.Mapping.{Comes, fe-heard, fe-keeps, fe_at, FeAt, FeHeard, il-heard, il-keeps, il_at, IlAt, joins-both, noted-first, PeerIs}
+use Rattle.stack_engine.proofs.two.Mapping.{Reached}
+use Rattle.stack_engine.proofs.two.Worlds.{after-fe, after-il, AllWhole, at-call, before-length, begin-came, begin-then, call-timely, fe-incarnations, found-fe}
+use Rattle.stack_engine.proofs.two.Worlds.{found-il, il-incarnations, joined-same, law-of, machines, Mapped, mapped-open-fe, mapped-open-il, mapped-start}
+use Rattle.stack_engine.proofs.two.Worlds.{opens, peer-fe, peer-il, queue-is, served, states, states-length, taken-before, typed-call, unless}
 use Rattle.safe_machine.specs.Law as L
+use Rattle.safe_machine.specs.World as M
 
--- the laws that are used beside those of the layers
-pub record PairLaws : Type 0 where
-  pub laws : Laws
-  pub texts : TextsLaw
-  pub units : L.UnitLaw
-  pub one_more : OneMoreLaw
-  pub taken : TakenLaw
+-- two new sessions with the settings of two ends
+abbrev pub new_pair : EndSettings → EndSettings → Joined
+new_pair g f = joined g.addressing (first_version g.versions) f.addressing f.versions f.checksum
+
+-- events in turn lead to these histories
+pub record Joint (b : Joined) (x y : History) : Type 0 where
+  pub events : List JoinedEvent
+  pub in_turn : InTurn events b
+  pub leads : happen events b ≡ record { il = x; fe = y }
+
+pub joint-il : OneMoreLaw → (b : Joined) (x y : History) (e : SessionEvent) → IsNext e x y → Joint b x y → Joint b (grown e x) y
+joint-il law b x y e next h =
+    record {
+      events = h.events ++ AtIl e ∷ [];
+      in_turn = law.2 h.events (AtIl e) b h.in_turn (subst (λ (j : Joined). IsNext e j.il j.fe) (sym h.leads) next);
+      leads = law.1 h.events (AtIl e) b ∙ ap (happens-joined (AtIl e)) h.leads;
+    }
+
+pub joint-fe : OneMoreLaw → (b : Joined) (x y : History) (e : SessionEvent) → IsNext e y x → Joint b x y → Joint b x (grown e y)
+joint-fe law b x y e next h =
+    record {
+      events = h.events ++ AtFe e ∷ [];
+      in_turn = law.2 h.events (AtFe e) b h.in_turn (subst (λ (j : Joined). IsNext e j.fe j.il) (sym h.leads) next);
+      leads = law.1 h.events (AtFe e) b ∙ ap (happens-joined (AtFe e)) h.leads;
+    }
+
+-- an event that hands nothing is always in turn
+pub next-quiet : (e : SessionEvent) (x y : History) → handed_by e ≡ [] → IsNext e x y
+next-quiet (Arrives t) x y h = cc
+next-quiet _ x y h = tt
+
+-- For one of two sessions: J holds of its history, and stays where what happens is in turn.
+module _ (y : History) (J : History → Type 0) (more : (e : SessionEvent) (x : History) → IsNext e x y → J x → J (grown e x)) where
+  begin-front : (a b : List Tele) → IsBeginning (a ++ b) y.queue → IsBeginning a y.queue
+  begin-front a b h = (b ++ h.0, sym (append_assoc a b h.0) ∙ h.1)
+
+  by-leaving : (o : Option Leaving) (first rest : Judged) → J first.left.history → (first.leaving ≡ None → J rest.left.history) → first.leaving ≡ o
+      → J (unless_leaving o first rest).left.history
+  by-leaving None first rest one other e = other e
+  by-leaving (Some why) first rest one other e = one
+
+  joint-read : (seen : Result Tele TeleFault) (d : Dialogue) → is_ended (phase_in d) ≡ false → IsBeginning (d.history.judged ++ found_telegram seen) y.queue
+      → J d.history → J (judge_read seen d).left.history
+  joint-read (Ok t) d on begins h = more (Arrives t) d.history (on, begins) h
+  joint-read (Err fault) d on begins h = h
+
+  -- judging one piece after another
+  joint-then : (a b : List Tele) (d : Dialogue) (first rest : Judged) (A : Type 0) → Hearing d a first → Heeding A d first → is_ended (phase_in d) ≡ false
+      → IsBeginning (d.history.judged ++ (a ++ b)) y.queue
+      → (IsBeginning (d.history.judged ++ a) y.queue → J first.left.history)
+      → (is_ended (phase_in first.left) ≡ false → IsBeginning (first.left.history.judged ++ b) y.queue → J first.left.history → J rest.left.history)
+      → J (unless_leaving first.leaving first rest).left.history
+  joint-then a b d first rest A hear heed on begins one other =
+      let line : IsBeginning ((d.history.judged ++ a) ++ b) y.queue = subst (λ ts. IsBeginning ts y.queue) (sym (append_assoc d.history.judged a b)) begins in
+      let there : J first.left.history = one (begin-front (d.history.judged ++ a) b line) in
+      by-leaving first.leaving first rest there
+      (λ none. other (heed.on none on)
+      (subst (λ ts. IsBeginning (ts ++ b) y.queue) (sym (hear.judged ∙ ap (λ ts. d.history.judged ++ ts) (hear.whole none))) line) there) refl
+
+  joint-messages : OverLaw → (ms : List (List ℕ)) (d : Dialogue) → is_ended (phase_in d) ≡ false → IsBeginning (d.history.judged ++ telegrams_in ms) y.queue
+      → J d.history
+      → J (judge_messages ms d).left.history
+  joint-messages law [] d on begins h = h
+  joint-messages law (m ∷ ms) d on begins h =
+      let seen = tele_seen m in
+      let first = judge_read seen d in
+      joint-then (found_telegram seen) (telegrams_in ms) d first (judge_messages ms first.left) (Reads m) (hearing-read seen d) (heeding-read law m seen d refl)
+      on begins
+      (λ front. joint-read seen d on front h)
+      (λ on-then rest there. joint-messages law ms first.left on-then rest there)
+
+  joint-unpacked : OverLaw → (seen : Result (List (List ℕ)) PackFault) (d : Dialogue) → is_ended (phase_in d) ≡ false
+      → IsBeginning (d.history.judged ++ telegrams_in (found_messages seen)) y.queue → J d.history
+      → J (judge_unpacked seen d).left.history
+  joint-unpacked law (Ok ms) d on begins h = joint-messages law ms d on begins h
+  joint-unpacked law (Err fault) d on begins h = h
+
+  joint-units : OverLaw → (us : List (List ℕ)) (d : Dialogue) → is_ended (phase_in d) ≡ false → IsBeginning (d.history.judged ++ telegrams_in (messages_in us))
+      y.queue → J d.history
+      → J (judge_units us d).left.history
+  joint-units law [] d on begins h = h
+  joint-units law (u ∷ us) d on begins h =
+      let seen = unit_seen u in
+      let first = judge_unpacked seen d in
+      joint-then (telegrams_in (found_messages seen)) (telegrams_in (messages_in us)) d first (judge_units us first.left) (IsGood u) (hearing-unpacked seen d)
+      (heeding-unpacked law u seen d refl) on
+      (subst (λ ts. IsBeginning (d.history.judged ++ ts) y.queue) (telegrams-append (found_messages seen) (messages_in us)) begins)
+      (λ front. joint-unpacked law seen d on front h)
+      (λ on-then rest there. joint-units law us first.left on-then rest there)
+
+  joint-rises : (b : Bool) (d : Dialogue) → J d.history → J (rises b d).history
+  joint-rises true d h = more GoesUp d.history tt h
+  joint-rises false d h = h
+
+  joint-leaves : (now : ℕ) (why : Option Leaving) (x : EndState) → J x.session.history → J (leaves now why x).session.history
+  joint-leaves now None x h = h
+  joint-leaves now (Some why) x h = h
+
+  -- octets come to an end whose units are a beginning of what its peer sent
+  pub joint-hears : Laws → (side : Side) (now : ℕ) (octets : List ℕ) (x : EndState) → Whole side x
+      → IsBeginning (came (arrive_octets octets now x.machine)) y.queue → J x.session.history
+      → J (heard now octets x).session.history
+  joint-hears laws side now octets x whole begins h =
+      let s = arrive_octets octets now x.machine in
+      let step = hands-up laws.moves now octets x in
+      let us = handed_up x s in
+      let d = x.session in
+      let j = judge_units us d in
+      let left : J j.left.history =
+      by_test (λ b. is_shut x ≡ b → J j.left.history) (is_shut x)
+      (λ shut _. subst (λ vs. J (judge_units vs d).left.history) (sym (step.nothing shut)) h)
+      (λ open-still _.
+      joint-units laws.over us d (whole.heeds.on open-still)
+      (subst (λ ts. IsBeginning ts y.queue) (step.all ∙ ap (λ ts. ts ++ telegrams_in (messages_in us)) (sym (whole.spoken.whole open-still))) begins) h)
+      refl
+      in
+      joint-leaves now j.leaving (answered octets x s) (joint-rises (comes_up x.machine.connection s.connection) j.left left)
+
+-- what came to an end that took a beginning of what its peer sent
+pub begins-queue : (side : Side) (us : List (List ℕ)) (y : EndState) → Spoken side y → IsBeginning us (units y.machine.made)
+    → IsBeginning (telegrams_in (messages_in us)) y.session.history.queue
+begins-queue side us y sp begins =
+    begin-then (telegrams_in (messages_in us)) (telegrams_in (messages_in (units y.machine.made))) y.session.history.queue
+    (begin-came us (units y.machine.made) begins)
+    (telegrams_in y.session.waiting, sym (queue-is side y sp))
+
+-- two ends that have judged nothing are joint
+abbrev all_handed : List SessionEvent → List Tele
+all_handed [] = []
+all_handed (e ∷ es) = handed_by e ++ all_handed es
+
+judged-along : (es : List SessionEvent) (h : History) → (grown_along es h).judged ≡ h.judged ++ all_handed es
+judged-along [] h = sym (append-nil h.judged)
+judged-along (e ∷ es) h = judged-along es (grown e h) ∙ append_assoc h.judged (handed_by e) (all_handed es)
+
+abbrev IsQuiet : SessionEvent → Type 0
+IsQuiet e = handed_by e ≡ []
+
+quiet-all : (es : List SessionEvent) → all_handed es ≡ [] → AllByRecursion IsQuiet es
+quiet-all [] h = tt
+quiet-all (e ∷ es) h = (nil-front (handed_by e) (all_handed es) h, quiet-all es (nil-behind (handed_by e) (all_handed es) h))
+
+along-il : OneMoreLaw → (b : Joined) (es : List SessionEvent) (x y : History) → AllByRecursion IsQuiet es → Joint b x y → Joint b (grown_along es x) y
+along-il law b [] x y q h = h
+along-il law b (e ∷ es) x y q h = along-il law b es (grown e x) y q.1 (joint-il law b x y e (next-quiet e x y q.0) h)
+
+along-fe : OneMoreLaw → (b : Joined) (es : List SessionEvent) (x y : History) → AllByRecursion IsQuiet es → Joint b x y → Joint b x (grown_along es y)
+along-fe law b [] x y q h = h
+along-fe law b (e ∷ es) x y q h = along-fe law b es x (grown e y) q.1 (joint-fe law b x y e (next-quiet e y x q.0) h)
+
+quiet-events : (side : Side) (x : EndState) (sp : Spoken side x) → x.machine.taken ≡ [] → AllByRecursion IsQuiet sp.talk.events
+quiet-events side x sp none = grind (arith, nat_tests, judged-along, nil-front, quiet-all)
+
+pub joint-new : OneMoreLaw → (g f : EndState) → Spoken Il g → Spoken Fe f → g.machine.taken ≡ [] → f.machine.taken ≡ []
+    → Joint (new_pair g.settings f.settings) g.session.history f.session.history
+joint-new law g f sg sf ng nf =
+    let b = new_pair g.settings f.settings in
+    let start-at : Joint b b.il b.fe = record { events = []; in_turn = tt; leads = refl } in
+    subst (λ (h : History). Joint b h f.session.history) (sym sg.talk.history)
+    (subst (λ (h : History). Joint b (grown_along sg.talk.events b.il) h) (sym sf.talk.history)
+    (along-fe law b sf.talk.events (grown_along sg.talk.events b.il) b.fe (quiet-events Fe f sf nf)
+    (along-il law b sg.talk.events b.il b.fe (quiet-events Il g sg ng) start-at)))
 
 -- two ends
 abbrev pub JointEnds : EndSettings → EndState → EndState → Type 0
@@ -39,22 +194,16 @@ abbrev pub Unjoined : List JoinedEnd → Type 0
 Unjoined [] = Unit {0}
 Unjoined (f ∷ fs) = f.end.request ≡ None → f.joined ≡ None
 
-pub record Paired (ils : List EndState) (fes : List JoinedEnd) : Type 0 where
-  pub il_heeds : AllByRecursion Heeds ils
-  pub fe_heeds : AllByRecursion Heeds (ends_of fes)
+pub record Paired (ils : List EndState) (fes : List JoinedEnd) (di df : ℕ) : Type 0 where
+  pub mapped : Mapped ils fes di df
   pub unjoined : Unjoined fes
   pub pairs : AllByRecursion (PairAt ils) fes
 
 abbrev pub PairedWorld : World → Type 0
-PairedWorld w = Paired w.ils w.fes
-
-all-map : {X : Type 0} (P Q : X → Type 0) → ((x : X) → P x → Q x) → (xs : List X) → AllByRecursion P xs → AllByRecursion Q xs
-all-map P Q k [] h = tt
-all-map P Q k (x ∷ xs) h = (k x h.0, all-map P Q k xs h.1)
+PairedWorld w = Paired w.ils w.fes w.dead_il w.dead_fe
 
 match-map : {X : Type 0} (P Q : X → Type 0) → ((x : X) → P x → Q x) → (o : Option X) → MatchOption o ⊥ P → MatchOption o ⊥ Q
-match-map P Q k None h = h
-match-map P Q k (Some x) h = k x h
+match-map P Q h o k = grind (arith, nat_tests)
 
 pub eqb-same : (n : ℕ) → (n == n) ≡ true
 eqb-same n = grind (arith, nat_tests)
@@ -62,43 +211,23 @@ eqb-same n = grind (arith, nat_tests)
 -- incarnations of ends and of their machines
 pub inc-some : (ils : List EndState) (number : ℕ) (g : EndState) → incarnation ils number ≡ Some g → L.incarnation (states ils) number ≡ Some g.machine
 inc-some [] number g e = cc
-inc-some (x ∷ before) number g e =
-    ap (λ n. cond (number == n + 1) (Some x.machine) (L.incarnation (states before) number)) (states-length before)
-    ∙ by_test (λ b. cond b (Some x) (incarnation before number) ≡ Some g → cond b (Some x.machine) (L.incarnation (states before) number) ≡ Some g.machine)
-    (number == length before + 1)
-    (λ _ same. let is : x ≡ g = cc in ap (λ (y : EndState). Some y.machine) is) (λ _ more. inc-some before number g more) e
+inc-some (x ∷ before) number g e = grind (arith, states-length before, inc-some before number g)
 
 pub inc-none : (ils : List EndState) (number : ℕ) → incarnation ils number ≡ None → L.incarnation (states ils) number ≡ None
 inc-none [] number e = refl
-inc-none (x ∷ before) number e =
-    ap (λ n. cond (number == n + 1) (Some x.machine) (L.incarnation (states before) number)) (states-length before)
-    ∙ by_test (λ b. cond b (Some x) (incarnation before number) ≡ None → cond b (Some x.machine) (L.incarnation (states before) number) ≡ None)
-    (number == length before + 1)
-    (λ _ no. cc) (λ _ more. inc-none before number more) e
+inc-none (x ∷ before) number e = grind (arith, states-length before, inc-none before number)
 
 pub inc-whole : (ils : List EndState) (number : ℕ) (g : EndState) → AllWhole Il ils → incarnation ils number ≡ Some g → Whole Il g
 inc-whole [] number g h e = cc
-inc-whole (x ∷ before) number g h e =
-    by_test (λ b. cond b (Some x) (incarnation before number) ≡ Some g → Whole Il g) (number == length before + 1)
-    (λ _ same. let is : x ≡ g = cc in subst (Whole Il) is h.0) (λ _ more. inc-whole before number g h.1 more) e
+inc-whole (x ∷ before) number g h e = grind (arith, h.0, inc-whole before number g h.1)
 
 inc-takes : (fs : List M.Served) (ils : List EndState) (number : ℕ) (g : EndState) → L.OnlyJoinedTake fs (states ils) → incarnation ils number ≡ Some g
     → (g.machine.taken ≡ []) ⊎ L.IsJoined number fs
 inc-takes fs [] number g h e = cc
-inc-takes fs (x ∷ before) number g h e =
-    by_test (λ b. (number == length before + 1) ≡ b → cond b (Some x) (incarnation before number) ≡ Some g → (g.machine.taken ≡ []) ⊎ L.IsJoined number fs)
-    (number == length before + 1)
-    (λ at _ same.
-    let is : x ≡ g = cc in
-    let n : length (states before) + 1 ≡ number = ap (λ k. k + 1) (states-length before) ∙ sym (eqb-true number (length before + 1) at) in
-    subst (λ (y : EndState). (y.machine.taken ≡ []) ⊎ L.IsJoined number fs) is (subst (λ k. (x.machine.taken ≡ []) ⊎ L.IsJoined k fs) n h.0))
-    (λ _ _ more. inc-takes fs before number g h.1 more) refl e
+inc-takes fs (x ∷ before) number g h e = grind (arith, nat_tests, states-length before, h.0, inc-takes fs before number g h.1)
 
 below-step : (bound number : ℕ) (o : Option ℕ) → L.JoinedBelow bound o → (o ≡ Some number) ⊎ (number < L.next_bound bound o) → number < bound
-below-step bound number None h (inl e) = cc
-below-step bound number None h (inr k) = k
-below-step bound number (Some n) h (inl e) = let same : n ≡ number = cc in subst (λ k. k < bound) same h
-below-step bound number (Some n) h (inr k) = omega (arith, h, k)
+below-step bound number o h k = grind (arith, nat_tests)
 
 joined-below : (bound number : ℕ) (fs : List M.Served) → L.JoinsFall bound fs → L.IsJoined number fs → number < bound
 joined-below bound number [] h k = absurd k
@@ -115,63 +244,70 @@ law-il s x before fes di df ci cf now h =
 law-fe : (s : State) (q : Option ℕ) (ils : List EndState) (f : JoinedEnd) (fs : List JoinedEnd) (di df ci cf now : ℕ)
     → L.Law (fe_at s q now (machines ils (f ∷ fs) di df ci cf))
     → L.LawOf (states ils) (record { machine = s; joined = q } ∷ served fs)
-law-fe s q ils f fs di df ci cf now h =
-    subst (λ gs. L.LawOf (states ils) gs) (taken-before unserved (record { machine = s; joined = q }) (served fs))
-    (subst (λ ss. L.LawOf ss (L.fe_incarnations (fe_at s q now (machines ils (f ∷ fs) di df ci cf)))) (il-incarnations (states ils)) h)
+law-fe s q ils f fs di df ci cf now h = grind (arith, nat_tests, il-incarnations, taken-before)
 
 pub law-at : L.UnitLaw → (m : M.World) → Reached m → L.Law m
 law-at law m r = subst L.Law r.leads (law r.events r.genuine)
 
-leaves-settings : (now : ℕ) (why : Option Leaving) (y : EndState) → (leaves now why y).settings ≡ y.settings
-leaves-settings now None y = refl
-leaves-settings now (Some why) y = refl
+-- An end during a call: A of it, which says that it is whole, and J of its session's history and the octets that asked for the connection.
+record PairOf (A : EndState → Type 0) (J : History → Option (List ℕ) → Type 0) (s : EndSettings) (y : EndState) : Type 0 where
+  at : A y
+  set : y.settings ≡ s
+  joint : J y.session.history y.request
 
-leaves-request : (now : ℕ) (why : Option Leaving) (y : EndState) → (leaves now why y).request ≡ y.request
-leaves-request now None y = refl
-leaves-request now (Some why) y = refl
+pair-keeps : (now : ℕ) (Q : EndState → List ℕ → Type 0) (A : EndState → Type 0) (J : History → Option (List ℕ) → Type 0) (s : EndSettings) → Keeps now Q A
+    → ((e : SessionEvent) (h : History) (q : Option (List ℕ)) → ((j k : History) → IsNext e j k) → J h q → J (grown e h) q)
+    → ((octets : List ℕ) (x : EndState) → Q x octets → PairOf A J s x → J (heard now octets x).session.history (heard now octets x).request)
+    → Keeps now Q (PairOf A J s)
+pair-keeps now Q A J s k meets-joint hears-joint =
+    record {
+      guards = λ x h. record { at = k.guards x h.at; set = h.set; joint = h.joint };
+      ticks = λ x h. record { at = k.ticks x h.at; set = h.set; joint = h.joint };
+      closes = λ x h. record { at = k.closes x h.at; set = h.set; joint = h.joint };
+      ends = λ x shut h. record { at = k.ends x shut h.at; set = h.set; joint = meets-joint Closes _ _ (λ _ _. tt) h.joint };
+      inputs = λ i x t h. record { at = k.inputs i x t h.at; set = h.set; joint = h.joint };
+      hears = λ octets x q h.
+          let t = arrive_octets octets now x.machine in
+          record {
+            at = k.hears octets x q h.at;
+            set = (leaves-same now (judge_units (handed_up x t) x.session).leaving (answered octets x t)).0 ∙ h.set;
+            joint = hears-joint octets x q h;
+          };
+      sends = λ x may some h. record { at = k.sends x may some h.at; set = h.set; joint = h.joint };
+      puts = λ kind payload x fits h.
+          record { at = k.puts kind payload x fits h.at; set = h.set; joint = meets-joint (Puts kind payload _) _ _ (λ _ _. tt) h.joint };
+      dones = λ x h. record { at = k.dones x h.at; set = h.set; joint = meets-joint (Completes _) _ _ (λ _ _. tt) h.joint };
+      times = λ x h. record { at = k.times x h.at; set = h.set; joint = h.joint };
+    }
 
 -- The interlocking during a call, with every field element that is joined to it.
-abbrev JointIl : EndSettings → ℕ → EndState → JoinedEnd → Type 0
-JointIl s number y f = f.joined ≡ Some number → Joint (new_pair s f.end.settings) y.session.history f.end.session.history
+abbrev JointIl : EndSettings → ℕ → History → JoinedEnd → Type 0
+JointIl s number h f = f.joined ≡ Some number → Joint (new_pair s f.end.settings) h f.end.session.history
 
-record IlPair (s : EndSettings) (number : ℕ) (fes : List JoinedEnd) (m : M.World) (now : ℕ) (y : EndState) : Type 0 where
-  at : IlAt m now y
-  heeds : Heeds y
-  set : y.settings ≡ s
-  joints : AllByRecursion (JointIl s number y) fes
-
-il-quiet : OneMoreLaw → (s : EndSettings) (number : ℕ) (fes : List JoinedEnd) (e : SessionEvent) (x y : EndState) → ((h k : History) → IsNext e h k)
-    → y.session.history ≡ grown e x.session.history
-    → AllByRecursion (JointIl s number x) fes → AllByRecursion (JointIl s number y) fes
-il-quiet law s number fes e x y next same h =
-    all-map (JointIl s number x) (JointIl s number y)
-    (λ f j is. subst (λ (k : History). Joint (new_pair s f.end.settings) k f.end.session.history) (sym same)
-    (joint-il law (new_pair s f.end.settings) x.session.history f.end.session.history e (next x.session.history f.end.session.history) (j is))) fes h
+abbrev IlPair : EndSettings → ℕ → List JoinedEnd → M.World → ℕ → EndState → Type 0
+IlPair s number fes m now = PairOf (IlAt m now) (λ h request. AllByRecursion (JointIl s number h) fes) s
 
 il-joined : (ss : List State) (s : State) (f : M.Served) (number : ℕ) → L.TakesBeginnings (s ∷ ss) f.machine f.joined → f.joined ≡ Some number
     → (number == length ss + 1) ≡ true → IsBeginning s.taken (units f.machine.made)
-il-joined ss s f number h is at =
-    (subst (λ b. MatchOption (cond b (Some s) (L.incarnation ss number)) ⊥
-    (λ il. IsBeginning f.machine.taken (units il.made) × IsBeginning il.taken (units f.machine.made))) at
-    (subst (λ o. L.TakesBeginnings (s ∷ ss) f.machine o) is h)).1
+il-joined ss s f number h is at = grind (arith, nat_tests)
 
-il-pairs-hear : (p : PairLaws) (s : EndSettings) (number : ℕ) (ss : List State) (now : ℕ) (octets : List ℕ) (x : EndState) → (number == length ss + 1) ≡ true
-    → Spoken Il x → Heeds x
+il-pairs-hear : (p : Laws) (s : EndSettings) (number : ℕ) (ss : List State) (now : ℕ) (octets : List ℕ) (x : EndState) → (number == length ss + 1) ≡ true
+    → Whole Il x
     → (fes : List JoinedEnd) → AllWhole Fe (ends_of fes) → L.AllTakeBeginnings (arrive_octets octets now x.machine ∷ ss) (served fes)
-    → AllByRecursion (JointIl s number x) fes → AllByRecursion (JointIl s number (heard now octets x)) fes
-il-pairs-hear p s number ss now octets x at sp he [] whole law h = tt
-il-pairs-hear p s number ss now octets x at sp he (f ∷ fs) whole law h = (
+    → AllByRecursion (JointIl s number x.session.history) fes → AllByRecursion (JointIl s number (heard now octets x).session.history) fes
+il-pairs-hear p s number ss now octets x at here [] whole law h = tt
+il-pairs-hear p s number ss now octets x at here (f ∷ fs) whole law h = (
   λ is.
       let b = new_pair s f.end.settings in
       let t = arrive_octets octets now x.machine in
       let sent = il-joined ss t (record { machine = f.end.machine; joined = f.joined }) number law.0 is at in
       joint-hears f.end.session.history (λ k. Joint b k f.end.session.history) (λ e k next j. joint-il p.one_more b k f.end.session.history e next j)
-      p.laws.below Il now octets x sp he
+      p Il now octets x here
       (begins-queue Fe t.taken f.end whole.0.spoken sent) (h.0 is),
-  il-pairs-hear p s number ss now octets x at sp he fs whole.1 law.1 h.1,
+  il-pairs-hear p s number ss now octets x at here fs whole.1 law.1 h.1,
 )
 
-il-pair-keeps : (p : PairLaws) (x0 : EndState) (before : List EndState) (fes : List JoinedEnd) (di df ci cf now : ℕ)
+il-pair-keeps : (p : Laws) (x0 : EndState) (before : List EndState) (fes : List JoinedEnd) (di df ci cf now : ℕ)
     → let m = machines (x0 ∷ before) fes di df ci cf in
     PeerIs (latest (ends_of fes)) df m.fe m.dead_fe → AllWhole Fe (ends_of fes)
     → Keeps now (Comes (latest (ends_of fes)) df) (IlPair x0.settings (length before + 1) fes m now)
@@ -180,112 +316,61 @@ il-pair-keeps p x0 before fes di df ci cf now is whole =
     let peer = latest (ends_of fes) in
     let s = x0.settings in
     let number = length before + 1 in
-    let k : Keeps now (Comes peer df) (IlAt m now) = il-keeps p.laws m peer df now is in
-    let hk : HeedsKept Il now = heeds-kept p.laws.below p.taken Il now in
-    record {
-      guards = λ x h. record { at = k.guards x h.at; heeds = hk.guards x h.heeds; set = h.set; joints = h.joints };
-      ticks = λ x h. record { at = k.ticks x h.at; heeds = hk.ticks x h.heeds; set = h.set; joints = h.joints };
-      closes = λ x h. record { at = k.closes x h.at; heeds = hk.closes x h.heeds; set = h.set; joints = h.joints };
-      ends = λ x shut h. record {
-        at = k.ends x shut h.at;
-        heeds = hk.ends x shut h.heeds;
-        set = h.set;
-        joints = il-quiet p.one_more s number fes Closes x
-            (with_session (meets Closes x.session) x) (λ _ _. tt) refl h.joints;
-      };
-      inputs = λ i x t h. record {
-        at = k.inputs i x t h.at;
-        heeds = record { on = h.heeds.on; judged = h.heeds.judged; taken = h.heeds.taken };
-        set = h.set;
-        joints = h.joints;
-      };
-      hears = λ octets x q h.
-          let t = arrive_octets octets now x.machine in
-          let law : L.LawOf (t ∷ states before) (served fes) = law-il t x0 before fes di df ci cf now
-          (law-at p.units (il_at t now m) (il-heard p.laws m peer df now is octets x q h.at)) in
-          record {
-            at = k.hears octets x q h.at;
-            heeds = hk.hears octets x h.at.whole.spoken h.heeds;
-            set = leaves-settings now (judge_units (handed_up x t) x.session).leaving (answered octets x t) ∙ h.set;
-            joints =
-                il-pairs-hear p s number (states before) now octets x (ap (λ n. number == n + 1) (states-length before) ∙ eqb-same number) h.at.whole.spoken
-                h.heeds fes whole law.beginnings h.joints;
-          };
-      sends = λ x may some h. record { at = k.sends x may some h.at; heeds = hk.sends x h.heeds; set = h.set; joints = h.joints };
-      puts = λ kind payload x fits h. record {
-        at = k.puts kind payload x fits h.at;
-        heeds = hk.puts kind payload x h.heeds;
-        set = h.set;
-        joints = il-quiet p.one_more s number fes (Puts kind payload (length x.session.waiting)) x
-            (with_session (meets (Puts kind payload (length x.session.waiting)) x.session) x) (λ _ _. tt) refl h.joints;
-      };
-      dones = λ x h. record {
-        at = k.dones x h.at;
-        heeds = hk.dones x h.heeds;
-        set = h.set;
-        joints = il-quiet p.one_more s number fes
-            (Completes (length x.session.waiting)) x (with_session (meets (Completes (length x.session.waiting)) x.session) x) (λ _ _. tt) refl h.joints;
-      };
-      times = λ x h. record {
-        at = k.times x h.at;
-        heeds = record { on = h.heeds.on; judged = h.heeds.judged; taken = h.heeds.taken };
-        set = h.set;
-        joints =
-            h.joints;
-      };
-    }
+    pair-keeps now (Comes peer df) (IlAt m now) (λ h request. AllByRecursion (JointIl s number h) fes) s (il-keeps p m peer df now is)
+    (λ e h request next. all-map (JointIl s number h) (JointIl s number (grown e h))
+    (λ f j joined. joint-il p.one_more (new_pair s f.end.settings) h f.end.session.history e (next h f.end.session.history) (j joined)) fes)
+    (λ octets x q h.
+    let t = arrive_octets octets now x.machine in
+    let law : L.LawOf (t ∷ states before) (served fes) = law-il t x0 before fes di df ci cf now
+    (law-at p.units (il_at t now m) (il-heard p m peer df now is octets x q h.at)) in
+    il-pairs-hear p s number (states before) now octets x (ap (λ n. number == n + 1) (states-length before) ∙ eqb-same number) h.at.whole
+    fes whole law.beginnings h.joint)
 
 -- The field element during a call, with the interlocking to which it is joined by now.
 abbrev JoinedNow : List EndState → JoinedEnd → EndState → Option ℕ
 JoinedNow ils f x = joined_by ils f.joined f.end.request x.request
 
-record FePair (s : EndSettings) (ils : List EndState) (f : JoinedEnd) (m : M.World) (now : ℕ) (x : EndState) : Type 0 where
-  at : FeAt ils f m now x
-  heeds : Heeds x
-  set : x.settings ≡ s
-  unjoined : x.request ≡ None → JoinedNow ils f x ≡ None
-  joint : (number : ℕ) → JoinedNow ils f x ≡ Some number
-      → MatchOption (incarnation ils number) ⊥ (λ g. Joint (new_pair g.settings s) g.session.history x.session.history)
+abbrev JointFe : EndSettings → List EndState → ℕ → History → Type 0
+JointFe s ils number h = MatchOption (incarnation ils number) ⊥ (λ g. Joint (new_pair g.settings s) g.session.history h)
 
-fe-quiet : OneMoreLaw → (s : EndSettings) (ils : List EndState) (e : SessionEvent) (h : History) (number : ℕ) → ((j k : History) → IsNext e j k)
-    → MatchOption (incarnation ils number) ⊥ (λ g. Joint (new_pair g.settings s) g.session.history h)
-    → MatchOption (incarnation ils number) ⊥ (λ g. Joint (new_pair g.settings s) g.session.history (grown e h))
-fe-quiet law s ils e h number next =
-    match-map (λ g. Joint (new_pair g.settings s) g.session.history h) (λ g. Joint (new_pair g.settings s) g.session.history (grown e h))
-    (λ g j. joint-fe law (new_pair g.settings s) g.session.history h e (next h g.session.history) j) (incarnation ils number)
+-- where nobody asked for the connection it is joined to none
+abbrev FeJoint : EndSettings → List EndState → JoinedEnd → History → Option (List ℕ) → Type 0
+FeJoint s ils f h request =
+    (request ≡ None → joined_by ils f.joined f.end.request request ≡ None)
+    × ((number : ℕ) → joined_by ils f.joined f.end.request request ≡ Some number → JointFe s ils number h)
+
+abbrev FePair : EndSettings → List EndState → JoinedEnd → M.World → ℕ → EndState → Type 0
+FePair s ils f m now = PairOf (FeAt ils f m now) (FeJoint s ils f) s
 
 -- what octets do to a pair, once the interlocking is known
-fe-with : (p : PairLaws) (s : EndSettings) (now : ℕ) (octets : List ℕ) (x g : EndState) → Spoken Fe x → Heeds x → Spoken Il g
+fe-with : (p : Laws) (s : EndSettings) (now : ℕ) (octets : List ℕ) (x g : EndState) → Whole Fe x → Spoken Il g
     → IsBeginning (arrive_octets octets now x.machine).taken (units g.machine.made)
     → Joint (new_pair g.settings s) g.session.history x.session.history → Joint (new_pair g.settings s) g.session.history (heard now octets x).session.history
-fe-with p s now octets x g sx he sg sent j =
+fe-with p s now octets x g here sg sent j =
     let b = new_pair g.settings s in
-    joint-hears g.session.history (λ k. Joint b g.session.history k) (λ e k next l. joint-fe p.one_more b g.session.history k e next l) p.laws.below Fe now
-    octets x sx he
+    joint-hears g.session.history (λ k. Joint b g.session.history k) (λ e k next l. joint-fe p.one_more b g.session.history k e next l) p Fe now
+    octets x here
     (begins-queue Il (arrive_octets octets now x.machine).taken g sg sent) j
 
 not-joined : (o : Option ℕ) (number : ℕ) (fs : List M.Served) → o ≡ None → L.JoinsFall number fs → (o ≡ Some number) ⊎ L.IsJoined number fs → ⊥
-not-joined o number fs none fall (inl e) = let no : Some number ≡ None = sym e ∙ none in cc
-not-joined o number fs none fall (inr k) = let lt = joined-below number number fs fall k in omega (arith, lt)
+not-joined o number fs h k l = grind (arith, nat_tests, joined-below)
 
 none-or : (o : Option ℕ) (number : ℕ) (fs : List M.Served) (g : EndState) → o ≡ None → L.JoinsFall number fs
     → (g.machine.taken ≡ []) ⊎ ((o ≡ Some number) ⊎ L.IsJoined number fs) → g.machine.taken ≡ []
-none-or o number fs g none fall (inl e) = e
-none-or o number fs g none fall (inr k) = absurd (not-joined o number fs none fall k)
+none-or o number fs g h k l = grind (arith, nat_tests, not-joined)
 
 -- the pair before octets come: joined already, or new
-fe-before : (p : PairLaws) (s : EndSettings) (ils : List EndState) (f : JoinedEnd) (fs : List JoinedEnd) (m : M.World) (now : ℕ) (octets : List ℕ)
+fe-before : (p : Laws) (s : EndSettings) (ils : List EndState) (f : JoinedEnd) (fs : List JoinedEnd) (m : M.World) (now : ℕ) (octets : List ℕ)
     (x g : EndState) (number : ℕ) (b : Bool)
     → joins x.machine.connection (arrive_octets octets now x.machine).connection ≡ b → FePair s ils f m now x → Whole Il g → incarnation ils number ≡ Some g
     → L.LawOf (states ils) (record { machine = x.machine; joined = JoinedNow ils f x } ∷ served fs)
     → L.JoinsFall number (served fs)
     → joined_by ils f.joined f.end.request (noted b octets x.request) ≡ Some number
     → Joint (new_pair g.settings s) g.session.history x.session.history
-fe-before p s ils f fs m now octets x g number false e h whole inc law fall is =
-    subst (λ o. MatchOption o ⊥ (λ y. Joint (new_pair y.settings s) y.session.history x.session.history)) inc (h.joint number is)
+fe-before p s ils f fs m now octets x g number false e h whole inc law fall is = grind (arith, nat_tests, h.joint.1)
 fe-before p s ils f fs m now octets x g number true e h whole inc law fall is =
     let none : x.request ≡ None = h.at.idle (joins-both x.machine.connection (arrive_octets octets now x.machine).connection e).0 in
-    let free : JoinedNow ils f x ≡ None = h.unjoined none in
+    let free : JoinedNow ils f x ≡ None = h.joint.0 none in
     let x-none : x.machine.taken ≡ [] = subst (λ o. L.TakesBeginnings (states ils) x.machine o) free law.beginnings.0 in
     let g-none : g.machine.taken ≡ [] =
     none-or (JoinedNow ils f x) number (served fs) g free fall
@@ -295,18 +380,14 @@ fe-before p s ils f fs m now octets x g number true e h whole inc law fall is =
     (joint-new p.one_more g x whole.spoken h.at.whole.spoken g-none x-none)
 
 -- what a part does to the pair
-fe-joint : (p : PairLaws) (s : EndSettings) (ils : List EndState) (f : JoinedEnd) (fs : List JoinedEnd) (m : M.World) (now : ℕ) (octets : List ℕ) (x : EndState)
+fe-joint : (p : Laws) (s : EndSettings) (ils : List EndState) (f : JoinedEnd) (fs : List JoinedEnd) (m : M.World) (now : ℕ) (octets : List ℕ) (x : EndState)
     → AllWhole Il ils → FePair s ils f m now x
     → L.LawOf (states ils) (record { machine = x.machine; joined = JoinedNow ils f x } ∷ served fs)
     → let y = answered octets x (arrive_octets octets now x.machine) in L.LawOf (states ils)
     (record { machine = y.machine; joined = JoinedNow ils f y } ∷ served fs)
     → (number : ℕ) → JoinedNow ils f y ≡ Some number → (o : Option EndState) → incarnation ils number ≡ o
     → MatchOption o ⊥ (λ g. Joint (new_pair g.settings s) g.session.history (heard now octets x).session.history)
-fe-joint p s ils f fs m now octets x wholes h before after number is None inc =
-    let y = answered octets x (arrive_octets octets now x.machine) in
-    let takes : L.TakesBeginnings (states ils) y.machine (Some number) = subst (λ o. L.TakesBeginnings (states ils) y.machine o) is after.beginnings.0 in
-    subst (λ o. MatchOption o ⊥ (λ il. IsBeginning y.machine.taken (units il.made) × IsBeginning il.taken (units y.machine.made))) (inc-none ils number inc)
-    takes
+fe-joint p s ils f fs m now octets x wholes h before after number is None inc = grind (arith, nat_tests, inc-none, after.beginnings.0)
 fe-joint p s ils f fs m now octets x wholes h before after number is (Some g) inc =
     let t = arrive_octets octets now x.machine in
     let y = answered octets x t in
@@ -317,88 +398,43 @@ fe-joint p s ils f fs m now octets x wholes h before after number is (Some g) in
     in
     let whole = inc-whole ils number g wholes inc in
     let fall : L.JoinsFall number (served fs) = subst (λ o. L.JoinsFall (L.next_bound (length (states ils) + 1) o) (served fs)) is after.joins_fall.1 in
-    fe-with p s now octets x g h.at.whole.spoken h.heeds whole.spoken sent
+    fe-with p s now octets x g h.at.whole whole.spoken sent
     (fe-before p s ils f fs m now octets x g number (joins x.machine.connection t.connection) refl h whole inc before fall is)
 
-fe-pair-keeps : (p : PairLaws) (ils : List EndState) (f : JoinedEnd) (fs : List JoinedEnd) (di df ci cf now : ℕ) → let m = machines ils (f ∷ fs) di df ci cf in
+fe-pair-keeps : (p : Laws) (ils : List EndState) (f : JoinedEnd) (fs : List JoinedEnd) (di df ci cf now : ℕ) → let m = machines ils (f ∷ fs) di df ci cf in
     PeerIs (latest ils) di m.il m.dead_il → AllWhole Il ils → Keeps now (Comes (latest ils) di) (FePair f.end.settings ils f m now)
 fe-pair-keeps p ils f fs di df ci cf now is wholes =
     let m = machines ils (f ∷ fs) di df ci cf in
     let s = f.end.settings in
-    let k : Keeps now (Comes (latest ils) di) (FeAt ils f m now) = fe-keeps p.laws ils f m di now (before-length ils) is in
-    let hk : HeedsKept Fe now = heeds-kept p.laws.below p.taken Fe now in
-    record {
-      guards = λ x h. record { at = k.guards x h.at; heeds = hk.guards x h.heeds; set = h.set; unjoined = h.unjoined; joint = h.joint };
-      ticks = λ x h. record { at = k.ticks x h.at; heeds = hk.ticks x h.heeds; set = h.set; unjoined = h.unjoined; joint = h.joint };
-      closes = λ x h. record { at = k.closes x h.at; heeds = hk.closes x h.heeds; set = h.set; unjoined = h.unjoined; joint = h.joint };
-      ends = λ x shut h. record {
-        at = k.ends x shut h.at;
-        heeds = hk.ends x shut h.heeds;
-        set = h.set;
-        unjoined = h.unjoined;
-        joint = λ number e. fe-quiet p.one_more s ils Closes x.session.history number (λ _ _. tt) (h.joint number e);
-      };
-      inputs = λ i x t h. record {
-        at = k.inputs i x t h.at;
-        heeds = record { on = h.heeds.on; judged = h.heeds.judged; taken = h.heeds.taken };
-        set = h.set;
-        unjoined = h.unjoined;
-        joint = h.joint;
-      };
-      hears = λ octets x q h.
-          let t = arrive_octets octets now x.machine in
-          let y = answered octets x t in
-          let why = (judge_units (handed_up x t) x.session).leaving in
-          let there : FeHeard ils f m now y = fe-heard p.laws ils f m di now octets x (before-length ils) is q h.at in
-          let after : L.LawOf (states ils) (record { machine = y.machine; joined = JoinedNow ils f y } ∷ served fs) =
-          law-fe t (JoinedNow ils f y) ils f fs di df ci cf now (law-at p.units (fe_at t (JoinedNow ils f y) now m) there.there)
-          in
-          let before : L.LawOf (states ils) (record { machine = x.machine; joined = JoinedNow ils f x } ∷ served fs) =
-          law-fe x.machine (JoinedNow ils f x) ils f fs di df ci cf h.at.clock (law-at p.units (fe_at x.machine (JoinedNow ils f x) h.at.clock m) h.at.reached)
-          in
-          let joining = joins x.machine.connection t.connection in
-          record {
-            at = k.hears octets x q h.at;
-            heeds = hk.hears octets x h.at.whole.spoken h.heeds;
-            set = leaves-settings now why y ∙ h.set;
-            unjoined = λ none.
-                let none-y : noted joining octets x.request ≡ None = sym (leaves-request now why y) ∙ none in
-                let none-x : x.request ≡ None = noted-first joining octets x.request none-y in
-                ap (λ o. joined_by ils f.joined f.end.request o) (none ∙ sym none-x) ∙ h.unjoined none-x;
-            joint = λ number e.
-                fe-joint p s ils f fs m now octets x wholes h before after number
-                (ap (λ o. joined_by ils f.joined f.end.request o) (sym (leaves-request now why y)) ∙ e) (incarnation ils number) refl;
-          };
-      sends = λ x may some h. record { at = k.sends x may some h.at; heeds = hk.sends x h.heeds; set = h.set; unjoined = h.unjoined; joint = h.joint };
-      puts = λ kind payload x fits h. record {
-        at = k.puts kind payload x fits h.at;
-        heeds = hk.puts kind payload x h.heeds;
-        set = h.set;
-        unjoined = h.unjoined;
-        joint = λ number e. fe-quiet p.one_more s ils (Puts kind payload (length x.session.waiting)) x.session.history number (λ _ _. tt) (h.joint number e);
-      };
-      dones = λ x h. record {
-        at = k.dones x h.at;
-        heeds = hk.dones x h.heeds;
-        set = h.set;
-        unjoined = h.unjoined;
-        joint = λ number e. fe-quiet p.one_more s ils (Completes (length x.session.waiting)) x.session.history number (λ _ _. tt) (h.joint number e);
-      };
-      times = λ x h. record {
-        at = k.times x h.at;
-        heeds = record { on = h.heeds.on; judged = h.heeds.judged; taken = h.heeds.taken };
-        set = h.set;
-        unjoined =
-            h.unjoined;
-        joint = h.joint;
-      };
-    }
+    pair-keeps now (Comes (latest ils) di) (FeAt ils f m now) (FeJoint s ils f) s (fe-keeps p ils f m di now (before-length ils) is)
+    (λ e h request next j. (
+      j.0,
+      λ number joined.
+          match-map (λ g. Joint (new_pair g.settings s) g.session.history h) (λ g. Joint (new_pair g.settings s) g.session.history (grown e h))
+          (λ g l. joint-fe p.one_more (new_pair g.settings s) g.session.history h e (next h g.session.history) l) (incarnation ils number) (j.1 number joined),
+    ))
+    (λ octets x q h.
+    let t = arrive_octets octets now x.machine in
+    let y = answered octets x t in
+    let why = (judge_units (handed_up x t) x.session).leaving in
+    let there : FeHeard ils f m now y = fe-heard p ils f m di now octets x (before-length ils) is q h.at in
+    let after : L.LawOf (states ils) (record { machine = y.machine; joined = JoinedNow ils f y } ∷ served fs) =
+    law-fe t (JoinedNow ils f y) ils f fs di df ci cf now (law-at p.units (fe_at t (JoinedNow ils f y) now m) there.there)
+    in
+    let before : L.LawOf (states ils) (record { machine = x.machine; joined = JoinedNow ils f x } ∷ served fs) =
+    law-fe x.machine (JoinedNow ils f x) ils f fs di df ci cf h.at.clock (law-at p.units (fe_at x.machine (JoinedNow ils f x) h.at.clock m) h.at.reached)
+    in
+    let joining = joins x.machine.connection t.connection in (
+      λ none.
+          let none-y : noted joining octets x.request ≡ None = sym (leaves-same now why y).1 ∙ none in
+          let none-x : x.request ≡ None = noted-first joining octets x.request none-y in
+          ap (λ o. joined_by ils f.joined f.end.request o) (none ∙ sym none-x) ∙ h.joint.0 none-x,
+      λ number e.
+          fe-joint p s ils f fs m now octets x wholes h before after number
+          (ap (λ o. joined_by ils f.joined f.end.request o) (sym (leaves-same now why y).1) ∙ e) (incarnation ils number) refl,
+    ))
 
 -- The events of a world.
-new-heeds : (side : Side) (s : EndSettings) (first now : ℕ) → Heeds (new_end side s first now)
-new-heeds Il s first now = record { on = λ _. refl; judged = λ _ _. refl; taken = λ _ _. refl }
-new-heeds Fe s first now = record { on = λ _. refl; judged = λ _ _. refl; taken = λ _ _. refl }
-
 -- a new incarnation of the interlocking has a number that none is joined to
 pairs-open : (y : EndState) (ils : List EndState) (bound : ℕ) (fes : List JoinedEnd) → bound ≤ length ils + 1 → L.JoinsFall bound (served fes)
     → AllByRecursion (PairAt ils) fes → AllByRecursion (PairAt (y ∷ ils)) fes
@@ -415,12 +451,12 @@ pairs-open y ils bound (f ∷ fs) le fall h = (
     bound-le bound None n le h = le
     bound-le bound (Some k) n le h = omega (arith, le, h)
 
-pub law-now : (p : PairLaws) (ils : List EndState) (fes : List JoinedEnd) (di df : ℕ) → Mapped ils fes di df → L.LawOf (states ils) (served fes)
+pub law-now : (p : Laws) (ils : List EndState) (fes : List JoinedEnd) (di df : ℕ) → Mapped ils fes di df → L.LawOf (states ils) (served fes)
 law-now p ils fes di df h = law-of ils fes di df h.clock_il h.clock_fe (law-at p.units (machines ils fes di df h.clock_il h.clock_fe) h.reached)
 
 -- the pairs of the present interlocking, and all pairs from these
 present-joints : (x : EndState) (before : List EndState) (fes : List JoinedEnd) → AllByRecursion (PairAt (x ∷ before)) fes
-    → AllByRecursion (JointIl x.settings (length before + 1) x) fes
+    → AllByRecursion (JointIl x.settings (length before + 1) x.session.history) fes
 present-joints x before [] h = tt
 present-joints x before (f ∷ fs) h = (
   λ is. subst (λ b. MatchOption (cond b (Some x) (incarnation before (length before + 1))) ⊥ (λ g. JointEnds f.end.settings g f.end))
@@ -429,7 +465,7 @@ present-joints x before (f ∷ fs) h = (
 )
 
 with-present : (x y : EndState) (before : List EndState) (fes : List JoinedEnd) → y.settings ≡ x.settings
-    → AllByRecursion (JointIl x.settings (length before + 1) y) fes → AllByRecursion (PairAt (x ∷ before)) fes
+    → AllByRecursion (JointIl x.settings (length before + 1) y.session.history) fes → AllByRecursion (PairAt (x ∷ before)) fes
     → AllByRecursion (PairAt (y ∷ before)) fes
 with-present x y before [] set j h = tt
 with-present x y before (f ∷ fs) set j h = (
@@ -444,113 +480,79 @@ with-present x y before (f ∷ fs) set j h = (
   with-present x y before fs set j.1 h.1,
 )
 
-paired-il : (p : PairLaws) (c : Call) (x : EndState) (before : List EndState) (fes : List JoinedEnd) (di df : ℕ) → IsTypedCall c → x.time ≤ time_of c
-    → AtCall (IsGenuine (latest (ends_of fes)) df) c x → Mapped (x ∷ before) fes di df → Paired (x ∷ before) fes → Paired (call c x ∷ before) fes
-paired-il p c x before fes di df typed timely g h w =
+paired-il : (p : Laws) (c : Call) (ils : List EndState) (fes : List JoinedEnd) (di df : ℕ) → IsTypedCall c → call_refusal c (latest ils) ≡ None
+    → AtOpened (GenuineCall (latest (ends_of fes)) df c) (latest ils) → Paired ils fes di df → Paired (call_il c ils) fes di df
+paired-il p c [] fes di df typed ok g w = cc
+paired-il p c (x ∷ before) fes di df typed ok g w =
     let now = time_of c in
+    let h = w.mapped in
     let m = machines (x ∷ before) fes di df h.clock_il h.clock_fe in
     let peer = latest (ends_of fes) in
-    let is : PeerIs peer df m.fe m.dead_fe = record { made = made-fe fes; same_dead = refl; texts = texts-latest p.texts Fe (ends_of fes) h.fe_whole } in
-    let start-at : IlPair x.settings (length before + 1) fes m now x =
-    record {
-      at = record { whole = h.il_whole.0; clock = h.clock_il; within = (let a = h.il_within in omega (arith, a, timely)); reached = h.reached };
-      heeds = w.il_heeds.0;
-      set = refl;
-      joints = present-joints x before fes w.pairs;
-    }
-    in
-    let end-at : IlPair x.settings (length before + 1) fes m now (call c x) =
-    call-keeps c (Comes peer df) (IlPair x.settings (length before + 1) fes m now) x
-    (il-pair-keeps p x before fes di df h.clock_il h.clock_fe now is h.fe_whole) typed
-    (at-call p.laws df peer Il c x typed h.il_whole.0 g) start-at
+    let P = IlPair x.settings (length before + 1) fes m now in
+    let y : P (call c x) =
+    call-keeps c (Comes peer df) P x (il-pair-keeps p x before fes di df h.clock_il h.clock_fe now (peer-fe p.texts (x ∷ before) fes di df h) h.fe_whole) typed
+    (at-call p df peer Il c x typed h.il_whole.0 g.1)
+    (record { at = found-il x before fes di df now h (call-timely c x ok); set = refl; joint = present-joints x before fes w.pairs })
     in
     record {
-      il_heeds = (end-at.heeds, w.il_heeds.1);
-      fe_heeds = w.fe_heeds;
+      mapped = after-il c x before fes di df h y.at;
       unjoined = w.unjoined;
-      pairs = with-present x (call c x) before fes end-at.set end-at.joints w.pairs;
+      pairs = with-present x (call c x) before fes y.set y.joint w.pairs;
     }
 
-paired-fe : (p : PairLaws) (c : Call) (ils : List EndState) (f : JoinedEnd) (fs : List JoinedEnd) (di df : ℕ) → IsTypedCall c → f.end.time ≤ time_of c
-    → AtCall (IsGenuine (latest ils) di) c f.end → Mapped ils (f ∷ fs) di df → Paired ils (f ∷ fs) → Paired ils (with_joined ils f (call c f.end) ∷ fs)
-paired-fe p c ils f fs di df typed timely g h w =
+paired-fe : (p : Laws) (c : Call) (ils : List EndState) (fes : List JoinedEnd) (di df : ℕ) → IsTypedCall c → call_refusal c (latest (ends_of fes)) ≡ None
+    → AtOpened (GenuineCall (latest ils) di c) (latest (ends_of fes)) → Paired ils fes di df → Paired ils (call_fe c ils fes) di df
+paired-fe p c ils [] di df typed ok g w = cc
+paired-fe p c ils (f ∷ fs) di df typed ok g w =
     let now = time_of c in
+    let h = w.mapped in
     let m = machines ils (f ∷ fs) di df h.clock_il h.clock_fe in
-    let is : PeerIs (latest ils) di m.il m.dead_il = record { made = made-il ils; same_dead = refl; texts = texts-latest p.texts Il ils h.il_whole } in
-    let s = f.end.settings in
     let same = joined-same ils f.joined f.end.request in
-    let start-at : FePair s ils f m now f.end =
-    record {
-      at =
-          record {
-            whole = h.fe_whole.0;
-            clock = h.clock_fe;
-            within = (let a = h.fe_within in omega (arith, a, timely));
-            reached = subst (λ q. Reached (fe_at f.end.machine q h.clock_fe m)) same h.reached;
-            idle = h.idle;
-            first = λ e. e;
-          };
-      heeds = w.fe_heeds.0;
+    let P = FePair f.end.settings ils f m now in
+    let y : P (call c f.end) =
+    call-keeps c (Comes (latest ils) di) P f.end
+    (fe-pair-keeps p ils f fs di df h.clock_il h.clock_fe now (peer-il p.texts ils (f ∷ fs) di df h) h.il_whole) typed
+    (at-call p di (latest ils) Fe c f.end typed h.fe_whole.0 g.1)
+    (record {
+      at = found-fe ils f fs di df now h (call-timely c f.end ok);
       set = refl;
-      unjoined = λ none. sym same ∙ w.unjoined none;
-      joint = λ number e. w.pairs.0 number (same ∙ e);
-    }
-    in
-    let end-at : FePair s ils f m now (call c f.end) =
-    call-keeps c (Comes (latest ils) di) (FePair s ils f m now) f.end (fe-pair-keeps p ils f fs di df h.clock_il h.clock_fe now is h.il_whole) typed
-    (at-call p.laws di (latest ils) Fe c f.end typed h.fe_whole.0 g) start-at
+      joint = (λ none. sym same ∙ w.unjoined none, λ number e. w.pairs.0 number (same ∙ e));
+    })
     in
     record {
-      il_heeds = w.il_heeds;
-      fe_heeds = (end-at.heeds, w.fe_heeds.1);
-      unjoined = end-at.unjoined;
+      mapped = after-fe c ils f fs di df h y.at;
+      unjoined = y.joint.0;
       pairs = (
         λ number e. subst (λ (t : EndSettings). MatchOption (incarnation ils number) ⊥
-            (λ g. Joint (new_pair g.settings t) g.session.history (call c f.end).session.history)) (sym end-at.set) (end-at.joint number e),
+            (λ g. Joint (new_pair g.settings t) g.session.history (call c f.end).session.history)) (sym y.set) (y.joint.1 number e),
         w.pairs.1,
       );
     }
 
-paired-calls-il : (p : PairLaws) (c : Call) (ils : List EndState) (fes : List JoinedEnd) (di df : ℕ) → IsTypedCall c → call_refusal c (latest ils) ≡ None
-    → AtOpened (GenuineCall (latest (ends_of fes)) df c) (latest ils) → Mapped ils fes di df → Paired ils fes → Paired (call_il c ils) fes
-paired-calls-il p c [] fes di df typed ok g h w = cc
-paired-calls-il p c (x ∷ before) fes di df typed ok g h w = paired-il p c x before fes di df typed (call-timely c x ok) g.1 h w
-
-paired-calls-fe : (p : PairLaws) (c : Call) (ils : List EndState) (fes : List JoinedEnd) (di df : ℕ) → IsTypedCall c → call_refusal c (latest (ends_of fes))
-    ≡ None
-    → AtOpened (GenuineCall (latest ils) di c) (latest (ends_of fes)) → Mapped ils fes di df → Paired ils fes → Paired ils (call_fe c ils fes)
-paired-calls-fe p c ils [] di df typed ok g h w = cc
-paired-calls-fe p c ils (f ∷ fs) di df typed ok g h w = paired-fe p c ils f fs di df typed (call-timely c f.end ok) g.1 h w
-
-paired-changed : (p : PairLaws) (e : Event) (w : World) → IsTyped e → refusal e w ≡ None → GenuineEvent e w → MappedWorld w → PairedWorld w
-    → PairedWorld (changed e w)
-paired-changed p (Open Il s first now) w t ok g h k =
-    let law = law-now p w.ils w.fes w.dead_il w.dead_fe h in
+paired-changed : (p : Laws) (e : Event) (w : World) → IsTyped e → refusal e w ≡ None → GenuineEvent e w → PairedWorld w → PairedWorld (changed e w)
+paired-changed p (Open Il s first now) w t ok g k =
+    let law = law-now p w.ils w.fes w.dead_il w.dead_fe k.mapped in
     let le : length (states w.ils) + 1 ≤ length w.ils + 1 = let e = states-length w.ils in omega (arith, e) in
     record {
-      il_heeds = (new-heeds Il s first now, k.il_heeds);
-      fe_heeds = k.fe_heeds;
+      mapped = mapped-open-il p.events s first now w.ils w.fes w.dead_il w.dead_fe (opens Il s now (latest w.ils) ok) k.mapped;
       unjoined = k.unjoined;
       pairs = pairs-open (new_end Il s first now) w.ils (length (states w.ils) + 1) w.fes le law.joins_fall k.pairs;
     }
-paired-changed p (Open Fe s first now) w t ok g h k =
+paired-changed p (Open Fe s first now) w t ok g k =
     record {
-      il_heeds = k.il_heeds;
-      fe_heeds = (new-heeds Fe s first now, k.fe_heeds);
+      mapped = mapped-open-fe p.events s first now w.ils w.fes w.dead_il w.dead_fe (opens Fe s now (latest (ends_of w.fes)) ok) k.mapped;
       unjoined = λ _. refl;
       pairs = (λ number e. cc, k.pairs);
     }
-paired-changed p (Calls Il c) w t ok g h k = paired-calls-il p c w.ils w.fes w.dead_il w.dead_fe (typed-call Il c t) ok g h k
-paired-changed p (Calls Fe c) w t ok g h k = paired-calls-fe p c w.ils w.fes w.dead_il w.dead_fe (typed-call Fe c t) ok g h k
+paired-changed p (Calls Il c) w t ok g k = paired-il p c w.ils w.fes w.dead_il w.dead_fe (typed-call Il c t) ok g k
+paired-changed p (Calls Fe c) w t ok g k = paired-fe p c w.ils w.fes w.dead_il w.dead_fe (typed-call Fe c t) ok g k
 
-pub paired-event : (p : PairLaws) (e : Event) (w : World) → IsTyped e → (refusal e w ≡ None → GenuineEvent e w) → MappedWorld w → PairedWorld w
-    → PairedWorld (happens w e)
-paired-event p e w t g h k = unless PairedWorld (refusal e w) w (changed e w) k (λ ok. paired-changed p e w t ok (g ok) h k)
+pub paired-event : (p : Laws) (e : Event) (w : World) → IsTyped e → (refusal e w ≡ None → GenuineEvent e w) → PairedWorld w → PairedWorld (happens w e)
+paired-event p e w t g k = unless PairedWorld (refusal e w) w (changed e w) k (λ ok. paired-changed p e w t ok (g ok) k)
 
-pub paired-run : (p : PairLaws) (es : List Event) (w : World) → AreTyped es → Genuine es w → MappedWorld w → PairedWorld w → PairedWorld (run es w)
-paired-run p [] w t g h k = k
-paired-run p (e ∷ es) w t g h k =
-    paired-run p es (happens w e) t.1 g.1 (mapped-event p.laws p.texts e w t.0 g.0 h) (paired-event p e w t.0 g.0 h k)
+pub paired-run : (p : Laws) (es : List Event) (w : World) → AreTyped es → Genuine es w → PairedWorld w → PairedWorld (run es w)
+paired-run p [] w t g k = k
+paired-run p (e ∷ es) w t g k = paired-run p es (happens w e) t.1 g.1 (paired-event p e w t.0 g.0 k)
 
 pub paired-start : PairedWorld start
-paired-start = record { il_heeds = tt; fe_heeds = tt; unjoined = tt; pairs = tt }
+paired-start = record { mapped = mapped-start; unjoined = tt; pairs = tt }

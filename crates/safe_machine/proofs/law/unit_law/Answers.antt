@@ -1,20 +1,12 @@
-use Rattle.safe_machine.proofs.two.Freshness.{fresh_law_holds, fresh_at_last_law_holds}
-use Rattle.safe_machine.proofs.order.OrderLaw.{order_law_holds}
-use Rattle.safe_machine.proofs.order.OrderStays.{stays_law_holds}
-use Rattle.safe_machine.proofs.two.Opened.{unit_law_holds, loss_law_holds, joined_law_holds}
-use Rattle.safe_machine.proofs.one.MovesLaw.{moves_law_holds}
-use Rattle.safe_machine.proofs.one.Identified.{settings_law_holds, identified_law_holds}
-use Rattle.safe_machine.proofs.one.Strangers.{strangers_law_holds, waits_law_holds}
-use Rattle.safe_machine.proofs.one.Connections.{connections_law_holds}
+use Rattle.safe_machine.proofs.two.Freshness.{fresh_law_holds, fresh_at_last_law_holds, unit_law_holds, loss_law_holds, joined_law_holds, one_more_law_holds}
+use Rattle.safe_machine.proofs.order.OrderLaw.{order_law_holds, stays_law_holds}
+use Rattle.safe_machine.proofs.one.Kept.{moves_law_holds, settings_law_holds, identified_law_holds, strangers_law_holds, waits_law_holds, connections_law_holds}
+use Rattle.safe_machine.proofs.one.Kept.{texts_law_holds, requests_law_holds}
 use Rattle.safe_machine.proofs.one.Carriers.{reached_law_holds}
-use Rattle.safe_machine.proofs.one.Texts.{texts_law_holds}
-use Rattle.safe_machine.proofs.one.Few.{few_law_holds}
-use Rattle.safe_machine.proofs.one.Ring.{ring_of-units}
-use Rattle.safe_machine.proofs.one.Requests.{requests_law_holds}
-use Rattle.safe_machine.proofs.two.OneMore.{one_more_law_holds}
+use Rattle.safe_machine.proofs.code.Reaching.{few_law_holds}
+use Rattle.safe_machine.proofs.one.Runs.{ring_of-units}
 use Rattle.safe_machine.proofs.code.Properties.{recent_law_holds}
-use Rattle.safe_machine.proofs.one.Confirming.{made_law_holds}
-use Rattle.safe_machine.proofs.one.Turning.{octets_law_holds, opening_law_holds, tells_law_holds, turns_law_holds}
+use Rattle.safe_machine.proofs.one.Turning.{made_law_holds, octets_law_holds, opening_law_holds, tells_law_holds, turns_law_holds}
 use Rattle.safe_machine.proofs.law.unit_law.Goals as goal
 
 pub returns : goal.returns

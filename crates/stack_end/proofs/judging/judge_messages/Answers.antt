@@ -1,6 +1,5 @@
-use Rattle.std.proofs.Common.{[]}
-use Rattle.stack_end.specs.Talk.{talk}
-use Rattle.stack_end.proofs.Talking.{along-at, along-stop_at, along-past}
+use Rattle.stack_end.proofs.Words.{[], talk}
+use Rattle.stack_end.proofs.Going.{along-at, along-past, along-stop_at}
 use Rattle.stack_end.proofs.judging.judge_messages.Goals as goal
 
 pub returns-in-Some-clause-judged : goal.returns-in-Some-clause-judged

@@ -1,7 +1,6 @@
-use Rattle.std.proofs.Common.{drop}
+use Rattle.stack_end.proofs.Words.{drop, talk, texts_of}
 use Rattle.pdi_session.specs.SessionStep.{FewWait}
-use Rattle.stack_end.specs.Talk.{talk, texts_of}
-use Rattle.stack_end.proofs.Talking.{Along}
+use Rattle.stack_end.proofs.Going.{Along}
 use Rattle.stack_end.proofs.judging.judge_messages.Given as goal
 
 abbrev pub invariant-loop-message : goal.invariant-loop-message

@@ -1,9 +1,6 @@
-use Rattle.std.proofs.Common.{ap, subst, List, ℕ}
-use Rattle.packing.specs.Places.{unit_seen}
-use Rattle.packing.specs.UnitText.{messages_of}
-use Rattle.stack_end.specs.Dialogue.{judge_messages}
-use Rattle.stack_end.specs.Talk.{Judges, talk, texts_of}
-use Rattle.stack_end.proofs.Talking.{judged-unit}
+use Rattle.stack_end.proofs.Words.{ap, judge_messages, Judges, List, subst, talk, texts_of, unit_seen, ℕ}
+use Rattle.pdi_session.specs.packing.UnitText.{messages_of}
+use Rattle.stack_end.proofs.Going.{judged-unit}
 use Rattle.stack_end.proofs.judging.judge_unit.Goals as goal
 
 pub returns-in-Ok-clause-judged : goal.returns-in-Ok-clause-judged

@@ -1,18 +1,11 @@
-use Rattle.std.proofs.Common.{◌≡◌, ◌∙◌, ◌%◌, ◌^◌, ap, length, refl, rules, subst, sym, zero-add}
-use Rattle.std.specs.List.{FoldsTo}
-use Rattle.octets.proofs.Steps.{FoldsTo-keeps}
-use Rattle.channels.specs.Told.{SendsOne}
-use Rattle.safe_machine.specs.Settings.{Settings}
-use Rattle.safe_machine.specs.Turned.{HasMade}
-use Rattle.safe_machine.specs.State.{opened}
-use Rattle.safe_machine.specs.Turns.{opens}
-use Rattle.safe_machine.specs.View.{kept_of, settings_of as machine_settings}
-use Rattle.end_settings.specs.EndSettings.{EndSettings, connection_of, rule_of}
-use Rattle.end_settings.specs.Configured.{settings_of, side_of}
+use Rattle.stack_end.proofs.Words.{ap, datagrams, EndSettings, FoldsTo, FoldsTo-keeps, HasMade, kept_of, length, number_behind, opens, rule_of, rules, sendings}
+use Rattle.stack_end.proofs.Words.{SendsOne, Settings, settings_of, side_of, subst, sym, ◌%◌, ◌^◌, ◌∙◌, ◌≡◌}
+use Rattle.end_settings.specs.EndSettings.{connection_of}
 use Rattle.end_settings.specs.declared.Side.TheVariants.{Interlocking}
-use Rattle.stack_end.specs.Datagrams.{sendings}
-use Rattle.stack_end.specs.Turns.{datagrams, number_behind}
 use Rattle.safe_machine.proofs.one.Turning.{opening_law_holds}
+use Rattle.safe_machine.specs.State.{opened}
+use Rattle.safe_machine.specs.View.{settings_of as machine_settings}
+use Rattle.std.proofs.Common.{zero-add}
 use Rattle.stack_end.proofs.Going.{datagrams-out}
 use Rattle.stack_end.proofs.Turning.{behind-wrap, datagrams-are, opens-made}
 use Rattle.stack_end.proofs.opening.open_machine.Goals as goal

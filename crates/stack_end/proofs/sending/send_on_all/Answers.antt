@@ -1,6 +1,6 @@
+use Rattle.stack_end.proofs.Words.{SendsOne}
 use Rattle.std.proofs.Common.{is_ok}
-use Rattle.channels.specs.Told.{SendsOne}
-use Rattle.stack_end.proofs.OnChannels.{FoldsTo-channel}
+use Rattle.stack_end.proofs.Going.{FoldsTo-channel}
 use Rattle.stack_end.proofs.sending.send_on_all.Goals as goal
 
 pub loop-channel-preserved : goal.loop-channel-preserved

@@ -1,6 +1,4 @@
-use Rattle.std.specs.List.{FoldsTo}
-use Rattle.channels.specs.Told.{SendsOne}
-use Rattle.stack_end.specs.Datagrams.{on_channels}
+use Rattle.stack_end.proofs.Words.{FoldsTo, on_channels, SendsOne}
 use Rattle.stack_end.proofs.sending.send_on_all.Given as goal
 
 abbrev pub invariant-loop-channel : goal.invariant-loop-channel

@@ -1,4 +1,4 @@
-use Rattle.std.proofs.Common.{◌≡◌}
+use Rattle.stack_end.proofs.Words.{◌≡◌}
 use Rattle.stack_end.proofs.telling.tell_step.Given as goal
 
 abbrev pub invariant-loop-message : goal.invariant-loop-message

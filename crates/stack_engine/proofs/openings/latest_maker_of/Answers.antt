@@ -1,6 +1,5 @@
-use Rattle.std.proofs.Common.{◌≡◌, ℕ, suc, ◌-◌, length, Some, sym, ap, subst, ◌∙◌, arith}
-use Rattle.std.proofs.Math.Seq.{take-length}
-use Rattle.stack_engine.proofs.code.Making.{IsLeft, all-left, go-back, found, none-left}
+use Rattle.stack_engine.proofs.Words.{ap, arith, length, Some, subst, suc, sym, take-length, ℕ, ◌-◌, ◌∙◌, ◌≡◌}
+use Rattle.stack_engine.proofs.code.Histories.{all-left, found, go-back, IsLeft, none-left}
 use Rattle.stack_engine.proofs.openings.latest_maker_of.Goals as goal
 
 pub loop-number-init : goal.loop-number-init

@@ -1,5 +1,5 @@
-use Rattle.std.proofs.Common.{◌≤◌, length}
-use Rattle.stack_engine.proofs.code.Making.{IsLeft}
+use Rattle.std.proofs.Common.{length, ◌≤◌}
+use Rattle.stack_engine.proofs.code.Histories.{IsLeft}
 use Rattle.stack_engine.proofs.openings.latest_maker_of.Given as goal
 
 abbrev pub invariant-loop-number : goal.invariant-loop-number

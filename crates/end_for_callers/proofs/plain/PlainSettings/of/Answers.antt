@@ -1,6 +1,6 @@
 use Rattle.std.proofs.Common.{ap, length}
 use Rattle.end_settings.specs.Lists.{checksum_in, versions_in}
-use Rattle.sci_telegram.specs.Tele.{owned_characters}
+use Rattle.pdi_session.specs.telegram.Tele.{owned_characters}
 use Rattle.end_for_callers.specs.declared.plain.PlainSettings.{PlainSettings}
 use Rattle.end_for_callers.proofs.Rows.{front_row, lists_row, opening_row}
 use Rattle.end_for_callers.proofs.plain.PlainSettings.of.Goals as goal
@@ -16,7 +16,7 @@ returns-clause-says c =
       id = config.id;
       peer_id = config.peer_id;
       first_sn = c.args.first_sn;
-      protocol = c.widened.result;
+      protocol = c.widen.result;
       code = config.code;
       channels = config.channels;
       n_sendmax = config.n_sendmax;
@@ -34,10 +34,10 @@ returns-clause-says c =
       versions = c.fill.new.row;
       checksum = c.fill-2.new.row;
       initial_value = c.octets_of.result;
-      name = c.named.result;
-      peer_name = c.named-2.result;
+      name = c.spell_name.result;
+      peer_name = c.spell_name-2.result;
     } in
     let lists = lists_row plain (owned_characters config.name) (owned_characters config.peer_name) (versions_in config.versions)
-    (checksum_in config.checksum) c.named.ensures c.named-2.ensures versions checksum in
-    opening_row plain c.args.side _ config.protocol config.initial_value c.number_of.ensures c.widened.ensures.value c.widened.ensures.small lists
+    (checksum_in config.checksum) c.spell_name.ensures c.spell_name-2.ensures versions checksum in
+    opening_row plain c.args.side _ config.protocol config.initial_value c.number_of.ensures c.widen.ensures.value c.widen.ensures.small lists
     c.octets_of.ensures

@@ -1,4 +1,4 @@
-use Rattle.sci_telegram.specs.Tele.{tele_of}
+use Rattle.pdi_session.specs.telegram.Tele.{tele_of}
 use Rattle.pdi_session.proofs.one.TableLemmas.{few_judged}
 use Rattle.pdi_session.proofs.session.Session.arrive.Goals as goal
 

@@ -1,10 +1,6 @@
-use Rattle.std.proofs.Common.{◌+◌, length, sym, subst, ap, ◌∙◌, arith}
-use Rattle.safe_machine.specs.View.{View}
-use Rattle.safe_machine.specs.inner.Sound.{AllUnits}
-use Rattle.safe_machine.proofs.code.Sending.{short-above, sized-above}
-use Rattle.safe_pdu.specs.Pdu.{pdu_of}
+use Rattle.safe_machine.proofs.Words.{◌+◌, length, sym, subst, ap, ◌∙◌, arith, View, AllUnits, pdu_of, cs_step}
+use Rattle.safe_machine.proofs.code.Properties.{short-above, sized-above}
 use Rattle.safe_machine.proofs.endpoint.Endpoint.answer_ahead.Goals as goal
-use Rattle.safe_machine.specs.Decision.{cs_step}
 
 pub reply-requires-clause-short : goal.reply-requires-clause-short
 reply-requires-clause-short g c =

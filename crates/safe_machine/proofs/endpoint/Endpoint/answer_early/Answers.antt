@@ -1,12 +1,6 @@
-use Rattle.std.proofs.Common.{◌≡◌, ◌∙◌, Bool, ap, subst, sym, true}
-use Rattle.std.specs.Prelude.{if◌then◌else◌}
-use Rattle.safe_pdu.specs.Pdu.{pdu_of}
-use Rattle.safe_machine.specs.Connections.{in_turn}
-use Rattle.safe_machine.specs.Decision.{distance}
-use Rattle.safe_machine.specs.Settings.{Settings}
-use Rattle.safe_machine.specs.Turns.{Out, answers_ahead, asks, goes_on, requested, units_confirmed}
-use Rattle.safe_machine.specs.View.{View}
-use Rattle.safe_machine.proofs.code.Sending.{out-then, replies-settings}
+use Rattle.safe_machine.proofs.Words.{◌≡◌, ◌∙◌, Bool, ap, subst, sym, true, if◌then◌else◌, pdu_of, in_turn, distance, Settings, Out, answers_ahead, asks}
+use Rattle.safe_machine.proofs.Words.{goes_on, requested, units_confirmed, View}
+use Rattle.safe_machine.proofs.code.Properties.{out-then, replies-settings}
 use Rattle.safe_machine.proofs.endpoint.Endpoint.answer_early.Goals as goal
 
 pub returns-then-misses-clause-made : goal.returns-then-misses-clause-made

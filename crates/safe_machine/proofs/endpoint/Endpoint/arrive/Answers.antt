@@ -1,8 +1,5 @@
-use Rattle.std.proofs.Common.{sym, ap, refl, subst, ◌∙◌}
-use Rattle.std.specs.List.{FoldsTo}
-use Rattle.safe_pdu.specs.Pdu.{pdu_of}
-use Rattle.safe_machine.specs.Turns.{Out, Turn}
-use Rattle.safe_machine.proofs.code.Arriving.{arrives-goes, arrives-left, hands-goes, hands-left}
+use Rattle.safe_machine.proofs.Words.{sym, ap, refl, subst, ◌∙◌, FoldsTo, pdu_of, Out, Turn}
+use Rattle.safe_machine.proofs.code.Properties.{arrives-goes, arrives-left, hands-goes, hands-left}
 use Rattle.safe_machine.proofs.endpoint.Endpoint.arrive.Goals as goal
 
 pub returns-in-Some-clause-left : goal.returns-in-Some-clause-left

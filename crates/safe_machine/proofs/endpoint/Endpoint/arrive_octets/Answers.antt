@@ -1,17 +1,7 @@
-use Rattle.std.proofs.Common.{◌≡◌, refl, subst, ap, ◌∙◌, arith}
-use Rattle.std.specs.List.{FoldsTo}
-use Rattle.safe_pdu.specs.Pdu.{Pdu, pdu_of}
-use Rattle.safe_pdu.specs.Places.{safe_seen}
-use Rattle.safe_machine.specs.Moves.Move.{Guards, Hears}
-use Rattle.safe_machine.specs.Octets.{heard}
-use Rattle.safe_machine.specs.Properties.{HandsIf, IsRecent, OnlyConfirms}
-use Rattle.safe_machine.specs.Turned.{handed, turn}
-use Rattle.safe_machine.specs.Turns.{Out, arrives, hands}
-use Rattle.safe_machine.specs.View.{View}
-use Rattle.safe_machine.proofs.code.Nearing.{reached-near, reached-still}
-use Rattle.safe_machine.proofs.code.Properties.{hands-recent, reached-passes, one-read, none-read}
-use Rattle.safe_machine.proofs.code.Reaching.{reached-sound, reached-turn}
-use Rattle.safe_machine.proofs.code.Stopping.{reached-stops, reached-keeps}
+use Rattle.safe_machine.proofs.Words.{◌≡◌, subst, ap, ◌∙◌, arith, FoldsTo, Pdu, pdu_of, safe_seen, Guards, Hears, HandsIf, IsRecent, OnlyConfirms, arrives}
+use Rattle.safe_machine.proofs.Words.{hands, View}
+use Rattle.safe_machine.proofs.code.Reaching.{reached-near, reached-still, reached-sound, reached-turn, reached-stops, reached-keeps}
+use Rattle.safe_machine.proofs.code.Properties.{hands-recent, reached-passes, one-read}
 use Rattle.safe_machine.proofs.endpoint.Endpoint.arrive_octets.Goals as goal
 
 pub arrive-requires-clause-sound : goal.arrive-requires-clause-sound
@@ -30,36 +20,22 @@ pub returns-in-Err-clause-reached : goal.returns-in-Err-clause-reached
 returns-in-Err-clause-reached g c = reached-turn (Guards c.args.now) c.args.self.now c.arrive_fault.new.self c.requires.reached tt c.arrive_fault.ensures.left
 
 pub returns-in-Ok-clause-left : goal.returns-in-Ok-clause-left
-returns-in-Ok-clause-left g c =
-    let seen = c.in-Ok.ensures.exact ∙ ap (λ (v : View). safe_seen v.settings.rule c.args.octets.now) c.self.view_is in
-    subst (λ r. c.arrive.new.self ≡ (turn (heard r c.args.now) c.args.self.now).left) seen c.arrive.ensures.left
+returns-in-Ok-clause-left g c = grind arith
 
 pub returns-in-Err-clause-left : goal.returns-in-Err-clause-left
-returns-in-Err-clause-left g c =
-    let seen = c.in-Err.ensures.exact ∙ ap (λ (v : View). safe_seen v.settings.rule c.args.octets.now) c.self.view_is in
-    subst (λ r. c.arrive_fault.new.self ≡ (turn (heard r c.args.now) c.args.self.now).left) seen c.arrive_fault.ensures.left
+returns-in-Err-clause-left g c = grind arith
 
 pub returns-in-Ok-clause-made : goal.returns-in-Ok-clause-made
-returns-in-Ok-clause-made g c =
-    let v : View = c.args.self.now in
-    let seen = c.in-Ok.ensures.exact ∙ ap (λ (v : View). safe_seen v.settings.rule c.args.octets.now) c.self.view_is in
-    subst (λ r. Out g.O.PduOut.makes v.settings.rule c.args.out.now (turn (heard r c.args.now) v) c.arrive.new.out) seen c.arrive.ensures.made
+returns-in-Ok-clause-made g c = grind arith
 
 pub returns-in-Err-clause-made : goal.returns-in-Err-clause-made
-returns-in-Err-clause-made g c =
-    let v : View = c.args.self.now in
-    let seen = c.in-Err.ensures.exact ∙ ap (λ (v : View). safe_seen v.settings.rule c.args.octets.now) c.self.view_is in
-    subst (λ r. Out g.O.PduOut.makes v.settings.rule c.args.out.now (turn (heard r c.args.now) v) c.arrive_fault.new.out) seen c.arrive_fault.ensures.made
+returns-in-Err-clause-made g c = grind arith
 
 pub returns-in-Ok-clause-taken : goal.returns-in-Ok-clause-taken
-returns-in-Ok-clause-taken g c =
-    let seen = c.in-Ok.ensures.exact ∙ ap (λ (v : View). safe_seen v.settings.rule c.args.octets.now) c.self.view_is in
-    subst (λ r. FoldsTo g.U.UnitIn.takes c.args.units.now (handed (heard r c.args.now) c.args.self.now) c.arrive.new.units) seen c.arrive.ensures.taken
+returns-in-Ok-clause-taken g c = grind arith
 
 pub returns-in-Err-clause-taken : goal.returns-in-Err-clause-taken
-returns-in-Err-clause-taken g c =
-    let seen = c.in-Err.ensures.exact ∙ ap (λ (v : View). safe_seen v.settings.rule c.args.octets.now) c.self.view_is in
-    subst (λ r. FoldsTo g.U.UnitIn.takes c.args.units.now (handed (heard r c.args.now) c.args.self.now) c.args.units.now) seen refl
+returns-in-Err-clause-taken g c = grind arith
 
 pub returns-in-Ok-clause-near : goal.returns-in-Ok-clause-near
 returns-in-Ok-clause-near g c = reached-near (pdu_of c.in-Ok.pdu) c.args.now c.args.self.now c.arrive.new.self c.requires.reached c.arrive.ensures.left
@@ -85,10 +61,7 @@ returns-in-Ok-clause-passes g c q next =
     (subst (λ us. FoldsTo g.U.UnitIn.takes c.args.units.now us c.arrive.new.units) up.0 taken, ap (λ (w : View). w.connection) left ∙ up.1)
 
 pub returns-in-Err-clause-passes : goal.returns-in-Err-clause-passes
-returns-in-Err-clause-passes g c q next =
-    let v : View = c.args.self.now in
-    let seen = c.in-Err.ensures.exact ∙ ap (λ (v : View). safe_seen v.settings.rule c.args.octets.now) c.self.view_is in
-    absurd (none-read (safe_seen v.settings.rule c.args.octets.now) c.in-Err.fault q seen next.reads)
+returns-in-Err-clause-passes g c q next = grind arith
 
 pub returns-in-Ok-clause-confirms : goal.returns-in-Ok-clause-confirms
 returns-in-Ok-clause-confirms g c =

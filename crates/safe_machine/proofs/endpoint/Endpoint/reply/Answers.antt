@@ -1,9 +1,6 @@
-use Rattle.std.proofs.Common.{◌≡◌, ◌∙◌, [], subst}
-use Rattle.retrans.specs.Units.{octets_of}
-use Rattle.safe_pdu.specs.declared.Kind.TheVariants.{Heartbeat}
-use Rattle.safe_machine.specs.Turns.{Out, next_made, resends}
-use Rattle.safe_machine.specs.View.{View, text_of}
-use Rattle.safe_machine.proofs.code.Sending.{replies-out}
+use Rattle.safe_machine.proofs.Words.{◌≡◌, ◌∙◌, [], subst, octets_of, Heartbeat, Out, resends, View, text_of}
+use Rattle.safe_machine.specs.Turns.{next_made}
+use Rattle.safe_machine.proofs.code.Properties.{replies-out}
 use Rattle.safe_machine.proofs.endpoint.Endpoint.reply.Goals as goal
 
 pub returns-clause-made : goal.returns-clause-made

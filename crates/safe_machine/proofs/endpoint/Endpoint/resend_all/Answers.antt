@@ -1,9 +1,5 @@
-use Rattle.std.proofs.Common.{◌≡◌, ◌≤◌, length, subst, ap, ◌∙◌, arith}
-use Rattle.std.proofs.lemmas.List.{take_all}
-use Rattle.retrans.specs.Units.{octets_of}
-use Rattle.safe_machine.specs.Turns.{Out, resends}
-use Rattle.safe_machine.specs.View.{View}
-use Rattle.safe_machine.proofs.code.Sending.{resends-more}
+use Rattle.safe_machine.proofs.Words.{◌≡◌, ◌≤◌, length, subst, ap, ◌∙◌, arith, take_all, octets_of, Out, resends, View}
+use Rattle.safe_machine.proofs.code.Properties.{resends-more}
 use Rattle.safe_machine.proofs.endpoint.Endpoint.resend_all.Goals as goal
 
 pub loop-place-preserved : goal.loop-place-preserved

@@ -1,6 +1,4 @@
-use Rattle.std.proofs.Common.{◌≡◌, ◌+◌, take}
-use Rattle.retrans.specs.Units.{octets_of}
-use Rattle.safe_machine.specs.Turns.{Out, resends}
+use Rattle.safe_machine.proofs.Words.{◌≡◌, ◌+◌, take, octets_of, Out, resends}
 use Rattle.safe_machine.proofs.endpoint.Endpoint.resend_all.Given as goal
 
 abbrev pub invariant-loop-place : goal.invariant-loop-place

@@ -1,7 +1,6 @@
-use Rattle.std.proofs.Common.{sym, subst}
-use Rattle.safe_pdu.specs.Pdu.{pdu_of}
+use Rattle.safe_machine.proofs.Words.{sym, subst, pdu_of}
 use Rattle.safe_machine.proofs.one.Deciding.{Fits, decide-fits}
-use Rattle.safe_machine.proofs.code.Arriving.{allowed}
+use Rattle.safe_machine.proofs.code.Properties.{allowed}
 use Rattle.safe_machine.proofs.endpoint.Endpoint.respond.Goals as goal
 
 pub carry_out-requires-clause-allows : goal.carry_out-requires-clause-allows

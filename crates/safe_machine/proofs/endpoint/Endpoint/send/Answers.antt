@@ -1,12 +1,7 @@
-use Rattle.std.proofs.Common.{◌≡◌, ◌∙◌, Bool, ap, arith, length, sym, true}
-use Rattle.std.specs.Prelude.{if◌then◌else◌, nat_lt}
-use Rattle.std.proofs.lemmas.Bool.{ltb-true, and_parts}
-use Rattle.safe_machine.specs.Moves.Move.{Sends}
-use Rattle.safe_machine.specs.Turns.{sends_unit, still}
-use Rattle.safe_machine.specs.View.{View}
+use Rattle.safe_machine.proofs.Words.{◌≡◌, ◌∙◌, Bool, ap, arith, length, sym, true, if◌then◌else◌, nat_lt, ltb-true, and_parts, Sends, sends_unit, still, View}
+use Rattle.safe_machine.proofs.Words.{in_turn}
 use Rattle.safe_machine.proofs.code.Reaching.{reached-sound, reached-turn}
 use Rattle.safe_machine.proofs.endpoint.Endpoint.send.Goals as goal
-use Rattle.safe_machine.specs.Connections.{in_turn}
 
 pub send_unit-requires-clause-few : goal.send_unit-requires-clause-few
 send_unit-requires-clause-few g c = omega (arith, (reached-sound c.args.self.now c.requires.reached).few)

@@ -1,7 +1,4 @@
-use Rattle.std.proofs.Common.{subst}
-use Rattle.safe_pdu.specs.Places.{safe_seen}
-use Rattle.safe_machine.specs.Properties.{HandsIf, IsRecent}
-use Rattle.safe_machine.specs.View.{View}
+use Rattle.safe_machine.proofs.Words.{subst, safe_seen, HandsIf, IsRecent, View}
 use Rattle.safe_machine.proofs.machine.Machine.arrive.Goals as goal
 
 pub returns-clause-recent : goal.returns-clause-recent

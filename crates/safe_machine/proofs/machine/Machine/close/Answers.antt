@@ -1,5 +1,4 @@
-use Rattle.std.proofs.Common.{arith}
-use Rattle.safe_machine.specs.Moves.Move.{Leaves}
+use Rattle.safe_machine.proofs.Words.{arith, LeavesNow}
 use Rattle.safe_machine.proofs.code.Reaching.{reached-sound, reached-turn}
 use Rattle.safe_machine.proofs.machine.Machine.close.Goals as goal
 
@@ -7,4 +6,5 @@ pub leave-requires : goal.leave-requires
 leave-requires g c = record { few = omega (arith, (reached-sound c.self.inside.end c.self.invariant).few) }
 
 pub invariant_of-self : goal.invariant_of-self
-invariant_of-self g c = reached-turn (Leaves c.args.reason c.args.detail c.args.now) c.self.inside.end c.leave.new.self c.self.invariant tt c.leave.ensures.left
+invariant_of-self g c =
+    reached-turn (LeavesNow c.args.reason c.args.detail c.args.now) c.self.inside.end c.leave.new.self c.self.invariant tt c.leave.ensures.left

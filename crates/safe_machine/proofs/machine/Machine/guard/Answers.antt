@@ -1,5 +1,4 @@
-use Rattle.std.proofs.Common.{arith}
-use Rattle.safe_machine.specs.Moves.Move.{Guards}
+use Rattle.safe_machine.proofs.Words.{arith, Guards}
 use Rattle.safe_machine.proofs.code.Reaching.{reached-sound, reached-turn}
 use Rattle.safe_machine.proofs.machine.Machine.guard.Goals as goal
 

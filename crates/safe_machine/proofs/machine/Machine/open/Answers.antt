@@ -1,7 +1,5 @@
-use Rattle.std.proofs.Common.{refl, sym, ◌∙◌, []}
-use Rattle.std.proofs.lemmas.Bool.{false≢true}
-use Rattle.safe_machine.specs.View.{settings_of}
-use Rattle.safe_machine.proofs.one.Texts.{own-legal}
+use Rattle.safe_machine.proofs.Words.{refl, sym, ◌∙◌, [], false≢true, settings_of}
+use Rattle.safe_machine.proofs.one.Kept.{own-legal}
 use Rattle.safe_machine.proofs.one.Turning.{opening_law_holds}
 use Rattle.safe_machine.proofs.machine.Machine.open.Goals as goal
 

@@ -1,8 +1,6 @@
-use Rattle.std.proofs.Common.{◌≡◌, ◌<◌, ◌∙◌, ap, subst, sym, true}
-use Rattle.safe_machine.specs.Connections.{in_turn}
-use Rattle.safe_machine.specs.View.{View}
+use Rattle.safe_machine.proofs.Words.{◌≡◌, ◌<◌, ◌∙◌, ap, subst, sym, true, in_turn, View}
 use Rattle.safe_machine.proofs.code.Reaching.{reached-sound}
-use Rattle.safe_machine.proofs.one.ConnectionFacts.{turn-live}
+use Rattle.safe_machine.proofs.one.Runs.{turn-live}
 use Rattle.safe_machine.proofs.machine.Machine.state.Goals as goal
 
 pub returns-clause-confirmed : goal.returns-clause-confirmed

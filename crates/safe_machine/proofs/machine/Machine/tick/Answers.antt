@@ -1,5 +1,4 @@
-use Rattle.std.proofs.Common.{arith}
-use Rattle.safe_machine.specs.Moves.Move.{Ticks}
+use Rattle.safe_machine.proofs.Words.{arith, Ticks}
 use Rattle.safe_machine.proofs.code.Reaching.{reached-sound, reached-turn}
 use Rattle.safe_machine.proofs.machine.Machine.tick.Goals as goal
 

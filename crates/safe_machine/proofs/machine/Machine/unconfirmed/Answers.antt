@@ -1,6 +1,4 @@
-use Rattle.std.proofs.Common.{◌≤◌, length, ap, arith, subst}
-use Rattle.octets.specs.declared.limits.TheConstants.{WINDOW_MAX}
-use Rattle.safe_machine.specs.View.{View}
+use Rattle.safe_machine.proofs.Words.{◌≤◌, length, ap, arith, subst, WINDOW_MAX, View}
 use Rattle.safe_machine.proofs.code.Reaching.{reached-sound, reached-window}
 use Rattle.safe_machine.proofs.machine.Machine.unconfirmed.Goals as goal
 

@@ -1,5 +1,4 @@
-use Rattle.std.proofs.Common.{◌≡◌, ◌≤◌, ℕ, List, length}
-use Rattle.std.specs.List.{FoldsTo}
+use Rattle.stack_end.proofs.Words.{FoldsTo, length, List, ℕ, ◌≡◌, ◌≤◌}
 use Rattle.stack_end.specs.Polling.{Hears}
 use Rattle.stack_end.proofs.end.End.hear_all.Given as goal
 

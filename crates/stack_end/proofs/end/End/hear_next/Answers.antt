@@ -1,4 +1,4 @@
-use Rattle.std.proofs.Common.{refl, take}
+use Rattle.stack_end.proofs.Words.{refl, take}
 use Rattle.stack_end.proofs.end.End.hear_next.Goals as goal
 
 pub returns-in-Ok-Some-clause-heard : goal.returns-in-Ok-Some-clause-heard

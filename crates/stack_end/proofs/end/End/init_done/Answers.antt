@@ -1,6 +1,4 @@
-use Rattle.std.proofs.Common.{◌≡◌, false, subst, sym}
-use Rattle.stack_end.specs.Fields.{fields_of}
-use Rattle.stack_end.specs.Turns.{Inside, can_pack}
+use Rattle.stack_end.proofs.Words.{can_pack, false, fields_of, Inside, subst, sym, ◌≡◌}
 use Rattle.stack_end.proofs.Packing.{completes-empties}
 use Rattle.stack_end.proofs.end.End.init_done.Goals as goal
 

@@ -1,9 +1,7 @@
-use Rattle.std.proofs.Common.{inl, inr, refl, subst, ⊎_elim}
-use Rattle.red_layer.specs.Parts.{is_nil}
-use Rattle.safe_machine.specs.Deadlines.{IsBefore, IsReachedAt}
+use Rattle.stack_end.proofs.Words.{inl, inr, inside, is_nil, IsBefore, IsReachedAt, refl, subst}
 use Rattle.stack_end.specs.Deadlines.{HasFallen, IsQuiet}
-use Rattle.stack_end.specs.EndValue.{inside}
-use Rattle.stack_end.proofs.Deadlines.{at-either, before-both, red-at, red-before}
+use Rattle.std.proofs.Common.{⊎_elim}
+use Rattle.stack_end.proofs.Turning.{at-either, before-both, red-at, red-before}
 use Rattle.stack_end.proofs.end.End.next_deadline.Goals as goal
 
 pub returns-in_default-clause-before : goal.returns-in_default-clause-before

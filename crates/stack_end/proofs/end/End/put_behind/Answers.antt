@@ -1,8 +1,4 @@
-use Rattle.std.proofs.Common.{◌≡◌, false, subst, sym}
-use Rattle.stack_end.specs.EndValue.{inside}
-use Rattle.stack_end.specs.Fields.{fields_of}
-use Rattle.stack_end.specs.Outstanding.{PutOut}
-use Rattle.stack_end.specs.Turns.{Inside, can_pack}
+use Rattle.stack_end.proofs.Words.{can_pack, false, fields_of, Inside, inside, PutOut, subst, sym, ◌≡◌}
 use Rattle.stack_end.proofs.Packing.{puts-empties, puts-out}
 use Rattle.stack_end.proofs.end.End.put_behind.Goals as goal
 

@@ -1,12 +1,7 @@
-use Rattle.std.proofs.Common.{◌≡◌, ◌∙◌, ap, false, sym, subst}
-use Rattle.stack_end.specs.Ends.{Deliver}
-use Rattle.stack_end.specs.EndValue.{inside}
-use Rattle.stack_end.specs.Fields.{inside_of}
-use Rattle.stack_end.specs.Hearing.{HasHeard, TakesPart}
-use Rattle.stack_end.specs.Recent.{DatagramRecent}
-use Rattle.stack_end.specs.Turns.{Inside, arrives, can_pack, turn}
-use Rattle.stack_end.proofs.Ending.{layers-turn}
-use Rattle.stack_end.proofs.Taking.{arrives-empties, datagram-recent, has-heard, takes-part}
+use Rattle.stack_end.proofs.Words.{ap, arrives, can_pack, DatagramRecent, Deliver, false, HasHeard, Inside, inside, inside_of, subst, sym, TakesPart, turn, ◌∙◌}
+use Rattle.stack_end.proofs.Words.{◌≡◌}
+use Rattle.stack_end.proofs.Packing.{arrives-empties, datagram-recent, has-heard, takes-part}
+use Rattle.stack_end.proofs.Turning.{layers-turn}
 use Rattle.stack_end.proofs.end.End.take_datagram.Goals as goal
 
 pub returns-clause-turns : goal.returns-clause-turns

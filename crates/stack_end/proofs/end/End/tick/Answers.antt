@@ -1,10 +1,6 @@
-use Rattle.std.proofs.Common.{◌≡◌, false, sym, subst}
-use Rattle.stack_end.specs.EndValue.{inside}
-use Rattle.stack_end.specs.Fields.{inside_of}
-use Rattle.stack_end.specs.Recent.{TickRecent}
-use Rattle.stack_end.specs.Turns.{Inside, can_pack, passes}
-use Rattle.stack_end.proofs.Ending.{layers-turn}
-use Rattle.stack_end.proofs.Taking.{passes-empties, tick-recent}
+use Rattle.stack_end.proofs.Words.{can_pack, false, Inside, inside, inside_of, passes, subst, sym, TickRecent, ◌≡◌}
+use Rattle.stack_end.proofs.Packing.{passes-empties, tick-recent}
+use Rattle.stack_end.proofs.Turning.{layers-turn}
 use Rattle.stack_end.proofs.end.End.tick.Goals as goal
 
 pub returns-clause-turns : goal.returns-clause-turns

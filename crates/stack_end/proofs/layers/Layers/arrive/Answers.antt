@@ -1,8 +1,5 @@
-use Rattle.red_layer.specs.Redundancy.{Datagram}
-use Rattle.stack_end.specs.Fields.{inside_of}
-use Rattle.stack_end.specs.Turns.{above, followed, goes_on, guards}
-use Rattle.stack_end.proofs.Going.{alone-told, went-alone, went-then}
-use Rattle.stack_end.proofs.Receiving.{above-went, open-went}
+use Rattle.stack_end.proofs.Words.{above, Datagram, followed, goes_on, guards, inside_of}
+use Rattle.stack_end.proofs.Going.{above-went, alone-told, open-went, went-alone, went-then}
 use Rattle.stack_end.proofs.layers.Layers.arrive.Goals as goal
 
 pub returns-in_default-clause-does : goal.returns-in_default-clause-does

@@ -1,8 +1,5 @@
-use Rattle.red_layer.specs.Redundancy.{Datagram}
-use Rattle.stack_end.specs.Fields.{fields_of, inside_of}
-use Rattle.stack_end.specs.Turns.{above, followed, receives, sends}
-use Rattle.stack_end.proofs.Going.{went-alone, went-then}
-use Rattle.stack_end.proofs.Receiving.{above-went, open-went, receives-went}
+use Rattle.stack_end.proofs.Words.{above, Datagram, fields_of, followed, inside_of, receives, sends}
+use Rattle.stack_end.proofs.Going.{above-went, open-went, receives-went, went-alone, went-then}
 use Rattle.stack_end.proofs.layers.Layers.deliver.Goals as goal
 
 pub returns-in_default-clause-does : goal.returns-in_default-clause-does

@@ -1,8 +1,6 @@
-use Rattle.red_layer.specs.Redundancy.{Tick as RedTick}
-use Rattle.stack_end.specs.Fields.{inside_of}
-use Rattle.stack_end.specs.Turns.{above, followed, goes_on, ticks}
-use Rattle.stack_end.proofs.Going.{alone-told, went-alone, went-then}
-use Rattle.stack_end.proofs.Receiving.{above-went, open-went}
+use Rattle.stack_end.proofs.Words.{above, followed, goes_on, inside_of, RedTick}
+use Rattle.stack_end.specs.Turns.{ticks}
+use Rattle.stack_end.proofs.Going.{above-went, alone-told, open-went, went-alone, went-then}
 use Rattle.stack_end.proofs.layers.Layers.tick.Goals as goal
 
 pub returns-in_default-clause-does : goal.returns-in_default-clause-does

@@ -1,8 +1,4 @@
-use Rattle.safe_machine.specs.declared.Reason.TheVariants.{ClosedByUser}
-use Rattle.safe_machine.specs.declared.Detail.TheVariants.{Unspecified}
-use Rattle.std.specs.Prelude.{Some}
-use Rattle.stack_end.specs.Fields.{fields_of}
-use Rattle.stack_end.specs.Turns.{leaves, settles}
+use Rattle.stack_end.proofs.Words.{ClosedByUser, fields_of, leaves, settles, Some, Unspecified}
 use Rattle.stack_end.proofs.Going.{alone-then}
 use Rattle.stack_end.proofs.upper.Upper.close.Goals as goal
 

@@ -1,8 +1,5 @@
-use Rattle.std.proofs.Common.{refl}
+use Rattle.stack_end.proofs.Words.{fields_of, FoldsTo-keeps, machine_turn, refl, settles}
 use Rattle.safe_machine.specs.Turns.{guards}
-use Rattle.stack_end.specs.Fields.{fields_of}
-use Rattle.stack_end.specs.Turns.{machine_turn, settles}
-use Rattle.octets.proofs.Steps.{FoldsTo-keeps}
 use Rattle.stack_end.proofs.Going.{alone-then, machine-went}
 use Rattle.stack_end.proofs.upper.Upper.guard.Goals as goal
 

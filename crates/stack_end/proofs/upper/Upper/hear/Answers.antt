@@ -1,11 +1,5 @@
-use Rattle.std.proofs.Common.{refl, rules}
-use Rattle.safe_machine.specs.Octets.{hears as machine_hears}
-use Rattle.stack_end.specs.Fields.{fields_of}
-use Rattle.stack_end.specs.Talk.{talk}
-use Rattle.stack_end.specs.Turns.{dialogue_of, judged_at, machine_turn, session_turn}
-use Rattle.octets.proofs.Steps.{FoldsTo-keeps}
-use Rattle.stack_end.proofs.Going.{machine-went, session-went, went-alone, went-then}
-use Rattle.stack_end.proofs.Talking.{judges-units}
+use Rattle.stack_end.proofs.Words.{dialogue_of, fields_of, FoldsTo-keeps, judged_at, machine_hears, machine_turn, refl, rules, session_turn, talk}
+use Rattle.stack_end.proofs.Going.{judges-units, machine-went, session-went, went-alone, went-then}
 use Rattle.stack_end.proofs.upper.Upper.hear.Goals as goal
 
 pub shape_of-self : goal.shape_of-self

@@ -1,8 +1,5 @@
-use Rattle.std.proofs.Common.{refl, length}
+use Rattle.stack_end.proofs.Words.{dialogue_of, fields_of, length, meets, refl, sends, session_turn}
 use Rattle.pdi_session.specs.SessionStep.{InitDone}
-use Rattle.stack_end.specs.Dialogue.{meets}
-use Rattle.stack_end.specs.Fields.{fields_of}
-use Rattle.stack_end.specs.Turns.{dialogue_of, sends, session_turn}
 use Rattle.stack_end.proofs.Going.{alone-then, alone-told, event-went}
 use Rattle.stack_end.proofs.upper.Upper.init_done.Goals as goal
 

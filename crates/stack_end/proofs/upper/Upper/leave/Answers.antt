@@ -1,10 +1,5 @@
-use Rattle.std.proofs.Common.{ap, refl, sym}
+use Rattle.stack_end.proofs.Words.{ap, fields_of, FoldsTo-keeps, leaves, Leaving, machine_turn, Option, refl, sym}
 use Rattle.safe_machine.specs.Turns.{leaves as machine_leaves}
-use Rattle.stack_end.specs.Dialogue.{Leaving}
-use Rattle.stack_end.specs.Fields.{fields_of}
-use Rattle.stack_end.specs.Turns.{leaves, machine_turn}
-use Rattle.std.specs.Prelude.{Option}
-use Rattle.octets.proofs.Steps.{FoldsTo-keeps}
 use Rattle.stack_end.proofs.Going.{alone-as, machine-went}
 use Rattle.stack_end.proofs.upper.Upper.leave.Goals as goal
 

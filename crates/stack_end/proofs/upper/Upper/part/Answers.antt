@@ -1,10 +1,5 @@
-use Rattle.std.proofs.Common.{◌∙◌, ap}
-use Rattle.std.specs.Prelude.{Option}
-use Rattle.safe_machine.specs.declared.ConnectionState.{ConnectionState}
+use Rattle.stack_end.proofs.Words.{ap, ConnectionState, fields_of, followed, goes_up, hears, leaves, Leaving, notes, Option, part, settles, ◌∙◌}
 use Rattle.safe_machine.specs.Properties.{index_step}
-use Rattle.stack_end.specs.Dialogue.{Leaving}
-use Rattle.stack_end.specs.Fields.{fields_of}
-use Rattle.stack_end.specs.Turns.{followed, goes_up, hears, leaves, notes, part, settles}
 use Rattle.stack_end.proofs.Going.{keeps-then, went-alone, went-as, went-then, went-told}
 use Rattle.stack_end.proofs.upper.Upper.part.Goals as goal
 

@@ -1,8 +1,4 @@
-use Rattle.std.proofs.Common.{refl, length}
-use Rattle.pdi_session.specs.SessionStep.{Puts}
-use Rattle.stack_end.specs.Dialogue.{meets}
-use Rattle.stack_end.specs.Fields.{fields_of}
-use Rattle.stack_end.specs.Turns.{dialogue_of, sends, session_turn}
+use Rattle.stack_end.proofs.Words.{dialogue_of, fields_of, length, meets, Puts, refl, sends, session_turn}
 use Rattle.stack_end.proofs.Going.{alone-then, event-went}
 use Rattle.stack_end.proofs.upper.Upper.put.Goals as goal
 

@@ -1,7 +1,5 @@
-use Rattle.std.proofs.Common.{refl, rules}
-use Rattle.stack_end.specs.Fields.{fields_of}
-use Rattle.octets.proofs.Steps.{FoldsTo-keeps}
-use Rattle.stack_end.proofs.Receiving.{parts-went}
+use Rattle.stack_end.proofs.Words.{fields_of, FoldsTo-keeps, refl, rules}
+use Rattle.stack_end.proofs.Going.{parts-went}
 use Rattle.stack_end.proofs.upper.Upper.receive.Goals as goal
 
 pub returns-clause-does : goal.returns-clause-does

@@ -1,7 +1,4 @@
-use Rattle.std.proofs.Common.{◌≤◌, ◌∙◌, Bool, ap, arith, refl, subst, sym}
-use Rattle.std.specs.Prelude.{if◌then◌else◌}
-use Rattle.stack_end.specs.Fields.{fields_of}
-use Rattle.stack_end.specs.Turns.{followed, packs_once, sends, still}
+use Rattle.stack_end.proofs.Words.{ap, arith, Bool, fields_of, followed, if◌then◌else◌, packs_once, refl, sends, still, subst, sym, ◌∙◌, ◌≤◌}
 use Rattle.stack_end.proofs.Going.{alone-as, alone-still, alone-then, keeps-none, keeps-then}
 use Rattle.stack_end.proofs.Packing.{sends-more, turn-fewer}
 use Rattle.stack_end.proofs.upper.Upper.send_waiting.Goals as goal

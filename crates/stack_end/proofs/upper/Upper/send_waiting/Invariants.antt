@@ -1,8 +1,4 @@
-use Rattle.std.proofs.Common.{◌≡◌, ◌+◌, ◌≤◌, length}
-use Rattle.std.specs.Prelude.{if◌then◌else◌}
-use Rattle.octets.specs.declared.limits.TheConstants.{UNIT_MESSAGES}
-use Rattle.stack_end.specs.Fields.{Keeps, fields_of}
-use Rattle.stack_end.specs.Turns.{Fields, Turn, WentAlone, followed, sends}
+use Rattle.stack_end.proofs.Words.{Fields, fields_of, followed, if◌then◌else◌, Keeps, length, sends, Turn, UNIT_MESSAGES, WentAlone, ◌+◌, ◌≡◌, ◌≤◌}
 use Rattle.stack_end.proofs.upper.Upper.send_waiting.Given as goal
 
 abbrev pub invariant-loop-packs : goal.invariant-loop-packs

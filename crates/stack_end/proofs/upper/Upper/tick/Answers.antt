@@ -1,8 +1,4 @@
-use Rattle.std.proofs.Common.{refl}
-use Rattle.safe_machine.specs.Turns.{ticks}
-use Rattle.stack_end.specs.Fields.{fields_of}
-use Rattle.stack_end.specs.Turns.{machine_turn, settles}
-use Rattle.octets.proofs.Steps.{FoldsTo-keeps}
+use Rattle.stack_end.proofs.Words.{fields_of, FoldsTo-keeps, machine_turn, refl, settles, ticks}
 use Rattle.stack_end.proofs.Going.{alone-then, machine-went}
 use Rattle.stack_end.proofs.upper.Upper.tick.Goals as goal
 

@@ -1,14 +1,9 @@
-use Rattle.std.proofs.Common.{ℕ, rules, ◌≡◌, length, vec_len, [], ◌∷◌, ◌++◌, List, ap, sym, ◌∙◌}
-use Rattle.end_settings.specs.Configured.{side_of}
-use Rattle.end_settings.specs.declared.EndConfig.{EndConfig}
-use Rattle.stack_engine.specs.declared.event.Doing.{Doing}
-use Rattle.stack_engine.specs.declared.history.Deed.TheVariants as deed
-use Rattle.stack_engine.specs.declared.history.Entry.{Entry}
-use Rattle.stack_engine.specs.Events.{doing_of, event_of}
+use Rattle.stack_engine.proofs.Words.{[], ap, Doing, doing_of, EndConfig, Entry, event_of, events_in, length, List, side_of, sym, ℕ, ◌++◌, ◌∙◌, ◌∷◌, ◌≡◌}
 use Rattle.stack_engine.specs.Histories.{Events}
-use Rattle.stack_engine.specs.HistoryPlaces.{events_in}
-use Rattle.stack_engine.proofs.code.Placing.{opening-added}
+use Rattle.std.proofs.Common.{rules, vec_len}
+use Rattle.stack_engine.proofs.code.Histories.{opening-added}
 use Rattle.stack_engine.proofs.history.History.add.Goals as goal
+use Rattle.stack_engine.specs.declared.history.Deed.TheVariants as deed
 
 pub returns-in-Open : goal.returns-in-Open
 returns-in-Open g c =

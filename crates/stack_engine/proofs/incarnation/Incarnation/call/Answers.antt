@@ -1,6 +1,5 @@
-use Rattle.stack_end.specs.EndValue.{inside}
-use Rattle.stack_engine.specs.Events.{call_of}
-use Rattle.stack_engine.proofs.code.Incarnating.{turned-stands}
+use Rattle.stack_engine.proofs.Words.{call_of, inside}
+use Rattle.stack_engine.proofs.code.Histories.{turned-stands}
 use Rattle.stack_engine.proofs.incarnation.Incarnation.call.Goals as goal
 
 pub returns-clause-does : goal.returns-clause-does

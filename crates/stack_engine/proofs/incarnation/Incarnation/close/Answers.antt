@@ -1,6 +1,5 @@
-use Rattle.std.proofs.Common.{refl, sym, append-nil}
-use Rattle.stack_end.specs.Ends.Call.{Close}
-use Rattle.stack_engine.proofs.code.Incarnating.{alone-turns}
+use Rattle.stack_engine.proofs.Words.{append-nil, Close, refl, sym}
+use Rattle.stack_engine.proofs.code.Histories.{alone-turns}
 use Rattle.stack_engine.proofs.incarnation.Incarnation.close.Goals as goal
 
 pub returns-clause-turns : goal.returns-clause-turns

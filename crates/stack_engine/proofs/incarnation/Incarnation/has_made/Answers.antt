@@ -1,6 +1,5 @@
-use Rattle.std.proofs.Common.{List, ℕ, drop, ap, ◌∙◌}
-use Rattle.stack_engine.specs.Keeping.{Keeping, has_part}
-use Rattle.stack_engine.proofs.code.Gaining.{has-part-made}
+use Rattle.stack_engine.proofs.Words.{ap, drop, has_part, Keeping, List, ℕ, ◌∙◌}
+use Rattle.stack_engine.proofs.code.Histories.{has-part-made}
 use Rattle.stack_engine.proofs.incarnation.Incarnation.has_made.Goals as goal
 
 pub returns : goal.returns

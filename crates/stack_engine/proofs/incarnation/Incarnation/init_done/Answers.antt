@@ -1,6 +1,5 @@
-use Rattle.std.proofs.Common.{refl, sym, append-nil}
-use Rattle.stack_end.specs.Ends.Call.{InitDone}
-use Rattle.stack_engine.proofs.code.Incarnating.{alone-turns}
+use Rattle.stack_engine.proofs.Words.{append-nil, InitDone, refl, sym}
+use Rattle.stack_engine.proofs.code.Histories.{alone-turns}
 use Rattle.stack_engine.proofs.incarnation.Incarnation.init_done.Goals as goal
 
 pub returns-in-Ok-clause-turns : goal.returns-in-Ok-clause-turns

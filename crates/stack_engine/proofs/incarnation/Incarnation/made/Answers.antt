@@ -1,6 +1,5 @@
-use Rattle.std.proofs.Common.{List, ℕ, length, ap, ◌∙◌}
-use Rattle.stack_engine.specs.Keeping.{Keeping}
-use Rattle.stack_engine.proofs.code.Gaining.{datagrams-length}
+use Rattle.stack_engine.proofs.Words.{ap, Keeping, length, List, ℕ, ◌∙◌}
+use Rattle.stack_engine.proofs.code.Histories.{datagrams-length}
 use Rattle.stack_engine.proofs.incarnation.Incarnation.made.Goals as goal
 
 pub returns : goal.returns

@@ -1,6 +1,6 @@
-use Rattle.std.proofs.Common.{rules, refl, sym, ◌∙◌, arith}
 use Rattle.end_settings.specs.Configured.{settings_of, side_of}
-use Rattle.stack_engine.proofs.code.Incarnating.{opened-stands}
+use Rattle.std.proofs.Common.{arith, refl, rules, sym, ◌∙◌}
+use Rattle.stack_engine.proofs.code.Histories.{opened-stands}
 use Rattle.stack_engine.proofs.incarnation.Incarnation.open.Goals as goal
 
 pub returns-in-Ok-open-clause-stands : goal.returns-in-Ok-open-clause-stands

@@ -1,6 +1,5 @@
-use Rattle.std.proofs.Common.{refl}
-use Rattle.stack_end.specs.Ends.Call.{Put}
-use Rattle.stack_engine.proofs.code.Incarnating.{alone-turns}
+use Rattle.stack_engine.proofs.Words.{Put, refl}
+use Rattle.stack_engine.proofs.code.Histories.{alone-turns}
 use Rattle.stack_engine.proofs.incarnation.Incarnation.put.Goals as goal
 
 pub returns-in-Ok-clause-turns : goal.returns-in-Ok-clause-turns

@@ -1,7 +1,6 @@
-use Rattle.std.proofs.Common.{List, ℕ, [], drop, sym, ◌∙◌, arith}
-use Rattle.std.specs.Str.{bytes_eq}
+use Rattle.stack_engine.proofs.Words.{[], arith, bytes_eq, drop, List, sym, ℕ, ◌∙◌}
 use Rattle.octets.specs.declared.limits.TheConstants.{RED_HEADER}
-use Rattle.stack_engine.proofs.code.Searching.{none-later, found-here}
+use Rattle.stack_engine.proofs.code.Histories.{found-here, none-later}
 use Rattle.stack_engine.proofs.keeper.Keeper.has_part.Goals as goal
 
 pub returns-then-is_part : goal.returns-then-is_part

@@ -1,6 +1,5 @@
-use Rattle.std.proofs.Common.{sym, ◌∙◌}
-use Rattle.stack_engine.specs.Pairs.{latest}
-use Rattle.stack_engine.proofs.code.Breakings.{breaks-part, breaks-none}
+use Rattle.stack_engine.proofs.Words.{latest, sym, ◌∙◌}
+use Rattle.stack_engine.proofs.code.Histories.{breaks-none, breaks-part}
 use Rattle.stack_engine.proofs.openings.Openings.breaks.Goals as goal
 
 pub returns-in-Ok : goal.returns-in-Ok

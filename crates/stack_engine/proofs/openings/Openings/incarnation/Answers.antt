@@ -1,5 +1,5 @@
-use Rattle.std.proofs.Common.{◌≡◌, rules, length, vec_len, sym, ◌∙◌}
-use Rattle.stack_engine.proofs.code.Reporting.{not-present}
+use Rattle.std.proofs.Common.{length, rules, sym, vec_len, ◌∙◌, ◌≡◌}
+use Rattle.stack_engine.proofs.code.Histories.{not-present}
 use Rattle.stack_engine.proofs.openings.Openings.incarnation.Goals as goal
 
 pub returns : goal.returns

@@ -1,7 +1,6 @@
-use Rattle.std.proofs.Common.{◌≡◌, ◌+◌, ℕ, rules, length, vec_len, Some, sym, ap, subst, ◌∙◌}
-use Rattle.std.specs.Prelude.{reverse}
-use Rattle.stack_engine.specs.Openings.{BeforeStand}
-use Rattle.stack_engine.proofs.code.Making.{present-made, present-not}
+use Rattle.stack_engine.proofs.Words.{ap, BeforeStand, length, reverse, Some, subst, sym, ℕ, ◌+◌, ◌∙◌, ◌≡◌}
+use Rattle.std.proofs.Common.{rules, vec_len}
+use Rattle.stack_engine.proofs.code.Histories.{present-made, present-not}
 use Rattle.stack_engine.proofs.openings.Openings.latest_maker.Goals as goal
 
 pub returns-in-Some : goal.returns-in-Some

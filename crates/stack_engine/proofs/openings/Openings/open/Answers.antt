@@ -1,5 +1,5 @@
 use Rattle.std.proofs.Common.{sym, ◌∙◌}
-use Rattle.stack_engine.proofs.code.Siding.{joins-opened}
+use Rattle.stack_engine.proofs.code.Histories.{joins-opened}
 use Rattle.stack_engine.proofs.openings.Openings.open.Goals as goal
 
 pub returns-in_default-replace-clause-joins : goal.returns-in_default-replace-clause-joins

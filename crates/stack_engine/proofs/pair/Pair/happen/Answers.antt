@@ -1,8 +1,4 @@
-use Rattle.std.proofs.Common.{List, [], ◌∷◌, ◌++◌, sym, ap, subst, ◌∙◌}
-use Rattle.stack_engine.specs.Events.{event_of}
-use Rattle.stack_engine.specs.Pairs.{Event, start, run}
-use Rattle.stack_engine.specs.Premise.{AreTyped}
-use Rattle.stack_engine.specs.Sides.{SidesStand}
+use Rattle.stack_engine.proofs.Words.{[], ap, AreTyped, Event, event_of, List, run, SidesStand, start, subst, sym, ◌++◌, ◌∙◌, ◌∷◌}
 use Rattle.stack_engine.proofs.code.Histories.{grown-stands, typed-push}
 use Rattle.stack_engine.proofs.pair.Pair.happen.Goals as goal
 

@@ -1,9 +1,7 @@
-use Rattle.std.proofs.Common.{sym, ◌∙◌, ◌∷◌, [], List, ap, length, length-append, arith}
-use Rattle.stack_engine.specs.Events.{event_of}
-use Rattle.stack_engine.specs.Pairs.{Event}
+use Rattle.stack_engine.proofs.Words.{[], ap, arith, Event, event_of, length, length-append, List, sym, ◌∙◌, ◌∷◌}
 use Rattle.stack_engine.proofs.code.Histories.{ran-accepted, ran-before, ran-refused}
+use Rattle.stack_engine.proofs.pair.Pair.run.Goals.{in-Err+else-is_memory, in-Ok}
 use Rattle.stack_engine.proofs.pair.Pair.run.Goals as goal
-use Rattle.stack_engine.proofs.pair.Pair.run.Goals.{in-Ok, in-Err+else-is_memory}
 
 pub returns-then-is_memory-clause-memory : goal.returns-then-is_memory-clause-memory
 returns-then-is_memory-clause-memory g c =

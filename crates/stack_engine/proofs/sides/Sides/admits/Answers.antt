@@ -1,6 +1,5 @@
-use Rattle.end_settings.specs.Configured.{side_of}
-use Rattle.stack_engine.specs.Sides.{ends_at}
-use Rattle.stack_engine.proofs.code.Siding.{admits-opening, admits-call}
+use Rattle.stack_engine.proofs.Words.{ends_at, side_of}
+use Rattle.stack_engine.proofs.code.Histories.{admits-call, admits-opening}
 use Rattle.stack_engine.proofs.sides.Sides.admits.Goals as goal
 
 pub returns-in-Open-clause-refusal : goal.returns-in-Open-clause-refusal

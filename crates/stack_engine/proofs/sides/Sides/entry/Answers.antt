@@ -1,6 +1,5 @@
-use Rattle.std.proofs.Common.{None, ◌∙◌}
-use Rattle.stack_engine.specs.Reports.{entry_of, joined_entry}
-use Rattle.stack_engine.proofs.code.Reporting.{entry-by, il-report, fe-report}
+use Rattle.stack_engine.proofs.Words.{entry_of, joined_entry, None, ◌∙◌}
+use Rattle.stack_engine.proofs.code.Histories.{entry-by, fe-report, il-report}
 use Rattle.stack_engine.proofs.sides.Sides.entry.Goals as goal
 
 pub returns-in-Interlocking : goal.returns-in-Interlocking

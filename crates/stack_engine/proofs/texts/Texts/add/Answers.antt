@@ -1,6 +1,6 @@
-use Rattle.std.proofs.Common.{rules, ◌≡◌, ◌++◌, List, ℕ, length, ap, ◌∙◌, is_ok}
+use Rattle.std.proofs.Common.{ap, is_ok, length, List, rules, ℕ, ◌++◌, ◌∙◌, ◌≡◌}
 use Rattle.std.specs.Prelude.{if◌then◌else◌}
-use Rattle.stack_engine.proofs.code.Shelves.{texts-add}
+use Rattle.stack_engine.proofs.code.Histories.{texts-add}
 use Rattle.stack_engine.proofs.texts.Texts.add.Goals as goal
 
 pub returns-clause-added : goal.returns-clause-added

@@ -1,0 +1,108 @@
+-- The UDP datagram of an IP packet, by places.
+use Rattle.std.specs.Prelude.{ℕ, ◌+◌, ◌*◌, ◌/◌, ◌%◌, ◌==◌, ◌||◌, Bool, not, nat_eq, nat_lt, List, length, if◌then◌else◌, Option, Some, Result, Ok, Err}
+use Rattle.capture.specs.declared.line.Address.{Address}
+use Rattle.capture.specs.declared.line.Host.{Host}
+use Rattle.capture.specs.declared.line.Host.TheVariants.{V4, V6}
+use Rattle.capture.specs.Places.{big_at, octet_at, four_at, sixteen_at}
+use Rattle.capture.specs.declared.frame.TheConstants.{FRAGMENT, UDP}
+use Rattle.capture.specs.declared.frame.Found.{Found}
+use Rattle.capture.specs.declared.frame.Passed.{Passed}
+use Rattle.capture.specs.declared.frame.Passed.TheVariants.{Truncated, Other, Fragment, Length}
+use Rattle.capture.specs.declared.frame.Upper.{Upper}
+
+-- a datagram of a size at a place lies within its packet, and within the frame
+abbrev pub udp_between : ℕ → Address → Address → ℕ → ℕ → ℕ → Result Found Passed
+udp_between octets source destination place size end =
+    if nat_lt size 8 || nat_lt end (place + size) then Err Length
+    else if nat_lt octets (place + size) then Err Truncated
+    else Ok (record { source = source; destination = destination; start = place + 8; end = place + size })
+
+abbrev pub udp_with : ℕ → Host → Host → ℕ → ℕ → Option ℕ → Option ℕ → Option ℕ → Result Found Passed
+udp_with octets source destination place end (Some from) (Some to) (Some size) =
+    udp_between octets (record { host = source; port = from }) (record { host = destination; port = to }) place size end
+udp_with octets source destination place end _ _ _ = Err Truncated
+
+-- ports, length and check sum, and then the payload
+abbrev pub in_udp : List ℕ → Host → Host → ℕ → ℕ → Result Found Passed
+in_udp octets source destination place end =
+    udp_with (length octets) source destination place end (big_at place octets) (big_at (place + 2) octets) (big_at (place + 4) octets)
+
+-- more fragments follow, or it does not begin at the front
+abbrev pub is_fragment : ℕ → Bool
+is_fragment flags = not (nat_eq (flags % 0x4000) 0)
+
+abbrev pub ipv4_with : List ℕ → ℕ → Option ℕ → Option ℕ → Option ℕ → Option ℕ → Option (List ℕ) → Option (List ℕ) → Result Found Passed
+ipv4_with octets place (Some first) (Some total) (Some flags) (Some protocol) (Some source) (Some destination) =
+    if not (nat_eq (first / 16) 4) || (nat_lt (first % 16 * 4) 20 || nat_lt total (first % 16 * 4)) then Err Length
+    else if not (nat_eq protocol 17) then Err Other
+    else if is_fragment flags then Err Fragment
+    else in_udp octets (V4 source) (V4 destination) (place + first % 16 * 4) (place + total)
+ipv4_with octets place _ _ _ _ _ _ = Err Truncated
+
+-- version and length of the header, total length, flags, protocol, both addresses
+abbrev pub in_ipv4 : List ℕ → ℕ → Result Found Passed
+in_ipv4 octets place =
+    ipv4_with octets place (octet_at place octets) (big_at (place + 2) octets) (big_at (place + 6) octets) (octet_at (place + 9) octets)
+    (four_at (place + 12) octets) (four_at (place + 16) octets)
+
+-- options hop by hop, a route, options for the destination
+abbrev pub is_passed : ℕ → Bool
+is_passed kind = (kind == 0) || ((kind == 43) || (kind == 60))
+
+abbrev pub options_with : ℕ → Option ℕ → Option ℕ → Result Upper Passed
+options_with place (Some kind) (Some eights) = Ok (record { kind = kind; place = place + 8 + eights * 8 })
+options_with place _ _ = Err Truncated
+
+-- what follows, and a length in eights of octets without the first
+abbrev pub behind_options : List ℕ → ℕ → Result Upper Passed
+behind_options octets place = options_with place (octet_at place octets) (octet_at (place + 1) octets)
+
+-- more fragments follow, or it does not begin at the front
+abbrev pub is_piece : ℕ → Bool
+is_piece part = not (nat_eq (part / 8) 0) || nat_eq (part % 2) 1
+
+-- one piece of a datagram is told, one of something else is not
+abbrev pub piece_of : ℕ → Result Upper Passed
+piece_of kind = if (kind == UDP) || is_passed kind then Err Fragment else Err Other
+
+abbrev pub fragment_with : ℕ → Option ℕ → Option ℕ → Result Upper Passed
+fragment_with place (Some kind) (Some part) =
+    if is_piece part then piece_of kind else Ok (record { kind = kind; place = place + 8 })
+fragment_with place _ _ = Err Truncated
+
+-- what follows, and which part of the packet this is
+abbrev pub behind_fragment : List ℕ → ℕ → Result Upper Passed
+behind_fragment octets place = fragment_with place (octet_at place octets) (big_at (place + 2) octets)
+
+abbrev pub behind_header : List ℕ → Upper → Result Upper Passed
+behind_header octets u =
+    if is_passed u.kind then behind_options octets u.place
+    else if u.kind == FRAGMENT then behind_fragment octets u.place
+    else Ok u
+
+abbrev pub behind_next : List ℕ → Result Upper Passed → Result Upper Passed
+behind_next octets (Ok u) = behind_header octets u
+behind_next octets (Err why) = Err why
+
+-- behind up to five headers
+abbrev pub upper_of : List ℕ → Upper → Result Upper Passed
+upper_of octets u =
+    behind_next octets (behind_next octets (behind_next octets (behind_next octets (behind_header octets u))))
+
+abbrev pub upper_with : List ℕ → List ℕ → List ℕ → ℕ → Result Upper Passed → Result Found Passed
+upper_with octets source destination end (Ok u) =
+    if u.kind == UDP then in_udp octets (V6 source) (V6 destination) u.place end else Err Other
+upper_with octets source destination end (Err why) = Err why
+
+abbrev pub ipv6_with : List ℕ → ℕ → Option ℕ → Option ℕ → Option ℕ → Option (List ℕ) → Option (List ℕ) → Result Found Passed
+ipv6_with octets place (Some first) (Some size) (Some kind) (Some source) (Some destination) =
+    if not (nat_eq (first / 16) 6) then Err Length
+    else
+    upper_with octets source destination (place + 40 + size) (upper_of octets (record { kind = kind; place = place + 40 }))
+ipv6_with octets place _ _ _ _ _ = Err Truncated
+
+-- version, length, next header, both addresses
+abbrev pub in_ipv6 : List ℕ → ℕ → Result Found Passed
+in_ipv6 octets place =
+    ipv6_with octets place (octet_at place octets) (big_at (place + 4) octets) (octet_at (place + 6) octets)
+    (sixteen_at (place + 8) octets) (sixteen_at (place + 24) octets)

@@ -1,0 +1,155 @@
+use channels::{ChannelFault, Channels, MemChannels, MemoryFault};
+use linked_list_allocator::LocalHeap;
+use std::test::Fail;
+use std::time::Duration;
+use udp_channels::{Place, Refusal, UdpFault, Watch, open_udp};
+
+// Two datagrams are kept as they were sent; a third finds no room, until there is more; one of 1,259 octets is too long.
+#[test]
+fn keeps_what_is_sent(rt: HostRuntime) -> Result<(), Fail> {
+    let mut channels = MemChannels::new(rt.alloc(), 2)?;
+    assert_eq!(rt; channels.send(1, &[1, 2, 3]), Ok(()));
+    assert_eq!(rt; channels.send(4, &[]), Ok(()));
+    assert_eq!(rt; channels.send(2, &[9]), Err(ChannelFault::Room));
+    channels.reserve(1)?;
+    assert_eq!(rt; channels.send(1, &[7; 1259]), Err(ChannelFault::Room));
+    assert_eq!(rt; channels.send(1, &[7; 1258]), Ok(()));
+    for (number, channel, octets) in [
+        (0, 1, [1, 2, 3].as_slice()),
+        (1, 4, [].as_slice()),
+        (2, 1, [7; 1258].as_slice()),
+    ] {
+        let (found, datagram) = channels.sent(number).ok_or("not sent")?;
+        assert_eq!(rt; found, channel, "at {number}");
+        assert_eq!(rt; datagram, octets, "at {number}");
+    }
+    assert!(rt; channels.sent(3).is_none());
+    Ok(())
+}
+
+// What was put in is answered in order, cut to the buffer; an answer that nothing has come uses up room too.
+#[test]
+fn answers_what_was_put_in(rt: HostRuntime) -> Result<(), Fail> {
+    let mut channels = MemChannels::new(rt.alloc(), 4)?;
+    let mut buffer = [0; 4];
+    channels.add(3, &[5, 6])?;
+    channels.add(1, &[1, 2, 3, 4, 5, 6])?;
+    assert_eq!(rt; channels.receive(&mut buffer), Ok(Some((3, 2))));
+    assert_eq!(rt; buffer, [5, 6, 0, 0]);
+    assert_eq!(rt; channels.receive(&mut buffer), Ok(Some((1, 4))));
+    assert_eq!(rt; buffer, [1, 2, 3, 4]);
+    assert_eq!(rt; channels.receive(&mut buffer), Ok(None));
+    channels.add(2, &[8])?;
+    assert_eq!(rt; channels.receive(&mut buffer), Ok(Some((2, 1))));
+    assert_eq!(rt; buffer, [8, 2, 3, 4]);
+    channels.add(2, &[9])?;
+    assert_eq!(rt; channels.receive(&mut buffer), Err(ChannelFault::Room));
+    channels.reserve(1)?;
+    assert_eq!(rt; channels.receive(&mut buffer), Ok(Some((2, 1))));
+    Ok(())
+}
+
+// Heaps of rising size: at some the channels are refused, and at some the room or the datagram; sending and receiving take no memory.
+#[test]
+fn takes_memory_where_it_says(rt: HostRuntime) -> Result<(), Fail> {
+    let mut refused = [false; 3];
+    let mut done = false;
+    for step in 0..256 {
+        let heap = LocalHeap::new(rt.alloc(), step * 64)?;
+        let Ok(mut channels) = MemChannels::new(&heap, 2) else {
+            refused[0] = true;
+            continue;
+        };
+        if channels.reserve(1) == Err(MemoryFault::Memory) {
+            refused[1] = true;
+            continue;
+        }
+        if channels.add(1, &[4; 4000]) == Err(MemoryFault::Memory) {
+            refused[2] = true;
+            assert_eq!(rt; channels.receive(&mut [0; 9]), Ok(None));
+            continue;
+        }
+        let used = heap.used();
+        for _ in 0..3 {
+            assert_eq!(rt; channels.send(1, &[7; 1258]), Ok(()));
+        }
+        assert_eq!(rt; channels.receive(&mut [0; 9]), Ok(Some((1, 9))));
+        assert_eq!(rt; heap.used(), used);
+        done = true;
+    }
+    assert_eq!(rt; refused, [true; 3]);
+    assert!(rt; done);
+    Ok(())
+}
+
+// Two ends over the loopback: what is sent on a channel comes on it, without a wait where it is there already; channels are asked in order;
+// a datagram that is longer than the buffer is cut. The sender of a datagram plays no part.
+#[test]
+fn carries_datagrams_over_sockets(rt: HostRuntime) -> Result<(), Fail> {
+    let near = ["127.0.0.1:47311", "127.0.0.1:47312"];
+    let far = ["127.0.0.1:47321", "127.0.0.1:47322"];
+    let mut left = open_udp(rt.alloc(), &rt, &near, &far)?;
+    let mut right = open_udp(rt.alloc(), &rt, &far, &near)?;
+    let mut stranger = open_udp(rt.alloc(), &rt, &["127.0.0.1:47331"], &["127.0.0.1:47322"])?;
+    let mut watch = Watch::open(rt.alloc(), &rt)?;
+    watch.add(&mut left)?;
+    watch.add(&mut right)?;
+    let mut buffer = [0; 8];
+    assert_eq!(rt; right.receive(&mut buffer), Ok(None));
+    assert_eq!(rt; stranger.send(1, &[9]), Ok(()));
+    assert_eq!(rt; left.send(2, &[1, 2, 3]), Ok(()));
+    assert_eq!(rt; left.send(1, &[5; 20]), Ok(()));
+    assert_eq!(rt; left.send(3, &[6]), Err(ChannelFault::Room));
+    assert_eq!(rt; left.send(0, &[6]), Err(ChannelFault::Room));
+    watch.wait(Duration::from_millis(500));
+    assert_eq!(rt; right.receive(&mut buffer), Ok(Some((1, 8))));
+    assert_eq!(rt; buffer, [5; 8]);
+    assert_eq!(rt; right.receive(&mut buffer), Ok(Some((2, 1))));
+    assert_eq!(rt; right.receive(&mut buffer), Ok(Some((2, 3))));
+    assert_eq!(rt; buffer[2], 3);
+    assert_eq!(rt; right.receive(&mut buffer), Ok(None));
+    assert_eq!(rt; left.receive(&mut buffer), Ok(None));
+    assert_eq!(rt; right.received(), 3);
+    assert_eq!(rt; left.received(), 0);
+    Ok(())
+}
+
+fn text(channel: usize, is_own: bool) -> UdpFault {
+    UdpFault::Address(Place { channel, is_own })
+}
+
+fn refused(channel: usize, error: i32) -> UdpFault {
+    UdpFault::Bind(Refusal {
+        channel,
+        error: Some(error),
+    })
+}
+
+// Lists of unequal or wrong length and texts that are no address are refused before a socket is bound, each by its place; then a port in use
+// and an address of another machine, by the system's number (EADDRINUSE 98, EADDRNOTAVAIL 99).
+#[test]
+fn refuses_other_addresses(rt: HostRuntime) -> Result<(), Fail> {
+    let free = "127.0.0.1:47341";
+    let held = open_udp(rt.alloc(), &rt, &["127.0.0.1:47342"], &[free])?;
+    let lists: [(&[&str], &[&str], UdpFault); 8] = [
+        (&[], &[], UdpFault::Lists),
+        (&[free], &[], UdpFault::Lists),
+        (&[free; 5], &[free; 5], UdpFault::Lists),
+        (&["localhost:47341"], &[free], text(1, true)),
+        (&["127.0.0.1:47342"], &["127.0.0.1"], text(1, false)),
+        (&[free, "127.0.0.1:65536"], &[free; 2], text(2, true)),
+        (&["127.0.0.1:47342"], &[free], refused(1, 98)),
+        (&[free, "192.0.2.1:47341"], &[free; 2], refused(2, 99)),
+    ];
+    for (local, remote, fault) in lists {
+        let opened = open_udp(rt.alloc(), &rt, local, remote);
+        assert!(rt;
+            matches!(opened, Err(found) if found == fault),
+            "at {local:?}"
+        );
+    }
+    // What was bound before a refusal is free again.
+    let _opened = open_udp(rt.alloc(), &rt, &[free], &["127.0.0.1:47342"])?;
+    let _held = held;
+    Ok(())
+}

@@ -1,4 +1,0 @@
-pub mod Headers
-pub mod Counting
-pub mod Confirming
-pub mod Telling

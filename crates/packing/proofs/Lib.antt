@@ -1,3 +1,0 @@
-pub mod PackLemmas
-pub mod UnitLemmas
-mod UnitSizes

@@ -1,0 +1,18 @@
+use Rattle.std.proofs.Common.{rules, ◌≡◌, ◌∙◌, ap, length, refl, sym, ◌++◌, List, ℕ, [], take}
+use Rattle.pdi_session.specs.telegram.Names.{filled}
+use Rattle.pdi_session.proofs.KnownLemmas.{pair_made, written}
+use Rattle.pdi_session.proofs.telegram.known.KnownPair.new.Goals as goal
+
+pub invariant_of-result : goal.invariant_of-result
+invariant_of-result c =
+    let one = c.as_str.result.now in
+    let other = c.as_str-2.result.now in
+    let long : length c.put_name-2.new.buffer ≡ 40 = search rules in
+    record {
+      well_formed =
+          pair_made c.put_name-2.new.buffer one other c.as_str.ensures.well_formed c.as_str-2.ensures.well_formed long
+          (written c.put_name-2.new.buffer c.put_name.new.buffer [] one other c.as_str.ensures.well_formed
+          long
+          (c.put_name.ensures.front ∙ ap filled (sym c.as_str.ensures.characters)) refl
+          (c.put_name-2.ensures.front ∙ ap (λ (name : List ℕ). take 20 c.put_name.new.buffer ++ filled name) (sym c.as_str-2.ensures.characters)));
+    }

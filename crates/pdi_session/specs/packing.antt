@@ -1,0 +1,4 @@
+pub mod UnitText
+pub mod Places
+pub mod FaultNames
+pub mod Ring

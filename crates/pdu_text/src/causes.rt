@@ -1,0 +1,93 @@
+//! Why a datagram was dropped.
+
+ghost use Rattle.std.specs.Prelude.{◌≡◌, OnOk};
+ghost use Rattle.std.specs.Io.KnownBytes.{Appends};
+ghost use Rattle.pdu_text.specs.Causes as causes;
+
+use crate::write_text;
+use red_layer::RedEvent;
+use safe_machine::DropCause;
+use safe_pdu::SafeFault;
+use std::io;
+use std::io::Write;
+
+/// Why a datagram was dropped.
+#[derive(Clone, Copy, Debug, PartialEq, Eq)]
+pub enum Cause {
+    /// The redundancy layer dropped it, or let it wait.
+    Early(RedEvent),
+    /// The safety machine dropped it.
+    Part(DropCause),
+    /// It has a sender and a receiver that are not the two ends of this connection.
+    Stranger {
+        /// The identifier of its sender.
+        sender: u32,
+        /// The identifier of the end that it is for.
+        receiver: u32,
+    },
+}
+
+/// Writes why a datagram was dropped.
+pub(crate) fn write_cause<W: Write>(writer: &mut W, cause: Cause) -> io::Result<()>
+    ensures { OnOk result (Appends (W.contents writer.old) (W.contents writer.new) (causes.cause_text cause)) }
+{
+    match cause {
+        Cause::Early(event) => write_text(writer, event_words(event)),
+        Cause::Part(why) => write_text(writer, part_words(why)),
+        Cause::Stranger { sender, receiver } => write_stranger(writer, sender, receiver),
+    }
+}
+
+#[tactic(auto, unfolding(crate::specs::Causes::stranger_text))]
+fn write_stranger<W: Write>(writer: &mut W, sender: u32, receiver: u32) -> io::Result<()>
+    ensures { OnOk result (Appends (W.contents writer.old) (W.contents writer.new)
+        (causes.stranger_text sender receiver)) }
+{
+    write!(
+        writer,
+        "a stranger's: from id {sender} for id {receiver}, which are not peer_id and id"
+    )
+}
+
+fn event_words(event: RedEvent) -> &'static str
+    ensures { result.now ≡ causes.event_text event }
+{
+    match event {
+        RedEvent::Passed => "passed on",
+        RedEvent::Wait => "waits",
+        RedEvent::Old => "its number came before, on this or another channel",
+        RedEvent::Far => "its number is too far ahead",
+        RedEvent::Full => "it came early, and every place is taken",
+        RedEvent::Again => "its number waits already",
+        RedEvent::Fault(_) => "it is no redundancy PDU: damage, or not of RaSTA",
+    }
+}
+
+fn part_words(why: DropCause) -> &'static str
+    ensures { result.now ≡ causes.part_text why }
+{
+    match why {
+        DropCause::Fault(fault) => fault_words(fault),
+        DropCause::Stranger => "a stranger's: another id or peer_id",
+        DropCause::NotOpened => "it asks for no connection, and none stands",
+        DropCause::Number => "its sequence number is too far ahead",
+        DropCause::Request => "it is not the retransmission that is asked for",
+        DropCause::Answered => "a request for retransmission that was answered before",
+        DropCause::Below =>
+            "a request for retransmission that confirms less than was confirmed before",
+    }
+}
+
+fn fault_words(fault: SafeFault) -> &'static str
+    ensures { result.now ≡ causes.fault_text fault }
+{
+    match fault {
+        SafeFault::Short => "it is too short for a safety PDU: another length of code, or damage",
+        SafeFault::Length =>
+            "its length differs from its length field: another length of code, or damage",
+        SafeFault::Code =>
+            "its safety code is not that of these settings: another code or initial value (iv), or damage",
+        SafeFault::BadType => "its type is none",
+        SafeFault::Body => "its body does not fit its type",
+    }
+}

@@ -1,0 +1,42 @@
+//! The front of a line: the end's time and the end.
+
+ghost use Rattle.std.specs.Prelude.{◌≡◌, OnOk};
+ghost use Rattle.std.specs.Io.KnownBytes.{Appends};
+ghost use Rattle.pdu_text.specs.Pieces.{front_text, three_digits, time_text};
+
+use crate::names::side_name;
+use end_settings::Side;
+use std::io;
+use std::io::Write;
+
+/// Writes the time and the end with which a line begins.
+#[tactic(auto, unfolding(crate::specs::Pieces::front_text))]
+pub(crate) fn write_front<W: Write>(writer: &mut W, at: u64, side: Side) -> io::Result<()>
+    ensures { OnOk result (Appends (W.contents writer.old) (W.contents writer.new) (front_text at side)) }
+{
+    write_time(writer, at)?;
+    let name = side_name(side);
+    write!(writer, " {name} ")
+}
+
+/// Writes milliseconds as seconds with three digits behind the point.
+#[tactic(auto, unfolding(crate::specs::Pieces::time_text))]
+pub(crate) fn write_time<W: Write>(writer: &mut W, ms: u64) -> io::Result<()>
+    ensures { OnOk result (Appends (W.contents writer.old) (W.contents writer.new) (time_text ms)) }
+{
+    let seconds = ms / 1_000;
+    write!(writer, "{seconds}.")?;
+    let digits = spell(ms % 1_000);
+    writer.write_all(&digits)
+}
+
+/// The last three digits of a number.
+fn spell(number: u64) -> [u8; 3]
+    ensures { result ≡ three_digits number }
+{
+    [
+        (48 + number / 100 % 10) as u8,
+        (48 + number / 10 % 10) as u8,
+        (48 + number / 1 % 10) as u8,
+    ]
+}

@@ -1,0 +1,80 @@
+//! The lines of what ends take, refuse and are.
+
+ghost use Rattle.std.specs.Prelude.{◌≡◌, OnOk};
+ghost use Rattle.std.specs.Io.KnownBytes.{Appends};
+ghost use Rattle.pdu_text.specs.Reports as lines;
+
+use crate::names::{phase_name, side_name, state_name};
+use crate::{write_hex, write_octets, write_text};
+use end_settings::Side;
+use pdi_session::Phase;
+use safe_machine::ConnectionState;
+use std::io;
+use std::io::Write;
+
+/// How an end stands, in its present incarnation.
+#[derive(Clone, Copy, Debug, PartialEq, Eq)]
+pub struct Standing {
+    /// The state of its connection.
+    pub state: ConnectionState,
+    /// The phase of its session.
+    pub phase: Phase,
+    /// How many telegrams were put in.
+    pub put: u64,
+    /// How many telegrams its application took.
+    pub taken: u64,
+}
+
+/// Writes the line of a telegram that an application takes: its kind, and its payload in hex digits.
+pub fn write_take<W: Write>(writer: &mut W, side: Side, kind: u16, payload: &[u8]) -> io::Result<()>
+    // The line of a telegram taken is exactly the stated text.
+    ensures { OnOk result (Appends (W.contents writer.old) (W.contents writer.new)
+        (lines.take_line side kind payload.now)) }
+{
+    write_text(writer, side_name(side))?;
+    write_text(writer, " takes ")?;
+    write_hex(writer, &kind.to_be_bytes())?;
+    write_text(writer, " ")?;
+    write_octets(writer, payload)?;
+    write_text(writer, "\n")
+}
+
+/// Writes the line of an event that was refused.
+pub fn write_refusal<W: Write>(writer: &mut W, name: &str) -> io::Result<()>
+    // The line of a refusal is exactly the stated text.
+    ensures { OnOk result (Appends (W.contents writer.old) (W.contents writer.new) (lines.refusal_line name.now)) }
+{
+    writeln!(writer, "refused {name}")
+}
+
+/// Writes how an end stands, or that it was never opened.
+pub fn write_report<W: Write>(
+    writer: &mut W,
+    side: Side,
+    standing: Option<Standing>,
+) -> io::Result<()>
+    // The line of how an end stands, or that it was never opened, is exactly the stated text.
+    ensures { OnOk result (Appends (W.contents writer.old) (W.contents writer.new) (lines.report_line side standing)) }
+{
+    match standing {
+        Some(standing) => write_standing(writer, side_name(side), &standing),
+        None => write_none(writer, side_name(side)),
+    }
+}
+
+fn write_standing<W: Write>(writer: &mut W, side: &str, standing: &Standing) -> io::Result<()>
+    ensures { OnOk result (Appends (W.contents writer.old) (W.contents writer.new)
+        (lines.standing_line side.now standing.now)) }
+{
+    let state = state_name(standing.state);
+    let phase = phase_name(standing.phase);
+    let put = standing.put;
+    let taken = standing.taken;
+    writeln!(writer, "{side} {state} {phase} put {put} taken {taken}")
+}
+
+fn write_none<W: Write>(writer: &mut W, side: &str) -> io::Result<()>
+    ensures { OnOk result (Appends (W.contents writer.old) (W.contents writer.new) (lines.none_line side.now)) }
+{
+    writeln!(writer, "{side} none")
+}

@@ -1,8 +1,0 @@
--- Neither end is later than the clock, and the clock is in its bounds.
-use Rattle.std.proofs.Common.{◌≤◌}
-use Rattle.rasta_net.specs.Ticking.{greatest_time}
-use Rattle.rasta_net.proofs.both.Both.run_until_end.Given as goal
-
-abbrev pub invariant-turns : goal.invariant-turns
-invariant-turns g l =
-    (l.self.interlocking.end.time ≤ l.clock.last) × (l.self.field_element.end.time ≤ l.clock.last) × (l.clock.last ≤ greatest_time)

@@ -1,7 +1,0 @@
--- The end is no later than the clock, and the clock is in its bounds.
-use Rattle.std.proofs.Common.{◌≤◌}
-use Rattle.rasta_net.specs.Ticking.{greatest_time}
-use Rattle.rasta_net.proofs.net.run_until_end.Given as goal
-
-abbrev pub invariant-turns : goal.invariant-turns
-invariant-turns g l = (l.actor.end.time ≤ l.clock.last) × (l.clock.last ≤ greatest_time)

@@ -1,8 +1,0 @@
--- The end is no later than the clock, and the clock is in its bounds and was read in each turn.
-use Rattle.std.proofs.Common.{◌≡◌, ◌≤◌, ◌+◌, ◌%◌, ◌^◌}
-use Rattle.rasta_net.specs.Ticking.{greatest_time}
-use Rattle.rasta_net.proofs.net.take_turns.Given as goal
-
-abbrev pub invariant-turns : goal.invariant-turns
-invariant-turns g l = (l.actor.end.time ≤ l.clock.last) × (l.clock.last ≤ greatest_time)
-    × (l.clock.readings ≡ (l.initial.clock.readings + l.counter) % 2 ^ 64)

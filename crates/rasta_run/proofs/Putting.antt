@@ -1,0 +1,37 @@
+-- The telegrams that a turn puts, one by one.
+use Rattle.std.proofs.Common.{◌≡◌, ◌+◌, ℕ, List, [], ◌∷◌, ◌++◌, Option, Some, length, length-append, ap, sym, subst, ◌∙◌, refl}
+use Rattle.std.specs.List.{FoldsTo}
+use Rattle.channels.specs.Told.{Told}
+use Rattle.octets.proofs.Steps.{FoldsTo-append}
+use Rattle.pdi_session.specs.declared.PutFault.TheVariants.{Full}
+use Rattle.settings_file.specs.declared.values.Put.{Put as Telegram}
+use Rattle.stack_end.specs.EndValue.{EndValue}
+use Rattle.rasta_run.specs.Putting.{Answers, IsFullFor, Passes, Putting, PutsBeginning}
+
+-- one more goes from what is left to what is done with
+moved : {A : Type 0} (done rest : List A) (x : A) → done ++ (x ∷ rest) ≡ (done ++ x ∷ []) ++ rest
+moved [] rest x = refl
+moved (d ∷ ds) rest x = ap (λ l. d ∷ l) (moved ds rest x)
+
+pub one-more : {S A : Type 0} (R : S → A → S → Type 0) (before left rest : List A) (x : A) (s t u : S) (n : ℕ)
+    → (done : List A) × (length done ≡ n) × (before ≡ done ++ left) × FoldsTo R s done t → left ≡ x ∷ rest → R t x u
+    → (done : List A) × (length done ≡ n + 1) × (before ≡ done ++ rest) × FoldsTo R s done u
+one-more R before left rest x s t u n h split step = (
+  h.0 ++ x ∷ [],
+  length-append h.0 (x ∷ []) ∙ ap (λ m. m + 1) h.1,
+  h.2 ∙ ap (λ l. h.0 ++ l) split ∙ moved h.0 rest x,
+  FoldsTo-append R h.0 (x ∷ []) s t u h.3 (u, step, refl),
+)
+
+-- the end is full for the next one, and nothing has changed
+pub stops : {C A : Type 0} (told : C → Told) (now : ℕ) (before left after rest : List Telegram) (p : Telegram) (s : Putting C A)
+    (v w : EndValue C A) (n m : ℕ) (x y : Option (List ℕ)) (done : List Telegram)
+    → before ≡ done ++ left → FoldsTo (Passes told now) s done (v, n, x) → left ≡ p ∷ rest → Answers v p (Some Full)
+    → after ≡ left → w ≡ v → m ≡ n → y ≡ x → PutsBeginning told now before s after (w, m, y)
+stops told now before left after rest p s v w n m x y done e along split full same-left same-end same-count same-text =
+    let base : PutsBeginning told now before s left (v, n, x) =
+    (done, e, along, subst (λ l. IsFullFor v l) (sym split) full) in
+    subst (λ l. PutsBeginning told now before s l (w, m, y)) (sym same-left)
+    (subst (λ z. PutsBeginning told now before s left (z, m, y)) (sym same-end)
+    (subst (λ z. PutsBeginning told now before s left (v, z, y)) (sym same-count)
+    (subst (λ z. PutsBeginning told now before s left (v, n, z)) (sym same-text) base)))

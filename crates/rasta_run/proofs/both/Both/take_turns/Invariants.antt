@@ -1,0 +1,9 @@
+-- Neither end is later than the clock, and the clock is in its bounds and was read in each turn.
+use Rattle.std.proofs.Common.{◌≡◌, ◌≤◌, ◌+◌, ◌%◌, ◌^◌}
+use Rattle.rasta_run.specs.Ticking.{greatest_time}
+use Rattle.rasta_run.proofs.both.Both.take_turns.Given as goal
+
+abbrev pub invariant-turns : goal.invariant-turns
+invariant-turns g l =
+    (l.self.interlocking.end.time ≤ l.clock.last) × (l.self.field_element.end.time ≤ l.clock.last) × (l.clock.last ≤ greatest_time)
+    × (l.clock.readings ≡ (l.initial.clock.readings + l.counter) % 2 ^ 64)

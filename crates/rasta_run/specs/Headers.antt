@@ -1,0 +1,30 @@
+-- What stands at the places of a header, in octets that may be no PDU at all.
+use Rattle.std.specs.Prelude.{ℕ, nat_lt, List, length, drop, Option, Some, None, if◌then◌else◌}
+use Rattle.byteorder.specs.Endian.{little_number}
+use Rattle.safe_pdu.specs.declared.Leaving.{Leaving}
+use Rattle.rasta_run.specs.declared.header.Header.{Header}
+
+-- the number in so many octets from a place on
+abbrev pub number_at : ℕ → ℕ → List ℕ → ℕ
+number_at size place octets = little_number size (drop place octets)
+
+-- where a DiscReq has its detail, and then its reason
+abbrev pub leaving_seen : List ℕ → Option Leaving
+leaving_seen octets =
+    if nat_lt (length octets) 40 then None
+    else Some record { detail = number_at 2 36 octets; reason = number_at 2 38 octets }
+
+-- behind eight octets of redundancy the fields of a safety PDU, as far as there are octets
+abbrev pub header_seen : List ℕ → Option Header
+header_seen octets =
+    if nat_lt (length octets) 36 then None
+    else Some record {
+      number = number_at 4 4 octets;
+      kind = number_at 2 10 octets;
+      receiver = number_at 4 12 octets;
+      sender = number_at 4 16 octets;
+      sn = number_at 4 20 octets;
+      cs = number_at 4 24 octets;
+      cts = number_at 4 32 octets;
+      leaving = leaving_seen octets;
+    }

@@ -1,0 +1,60 @@
+-- What is said of a channel that was not opened, behind the line that names the fault.
+use Rattle.std.specs.Prelude.{ℕ, nat_eq, Bool, true, false, List, [], ◌∷◌, codes, Option, Some, None, if◌then◌else◌}
+use Rattle.std.specs.Fmt.{decimal}
+use Rattle.udp_channels.specs.declared.udp.UdpFault.{UdpFault}
+use Rattle.udp_channels.specs.declared.udp.UdpFault.TheVariants as udp
+use Rattle.end_settings.specs.declared.Side.{Side}
+use Rattle.pdu_text.specs.Lines.{joined}
+use Rattle.pdu_text.specs.Names.{side_name}
+use Rattle.rasta_words.specs.declared.status.Fault.{Fault}
+use Rattle.rasta_words.specs.declared.status.Fault.TheVariants.{Memory, Settings, Network}
+use Rattle.stack_end.specs.declared.OpenFault.{OpenFault}
+use Rattle.stack_end.specs.declared.OpenFault.TheVariants as end
+
+-- what ends a run whose channels were not opened: addresses are settings, and what the system does not give is the network
+abbrev pub fault_of : UdpFault → Fault
+fault_of udp.Lists = Settings
+fault_of udp.Memory = Memory
+fault_of (udp.Address place) = Settings
+fault_of (udp.Bind refusal) = Network
+fault_of udp.Wait = Network
+
+-- and an end that was not opened on them
+abbrev pub fault_of_end : OpenFault → Fault
+fault_of_end end.BadConfig = Settings
+fault_of_end end.Memory = Memory
+
+abbrev pub whose_text : Bool → List ℕ
+whose_text true = codes "own address "
+whose_text false = codes "peer's address "
+
+-- END channel N: WHOSE address TEXT; channels count from 1
+unfoldable pub place_text : Side → ℕ → Bool → List ℕ → List ℕ
+place_text side channel is_own address =
+    joined (side_name side ∷ codes " channel " ∷ decimal channel ∷ codes ": " ∷ whose_text is_own ∷ address ∷ [])
+
+-- a text that spells no address
+unfoldable pub unread_text : Side → ℕ → Bool → List ℕ → List ℕ
+unread_text side channel is_own address = joined (place_text side channel is_own address ∷ codes ": it is no number and port\n" ∷ [])
+
+-- what the system's numbers say that come most often
+abbrev pub error_words : ℕ → List ℕ
+error_words error =
+    if nat_eq error 98 then codes ", it is in use"
+    else if nat_eq error 99 then codes ", it is not this machine's"
+    else if nat_eq error 13 then codes ", this user may not have that port"
+    else []
+
+unfoldable pub numbered_text : ℕ → List ℕ
+numbered_text error = joined (codes ", error " ∷ decimal error ∷ error_words error ∷ [])
+
+abbrev pub error_text : Option ℕ → List ℕ
+error_text None = []
+error_text (Some error) = numbered_text error
+
+unfoldable pub unbound_front : Side → ℕ → List ℕ → List ℕ
+unbound_front side channel address = joined (place_text side channel true address ∷ codes ": the system gives no socket there" ∷ [])
+
+-- an own address at which the system gives no socket, with the system's number for why, where it gave one
+unfoldable pub unbound_text : Side → ℕ → List ℕ → Option ℕ → List ℕ
+unbound_text side channel address error = joined (unbound_front side channel address ∷ error_text error ∷ codes "\n" ∷ [])

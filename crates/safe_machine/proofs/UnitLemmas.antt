@@ -1,0 +1,114 @@
+-- Units with rising numbers: what is sent stands behind, what is confirmed in front, and how numbers are written anew.
+use Rattle.std.proofs.Common.{◌≡◌, ◌<◌, ◌≤◌, ℕ, zero, suc, ◌+◌, true, false, Bool, List, [], ◌∷◌, ◌++◌, take, drop, nat_lt, nat_le, refl, ap, arith, Some, None}
+use Rattle.std.specs.List.{All, slice_get, slice_set}
+use Rattle.std.proofs.lemmas.Bool.{lt-ltb}
+use Rattle.std.proofs.lemmas.Bool.Decides.{nat_tests}
+use Rattle.std.proofs.lemmas.List.Elements.{All-nil, All-cons, All-head, All-tail}
+use Rattle.std.proofs.lemmas.List.Kept.{AllPairs-cons, AllPairs-filter}
+use Rattle.std.proofs.lemmas.List.Quantifiers.{all_pairs_push}
+use Rattle.safe_machine.specs.retrans.Units.{Numbered, Rises, Stored, above, all_shown, octets_of, renumbered, shown, up_to}
+
+-- the numbers behind the first one rise too, and are greater
+pub Rises-tail : (u : Numbered) (us : List Numbered) → Rises (u ∷ us) → Rises us
+Rises-tail u us h = record { pairs = λ i j d lt within. h.pairs (suc i) (suc j) d (omega arith) (omega arith) }
+
+pub Rises-head : (u : Numbered) (us : List Numbered) → Rises (u ∷ us) → All (λ (v : Numbered). u.number < v.number) us
+Rises-head u us h = λ k d within. h.pairs zero (suc k) d (omega arith) (omega arith)
+
+pub Rises-sent : (us : List Numbered) (u : Numbered) → Rises us → All (λ (v : Numbered). v.number < u.number) us → Rises (us ++ u ∷ [])
+Rises-sent us u h below = record { pairs = all_pairs_push (λ (a b : Numbered). a.number < b.number) us u h.pairs below }
+
+pub Rises-above : (number : ℕ) (us : List Numbered) → Rises us → Rises (above number us)
+Rises-above number us h =
+    record { pairs = AllPairs-filter (λ (a b : Numbered). a.number < b.number) (λ (u : Numbered). nat_lt number u.number) us h.pairs }
+
+-- consecutive numbers rise
+renumbered-from : (low first : ℕ) (units : List (List ℕ)) → low ≤ first → All (λ (u : Numbered). low ≤ u.number) (renumbered first units)
+renumbered-from low first [] le = All-nil (λ (u : Numbered). low ≤ u.number)
+renumbered-from low first (octets ∷ units) le =
+    All-cons (λ (u : Numbered). low ≤ u.number) (record { number = first; octets = octets }) (renumbered (first + 1) units) le
+    (renumbered-from low (first + 1) units (omega arith))
+
+pub Rises-renumbered : (first : ℕ) (units : List (List ℕ)) → Rises (renumbered first units)
+Rises-renumbered first [] = record { pairs = λ i j d lt within. absurd (omega arith) }
+Rises-renumbered first (octets ∷ units) =
+    record {
+      pairs =
+          AllPairs-cons (λ (a b : Numbered). a.number < b.number) (record { number = first; octets = octets }) (renumbered (first + 1) units)
+          (λ k d within. omega (arith, renumbered-from (first + 1) (first + 1) units (omega arith) k d within)) (Rises-renumbered (first + 1) units).pairs;
+    }
+
+-- the units stay
+pub octets-renumbered : (first : ℕ) (units : List (List ℕ)) → octets_of (renumbered first units) ≡ units
+octets-renumbered first [] = refl
+octets-renumbered first (octets ∷ units) = ap (λ rest. octets ∷ rest) (octets-renumbered (first + 1) units)
+
+-- where all numbers are greater, nothing is confirmed
+pub above-all : (number : ℕ) (us : List Numbered) → All (λ (u : Numbered). number < u.number) us → above number us ≡ us
+above-all number [] h = refl
+above-all number (u ∷ us) h =
+    rw (lt-ltb number u.number (All-head (λ (v : Numbered). number < v.number) u us h))
+    (ap (λ vs. u ∷ vs) (above-all number us (All-tail (λ (v : Numbered). number < v.number) u us h)))
+
+up_to-none : (number : ℕ) (us : List Numbered) → All (λ (u : Numbered). number < u.number) us → up_to number us ≡ []
+up_to-none number [] h = refl
+up_to-none number (u ∷ us) h =
+    let first : number < u.number = All-head (λ (v : Numbered). number < v.number) u us h in
+    let no : nat_le u.number number ≡ false = grind (arith, nat_tests) in
+    rw no (up_to-none number us (All-tail (λ (v : Numbered). number < v.number) u us h))
+
+pub all_greater : (number : ℕ) (u : Numbered) (us : List Numbered) → Rises (u ∷ us) → number < u.number → All (λ (v : Numbered). number < v.number) (u ∷ us)
+all_greater number u us h lt =
+    All-cons (λ (v : Numbered). number < v.number) u us lt (λ k d within. omega (arith, Rises-head u us h k d within))
+
+-- the units that are confirmed stand in front
+front_by : (number : ℕ) (u : Numbered) (us : List Numbered) → Rises (u ∷ us) → us ≡ up_to number us ++ above number us → (t : Bool) → nat_le u.number number ≡ t
+    → u ∷ us ≡ up_to number (u ∷ us) ++ above number (u ∷ us)
+front_by number u us h e true le =
+    let not_above : nat_lt number u.number ≡ false = grind (arith, nat_tests) in
+    rw (le, not_above) (ap (λ vs. u ∷ vs) e)
+front_by number u us h e false gt =
+    let lt : number < u.number = grind (arith, nat_tests) in
+    let greater = all_greater number u us h lt in
+    rw (up_to-none number (u ∷ us) greater, above-all number (u ∷ us) greater) refl
+
+pub front_first : (number : ℕ) (us : List Numbered) → Rises us → us ≡ up_to number us ++ above number us
+front_first number [] h = refl
+front_first number (u ∷ us) h = front_by number u us h (front_first number us (Rises-tail u us h)) (nat_le u.number number) refl
+
+-- one unit less: the first one is confirmed, or none is
+pub first_dropped : (number : ℕ) (us : List Stored) (u : Stored) → slice_get us 0 ≡ Some u → u.0 ≤ number
+    → above number (all_shown (drop 1 us)) ≡ above number (all_shown us)
+first_dropped number [] u e le = absurd cc
+first_dropped number (v ∷ us) u e le =
+    let same : v ≡ u = cc in
+    let below : v.0 ≤ number = rw same le in
+    let not_above : nat_lt number v.0 ≡ false = grind (arith, nat_tests) in
+    rw not_above refl
+
+pub rest_rises : (us : List Stored) → Rises (all_shown us) → Rises (all_shown (drop 1 us))
+rest_rises [] h = h
+rest_rises (u ∷ us) h = Rises-tail (shown u) (all_shown us) h
+
+pub first_kept : (number : ℕ) (us : List Stored) (u : Stored) → slice_get us 0 ≡ Some u → number < u.0 → Rises (all_shown us)
+    → above number (all_shown us) ≡ all_shown us
+first_kept number [] u e lt h = refl
+first_kept number (v ∷ us) u e lt h =
+    let same : v ≡ u = cc in
+    let greater : number < v.0 = rw same lt in
+    above-all number (shown v ∷ all_shown us) (all_greater number (shown v) (all_shown us) h greater)
+
+-- one number more is written
+pub one_renumbered : (place number : ℕ) (us : List Stored) (u w : Stored) → slice_get us place ≡ Some u
+    → shown w ≡ record { number = number; octets = u.1.items }
+    → take (suc place) (all_shown (slice_set us place w)) ++ renumbered (number + 1) (octets_of (drop (suc place) (all_shown (slice_set us place w))))
+    ≡ take place (all_shown us) ++ renumbered number (octets_of (drop place (all_shown us)))
+one_renumbered place number [] u w e is = absurd cc
+one_renumbered zero number (v ∷ us) u w e is =
+    let same : v ≡ u = cc in
+    rw (is, same) refl
+one_renumbered (suc place) number (v ∷ us) u w e is = ap (λ vs. shown v ∷ vs) (one_renumbered place number us u w e is)
+
+pub none_left : (number : ℕ) (us : List Stored) → slice_get us 0 ≡ None → all_shown us ≡ above number (all_shown us)
+none_left number [] e = refl
+none_left number (u ∷ us) e = absurd cc

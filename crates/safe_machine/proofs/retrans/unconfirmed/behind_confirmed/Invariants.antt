@@ -1,0 +1,17 @@
+use Rattle.std.proofs.Common.{◌≡◌, length}
+use Rattle.safe_machine.specs.retrans.Units.{IsRing, Rises, above, all_shown, units_from}
+use Rattle.safe_machine.proofs.retrans.unconfirmed.behind_confirmed.Given as goal
+
+-- what is left to confirm leaves what is to be left
+abbrev pub invariant-loop-count : goal.invariant-loop-count
+invariant-loop-count l =
+    record {
+      ring : IsRing (length l.places) l.first l.count;
+      left :
+          above l.number (all_shown (units_from l.places l.first l.count))
+          ≡ above l.number (all_shown (units_from l.places l.initial.first l.initial.count));
+      rising : Rises (all_shown (units_from l.places l.first l.count));
+    }
+
+abbrev pub decreases-loop-count : goal.decreases-loop-count
+decreases-loop-count l = l.count

@@ -1,4 +1,0 @@
-pub mod NameLemmas
-pub mod CountLemmas
-pub mod TeleLemmas
-pub mod WrittenLemmas

@@ -1,5 +1,0 @@
-pub mod Names
-pub mod Tele
-pub mod TeleText
-pub mod Places
-pub mod FaultNames
