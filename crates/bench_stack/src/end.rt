@@ -10,7 +10,7 @@ use linked_list_allocator::LocalHeap;
 use octets::limits::RED_PDU_MAX;
 use pdi_session::telegram::{Name, OwnedName};
 use pdi_session::{Phase, Taker};
-use stack_end::End;
+use stack_end::{End, Listener};
 use std::alloc::{Allocator, Global};
 
 /// How many datagrams one end sends at most before its peer hears them.
@@ -73,11 +73,9 @@ impl Channels for Wire {
         let _none = buffer;
         Ok(None)
     }
-
-    fn hears_notes(&self) -> bool {
-        false
-    }
 }
+
+impl Listener for Wire {}
 
 /// Counts telegrams.
 #[derive(Drop)]

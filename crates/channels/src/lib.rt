@@ -1,4 +1,4 @@
-//! The channels of an end: what datagrams are sent on and come from, and what is told of an end's doings beside them.
+//! The channels of an end: what datagrams are sent on and come from. They know of octets alone.
 //!
 //! Channels are not trusted: they may lose, repeat, delay, reorder and damage datagrams (EN 50159).
 #![tactic(auto)]
@@ -9,9 +9,6 @@ ghost use Rattle.channels.specs.Told.{Told, Sends, after_receive};
 mod memory;
 
 pub use memory::{MemChannels, MemoryFault};
-use pdi_session::Phase;
-use red_layer::RedEvent;
-use safe_machine::{ConnectionState, Step};
 
 /// Why a datagram was not sent, or nothing could be received.
 #[derive(Clone, Copy, Debug, PartialEq, Eq)]
@@ -20,21 +17,6 @@ pub enum ChannelFault {
     Room,
     /// The operating system refused it.
     System,
-}
-
-/// What is told of an end's doings, for traces and logs. No promise speaks of it.
-#[derive(Clone, Copy, Debug, PartialEq, Eq)]
-pub enum Note<'a> {
-    /// What the redundancy layer did with the datagram that came, and its number, where it is a redundancy PDU.
-    Redundancy(Option<u32>, RedEvent),
-    /// What the safety machine did with the part of this redundancy number.
-    Step(u32, Step),
-    /// The application took a telegram: kind and payload.
-    Take(u16, &'a [u8]),
-    /// The connection came to this state.
-    State(ConnectionState),
-    /// The session came to this phase.
-    Phase(Phase),
 }
 
 /// The channels of an end, numbered from 1. What is sent goes out or fails; what comes is asked for and not waited for.
@@ -60,17 +42,4 @@ pub trait Channels {
         // Whatever implements `Channels` tells the answer of a reception, or counts it as failed, and answers a
         // fault exactly where it is counted.
         ensures told { told self.new ≡ after_receive result buffer.new (told self.old) };
-
-    /// Whether it hears notes: where it does not, an end makes none. The given body says that it does.
-    fn hears_notes(&self) -> bool {
-        true
-    }
-
-    /// Hears what the end does. The given body does nothing.
-    fn note(&mut self, note: &Note<'_>)
-        // A note changes nothing that `Channels` tell.
-        ensures { told self.new ≡ told self.old }
-    {
-        let _note = note;
-    }
 }

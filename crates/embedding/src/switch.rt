@@ -2,9 +2,8 @@
 
 ghost use Rattle.std.specs.Prelude.{◌≡◌, ◌≤◌, ◌^◌, ◌/◌, ◌%◌, ◌==◌};
 
-use channels::Channels;
 use pdi_session::{Phase, Taker};
-use stack_end::{End, PollFault};
+use stack_end::{End, Listener, PollFault};
 
 /// The kind of the command: one octet of payload, 1 to switch on and 0 to switch off.
 pub const SWITCH: u16 = 0x0100;
@@ -50,7 +49,7 @@ impl Switch {
 /// # Errors
 ///
 /// As of `End::poll`, where a channel failed: what came before stays taken, and the next turn asks again.
-pub fn turn<C: Channels>(end: &mut End<C>, now: u64, switch: &mut Switch) -> Result<(), PollFault>
+pub fn turn<C: Listener>(end: &mut End<C>, now: u64, switch: &mut Switch) -> Result<(), PollFault>
     requires later { end.old.time ≤ now }
     requires now { now ≤ 2 ^ 62 }
     // No turn leaves an end with a later time than that of the turn.

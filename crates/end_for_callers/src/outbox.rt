@@ -9,6 +9,7 @@ ghost use Rattle.end_for_callers.specs.Queues.{Popped, fits, new_queue};
 use crate::queue::{Queue, TooSmall};
 use channels::{ChannelFault, Channels};
 use octets::limits::RED_PDU_MAX;
+use stack_end::Listener;
 use std::alloc::{AllocError, Global};
 use std::marker::Model;
 
@@ -97,7 +98,9 @@ impl Channels for Outbox {
         let _none = buffer;
         Ok(None)
     }
+}
 
+impl Listener for Outbox {
     /// Callers ask for what waits, and for nothing else.
     fn hears_notes(&self) -> bool
         ensures { result ≡ false }

@@ -7,7 +7,7 @@ use channels::{ChannelFault, Channels, MemChannels};
 use end_settings::Side;
 use pdi_session::Phase;
 use safe_machine::ConnectionState;
-use stack_end::{End, PollFault};
+use stack_end::{End, Listener, PollFault};
 use std::process::Abort;
 use std::test::Fail;
 
@@ -65,6 +65,8 @@ impl Channels for Faulty {
         }
     }
 }
+
+impl Listener for Faulty {}
 
 /// An end over such channels, with its clock in milliseconds, and what its application took.
 #[derive(Drop)]

@@ -1,7 +1,8 @@
-use channels::{Channels, MemChannels, Note};
+use channels::{Channels, MemChannels};
 use rasta_run::{Overheard, PduCounts};
 use red_layer::RedEvent;
 use safe_machine::{DropCause, Step};
+use stack_end::{Listener, Note};
 use std::alloc::Global;
 use std::test::Fail;
 

@@ -4,7 +4,8 @@ ghost use Rattle.std.specs.Prelude.{◌≡◌, ◌≤◌, true, length, is_ok, I
 ghost use Rattle.channels.specs.Told.{Sends, after_receive};
 
 use crate::ear::Ear;
-use channels::{ChannelFault, Channels, Note};
+use channels::{ChannelFault, Channels};
+use stack_end::{Listener, Note};
 use std::alloc::{AllocError, Global};
 
 /// Channels that are listened to. What is sent and received goes through as it is, and notes are handed on.
@@ -50,17 +51,18 @@ impl<C: Channels> Channels for Overheard<C> {
         }
         result
     }
+}
 
-    /// An ear that listens hears notes, and so do channels that do.
+impl<C: Channels> Listener for Overheard<C> {
+    /// An ear that listens hears notes.
     fn hears_notes(&self) -> bool
-        // An ear that listens hears notes.
-        ensures { self.now.ear.value.listens ≡ true → result ≡ true }
+        // Notes are heard exactly where an ear listens.
+        ensures { result ≡ self.now.ear.value.listens }
     {
-        self.ear.listens || self.inner.hears_notes()
+        self.ear.listens
     }
 
     fn note(&mut self, note: &Note<'_>) {
-        self.inner.note(note);
         self.ear.hear_note(note);
     }
 }

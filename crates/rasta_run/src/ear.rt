@@ -10,12 +10,12 @@ ghost use Rattle.rasta_run.specs.Telling as telling;
 use crate::confirming::Awaiting;
 use crate::counts::{ChannelCounts, PduCounts};
 use crate::header::{Header, header_of};
-use channels::Note;
 use octets::limits::CHANNELS_MAX;
 use pdu_text::{Cause, Departure, Happening};
 use red_layer::RedEvent;
 use safe_machine::{DropCause, Step};
 use safe_pdu::Leaving;
+use stack_end::Note;
 
 /// How many happenings are kept at once. A turn takes 64 datagrams at most, and few of them make more than two.
 const KEPT: usize = 256;

@@ -10,12 +10,12 @@ ghost use Rattle.stack_end.specs.Recent.{DatagramRecent};
 ghost use Rattle.stack_end.specs.Turns.{above, arrives, can_pack, put_answer, puts, turn};
 
 use crate::End;
-use channels::Channels;
+use crate::note::Listener;
 use octets::Milliseconds;
 use pdi_session::{PutFault, Taker};
 use std::alloc::Allocator;
 
-impl<C: Channels, A: Allocator> End<C, A> {
+impl<C: Listener, A: Allocator> End<C, A> {
     /// The layers take a datagram: what `arrive` does.
     pub(crate) fn take_datagram<T: Taker>(
         &mut self,

@@ -21,8 +21,9 @@ ghost use Rattle.stack_end.specs.Polling.{Asked, AskedOnce, HeardAll, HeardNext,
 ghost use Rattle.stack_end.specs.declared.OpenFault.TheVariants.{BadConfig};
 
 use crate::layers::Layers;
+use crate::note::Listener;
 use crate::{OpenFault, POLL_BUFFER, POLL_DATAGRAMS, PollFault, opening};
-use channels::{ChannelFault, Channels};
+use channels::ChannelFault;
 use end_settings::{EndConfig, Side};
 use octets::Milliseconds;
 use pdi_session::{InitFault, Phase, PutFault, Taker};
@@ -54,7 +55,7 @@ impl<C, A: Allocator> Model for End<C, A> {
     ghost invariant = { λ e. IsKept e.layers };
 }
 
-impl<C: Channels, A: Allocator + Copy> End<C, A> {
+impl<C: Listener, A: Allocator + Copy> End<C, A> {
     /// Opens an end on one side of a connection. An interlocking asks for the connection at once, under the first sequence number
     /// told; a field element waits for that. It is the only call that takes memory. A send on a channel that `channels` does not
     /// have fails like any other.
@@ -90,7 +91,7 @@ impl<C: Channels, A: Allocator + Copy> End<C, A> {
     }
 }
 
-impl<C: Channels, A: Allocator> End<C, A> {
+impl<C: Listener, A: Allocator> End<C, A> {
     ghost use Rattle.stack_end.specs.Lending.{lends_channels};
 
     /// Takes a datagram that came on a channel, of any octets. What the application takes goes to the taker in order, and what waits is sent

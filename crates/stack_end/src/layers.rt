@@ -7,9 +7,9 @@ ghost use Rattle.stack_end.specs.Fields.{BothDo, BothDoAlone};
 ghost use Rattle.stack_end.specs.Kept.{IsKept};
 ghost use Rattle.stack_end.specs.Turns.{above, arrives, closes, completes, goes_on, passes, puts};
 
+use crate::note::Listener;
 use crate::telling::tell_change;
 use crate::upper::Upper;
-use channels::Channels;
 use octets::Milliseconds;
 use pdi_session::{InitFault, PutFault, Taker};
 use red_layer::RedLayer;
@@ -25,7 +25,7 @@ pub(crate) struct Layers<C, A: Allocator = Global> {
     pub(crate) upper: Upper<C, A>,
 }
 
-impl<C: Channels, A: Allocator> Layers<C, A> {
+impl<C: Listener, A: Allocator> Layers<C, A> {
     /// Takes a datagram: the guard, and what follows where it has not left.
     pub(crate) fn arrive<T: Taker>(&mut self, octets: &[u8], now: Milliseconds, taker: &mut T)
         requires now { now ≤ 2 ^ 62 }

@@ -8,6 +8,7 @@ mod end;
 mod judging;
 mod law;
 mod layers;
+mod note;
 mod opening;
 mod sending;
 mod telling;
@@ -15,6 +16,7 @@ mod upper;
 
 pub use end::End;
 pub use law::end_law;
+pub use note::{Listener, Note};
 
 /// How many octets a datagram may have that a poll takes; a longer one is cut.
 pub const POLL_BUFFER: usize = 2_048;

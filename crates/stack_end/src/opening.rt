@@ -19,11 +19,11 @@ ghost use Rattle.stack_end.specs.declared.OpenFault.TheVariants.{BadConfig};
 
 use crate::OpenFault;
 use crate::layers::Layers;
+use crate::note::Listener;
 use crate::sending::ToChannels;
 use crate::telling::tell_opened;
 use crate::upper::Upper;
 use arrayvec::ArrayVec;
-use channels::Channels;
 use end_settings::{EndConfig, Side};
 use octets::{Milliseconds, copy_of};
 use pdi_session::packing::{Unit, Waiting};
@@ -34,7 +34,7 @@ use safe_machine::{Machine, MachineFault};
 use std::alloc::Allocator;
 
 /// The layers of an end as it is opened; the channels come back where it is not.
-pub(crate) fn open<C: Channels, A: Allocator + Copy>(
+pub(crate) fn open<C: Listener, A: Allocator + Copy>(
     alloc: A,
     channels: C,
     config: EndConfig,
@@ -99,7 +99,7 @@ fn names_of(config: &EndConfig) -> KnownPair {
 }
 
 /// The machine of an end with these settings; what it makes is sent.
-fn open_machine<C: Channels, A: Allocator>(
+fn open_machine<C: Listener, A: Allocator>(
     alloc: A,
     config: &EndConfig,
     side: Side,

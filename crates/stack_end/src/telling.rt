@@ -3,7 +3,7 @@
 ghost use Rattle.std.specs.Prelude.{◌≡◌};
 
 use crate::judging::Phases;
-use channels::{Channels, Note};
+use crate::note::{Listener, Note};
 use octets::limits::SAFE_HEADER;
 use pdi_session::Phase;
 use pdi_session::packing::unpack;
@@ -20,14 +20,14 @@ pub(crate) struct Seen {
 }
 
 /// Tells the state of an end that was opened.
-pub(crate) fn tell_opened<C: Channels>(channels: &mut C, state: ConnectionState)
+pub(crate) fn tell_opened<C: Listener>(channels: &mut C, state: ConnectionState)
     ensures { C.told channels.new ≡ C.told channels.old }
 {
     channels.note(&Note::State(state));
 }
 
 /// Tells what the redundancy layer did with a datagram.
-pub(crate) fn tell_event<C: Channels>(channels: &mut C, octets: &[u8], event: RedEvent)
+pub(crate) fn tell_event<C: Listener>(channels: &mut C, octets: &[u8], event: RedEvent)
     ensures { C.told channels.new ≡ C.told channels.old }
 {
     if !channels.hears_notes() {
@@ -42,7 +42,7 @@ pub(crate) fn tell_event<C: Channels>(channels: &mut C, octets: &[u8], event: Re
 
 /// Tells what the machine did with a part, and then what its unit did in the session: a message after which the phase is
 /// the same was taken, if it did not end the session.
-pub(crate) fn tell_step<C: Channels>(
+pub(crate) fn tell_step<C: Listener>(
     channels: &mut C,
     number: u32,
     step: Step,
@@ -83,7 +83,7 @@ pub(crate) fn tell_step<C: Channels>(
 }
 
 /// Tells a telegram that was taken.
-fn tell_take<C: Channels>(channels: &mut C, message: &[u8])
+fn tell_take<C: Listener>(channels: &mut C, message: &[u8])
     ensures { C.told channels.new ≡ C.told channels.old }
 {
     if let Ok(telegram) = pdi_session::telegram::decode(message) {
@@ -92,7 +92,7 @@ fn tell_take<C: Channels>(channels: &mut C, message: &[u8])
 }
 
 /// Tells state and phase, where they are others than before.
-pub(crate) fn tell_change<C: Channels>(channels: &mut C, before: Seen, after: Seen)
+pub(crate) fn tell_change<C: Listener>(channels: &mut C, before: Seen, after: Seen)
     ensures { C.told channels.new ≡ C.told channels.old }
 {
     if !channels.hears_notes() {

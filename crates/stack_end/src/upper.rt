@@ -10,10 +10,10 @@ ghost use Rattle.stack_end.specs.Turns.{can_pack, closes, completes, goes_up, gu
 ghost use Rattle.stack_end.specs.Turns.{settles, ticks};
 
 use crate::judging::{Phases, ToSession};
+use crate::note::Listener;
 use crate::sending::ToChannels;
 use crate::telling::{Seen, tell_change, tell_event, tell_step};
 use arrayvec::ArrayVec;
-use channels::Channels;
 use octets::limits::{SAFE_PDU_MAX, UNIT_MESSAGES};
 use octets::{Milliseconds, copy_of};
 use pdi_session::packing::{Unit, Waiting, pack_into};
@@ -64,7 +64,7 @@ struct Heard {
     phases: Phases,
 }
 
-impl<C: Channels, A: Allocator> Upper<C, A> {
+impl<C: Listener, A: Allocator> Upper<C, A> {
     /// The machine takes a part, and the session the unit that goes up. Answers why the end is to leave, if it is.
     fn hear<T: Taker>(&mut self, octets: &[u8], now: Milliseconds, taker: &mut T) -> Heard
         requires reach { self.old.machine.expected < 2 ^ 62 }
@@ -345,7 +345,7 @@ struct ToUpper<'a, 'b, C, A: Allocator, T> {
     now: Milliseconds,
 }
 
-impl<'a, 'b, C: Channels, A: Allocator, T: Taker> Upward for ToUpper<'a, 'b, C, A, T> {
+impl<'a, 'b, C: Listener, A: Allocator, T: Taker> Upward for ToUpper<'a, 'b, C, A, T> {
     ghost use Rattle.std.specs.Prelude.{◌≡◌, ◌*◌, ◌≤◌};
     ghost use Rattle.stack_end.specs.Later.{later_reach};
 
@@ -363,7 +363,7 @@ impl<'a, 'b, C: Channels, A: Allocator, T: Taker> Upward for ToUpper<'a, 'b, C, 
     ghost later = { λ s n m le h. (later_reach s.upper.now.machine.expected n m le h.0, h.1) };
 }
 
-impl<C: Channels, A: Allocator> Upper<C, A> {
+impl<C: Listener, A: Allocator> Upper<C, A> {
     /// The redundancy layer takes a datagram, and what is above it each part that goes up.
     pub(crate) fn receive<B: Allocator, T: Taker>(
         &mut self,

@@ -9,8 +9,9 @@ ghost use Rattle.stack_engine.specs.Keeping.{Keeping, has_part};
 use crate::notes::{KeptNote, Notes};
 use crate::telegrams::Telegrams;
 use crate::texts::Texts;
-use channels::{ChannelFault, Channels, Note};
+use channels::{ChannelFault, Channels};
 use octets::limits::{RED_HEADER, RED_PDU_MAX};
+use stack_end::{Listener, Note};
 use std::alloc::{AllocError, Allocator, Global};
 use std::collections::VecDeque;
 use std::marker::Model;
@@ -177,6 +178,12 @@ impl<A: Allocator + Copy> Channels for Keeper<A> {
     fn receive(&mut self, buffer: &mut [u8]) -> Result<Option<(usize, usize)>, ChannelFault> {
         let _none = buffer;
         Ok(None)
+    }
+}
+
+impl<A: Allocator + Copy> Listener for Keeper<A> {
+    fn hears_notes(&self) -> bool {
+        true
     }
 
     fn note(&mut self, note: &Note<'_>) {

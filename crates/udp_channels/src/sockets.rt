@@ -7,6 +7,7 @@ ghost use Rattle.channels.specs.declared.ChannelFault.TheVariants as channel_fau
 ghost use Rattle.udp_channels.specs.declared.sockets.Reception.{Reception};
 
 use channels::{ChannelFault, Channels};
+use stack_end::Listener;
 use std::alloc::{Allocator, Global};
 use std::marker::Model;
 
@@ -137,7 +138,9 @@ impl<S: Socket, A: Allocator> Channels for SocketChannels<S, A> {
         }
         result
     }
+}
 
+impl<S: Socket, A: Allocator> Listener for SocketChannels<S, A> {
     /// Nobody listens at a socket.
     fn hears_notes(&self) -> bool
         // Channels over sockets want no notes.
