@@ -1,4 +1,4 @@
-/* What a call over the C boundary costs, and a telegram from put to take: the least and the median of many runs. */
+/* Measures the cost of a call over the C boundary, and of a telegram from put to take: the least and the median of many runs. */
 #define _POSIX_C_SOURCE 200809L
 #include "bekwidas.h"
 
@@ -39,7 +39,7 @@ static int carry(bek_end *from, bek_end *to, uint64_t now) {
     return some;
 }
 
-/* Puts of one octet each, what they send on the first channel heard, and the copies on the second: the times of a batch each. */
+/* Times of a batch each: puts of one octet, arrivals of their datagrams on the first channel, and of the copies on the second. */
 static double sendings[RUNS], arrivals[RUNS], copies[RUNS];
 
 static void batch(int run, uint64_t now) {
@@ -83,7 +83,7 @@ int main(void) {
     size_t length;
     int run, call, sum = 0;
 
-    bek_settings_init(&s);
+    must(bek_settings_init(&s, sizeof s) == BEK_OK);
     s.side = BEK_INTERLOCKING;
     s.id = 1;
     s.peer_id = 2;

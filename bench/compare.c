@@ -1,4 +1,4 @@
-// Compares MD4 of this repository with libcrypto's for each length from 0 to 300, whole and cut in two anywhere.
+// Compares MD4 of this repository with libcrypto's for each length from 0 to 300, whole and split in two at every place.
 #define OPENSSL_SUPPRESS_DEPRECATED
 #include <openssl/md4.h>
 #include <stdint.h>

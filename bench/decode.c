@@ -1,4 +1,4 @@
-// Times the decoding of a datagram, and the digest in it, and prints the least time of each and the digest's share.
+// Times the decoding of a datagram, and the digest in it; prints the least time of each and the digest's share.
 #include <stdint.h>
 #include <stdio.h>
 #include <string.h>
@@ -18,7 +18,7 @@ static size_t number(uint8_t *at, uint32_t value, size_t octets) {
     return octets;
 }
 
-// A Data with so many telegrams of so many octets of payload and such a code; answers its size.
+// Makes a Data with this number of telegrams, octets of payload and length of code; returns its size.
 static size_t datagram(uint8_t *d, int telegrams, size_t payload, size_t code) {
     size_t body = telegrams * (45 + payload), size = 8 + 28 + body + code, n = 0;
     n += number(d + n, (uint32_t)size, 2);

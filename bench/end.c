@@ -1,42 +1,37 @@
-// Times one put with its sending on two channels, one arrival of its datagram, and one arrival of a second copy of it on another channel, at
-// an end whose session is established, beside the digest in each, by this repository and by libcrypto; and prints what an end at 1,000 telegrams a
-// second takes of an hour, and how many octets it holds.
+// Times, at an end whose session is established, one put with its sending on two channels, one arrival of its datagram, one arrival of a second copy on
+// another channel, and the digest in each: of this repository, of an end in plain C (c_end.c), and of libcrypto. It first compares what both ends send,
+// and measures nothing if an octet differs. A time depends on the place of the stack, so each is taken at PLACES places of a page: the least, and the
+// mean of the places. It also prints the processor time of an end for 1,000 telegrams a second in an hour, and its memory in octets.
 #define OPENSSL_SUPPRESS_DEPRECATED
+#include "both.h"
+
 #include <openssl/md4.h>
-#include <stdbool.h>
-#include <stdint.h>
 #include <stdio.h>
 #include <stdlib.h>
+#include <string.h>
 #include <time.h>
 
-struct tally { uint32_t sent, taken; bool is_established; };
 struct held { uint64_t own, taken; };
-
-void bench_md4(const uint8_t *octets, size_t size, uint8_t *out, size_t out_size);
-uint32_t bench_end_rows(const uint8_t *payload, size_t payload_size, uint32_t mwa, uint32_t times, uint8_t *data_row, size_t data_size,
-                        uint8_t *heartbeat_row, size_t heartbeat_size);
-struct tally bench_end_arrives(const uint8_t *data_row, size_t data_size, size_t size, uint32_t mwa, uint32_t times, uint32_t copies);
-struct tally bench_end_puts(const uint8_t *payload, size_t payload_size, uint32_t mwa, uint32_t times, const uint8_t *heartbeat_row,
-                            size_t heartbeat_size, size_t size);
 struct held bench_end_octets(uint32_t q);
 
-// a Data of one telegram of one octet behind the redundancy header, its heartbeat, and the safety code
-enum { TIMES = 256, RED = 8, HEADER = 28, CODE = 8, TELEGRAM = 44, SIZE = RED + HEADER + 2 + TELEGRAM + CODE, HEARTBEAT = RED + HEADER + CODE };
+enum { PLACES = 64, STEP = 64, RUNS = 51 };
+enum { OURS, IN_C, ENDS };
+enum measure { OPENING, ARRIVAL, ARRIVAL_WITH_BEATS, SECOND_COPY, SILENCE, PUT, PUT_WITH_BEATS, DIGEST, LIBCRYPTO, MEASURES };
 
-// What two ends said to one another, where the field element makes a heartbeat after so many units.
-struct rows {
-    uint32_t mwa;
-    uint8_t data[TIMES * 256], heartbeats[TIMES * HEARTBEAT];
-};
+// The datagrams of a field element that makes a heartbeat after 16 units, and of one that makes one after each.
+static struct rows rare, frequent;
 
-static struct rows rare = {.mwa = 16}, frequent = {.mwa = 1};
-static uint8_t payload[1] = {7};
-static size_t size;
+// The least time of each measure in nanoseconds: at the present place of the stack, the least of all places, and their mean.
+static double times[ENDS][MEASURES], least[ENDS][MEASURES], mean[ENDS][MEASURES];
+
+// What is printed.
+enum call { THE_DIGEST, THE_PUT, THE_ARRIVAL, THE_SECOND_COPY, CALLS };
+static const char *const calls[] = {"digest", "put", "arrive", "arrive again"};
 
 static double nanoseconds(void) {
     struct timespec now;
     clock_gettime(CLOCK_MONOTONIC, &now);
-    return now.tv_sec * 1e9 + now.tv_nsec;
+    return (double)now.tv_sec * 1e9 + (double)now.tv_nsec;
 }
 
 static void must(bool holds, const char *otherwise) {
@@ -45,81 +40,114 @@ static void must(bool holds, const char *otherwise) {
     exit(1);
 }
 
-static void make(struct rows *rows) {
-    uint32_t taken = bench_end_rows(payload, sizeof payload, rows->mwa, TIMES, rows->data, TIMES * size, rows->heartbeats,
-                                    TIMES / rows->mwa * HEARTBEAT);
-    must(taken == TIMES, "two ends did not hand on all telegrams");
+static bool libcrypto_digests(void) {
+    uint8_t digest[16];
+    for (size_t i = 0; i < TIMES; i++) MD4(rare.data + i * rare.size + RED_HEADER, rare.size - RED_HEADER - CODE, digest);
+    return true;
 }
 
-static void keep(double *least, double time) {
-    if (time < *least) *least = time;
-}
-
-static double arrivals(const struct rows *rows, uint32_t times, uint32_t copies) {
-    double start = nanoseconds();
-    struct tally t = bench_end_arrives(rows->data, times * size, size, rows->mwa, times, copies);
-    double time = nanoseconds() - start;
-    must(t.is_established && t.taken == times && t.sent == 2 * (times / rows->mwa), "a field element did not take all telegrams");
-    return time;
-}
-
-static double puts_of(const struct rows *rows, uint32_t times) {
-    double start = nanoseconds();
-    struct tally t = bench_end_puts(payload, sizeof payload, rows->mwa, times / rows->mwa, rows->heartbeats, times / rows->mwa * HEARTBEAT, HEARTBEAT);
-    double time = nanoseconds() - start;
-    must(t.is_established && t.sent == 2 * times, "an interlocking did not send all telegrams");
-    return time;
-}
-
-static double digests(const struct rows *rows) {
-    uint8_t out[16];
-    double start = nanoseconds();
-    for (size_t i = 0; i < TIMES; i++) bench_md4(rows->data + i * size + RED, size - RED - CODE, out, 16);
-    return nanoseconds() - start;
-}
-
-static double libcrypto_digests(const struct rows *rows) {
-    uint8_t out[16];
-    double start = nanoseconds();
-    for (size_t i = 0; i < TIMES; i++) MD4(rows->data + i * size + RED, size - RED - CODE, out);
-    return nanoseconds() - start;
-}
-
-// One telegram of those in a time, without the heartbeats, which are told by the time with one after each unit.
-static double one(double opening, double time, double frequent_time) {
-    double heartbeats = TIMES / rare.mwa, heartbeat = (frequent_time - time) / (TIMES - heartbeats);
-    return (time - opening - heartbeats * heartbeat) / TIMES;
-}
-
-static void line(const char *what, double time, double digest) {
-    printf("%14s %10.1f %10.1f %10.1f", what, time, digest, time - digest);
-    printf(digest > 0 ? " %10.2f\n" : "\n", time / digest);
-}
-
-int main(void) {
-    double opening = 1e18, silent = 1e18, arrived[2] = {1e18, 1e18}, twice = 1e18, sent[2] = {1e18, 1e18}, digest = 1e18, theirs = 1e18;
-    size = SIZE;
-    make(&rare);
-    make(&frequent);
-    for (int run = 0; run < 501; run++) {
-        keep(&opening, arrivals(&rare, 0, 1));
-        keep(&silent, puts_of(&rare, 0));
-        keep(&arrived[0], arrivals(&rare, TIMES, 1));
-        keep(&arrived[1], arrivals(&frequent, TIMES, 1));
-        keep(&twice, arrivals(&rare, TIMES, 2));
-        keep(&sent[0], puts_of(&rare, TIMES));
-        keep(&sent[1], puts_of(&frequent, TIMES));
-        keep(&digest, digests(&rare));
-        keep(&theirs, libcrypto_digests(&rare));
+static bool run(int end, enum measure measure) {
+    switch (measure) {
+    case OPENING: return end == OURS ? ours_arrive(&rare, 0, 1) : c_arrives(&rare, 0, 1);
+    case ARRIVAL: return end == OURS ? ours_arrive(&rare, TIMES, 1) : c_arrives(&rare, TIMES, 1);
+    case ARRIVAL_WITH_BEATS: return end == OURS ? ours_arrive(&frequent, TIMES, 1) : c_arrives(&frequent, TIMES, 1);
+    case SECOND_COPY: return end == OURS ? ours_arrive(&rare, TIMES, 2) : c_arrives(&rare, TIMES, 2);
+    case SILENCE: return end == OURS ? ours_put(&rare, 0) : c_puts(&rare, 0);
+    case PUT: return end == OURS ? ours_put(&rare, TIMES) : c_puts(&rare, TIMES);
+    case PUT_WITH_BEATS: return end == OURS ? ours_put(&frequent, TIMES) : c_puts(&frequent, TIMES);
+    case DIGEST: (end == OURS ? our_digests : c_digests)(&rare); return true;
+    default: return libcrypto_digests();
     }
-    printf("an end, datagrams of %zu octets, two channels\n", size);
-    double put = one(silent, sent[0], sent[1]), arrive = one(opening, arrived[0], arrived[1]), again = (twice - arrived[0]) / TIMES;
-    printf("%14s %10s %10s %10s %10s\n", "call", "ns", "digest ns", "other ns", "ratio");
-    line("put", put, digest / TIMES);
-    line("arrive", arrive, digest / TIMES);
-    line("arrive again", again, 0);
-    printf("the digest takes %.2f times what libcrypto's does over the same octets (%.1f ns)\n", digest / theirs, theirs / TIMES);
-    printf("1,000 telegrams a second for an hour: %.2f s to put, %.2f s to hear on two channels\n", put * 3.6e-3, (arrive + again) * 3.6e-3);
+}
+
+// Takes each measure once, at both ends in turn.
+static void measure_once(void) {
+    for (int measure = 0; measure < MEASURES; measure++)
+        for (int end = 0; end < ENDS; end++) {
+            double start = nanoseconds();
+            bool is_done = run(end, measure);
+            double time = nanoseconds() - start;
+            must(is_done, "an end did not take or send all telegrams");
+            if (time < times[end][measure]) times[end][measure] = time;
+        }
+}
+
+// Returns the time of one telegram without the heartbeats, which follow from the time with one after each unit.
+static double one(double opening, double time, double frequent_time) {
+    double beats = TIMES / (double)rare.mwa, beat = (frequent_time - time) / (TIMES - beats);
+    return (time - opening - beats * beat) / TIMES;
+}
+
+static double call_time(const double *of, enum call call) {
+    switch (call) {
+    case THE_DIGEST: return of[DIGEST] / TIMES;
+    case THE_PUT: return one(of[SILENCE], of[PUT], of[PUT_WITH_BEATS]);
+    case THE_ARRIVAL: return one(of[OPENING], of[ARRIVAL], of[ARRIVAL_WITH_BEATS]);
+    default: return (of[SECOND_COPY] - of[ARRIVAL]) / TIMES;
+    }
+}
+
+// Measures at one place, and adds the times to the least and the mean.
+static __attribute__((noinline)) void measure_here(void) {
+    for (int end = 0; end < ENDS; end++)
+        for (int measure = 0; measure < MEASURES; measure++) times[end][measure] = 1e18;
+    for (int i = 0; i < RUNS; i++) measure_once();
+    for (int end = 0; end < ENDS; end++)
+        for (int measure = 0; measure < MEASURES; measure++) {
+            double time = times[end][measure];
+            if (time < least[end][measure]) least[end][measure] = time;
+            mean[end][measure] += time / PLACES;
+        }
+}
+
+static __attribute__((noinline)) void measure_below(size_t octets) {
+    volatile uint8_t room[octets + 1];
+    room[0] = room[octets] = 0;
+    measure_here();
+    room[octets] = room[0];
+}
+
+static void print_calls(double of[ENDS][MEASURES], const char *what) {
+    printf("%-14s %9s %9s %7s %12s %9s %7s\n", what, "ours ns", "C ns", "ratio", "no digest", "C", "ratio");
+    for (int call = 0; call < CALLS; call++) {
+        double a = call_time(of[OURS], call), b = call_time(of[IN_C], call);
+        printf("%14s %9.1f %9.1f %7.2f", calls[call], a, b, a / b);
+        if (call == THE_PUT || call == THE_ARRIVAL) {
+            double c = a - call_time(of[OURS], THE_DIGEST), d = b - call_time(of[IN_C], THE_DIGEST);
+            printf(" %12.1f %9.1f %7.2f", c, d, c / d);
+        }
+        printf("\n");
+    }
+}
+
+// Makes runs of one measure, or of none, for a program that counts instructions.
+static int only(const char *end, const char *measure) {
+    static const char *const names[] = {"ours", "C"};
+    static const char *const words[] = {"opening", "arrive", "arrive-beats", "again", "silence", "put", "put-beats", "digest", "none"};
+    for (int i = 0; i < ENDS; i++)
+        for (int k = 0; k < MEASURES; k++)
+            if (strcmp(end, names[i]) == 0 && strcmp(measure, words[k]) == 0) {
+                for (int time = 0; k < LIBCRYPTO && time < 40; time++) must(run(i, k), "an end did not take or send all telegrams");
+                printf("%d\n", 40 * TIMES);
+                return 0;
+            }
+    return 2;
+}
+
+int main(int count, char **words) {
+    must(both_agree(), "nothing is measured");
+    must(rows_make(&rare, 1, 16) && rows_make(&frequent, 1, 1), "two ends did not hand on all telegrams");
+    if (count == 3) return only(words[1], words[2]);
+    for (int end = 0; end < ENDS; end++)
+        for (int measure = 0; measure < MEASURES; measure++) least[end][measure] = 1e18;
+    for (size_t place = 0; place < PLACES; place++) measure_below(place * STEP);
+    printf("an end, datagrams of %zu octets, two channels; both ends send the same octets\n", rare.size);
+    print_calls(least, "least");
+    print_calls(mean, "mean");
+    const double *ours = least[OURS];
+    printf("the digest takes %.2f times as long as libcrypto's over the same octets (%.1f ns)\n", ours[DIGEST] / ours[LIBCRYPTO], ours[LIBCRYPTO] / TIMES);
+    printf("1,000 telegrams a second for an hour: %.2f s to put, %.2f s to receive on two channels\n", call_time(ours, THE_PUT) * 3.6e-3,
+           (call_time(ours, THE_ARRIVAL) + call_time(ours, THE_SECOND_COPY)) * 3.6e-3);
     for (uint32_t q = 4; q <= 8; q += 4) {
         struct held held = bench_end_octets(q);
         must(held.taken > 0, "no end was opened over a heap");

@@ -1,5 +1,5 @@
-// Times one sending and one arrival of a Data at a safety machine in Up, and the digest in it, and prints the least time
-// of each and the digest's share; and how many octets a machine holds.
+// Times one sending and one arrival of a Data at a safety machine in Up, and the digest in it; prints the least time
+// of each, the digest's share, and the memory of a machine in octets.
 #include <stdbool.h>
 #include <stdint.h>
 #include <stdio.h>
@@ -20,7 +20,7 @@ struct held bench_machine_octets(void);
 
 enum { DATA = 256, HEADER = 28, LONGEST_UNIT = 1206, LONGEST_CODE = 16 };
 
-// What two ends said to one another, where the server makes a heartbeat after so many units.
+// The PDUs of two ends, if the server makes a heartbeat after this number of units.
 struct rows {
     uint32_t mwa;
     uint8_t data[DATA * (HEADER + LONGEST_UNIT + LONGEST_CODE)], heartbeats[DATA * (HEADER + LONGEST_CODE)];
@@ -52,7 +52,7 @@ static void keep(double *least, double time) {
     if (time < *least) *least = time;
 }
 
-// A connection is opened, and the server hears so many Data.
+// Opens a connection, and the server receives this number of Data.
 static double arrivals(const struct rows *rows, uint32_t times) {
     double start = nanoseconds();
     struct tally t = bench_machine_arrives(rows->data, times * size, size, code, rows->mwa, times);
@@ -61,7 +61,7 @@ static double arrivals(const struct rows *rows, uint32_t times) {
     return time;
 }
 
-// A connection is opened, and the client sends all units and hears that they are confirmed.
+// Opens a connection; the client sends all units and receives their confirmations.
 static double sendings(const struct rows *rows) {
     uint32_t last_octets = 0;
     for (size_t i = 1; i <= DATA; i++) last_octets += rows->data[i * size - 1];
@@ -73,7 +73,7 @@ static double sendings(const struct rows *rows) {
     return time;
 }
 
-// The digests over all that the codes of the Data cover.
+// Makes the digests over all octets that the codes of the Data cover.
 static double digests(const struct rows *rows) {
     uint8_t out[16];
     double start = nanoseconds();
@@ -81,7 +81,7 @@ static double digests(const struct rows *rows) {
     return nanoseconds() - start;
 }
 
-// One Data of those in a time, without the heartbeats, which are told by the time with one after each unit.
+// Returns the time of one Data without the heartbeats, which follow from the time with one after each unit.
 static double one(double opening, double time, double frequent_time) {
     double heartbeats = DATA / rare.mwa, heartbeat = (frequent_time - time) / (DATA - heartbeats);
     return (time - opening - heartbeats * heartbeat) / DATA;

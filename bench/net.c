@@ -1,4 +1,4 @@
-/* The ceiling of sockets: datagrams of 90 octets, sent and received by two ends in one process over the loopback, without a stack.
+/* Measures the limit of the sockets: datagrams of 90 octets, sent and received by two ends in one process over the loopback, without a stack.
  * net CHANNELS BATCH DATAGRAMS: each end sends BATCH datagrams on every channel, then both receive until nothing comes. */
 #include <arpa/inet.h>
 #include <fcntl.h>
@@ -47,7 +47,7 @@ int main(int count, char **words) {
             for (int channel = 0; channel < channels;) {
                 if (recvfrom(ends[end][channel], buffer, sizeof buffer, 0, NULL, NULL) >= 0) {
                     received++;
-                    channel = 0; /* as the ends do: the channels are asked in their order each time */
+                    channel = 0; /* as the ends do: poll the channels in order each time */
                 } else {
                     channel++;
                 }

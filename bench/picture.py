@@ -1,10 +1,10 @@
-"""A picture of counts over two quantities, as an SVG text."""
+"""Pictures of counts over two quantities, as SVG text."""
 
 WIDE, HIGH, LEFT, TOP, GAP = 52, 26, 74, 66, 46
 
 
 def colour(share):
-    """From white to red."""
+    """Returns a colour from white to red."""
     light = round(255 - 190 * share)
     return '#ff%02x%02x' % (light, light) if share else '#ffffff'
 
@@ -14,7 +14,7 @@ def text(x, y, words, anchor='middle', more=''):
 
 
 def panels(title, shares, most, below, columns, beside, rows, note):
-    """Panels beside one another, each with its name, its rows of counts of at most `most`, and above which row its line stands."""
+    """Draws panels side by side, each with its name, its rows of counts of at most `most`, and the row below its line."""
     wide, high = WIDE * len(columns), HIGH * len(rows)
     right = LEFT + len(shares) * (wide + GAP)
     lines = [text(right / 2, 22, title, more=' font-size="15"')]

@@ -1,4 +1,4 @@
-// Times how long the redundancy layer takes to drop a repeat, and prints the least time.
+// Times the dropping of a repeat by the redundancy layer, and prints the least time.
 #include <stdint.h>
 #include <stdio.h>
 #include <time.h>

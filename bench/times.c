@@ -1,4 +1,4 @@
-// Times MD4 of this repository beside libcrypto's, turn about, and prints the least time of each.
+// Times MD4 of this repository and of libcrypto in turn, and prints the least time of each.
 #define OPENSSL_SUPPRESS_DEPRECATED
 #include <openssl/md4.h>
 #include <stdint.h>
@@ -18,7 +18,7 @@ static double seconds(void) {
     return now.tv_sec + now.tv_nsec * 1e-9;
 }
 
-// The nanoseconds of one call. Each call reads what the one before it wrote.
+// Returns the nanoseconds of one call. Each call reads the output of the one before.
 static double once(void (*digest)(uint8_t *, size_t, uint8_t *), uint8_t *octets, size_t size, long calls) {
     uint8_t out[16] = {0};
     double start = seconds();

@@ -1,7 +1,7 @@
 """Both ends of the plain model (tests/model) over channels that lose, delay, repeat and swap datagrams, in virtual time.
 
-Time is counted in microseconds; an end is handed whole milliseconds. Every deadline is met at its time, and an end takes no time for what it
-does. The same seed gives the same run on any machine.
+Time is counted in microseconds; an end gets whole milliseconds. Every deadline is met at its time, and the work of an end takes no time. The
+same seed gives the same run on any machine.
 """
 import hashlib
 import heapq
@@ -27,18 +27,18 @@ TIMEOUT = 3  # the reason of a DiscReq
 
 
 class Broken(Exception):
-    """A promise is false in a run."""
+    """A promise that is false in a run."""
 
 
 def quick_digest(initial_value, octets):
-    """It stands for MD4, which is slow here: no rule asks which digest it is."""
+    """A replacement for MD4, which is slow here; no rule depends on the digest."""
     return hashlib.blake2b(octets, digest_size=16, key=initial_value).digest()
 
 
 class Network:
-    """What becomes of a datagram on a channel. `delays` has for each channel how many milliseconds every datagram takes. Beyond that one is
-    lost, or a copy of it comes later too, or it comes later, or it changes places with the next one of its channel and direction, by these
-    shares; later is up to `jitter` milliseconds. The first `spared` datagrams of each channel and direction only take their time."""
+    """What happens to a datagram on a channel. `delays` has for each channel the milliseconds that every datagram takes. In addition a share
+    of datagrams is lost, comes again later, comes later, or changes places with the next one of its channel and direction; later is up to
+    `jitter` milliseconds. The first `spared` datagrams of each channel and direction are only delayed."""
 
     def __init__(self, delays, loss=0.0, repeated=0.0, later=0.0, swapped=0.0, jitter=0.0, spared=6):
         self.delays, self.jitter, self.spared = delays, jitter, spared
@@ -55,7 +55,7 @@ class Direction:
         self.spared, self.held = network.spared, None
 
     def carries(self, octets, now):
-        """Which datagrams come, and when, now that this one is sent."""
+        """Returns which datagrams come, and when, now that this one is sent."""
         came = now + self.delay
         if self.spared > 0:
             self.spared -= 1
@@ -82,32 +82,32 @@ class Direction:
 
 
 class Load:
-    """So many telegrams, each way or from the interlocking alone: at a rate (telegrams a second, each way), or, with no rate, as fast as the end
-    lets them in."""
+    """`count` telegrams, each way or only from the interlocking: at a rate (telegrams a second, each way), or, without a rate, as fast as the end
+    accepts them."""
 
     def __init__(self, count, rate=None, is_one_way=False):
         self.counts, self.rate = {'il': count, 'fe': 0 if is_one_way else count}, rate
 
     def patience(self):
-        """After how many microseconds a run is over that has neither taken all nor been given up."""
+        """Returns after how many microseconds a run ends that has neither taken all nor been given up."""
         return round((60 + (self.counts['il'] / self.rate if self.rate else 0)) * SECOND)
 
 
 class Run:
-    """One connection. `outcome` is `taken`, `given up` or `late`. Where it was given up, `cause` is `lost` or `not let through`, by what became of a
-    request for retransmission or its answer: it came on no channel, or it came and the deferral queue did not let it through; `nothing
-    confirmed` where T_max passed otherwise; or `other`."""
+    """One connection. `outcome` is `taken`, `given up` or `late`. If it was given up, `cause` is `lost` if a retransmission request or its reply
+    came on no channel; `not let through` if it came and the deferral queue did not pass it; `nothing confirmed` if T_max passed otherwise; or
+    `other`."""
 
     def __init__(self, settings, network, load, seed):
         self.load, self.rng = load, random.Random(seed)
         self.pair, self.now, self.queue, self.count = Pair(), 0, [], 0
         self.ways = {side: [Direction(network, delay, self.rng) for delay in network.delays] for side in KINDS}
-        self.sent = {side: 0 for side in KINDS}  # how many PDUs went out
+        self.sent = {side: 0 for side in KINDS}  # how many PDUs were sent
         self.wished = {side: [] for side in KINDS}  # when the application wanted to put each of its telegrams
         self.up = {side: set() for side in KINDS}  # the parts that went up
         self.began = set()  # the ends whose application puts
-        self.delays = []  # of each telegram that was taken, from put to take
-        self.age = self.oldest = 0  # the greatest age of what was confirmed last, and of what a unit confirmed that was taken
+        self.delays = []  # of each telegram taken, from put to take
+        self.age = self.oldest = 0  # the greatest age of the last confirmed time, and of the time confirmed by a taken unit
         self.outcome, self.cause = 'late', None
         for side in ('fe', 'il'):
             full = Settings(digest=quick_digest, channels=len(network.delays), **OWN[side], **settings)
@@ -135,7 +135,7 @@ class Run:
         heapq.heappush(self.queue, (when, self.count, what, side, octets))
 
     def deadline(self, side):
-        """When a tick of this end does something next."""
+        """Returns when a tick of this end next does something."""
         end = self.ends[side]
         machine, red, settings = end.machine, end.red, end.settings
         times = [machine.confirmed_at + settings.t_max] if machine.state in LIVE else []
@@ -149,7 +149,7 @@ class Run:
         self.calls(side, lambda end, now: end.deliver(octets, now, red_seen(octets)[0]))
 
     def calls(self, side, call):
-        """A call of an end, and all that comes of it. The pair hears of none, for speed: what it asks of each event no rule here needs."""
+        """Makes a call of an end, and handles its effects. For speed it bypasses the pair, whose checks of each event are not needed here."""
         end = self.ends[side]
         before, state, now = len(end.session.taken), end.machine.state, self.now // MS
         if state in LIVE:
@@ -177,7 +177,7 @@ class Run:
             self.outcome = 'taken'
 
     def begins(self, side):
-        """The application of this end begins to put."""
+        """Lets the application of this end begin to put."""
         self.began.add(side)
         load, count = self.load, self.load.counts[side]
         if load.rate:
@@ -192,7 +192,7 @@ class Run:
         self.fills(side)
 
     def fills(self, side):
-        """Puts what may be put. With no rate a telegram counts from when there was room for it."""
+        """Puts what may be put. Without a rate the delay of a telegram counts from when there was room for it."""
         end = self.ends[side]
         while len(end.session.put_in) < len(self.wished[side]) and len(end.session.waiting) < WAITING_MAX:
             number = len(end.session.put_in)
@@ -202,7 +202,7 @@ class Run:
             self.sends(side)
 
     def sends(self, side):
-        """What the end made goes out on every channel."""
+        """Sends the PDUs that the end made on every channel."""
         end = self.pair.present(side)
         for number in range(self.sent[side], len(end.texts)):
             for way in self.ways[side]:
@@ -211,8 +211,8 @@ class Run:
         self.sent[side] = len(end.texts)
 
     def why(self, side, state):
-        """Why the connection is over, now that an end has closed that was in this state: what became of the request for retransmission that an end
-        waits upon, and of its answer."""
+        """Returns why the connection is over, after an end closed that was in this state: from the fate of the retransmission request that an end
+        waits for, and of its reply."""
         end, peer = self.ends[side], self.ends[other(side)]
         if end.machine.made[-1].kind != 'DiscReq' or end.machine.made[-1].body[1] != TIMEOUT:
             return 'other'
@@ -244,5 +244,5 @@ class Run:
 
 
 def latest(end, kind):
-    """The index of the last PDU of this kind that it made, or None."""
+    """Returns the index of the last PDU of this type that it made, or None."""
     return max((index for index, made in enumerate(end.machine.made) if made.kind == kind), default=None)

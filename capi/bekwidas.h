@@ -1,46 +1,54 @@
-/* bekwidas.h - one end of a RaSTA connection with an SCI session, for C99, C++, and whatever calls C.
+/* bekwidas.h - one end of a RaSTA connection with an SCI session, for C99, C++ and every language that calls C.
  *
- * An end is an interlocking (the client) or a field element (the server) of RaSTA after DIN VDE V 0831-200:2015, with the PDI
- * establishment above it. The library does no input and no output: it opens no socket, reads no clock, starts no thread and
- * keeps no global state. Datagrams and times go in, datagrams and telegrams come out; the caller owns the sockets, the clock
- * and the loop. What is proved of it and what is trusted of its caller stands in docs/C.md.
+ * An end is an interlocking (the client) or a field element (the server) of RaSTA after DIN VDE V 0831-200:2015, with the establishment of a
+ * PDI session. The library does no input or output: it opens no socket, reads no clock, starts no thread and has no global state. You pass in
+ * datagrams and times, and take out datagrams and telegrams. You own the sockets, the clock and the loop. docs/c.md says what is proved and
+ * what is trusted.
  *
- * THE LOOP of a program with one end:
+ * THE LOOP of a program with one end. `drain` takes everything that waits. Call it after each call that may make something: then no call is
+ * refused for lack of room.
  *
- *     bek_end end = BEK_END_INIT;
- *     bek_open(&end, &settings, now());
- *     for (;;) {
- *         while (bek_next_datagram(&end, &channel, datagram, sizeof datagram, &length) == BEK_OK)
- *             send it on socket `channel`;
- *         while (bek_take(&end, &kind, payload, sizeof payload, &length) == BEK_OK)
+ *     void drain(void) {
+ *         while (bek_next_datagram(&end, &channel, datagram, BEK_DATAGRAM_MAX, &length) == BEK_OK)
+ *             send it on the socket of `channel`;
+ *         while (bek_take(&end, &kind, payload, BEK_PAYLOAD_MAX, &length) == BEK_OK)
  *             use the telegram;
- *         wait for a socket, or until the deadline of bek_next_deadline;
- *         for each datagram that came: bek_arrive(&end, channel, octets, length, now());
- *         bek_tick(&end, now());
- *         bek_put(&end, kind, payload, length, now()), where there is something to say;
  *     }
  *
- * TIME is in whole milliseconds of one clock of the caller's that never falls: CLOCK_MONOTONIC, say. It is at most 2^62. A call
- * with an earlier time than the last accepted one of the same end is answered BEK_ERR_TIME and does nothing.
+ *     bek_end end = BEK_END_INIT;
+ *     bek_open(&end, &settings, now()); drain();
+ *     for (;;) {
+ *         wait for a socket, or until the time of bek_next_deadline; without a time if it returns BEK_NOTHING;
+ *         for each datagram received: { bek_arrive(&end, channel, octets, length, now()); drain(); }
+ *         bek_tick(&end, now()); drain();
+ *         if there is something to say: { bek_put(&end, kind, payload, length, now()); drain(); }
+ *         if bek_is_stale(&end) == 1: { bek_reopen(&end, a random number, now()); drain(); }
+ *     }
  *
- * MEMORY. bek_open takes all the memory of an end by malloc: some 75,000 octets, and 380 for each telegram and 1,280 for each datagram
- * of its rooms. No other call takes memory or gives any back, but bek_free. A program without a heap defines malloc, free and realloc
- * over an array of its own (examples/arena.c).
+ * Test each result: a value below 0 is a refusal, and bek_fault_text says why. The examples in capi/examples show the complete loop.
  *
- * THE SLOT. A bek_end starts as BEK_END_INIT. While it is open it is neither copied nor written by its owner; its members are the
- * library's own. After bek_free it may be opened again.
+ * TIME is in whole milliseconds of a clock that never decreases, such as CLOCK_MONOTONIC, and is at most 2^62. A call with an earlier time
+ * than the last accepted call of the same end returns BEK_ERR_TIME and does nothing.
  *
- * POINTERS. Each function that is given a null pointer answers BEK_ERR_NULL and does nothing; a null pointer with the length 0
- * is an empty row of octets. A length above PTRDIFF_MAX is answered BEK_ERR_LENGTH. A pointer that is not null must lead to as many octets as its length says, and what is written
- * (`bek_end`, buffers, numbers) must overlap nothing else of the same call: no function can test that. No pointer is kept
- * beyond a call.
+ * MEMORY. bek_open allocates all the memory of an end by malloc: about 75,000 octets, 373 for each telegram of telegram_room, and 1,274 for
+ * each datagram of datagram_room. Only bek_free returns memory; no other function uses the heap. A program without a heap defines malloc,
+ * free and realloc over its own array (examples/arena.c). A call uses less than 22,000 octets of stack.
  *
- * THREADS. Calls of one end come one at a time, from the thread that opened it. Ends are independent of one another: each may
- * have a thread of its own. No function waits, locks, or may be called from a signal handler while a call of the same end runs.
+ * THE HANDLE. A bek_end starts as BEK_END_INIT. While it is open you must not copy it or write to it. After bek_free you may open it again.
  *
- * TIME THAT A CALL TAKES is bounded: nothing loops over more than 64 messages, 32 units, 8 early parts and 4 channels.
+ * POINTERS. If a pointer is NULL, the function returns BEK_ERR_NULL and does nothing; but NULL with length 0 is an empty buffer. A length
+ * above PTRDIFF_MAX returns BEK_ERR_LENGTH. Every other pointer must point to as many octets as its length says, and what is written must
+ * not overlap anything else of the same call: no function can test that. No pointer is kept after a call.
  *
- * This header is of version BEK_VERSION; bek_version() tells that of the library that was linked.
+ * THREADS. Call the functions of one end from one thread, one at a time, and not from a signal handler during another call. Different ends
+ * are independent. No function waits or locks. Each call takes bounded time: it handles at most 64 messages, 32 units, 8 early parts and 4
+ * channels.
+ *
+ * PROCESSOR. The code needs the instructions that the library was built for: for x86-64 those of x86-64-v2, unless capi/build was given
+ * --cpu. bek_open tests that and returns BEK_ERR_PROCESSOR if some are missing.
+ *
+ * VERSIONS. This header is of version BEK_VERSION; bek_version() returns that of the linked library. Libraries with the same major and minor
+ * number have the same ABI. A later library accepts the settings of an earlier header, because bek_settings_init is given their size.
  */
 #ifndef BEKWIDAS_H
 #define BEKWIDAS_H
@@ -48,13 +56,22 @@
 #include <stddef.h>
 #include <stdint.h>
 
+/* The compiler warns if the result of such a function is not used. */
+#if defined(__cplusplus) && __cplusplus >= 201703L
+#define BEK_MUST_USE [[nodiscard]]
+#elif defined(__GNUC__)
+#define BEK_MUST_USE __attribute__((warn_unused_result))
+#else
+#define BEK_MUST_USE
+#endif
+
 #ifdef __cplusplus
 extern "C" {
 #endif
 
-/* 0xMMmmpp. The ABI of one MM.mm is one. */
+/* 0xMMmmpp. */
 #define BEK_VERSION_MAJOR 0
-#define BEK_VERSION_MINOR 2
+#define BEK_VERSION_MINOR 3
 #define BEK_VERSION_PATCH 0
 #define BEK_VERSION ((BEK_VERSION_MAJOR << 16) | (BEK_VERSION_MINOR << 8) | BEK_VERSION_PATCH)
 
@@ -62,57 +79,59 @@ extern "C" {
 #define BEK_DATAGRAM_MAX 1258
 #define BEK_PAYLOAD_MAX 357
 
-/* The longest name, without the zero behind it. */
+/* The longest name, without the zero after it. */
 #define BEK_NAME_MAX 20
 
-/* The most channels, numbered from 1. */
+/* The greatest number of channels. They are numbered from 1. */
 #define BEK_CHANNELS_MAX 4
 
-/* What a function answers: 0 or above where it was done, below 0 where it was refused. A refused call has changed nothing, but for
- * BEK_ERR_LOST, which may also be the answer of the call in which the telegram was lost. */
+/* The result of a function: 0 or above if it was done, below 0 if it was refused. A refused call has changed nothing. The exception is
+ * BEK_ERR_LOST, which is also the result of the call in which the telegram was lost. */
 typedef enum bek_result {
     BEK_OK = 0,
-    BEK_NOTHING = 1,                /* nothing waits, or there is no deadline */
-    BEK_UNSENT = 2,                 /* done, but a datagram found no room: it is lost as on the wire, and counted */
-    BEK_ERR_NULL = -1,              /* a pointer is null */
-    BEK_ERR_LENGTH = -2,            /* a length is above PTRDIFF_MAX */
-    BEK_ERR_NOT_OPEN = -3,          /* the bek_end holds no end */
-    BEK_ERR_ALREADY_OPEN = -4,      /* the bek_end holds an end already */
-    BEK_ERR_SETTINGS_SIZE = -5,     /* the settings are not of this version's size: call bek_settings_init first */
-    BEK_ERR_BAD_SETTINGS = -6,      /* no end is opened with these settings */
-    BEK_ERR_ROOMS = -7,             /* telegram_room or datagram_room is too small */
-    BEK_ERR_NO_MEMORY = -8,         /* there was no memory */
-    BEK_ERR_TIME = -9,              /* the time is before that of the last accepted call, or above 2^62 */
-    BEK_ERR_TAKE_FIRST = -10,       /* too many telegrams wait: call bek_take until it answers BEK_NOTHING */
-    BEK_ERR_SEND_FIRST = -11,       /* too many datagrams wait: call bek_next_datagram until it answers BEK_NOTHING */
-    BEK_ERR_LOST = -12,             /* a telegram found no room: take those that wait, then free this end and open another */
-    BEK_ERR_TOO_SMALL = -13,        /* the buffer is too small; *length says what is needed, and nothing was taken */
-    BEK_ERR_NOT_ESTABLISHED = -14,  /* the session is in no phase in which this end may put */
-    BEK_ERR_FULL = -15,             /* 64 messages wait: put again after the peer has confirmed some */
-    BEK_ERR_RESERVED_KIND = -16,    /* the kind is one of the five of the establishment, 0x0021 to 0x0025 */
-    BEK_ERR_TOO_LONG = -17,         /* the payload has more than BEK_PAYLOAD_MAX octets */
-    BEK_ERR_NOT_INITIALISING = -18  /* this is no field element that initialises */
+    BEK_NOTHING = 1,                 /* nothing waits, there is no deadline, or the end was not closed */
+    BEK_UNSENT = 2,                  /* done, but a datagram had no room: it is lost as on the network, and counted */
+    BEK_UNWISE = 3,                  /* an end opens with these settings, but works badly (bek_settings_fault) */
+    BEK_ERR_NULL = -1,               /* a pointer is NULL */
+    BEK_ERR_LENGTH = -2,             /* a length is above PTRDIFF_MAX */
+    BEK_ERR_NOT_OPEN = -3,           /* the bek_end is not open */
+    BEK_ERR_ALREADY_OPEN = -4,       /* the bek_end is open already */
+    BEK_ERR_SETTINGS_SIZE = -5,      /* the size of the settings is not one of this library's: call bek_settings_init first */
+    BEK_ERR_BAD_SETTINGS = -6,       /* the settings are invalid: bek_settings_fault names the wrong one */
+    BEK_ERR_ROOMS = -7,              /* telegram_room or datagram_room is too small */
+    BEK_ERR_NO_MEMORY = -8,          /* malloc failed */
+    BEK_ERR_TIME = -9,               /* the time is before that of the last accepted call, or above 2^62 */
+    BEK_ERR_TAKE_FIRST = -10,        /* too many telegrams wait: call bek_take until it returns BEK_NOTHING */
+    BEK_ERR_SEND_FIRST = -11,        /* too many datagrams wait: call bek_next_datagram until it returns BEK_NOTHING */
+    BEK_ERR_LOST = -12,              /* a telegram had no room: take those that wait, then call bek_reopen */
+    BEK_ERR_TOO_SMALL = -13,         /* the buffer is too small; *length says what is needed, and nothing was taken */
+    BEK_ERR_NOT_ESTABLISHED = -14,   /* the session is not in a phase in which this end may put */
+    BEK_ERR_FULL = -15,              /* 64 messages wait: put again after the peer has confirmed some */
+    BEK_ERR_RESERVED_KIND = -16,     /* the kind is one of the five of the session's establishment, 0x0021 to 0x0025 */
+    BEK_ERR_TOO_LONG = -17,          /* the payload has more than BEK_PAYLOAD_MAX octets */
+    BEK_ERR_NOT_INITIALISING = -18,  /* this end is not a field element in BEK_INITIALISING */
+    BEK_ERR_PROCESSOR = -20          /* the processor lacks instructions that this library needs (-19 is in bekwidas_toml.h) */
 } bek_result;
 
-/* The state of the connection (RaSTA), as bek_state answers it. */
+/* The state of the connection (RaSTA), as bek_state returns it. */
 typedef enum bek_connection {
-    BEK_CLOSED = 0,   /* no connection any more; it stays so: free the end and open another */
+    BEK_CLOSED = 0,   /* the connection is over, for good: bek_reopen begins another */
     BEK_DOWN = 1,     /* a field element that waits for an interlocking */
-    BEK_START = 2,    /* the interlocking has asked, or the field element has answered */
-    BEK_UP = 3,       /* the connection stands */
-    BEK_RETR_REQ = 4, /* something was lost on all channels, and was asked for */
-    BEK_RETR_RUN = 5  /* it is being sent again */
+    BEK_START = 2,    /* the interlocking has requested, or the field element has answered */
+    BEK_UP = 3,       /* connected */
+    BEK_RETR_REQ = 4, /* something was lost on all channels, and a retransmission is requested */
+    BEK_RETR_RUN = 5  /* the retransmission is running */
 } bek_connection;
 
-/* The phase of the session (SCI), as bek_phase answers it. */
+/* The phase of the session (SCI), as bek_phase returns it. */
 typedef enum bek_session {
     BEK_IDLE = 0,          /* the connection is not up yet */
-    BEK_CHECKING = 1,      /* interlocking: its version was sent */
-    BEK_REQUESTING = 2,    /* interlocking: initialisation was asked for */
+    BEK_CHECKING = 1,      /* interlocking: its version is sent */
+    BEK_REQUESTING = 2,    /* interlocking: the initialisation is requested */
     BEK_AWAIT_CHECK = 3,   /* field element: waits for a version */
     BEK_AWAIT_REQUEST = 4, /* field element: waits for the request for initialisation */
     BEK_REFUSED = 5,       /* field element: has refused the version */
-    BEK_INITIALISING = 6,  /* field element: puts its initial status, then calls bek_init_done */
+    BEK_INITIALISING = 6,  /* field element: puts its initial status, then calls bek_init_done; interlocking: takes that status */
     BEK_ESTABLISHED = 7,   /* commands and status are exchanged */
     BEK_ENDED = 8          /* the session is over */
 } bek_session;
@@ -120,136 +139,250 @@ typedef enum bek_session {
 /* The sides of a connection. */
 enum { BEK_INTERLOCKING = 1, BEK_FIELD_ELEMENT = 2 };
 
-/* What an end is opened with. Fill it by bek_settings_init and then set what has no default. All numbers are checked by
- * bek_open; the ranges are those of examples/il.toml. Both ends need the same protocol, code and initial_value. */
+/* The settings of an end. Fill them by bek_settings_init, then set those without a default. bek_open tests all of them, and
+ * bek_settings_fault names the first wrong one. Both ends need the same protocol, code and initial_value. */
 typedef struct bek_settings {
-    uint32_t size;             /* sizeof(bek_settings), as bek_settings_init sets it: later versions may add members */
+    uint32_t size;             /* the size of these settings, set by bek_settings_init */
     uint32_t side;             /* BEK_INTERLOCKING or BEK_FIELD_ELEMENT. No default */
     uint32_t id;               /* the own identifier. No default */
-    uint32_t peer_id;          /* the identifier of the peer, another one. No default */
-    uint32_t first_sn;         /* the first sequence number: should differ from start to start. Default 1 */
+    uint32_t peer_id;          /* the peer's identifier, a different one. No default */
+    uint32_t first_sn;         /* the first sequence number: draw a random one for each opening. Default 1 */
     uint32_t protocol;         /* the protocol type of the session, 0 to 255. No default */
     uint32_t code;             /* octets of the safety code, 8 or 16. Default 8 */
     uint32_t channels;         /* 1 to BEK_CHANNELS_MAX. Default 2 */
     uint32_t n_sendmax;        /* how many units the peer may leave unconfirmed, 1 to 32. Default 20 */
     uint32_t n_maxpacket;      /* messages in a unit, 1 to 3. Default 3 */
-    uint32_t q;                /* early parts that may wait, 1 to 8. Default 4 */
-    uint32_t t_max;            /* ms, 100 to 60000: how old what was last confirmed may get. Default 1800 */
-    uint32_t t_h;              /* ms, 10 to t_max - 1: a heartbeat is due. Default 300 */
+    uint32_t q;                /* how many early parts can wait, 1 to 8. Default 4 */
+    uint32_t t_max;            /* ms, 100 to 60000: the greatest age of the last confirmation. Default 1800 */
+    uint32_t t_h;              /* ms, 10 to t_max - 1: the time between heartbeats. Default 300 */
     uint32_t t_seq;            /* ms, 10 to 1000: how long early parts wait. Default 50 */
     uint32_t mwa;              /* units taken before a heartbeat confirms them, 1 to 16. Default 10 */
     uint32_t pdu_limit;        /* PDUs of one connection, 100 to 4294901760. Default 4294901760 */
-    uint32_t telegram_room;    /* telegrams that may wait for bek_take, at least 27: so many may come in one call. Default 64 */
-    uint32_t datagram_room;    /* datagrams that may wait for bek_next_datagram, at least channels times (n_sendmax + 5). Default 96 */
+    uint32_t telegram_room;    /* telegrams that can wait for bek_take, at least 27: one call can deliver that many. Default 64 */
+    uint32_t datagram_room;    /* datagrams that can wait for bek_next_datagram, at least 37 for each channel. Default 148 */
     uint32_t version_count;    /* PDI versions: 1 for an interlocking, 1 to 4 for a field element. No default */
     uint32_t checksum_length;  /* octets of checksum, 0 to 16. Default 0 */
-    uint8_t versions[4];       /* the versions. No default */
-    uint8_t checksum[16];      /* what a field element answers a version check with; nobody compares it */
+    uint8_t versions[4];       /* the versions, all different. No default */
+    uint8_t checksum[16];      /* what a field element answers a version check with; nothing compares it */
     uint8_t initial_value[16]; /* the initial value of the digest (MD4), as `iv` spells it in hex. Default: RFC 1320's */
-    char name[24];             /* the own name in telegrams: 1 to 20 characters 0x21 to 0x7e, no '_', then a zero. No default */
-    char peer_name[24];        /* that of the peer. No default */
+    char name[24];             /* the own name: 1 to 20 characters 0x21 to 0x7e without '_', then a zero. No default */
+    char peer_name[24];        /* the peer's name. No default */
 } bek_settings;
 
-/* One end. Its members are the library's own: set it to BEK_END_INIT before bek_open, and never copy it while it is open. */
+/* One end. Its members belong to the library: set it to BEK_END_INIT before bek_open, and never copy it while it is open. */
 typedef struct bek_end {
     void *station_;
     uint32_t is_open_;
 } bek_end;
 #define BEK_END_INIT { 0, 0 }
 
-/* What waits for the caller, and what was lost. */
+/* What waits for you, and what was lost. */
 typedef struct bek_counts {
     uint64_t telegrams; /* telegrams that wait for bek_take */
     uint64_t datagrams; /* datagrams that wait for bek_next_datagram */
-    uint64_t unsent;    /* datagrams that found no room since the end was opened, modulo 2^64 */
+    uint64_t unsent;    /* datagrams that had no room since the end was opened, modulo 2^64 */
 } bek_counts;
 
-/* The version of the library, as BEK_VERSION. */
-uint32_t bek_version(void);
+/* In place of a time, if there is none. */
+#define BEK_NEVER UINT64_MAX
 
-/* Fills settings with the defaults above and zeros. */
-int bek_settings_init(bek_settings *settings);
+/* The datagrams that came on one channel since the end was opened. Each but `received` says what the redundancy layer did; a closed end does nothing. */
+typedef struct bek_reception {
+    uint64_t received; /* all that came */
+    uint64_t passed;   /* with the expected number */
+    uint64_t deferred; /* early: deferred */
+    uint64_t old;      /* with a number below the expected one: received before on any channel, or given up */
+    uint64_t repeated; /* early, with a number that was deferred already */
+    uint64_t far;      /* with a number that is too far ahead */
+    uint64_t full;     /* early, while every place was taken */
+    uint64_t damaged;  /* no redundancy PDU */
+    uint64_t last;     /* the time of the last redundancy PDU that was not too far ahead, or BEK_NEVER */
+} bek_reception;
 
-/* Opens an end, by these settings, at this time. An interlocking asks for the connection at once: fetch the datagrams. A field
- * element waits. The one function that takes memory.
+/* What an end has counted since it was opened, modulo 2^64. Times are in milliseconds. */
+typedef struct bek_statistics {
+    bek_reception channels[BEK_CHANNELS_MAX]; /* channel 1 first */
+    /* PDUs that went up to the safety layer. One that ends the connection is not counted. */
+    uint64_t taken;
+    uint64_t gaps;         /* revealed a gap, so that a retransmission was requested */
+    uint64_t damaged;      /* dropped: no safety PDU with a valid safety code */
+    uint64_t strangers;    /* dropped: another receiver or sender */
+    uint64_t unopened;     /* dropped: no ConnReq, while the end waits for one */
+    uint64_t far;          /* dropped: the sequence number is too far ahead */
+    uint64_t unrequested;  /* dropped: not the RetrResp that the end waits for */
+    uint64_t answered;     /* dropped: a RetrReq that was answered before */
+    uint64_t below;        /* dropped: a RetrReq that confirms less than was confirmed before */
+    uint64_t oldest;       /* the greatest age of a timestamp that a PDU confirmed when it was taken */
+    uint64_t longest_wait; /* the longest time without a confirmation before a PDU was taken: t_max less this is the least margin */
+    /* PDUs that the end made. */
+    uint64_t units;      /* units sent for the first time */
+    uint64_t resent;     /* units sent again */
+    uint64_t heartbeats;
+    uint64_t requests;   /* retransmissions requested */
+    uint64_t answers;    /* retransmissions granted */
+    uint64_t confirmed;  /* units that the peer has confirmed */
+} bek_statistics;
+
+/* Who ended a connection. */
+enum { BEK_BY_OWN = 1, BEK_BY_PEER = 2 };
+
+/* In place of a version, which is 0 to 255. */
+#define BEK_NO_VERSION 256
+
+/* Who ended the connection, why and when. */
+typedef struct bek_leaving {
+    uint64_t time;    /* the time of the call in which the end was closed */
+    uint32_t by;      /* BEK_BY_OWN or BEK_BY_PEER */
+    uint32_t reason;  /* the number of the reason, as in a DiscReq; bek_leaving_text says what it means */
+    uint32_t detail;  /* the number of the detail beside the reason */
+    uint32_t version; /* the peer's PDI version if this end left because the versions differ, otherwise BEK_NO_VERSION */
+} bek_leaving;
+
+/* Returns the version of the library, as BEK_VERSION. */
+BEK_MUST_USE uint32_t bek_version(void);
+
+/* Writes the version of the library and the commit that it was built from, such as "0.3.0, commit 0123456789ab", in ASCII, cut to `size` octets with a
+ * zero at the end, and returns the length of the whole text without the zero. The commit ends with "-changed" if sources were changed after it, and is
+ * "unknown" if they were not in a clone. */
+size_t bek_version_text(char *text, size_t size);
+
+/* Fills settings with the defaults above and zeros. `size` is sizeof(bek_settings) of your header: no octet after it is written.
  *
- * BEK_OK; or the first that holds: BEK_ERR_NULL, BEK_ERR_ALREADY_OPEN, BEK_ERR_SETTINGS_SIZE, BEK_ERR_BAD_SETTINGS (what cannot be
- * read: side, protocol, names, lists), BEK_ERR_TIME, BEK_ERR_BAD_SETTINGS (numbers out of range), BEK_ERR_ROOMS, BEK_ERR_NO_MEMORY.
- * But for BEK_OK no memory stays taken. */
-int bek_open(bek_end *end, const bek_settings *settings, uint64_t now);
+ * BEK_OK; or the first that holds, and nothing is written: BEK_ERR_NULL, BEK_ERR_SETTINGS_SIZE (no version up to this library's had settings of
+ * this size). */
+BEK_MUST_USE int bek_settings_init(bek_settings *settings, size_t size);
 
-/* Gives the memory of an end back, and leaves BEK_END_INIT. The peer is told nothing: call bek_close and send what it makes
- * before. Nothing happens where no end is held, or `end` is null. */
+/* Tests settings before you open an end. Writes the number of the first wrong member to *field (its place in bek_settings, from 1 on; 0 if none
+ * is wrong), and a sentence with its name, value and range to `text`, cut to `size` octets with a zero at the end. `text` may be NULL if `size`
+ * is 0.
+ *
+ * BEK_OK; BEK_UNWISE if an end opens with these settings, but works badly: mwa is not below n_sendmax (the peer then stops until a
+ * heartbeat), t_seq is not below t_max (parts are then too old), or q is below n_sendmax - 1 + n_sendmax / mwa (a burst after one lost datagram
+ * can overrun the queue of early parts; the defaults are of this kind, see docs/choosing.md); BEK_ERR_NULL; BEK_ERR_LENGTH; or the result with
+ * which bek_open refuses these settings: BEK_ERR_SETTINGS_SIZE, BEK_ERR_BAD_SETTINGS, BEK_ERR_ROOMS. */
+BEK_MUST_USE int bek_settings_fault(const bek_settings *settings, uint32_t *field, char *text, size_t size);
+
+/* Writes the rooms for as many channels as the settings have, with which no call returns BEK_UNSENT if you drain after each call: 27 telegrams,
+ * and 333 datagrams for each channel. Both rooms may be smaller; see BEK_UNSENT in docs/c.md.
+ *
+ * BEK_OK; BEK_ERR_NULL; BEK_ERR_BAD_SETTINGS if `channels` is not 1 to 4. */
+BEK_MUST_USE int bek_rooms(const bek_settings *settings, uint32_t *telegrams, uint32_t *datagrams);
+
+/* Opens an end with these settings at this time. An interlocking requests the connection at once: fetch the datagrams. A field element waits.
+ * This is the only function that allocates.
+ *
+ * BEK_OK; or the first that holds: BEK_ERR_NULL, BEK_ERR_PROCESSOR, BEK_ERR_ALREADY_OPEN, BEK_ERR_SETTINGS_SIZE, BEK_ERR_BAD_SETTINGS (side,
+ * protocol, names, lists), BEK_ERR_TIME, BEK_ERR_BAD_SETTINGS (numbers out of range), BEK_ERR_ROOMS, BEK_ERR_NO_MEMORY. Unless it is BEK_OK, no
+ * memory stays allocated. */
+BEK_MUST_USE int bek_open(bek_end *end, const bek_settings *settings, uint64_t now);
+
+/* Opens an end again with the settings that bek_open had, and with another first_sn: draw a random one. It uses the memory that the end has. The end
+ * is then as bek_open leaves it: nothing is put, confirmed or unsent yet, and an interlocking requests the connection at once. Call it if bek_is_stale
+ * returns 1, or at any other time. Datagrams of the old connection that wait are dropped, and nothing more is sent on it: to inform the peer, call
+ * bek_close before, and send what waits.
+ *
+ * BEK_OK; or the first that holds, and nothing has changed: BEK_ERR_NULL, BEK_ERR_NOT_OPEN, BEK_ERR_TIME, BEK_ERR_TAKE_FIRST (a telegram of the old
+ * connection waits). If you drain after each call, it never returns the last one. */
+BEK_MUST_USE int bek_reopen(bek_end *end, uint32_t first_sn, uint64_t now);
+
+/* Frees the memory of an end, and leaves BEK_END_INIT. It sends nothing: to inform the peer, call bek_close before, and send what waits. If `end`
+ * is NULL or not open, nothing happens. */
 void bek_free(bek_end *end);
 
-/* Hands in a datagram of any octets that came on a channel (from 1 on; the number plays no part). A closed end does nothing with it.
- * Fetch what it makes wait by bek_next_datagram and bek_take. It keeps nothing of `octets`.
+/* Passes in a datagram that was received on a channel (numbered from 1; the number does not matter). It may have any octets. A closed end ignores
+ * it. Then take what waits.
  *
- * BEK_OK, also for a datagram that is none of the peer's; BEK_UNSENT; or the first that holds: BEK_ERR_NULL, BEK_ERR_LENGTH,
- * BEK_ERR_NOT_OPEN, BEK_ERR_TIME, BEK_ERR_LOST, BEK_ERR_TAKE_FIRST, BEK_ERR_SEND_FIRST. A caller that takes all that waits after
- * each call never sees the last two. */
-int bek_arrive(bek_end *end, uint32_t channel, const uint8_t *octets, size_t length, uint64_t now);
+ * BEK_OK, also for a datagram that is not of the peer; BEK_UNSENT; or the first that holds: BEK_ERR_NULL, BEK_ERR_LENGTH, BEK_ERR_NOT_OPEN,
+ * BEK_ERR_TIME, BEK_ERR_LOST, BEK_ERR_TAKE_FIRST, BEK_ERR_SEND_FIRST. If you drain after each call, it never returns the last two. */
+BEK_MUST_USE int bek_arrive(bek_end *end, uint32_t channel, const uint8_t *octets, size_t length, uint64_t now);
 
-/* Lets time pass: heartbeats, the end of the connection where nothing recent was confirmed, early parts let through. To be called at
- * bek_next_deadline or before; more often does no harm.
+/* Lets time pass: heartbeats, the end of the connection if nothing recent was confirmed, early parts released. Call it at bek_next_deadline or
+ * before. More calls do no harm.
  *
- * As bek_arrive. */
-int bek_tick(bek_end *end, uint64_t now);
+ * The results are those of bek_arrive. */
+BEK_MUST_USE int bek_tick(bek_end *end, uint64_t now);
 
-/* Writes the time at which bek_tick will do something next, if nothing arrives and nothing is put in. It may be past.
+/* Writes the next time at which bek_tick will do something, if nothing arrives and nothing is put before. It may be in the past.
  *
- * BEK_OK; BEK_NOTHING in a closed end; BEK_ERR_NOT_OPEN; BEK_ERR_NULL. */
-int bek_next_deadline(bek_end *end, uint64_t *deadline);
+ * BEK_OK; BEK_NOTHING if no bek_tick does anything until something arrives: in BEK_CLOSED, and in BEK_DOWN if no early part waits. Then *deadline
+ * is not written: wait for a socket without a time limit. BEK_ERR_NULL; BEK_ERR_NOT_OPEN. */
+BEK_MUST_USE int bek_next_deadline(const bek_end *end, uint64_t *deadline);
 
-/* Puts in a command (interlocking) or status (field element) of a kind and 0 to BEK_PAYLOAD_MAX octets, behind all that waits. It keeps a
- * copy. Once it is accepted the peer takes it, in order and once, or the connection ends; the premise of that stands in docs/PROMISES.md.
+/* Puts a command (interlocking) or status (field element) with a kind and 0 to BEK_PAYLOAD_MAX octets. It is copied, and sent after everything
+ * that waits. If the peer takes it, it takes it once and in order. That the peer takes it is not promised: bek_confirmed counts
+ * those that it has certainly taken.
  *
- * BEK_OK; BEK_UNSENT; or the first that holds: BEK_ERR_NULL, BEK_ERR_LENGTH, BEK_ERR_NOT_OPEN, BEK_ERR_TIME, BEK_ERR_LOST,
- * BEK_ERR_SEND_FIRST, BEK_ERR_NOT_ESTABLISHED, BEK_ERR_FULL, BEK_ERR_RESERVED_KIND, BEK_ERR_TOO_LONG. A field element may put in
- * BEK_INITIALISING and BEK_ESTABLISHED. */
-int bek_put(bek_end *end, uint16_t kind, const uint8_t *payload, size_t length, uint64_t now);
+ * BEK_OK; BEK_UNSENT; or the first that holds: BEK_ERR_NULL, BEK_ERR_LENGTH, BEK_ERR_NOT_OPEN, BEK_ERR_TIME, BEK_ERR_LOST, BEK_ERR_SEND_FIRST,
+ * BEK_ERR_NOT_ESTABLISHED, BEK_ERR_FULL, BEK_ERR_RESERVED_KIND, BEK_ERR_TOO_LONG. A field element may put in BEK_INITIALISING and
+ * BEK_ESTABLISHED. */
+BEK_MUST_USE int bek_put(bek_end *end, uint16_t kind, const uint8_t *payload, size_t length, uint64_t now);
 
-/* Tells the interlocking that the initial status of this field element is complete. To be called once, in BEK_INITIALISING.
+/* Says that the initial status of this field element is complete. Call it once, in BEK_INITIALISING.
  *
  * BEK_OK; BEK_UNSENT; or the first that holds: BEK_ERR_NULL, BEK_ERR_NOT_OPEN, BEK_ERR_TIME, BEK_ERR_LOST, BEK_ERR_SEND_FIRST,
  * BEK_ERR_NOT_INITIALISING, BEK_ERR_FULL. */
-int bek_init_done(bek_end *end, uint64_t now);
+BEK_MUST_USE int bek_init_done(bek_end *end, uint64_t now);
 
-/* Leaves the connection, with reason 0 (closed by the user). Send what bek_next_datagram then has. It is never refused for want of
- * room.
+/* Disconnects with reason 0 (closed by the user). Send what bek_next_datagram then has. It needs no free room.
  *
- * BEK_OK, also where there is no connection; BEK_UNSENT; BEK_ERR_NULL, BEK_ERR_NOT_OPEN, BEK_ERR_TIME. An end that has lost a telegram
- * is closed too, and answers BEK_ERR_LOST. */
-int bek_close(bek_end *end, uint64_t now);
+ * BEK_OK, also if there is no connection; BEK_UNSENT; BEK_ERR_NULL, BEK_ERR_NOT_OPEN, BEK_ERR_TIME. An end that has lost a telegram is closed
+ * too, but returns BEK_ERR_LOST. */
+BEK_MUST_USE int bek_close(bek_end *end, uint64_t now);
 
-/* Takes the first telegram that waits: its kind, its payload into the front of a buffer of `size` octets, and its length.
- * BEK_PAYLOAD_MAX octets are always enough.
- *
- * BEK_OK; BEK_NOTHING; BEK_ERR_NULL, BEK_ERR_LENGTH, BEK_ERR_NOT_OPEN, BEK_ERR_TOO_SMALL. */
-int bek_take(bek_end *end, uint16_t *kind, uint8_t *payload, size_t size, size_t *length);
-
-/* Takes the first datagram that waits to be sent: its channel, its octets into the front of a buffer of `size` octets, and its
- * length. BEK_DATAGRAM_MAX octets are always enough. To be called after each other call until BEK_NOTHING. A datagram that
- * cannot be sent may be dropped: that is a loss on one channel, which the protocol bears.
+/* Takes the oldest telegram that waits: writes its kind, its payload to a buffer of `size` octets, and its length. Use a buffer of BEK_PAYLOAD_MAX
+ * octets: it is always large enough. With a smaller one, a longer telegram returns BEK_ERR_TOO_SMALL and stays the oldest, so that
+ * no later one can be taken.
  *
  * BEK_OK; BEK_NOTHING; BEK_ERR_NULL, BEK_ERR_LENGTH, BEK_ERR_NOT_OPEN, BEK_ERR_TOO_SMALL. */
-int bek_next_datagram(bek_end *end, uint32_t *channel, uint8_t *octets, size_t size, size_t *length);
+BEK_MUST_USE int bek_take(bek_end *end, uint16_t *kind, uint8_t *payload, size_t size, size_t *length);
 
-/* The state of the connection (bek_connection), BEK_ERR_NOT_OPEN or BEK_ERR_NULL. */
-int bek_state(bek_end *end);
+/* Takes the oldest datagram that waits to be sent: writes its channel, its octets to a buffer of `size` octets, and its length. A buffer of
+ * BEK_DATAGRAM_MAX octets is always large enough. Call it after each other call until it returns BEK_NOTHING. You may drop a datagram
+ * that you cannot send: that is a loss on one channel, which the protocol tolerates.
+ *
+ * BEK_OK; BEK_NOTHING; BEK_ERR_NULL, BEK_ERR_LENGTH, BEK_ERR_NOT_OPEN, BEK_ERR_TOO_SMALL. */
+BEK_MUST_USE int bek_next_datagram(bek_end *end, uint32_t *channel, uint8_t *octets, size_t size, size_t *length);
 
-/* The phase of the session (bek_session), BEK_ERR_NOT_OPEN or BEK_ERR_NULL. */
-int bek_phase(bek_end *end);
+/* Returns the state of the connection (bek_connection), BEK_ERR_NOT_OPEN or BEK_ERR_NULL. */
+BEK_MUST_USE int bek_state(const bek_end *end);
 
-/* 1 where all that was put in was taken by the peer and the end is not closed, else 0; BEK_ERR_NOT_OPEN or BEK_ERR_NULL. */
-int bek_settled(bek_end *end);
+/* Returns the phase of the session (bek_session), BEK_ERR_NOT_OPEN or BEK_ERR_NULL. */
+BEK_MUST_USE int bek_phase(const bek_end *end);
 
-/* Writes what waits for the caller, and what was lost. BEK_OK; BEK_ERR_NULL, BEK_ERR_NOT_OPEN. */
-int bek_counts_of(bek_end *end, bek_counts *counts);
+/* Returns 1 if you must open this end again (bek_reopen), 0 if not: it is closed, or it is a field element in BEK_DOWN that has already accepted
+ * a datagram and therefore may miss the next request. BEK_ERR_NOT_OPEN or BEK_ERR_NULL. */
+BEK_MUST_USE int bek_is_stale(const bek_end *end);
 
-/* Writes what an answer means, in ASCII, cut to `size` octets with a zero behind it, and answers how many octets the whole text
- * has without the zero. */
-size_t bek_fault_text(int answer, char *text, size_t size);
+/* Returns 1 if the end is not closed and the peer has taken everything put, otherwise 0; BEK_ERR_NOT_OPEN or BEK_ERR_NULL. */
+BEK_MUST_USE int bek_settled(const bek_end *end);
+
+/* Writes how many of the telegrams put since the opening are certain: the peer has taken the first *count of them. The others are in doubt. You can
+ * also call it after the end is closed, before bek_reopen.
+ *
+ * BEK_OK; BEK_ERR_NULL, BEK_ERR_NOT_OPEN. */
+BEK_MUST_USE int bek_confirmed(const bek_end *end, uint64_t *count);
+
+/* Writes the own time that the peer last confirmed. A telegram taken came in a PDU that confirms a PDU which this end made at that time or later.
+ * BEK_OK; BEK_ERR_NULL, BEK_ERR_NOT_OPEN. */
+BEK_MUST_USE int bek_confirmed_time(const bek_end *end, uint64_t *time);
+
+/* Writes who ended the connection, why and when. BEK_OK; BEK_NOTHING if the end was not closed, and nothing is written; BEK_ERR_NULL,
+ * BEK_ERR_NOT_OPEN. */
+BEK_MUST_USE int bek_departure(const bek_end *end, bek_leaving *leaving);
+
+/* Writes what a departure means, in ASCII, cut to `size` octets with a zero at the end, and returns the length of the whole text without the zero.
+ * If `leaving` is NULL, the text is empty. */
+size_t bek_leaving_text(const bek_leaving *leaving, char *text, size_t size);
+
+/* Writes what waits for you, and what was lost. BEK_OK; BEK_ERR_NULL, BEK_ERR_NOT_OPEN. */
+BEK_MUST_USE int bek_counts_of(const bek_end *end, bek_counts *counts);
+
+/* Writes what the end has counted since it was opened. BEK_OK; BEK_ERR_NULL, BEK_ERR_NOT_OPEN. */
+BEK_MUST_USE int bek_statistics_of(const bek_end *end, bek_statistics *statistics);
+
+/* Writes what a result means, in ASCII, cut to `size` octets with a zero at the end, and returns the length of the whole text without the zero. It
+ * knows the results of bekwidas_toml.h, too. */
+size_t bek_fault_text(int result, char *text, size_t size);
 
 #ifdef __cplusplus
 }

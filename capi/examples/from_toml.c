@@ -1,4 +1,4 @@
-/* Opens an end with what a settings file says, and tells where its channels go:
+/* Opens an end with the settings of a file, and prints the addresses of its channels:
  *     cc from_toml.c $(pkg-config --cflags --libs bekwidas_toml bekwidas) && ./a.out il.toml */
 #include "bekwidas_toml.h"
 
@@ -6,7 +6,7 @@
 #include <time.h>
 
 int main(int count, char **words) {
-    static char text[1 << 16]; /* octets of a settings file with few telegrams to put */
+    static char text[1 << 16]; /* the octets of a settings file */
     char said[200], local[64], remote[64];
     bek_end end = BEK_END_INIT;
     bek_settings settings;
@@ -22,8 +22,8 @@ int main(int count, char **words) {
     length = fread(text, 1, sizeof text, file);
     fclose(file);
 
-    bek_settings_init(&settings);
-    settings.first_sn = (uint32_t)time(NULL); /* for a file with first_sn = "random" */
+    if (bek_settings_init(&settings, sizeof settings) != BEK_OK) return 1;
+    settings.first_sn = (uint32_t)time(NULL); /* for a file with first_sn = "random"; udp.h draws a better one */
     answer = bek_toml_settings(&settings, BEK_INTERLOCKING, text, length, said, sizeof said);
     if (answer == BEK_ERR_NO_SETTINGS) {
         fprintf(stderr, "%s: %s\n", words[1], said);

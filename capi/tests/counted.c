@@ -1,5 +1,5 @@
-/* Two ends in one process over a network in memory: each puts TIMES telegrams, and the other takes them, whose octets are compared. It
- * prints the rate and the latency from put to take in processor time. With -DHOOK it counts what is taken from malloc. */
+/* Runs two ends in one process over a network in memory: each puts TIMES telegrams, and the other takes them and compares their octets. It
+ * prints the rate and the latency from put to take in processor time. With -DHOOK it counts allocations by malloc. */
 #define _GNU_SOURCE
 #include "bekwidas.h"
 
@@ -34,7 +34,7 @@ static void must(int holds, const char *what) {
 static uint64_t now;
 static unsigned long datagrams;
 
-/* All that one end made comes to the other. */
+/* Delivers to the other end all datagrams that one end made. */
 static int pass(bek_end *from, bek_end *to) {
     uint8_t octets[BEK_DATAGRAM_MAX];
     uint32_t channel;
@@ -52,7 +52,7 @@ static uint32_t number_in(const uint8_t *payload) {
     return payload[0] | payload[1] << 8 | payload[2] << 16 | (uint32_t)payload[3] << 24;
 }
 
-/* Takes all telegrams of an end, which are numbered, and answers how many it has taken by then. */
+/* Takes all telegrams of an end, which are numbered, and returns how many it has taken so far. */
 static uint32_t take_all(bek_end *end, uint32_t taken) {
     uint8_t payload[BEK_PAYLOAD_MAX];
     uint16_t kind;
@@ -78,7 +78,7 @@ int main(int argc, char **argv) {
     uint32_t times = argc > 1 ? (uint32_t)strtoul(argv[1], NULL, 10) : 1000000, channels = argc > 2 ? (uint32_t)atoi(argv[2]) : 2;
     bek_end il = BEK_END_INIT, fe = BEK_END_INIT;
     bek_settings s;
-    bek_settings_init(&s);
+    must(bek_settings_init(&s, sizeof s) == BEK_OK, "settings");
     s.side = BEK_INTERLOCKING;
     s.id = 1;
     s.peer_id = 2;
@@ -136,7 +136,7 @@ int main(int argc, char **argv) {
     for (uint32_t i = 0; i < alone; i++) {
         now++;
         double t = nanoseconds();
-        must(put(&il, put_il) == BEK_OK, "put alone");
+        must(put(&il, put_il) == BEK_OK, "a single put");
         put_il++;
         pass(&il, &fe);
         at_fe = take_all(&fe, at_fe);
@@ -179,11 +179,11 @@ int main(int argc, char **argv) {
     must(bek_take(&il, &kind, octets, sizeof octets, &length) == BEK_NOTHING, "nothing");
     must(bek_fault_text(BEK_ERR_TAKE_FIRST, text, sizeof text) == strlen(text), "text");
     printf("%d: %s\n", BEK_ERR_TAKE_FIRST, text);
-    bek_end never = BEK_END_INIT; /* never drained, in the least room: it tells before anything is lost */
+    bek_end never = BEK_END_INIT; /* never drained, in the least room: it reports that before anything is lost */
     s.datagram_room = channels * (32 + 5);
     must(bek_open(&never, &s, now) == BEK_OK, "the least room");
     must(bek_tick(&never, now) == BEK_ERR_SEND_FIRST && bek_arrive(&never, 1, octets, 0, now) == BEK_ERR_SEND_FIRST, "full");
-    must(bek_counts_of(&never, &c) == BEK_OK && c.unsent == 0 && c.datagrams == channels, "lost before it was told");
+    must(bek_counts_of(&never, &c) == BEK_OK && c.unsent == 0 && c.datagrams == channels, "lost before it was reported");
     while (bek_next_datagram(&never, &channel, big, sizeof big, &length) == BEK_OK) {}
     must(bek_tick(&never, now) == BEK_OK, "drained");
     bek_free(&never);
@@ -204,6 +204,12 @@ int main(int argc, char **argv) {
     must(bek_state(&fe) == BEK_CLOSED && bek_state(&il) == BEK_CLOSED, "closed");
     uint64_t deadline;
     must(bek_next_deadline(&il, &deadline) == BEK_NOTHING, "a closed end has no deadline");
+    must(bek_reopen(&fe, 1, now) == BEK_ERR_TAKE_FIRST, "the empty telegram waits");
+    while (bek_take(&fe, &kind, big, sizeof big, &length) == BEK_OK) {}
+    before = allocations;
+    must(bek_reopen(&fe, 1, now) == BEK_OK && bek_reopen(&il, 2, now) == BEK_OK, "reopen");
+    pass(&il, &fe);
+    must(bek_state(&fe) == BEK_START && allocations == before, "a new connection without an allocation");
     bek_free(&il);
     bek_free(&fe);
     bek_free(&fe);

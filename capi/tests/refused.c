@@ -1,4 +1,4 @@
-/* Each allocation of an opening refused in turn: the answer is BEK_ERR_NO_MEMORY, nothing stays taken, and with memory it opens. */
+/* Refuses each allocation of an opening in turn: the result is BEK_ERR_NO_MEMORY, no memory stays allocated, and with memory the end opens. */
 #include "bekwidas.h"
 
 #include <stdio.h>
@@ -26,7 +26,7 @@ int main(void) {
     bek_settings s;
     long before, n;
     int answer;
-    bek_settings_init(&s);
+    if (bek_settings_init(&s, sizeof s) != BEK_OK) return 1;
     s.side = BEK_FIELD_ELEMENT;
     s.id = 2;
     s.peer_id = 1;

@@ -1,5 +1,6 @@
-/* Two ends over a network that loses, repeats, swaps and delays datagrams: what each takes is a beginning of what the other put, octet by
- * octet, whether the connection lives or ends; then both are opened anew. */
+/* Runs two ends over a network that loses, repeats, swaps and delays datagrams: each takes a prefix of what the other put, octet by octet,
+ * whether the connection lives or ends; then both are opened again. After each call an end takes and sends all that waits. It runs with eight
+ * seeds, or with the number in the second word, and with each seed enough telegrams must be taken. */
 #include "bekwidas.h"
 
 #include <stdio.h>
@@ -8,7 +9,7 @@
 
 enum { WAITING = 256 };
 
-static uint64_t seed = 88172645463325252u;
+static uint64_t seed;
 
 static uint32_t any(void) {
     seed ^= seed << 13;
@@ -29,16 +30,24 @@ static size_t on_wire;
 static bek_end ends[2];
 static uint32_t put[2], taken[2], connections;
 static uint64_t now;
+static unsigned long run;
 
 static void must(int holds, const char *what) {
     if (holds) return;
-    fprintf(stderr, "relay: %s\n", what);
+    fprintf(stderr, "relay: seed %lu: %s\n", run, what);
+    exit(1);
+}
+
+/* Ends the test if a call returns an error. */
+static void works(int answer, const char *what) {
+    if (answer >= 0) return;
+    fprintf(stderr, "relay: seed %lu: %s returns %d\n", run, what, answer);
     exit(1);
 }
 
 static bek_settings settings(int i) {
     bek_settings s;
-    bek_settings_init(&s);
+    works(bek_settings_init(&s, sizeof s), "bek_settings_init");
     s.side = i ? BEK_FIELD_ELEMENT : BEK_INTERLOCKING;
     s.id = 1 + i;
     s.peer_id = 2 - i;
@@ -62,7 +71,7 @@ static void open_both(void) {
     connections++;
 }
 
-/* What an end sends goes on the wire, once, twice or not at all, each copy with a delay of its own. */
+/* Puts a datagram of an end on the wire, once, twice or not at all, each copy with its own delay. */
 static void send_all(int i, uint32_t trouble) {
     uint8_t octets[BEK_DATAGRAM_MAX];
     uint32_t channel;
@@ -92,35 +101,57 @@ static void take_all(int i) {
     }
 }
 
-int main(int argc, char **argv) {
-    unsigned long times = argc > 1 ? strtoul(argv[1], NULL, 10) : 200000, total = 0;
+/* Takes and sends everything after a call of an end. */
+static void serve(int i, uint32_t trouble) {
+    take_all(i);
+    send_all(i, trouble);
+}
+
+/* Runs `steps` steps from one seed; returns how many telegrams were taken. */
+static unsigned long steps(unsigned long times) {
+    unsigned long total = 0;
     for (unsigned long n = 0; n < times; n++) {
         uint32_t trouble = n % 20000 < 10000 ? 20 : 120; /* of 1,000 */
         if (bek_state(&ends[0]) <= BEK_CLOSED || bek_state(&ends[1]) <= BEK_CLOSED) {
             total += taken[0] + taken[1];
             open_both();
+            for (int i = 0; i < 2; i++) serve(i, trouble);
         }
         now += any() % 3;
         for (size_t k = 0; k < on_wire; k++) {
-            if (wire[k].due > now) continue;
-            must(bek_arrive(&ends[wire[k].to], wire[k].channel, wire[k].octets, wire[k].length, now) >= 0, "arrive");
+            struct datagram came = wire[k];
+            if (came.due > now) continue;
             wire[k--] = wire[--on_wire];
-            for (int i = 0; i < 2; i++) send_all(i, trouble);
+            works(bek_arrive(&ends[came.to], came.channel, came.octets, came.length, now), "bek_arrive");
+            serve(came.to, trouble);
         }
         for (int i = 0; i < 2; i++) {
             uint8_t payload[BEK_PAYLOAD_MAX];
-            take_all(i);
-            must(bek_tick(&ends[i], now) >= 0, "tick");
-            send_all(i, trouble);
-            if (bek_phase(&ends[i]) == BEK_INITIALISING && i == 1 && any() % 3 == 0) bek_init_done(&ends[1], now);
+            works(bek_tick(&ends[i], now), "bek_tick");
+            serve(i, trouble);
+            if (bek_phase(&ends[i]) == BEK_INITIALISING && i == 1 && any() % 3 == 0) {
+                works(bek_init_done(&ends[1], now), "bek_init_done");
+                serve(1, trouble);
+            }
             for (size_t k = 0; k < put[i] % 358; k++) payload[k] = (uint8_t)(put[i] * 31 + k);
             if (any() % 4 == 0 && bek_put(&ends[i], (uint16_t)(0x0100 + put[i] % 7), payload, put[i] % 358, now) >= 0) put[i]++;
-            send_all(i, trouble);
+            serve(i, trouble);
         }
     }
-    total += taken[0] + taken[1];
-    printf("%lu telegrams over %u connections, each a beginning of what was put\n", total, connections);
-    must(total > times / 20 && connections > 1, "too little went over");
+    return total + taken[0] + taken[1];
+}
+
+int main(int argc, char **argv) {
+    unsigned long times = argc > 1 ? strtoul(argv[1], NULL, 10) : 25000, runs = argc > 2 ? strtoul(argv[2], NULL, 10) : 8, all = 0;
+    for (run = 1; run <= runs; run++) {
+        seed = 88172645463325252u + run * 0x9e3779b97f4a7c15u;
+        open_both();
+        unsigned long total = steps(times);
+        must(total > times / 20, "too little went over");
+        all += total;
+    }
+    must(connections > runs, "no connection has ended");
+    printf("%lu telegrams from %lu seeds, each end took a prefix of what was put\n", all, runs);
     bek_free(&ends[0]);
     bek_free(&ends[1]);
     return 0;

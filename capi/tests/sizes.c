@@ -1,4 +1,4 @@
-/* The layout of the structs as the crate `bekwidas` has it: Slot, Settings and Counts, all #[repr(C)]. */
+/* Tests that the structs have the layout of the crate `bekwidas`: Slot, PlainSettings, Counts, PlainDeparture, PlainReceptions and PlainStatistics, all #[repr(C)]. */
 #include "bekwidas.h"
 
 #include <stddef.h>
@@ -37,5 +37,40 @@ SAME(offsetof(bek_counts, telegrams), 0);
 SAME(offsetof(bek_counts, datagrams), 8);
 SAME(offsetof(bek_counts, unsent), 16);
 SAME(sizeof(bek_counts), 24);
+SAME(offsetof(bek_leaving, time), 0);
+SAME(offsetof(bek_leaving, by), 8);
+SAME(offsetof(bek_leaving, reason), 12);
+SAME(offsetof(bek_leaving, detail), 16);
+SAME(offsetof(bek_leaving, version), 20);
+SAME(sizeof(bek_leaving), 24);
+SAME(offsetof(bek_reception, received), 0);
+SAME(offsetof(bek_reception, passed), 8);
+SAME(offsetof(bek_reception, deferred), 16);
+SAME(offsetof(bek_reception, old), 24);
+SAME(offsetof(bek_reception, repeated), 32);
+SAME(offsetof(bek_reception, far), 40);
+SAME(offsetof(bek_reception, full), 48);
+SAME(offsetof(bek_reception, damaged), 56);
+SAME(offsetof(bek_reception, last), 64);
+SAME(sizeof(bek_reception), 72);
+SAME(offsetof(bek_statistics, channels), 0);
+SAME(offsetof(bek_statistics, taken), 288);
+SAME(offsetof(bek_statistics, gaps), 296);
+SAME(offsetof(bek_statistics, damaged), 304);
+SAME(offsetof(bek_statistics, strangers), 312);
+SAME(offsetof(bek_statistics, unopened), 320);
+SAME(offsetof(bek_statistics, far), 328);
+SAME(offsetof(bek_statistics, unrequested), 336);
+SAME(offsetof(bek_statistics, answered), 344);
+SAME(offsetof(bek_statistics, below), 352);
+SAME(offsetof(bek_statistics, oldest), 360);
+SAME(offsetof(bek_statistics, longest_wait), 368);
+SAME(offsetof(bek_statistics, units), 376);
+SAME(offsetof(bek_statistics, resent), 384);
+SAME(offsetof(bek_statistics, heartbeats), 392);
+SAME(offsetof(bek_statistics, requests), 400);
+SAME(offsetof(bek_statistics, answers), 408);
+SAME(offsetof(bek_statistics, confirmed), 416);
+SAME(sizeof(bek_statistics), 424);
 
 int main(void) { return 0; }

@@ -1,7 +1,7 @@
-"""One end: redundancy layer, safety machine and session in the order of docs/END.md.
+"""One end: redundancy layer, safety machine and session, in the order of docs/protocol.md.
 
-What a call does it tells in the order of a trace: ('made', index), ('state', S), ('phase', P), ('takes', kind, payload),
-('wait', mark) and ('drop', mark, cause). A mark is whatever names a datagram; a part that waited is named by the one that brought it.
+A call records its results in the order of a trace: ('made', index), ('state', S), ('phase', P), ('takes', kind, payload),
+('wait', mark) and ('drop', mark, cause). A mark is any value that identifies a datagram; a deferred part has the mark of its datagram.
 """
 from machine import Machine
 from redundancy import Receiver
@@ -15,12 +15,12 @@ class End:
     def __init__(self, side, settings, first, now, changes=()):
         self.side, self.settings, self.changes = side, settings, changes
         self.time = now  # of the last call
-        self.told = []  # what that call told
-        self.went_up = []  # the parts that went up in it while the end was not closed
-        self.takings = []  # those of them in which something was taken, with the time
-        self.texts, self.numbers = [], {}  # the octets of the PDUs made, and the indexes of those with these octets
+        self.told = []  # the results of that call
+        self.went_up = []  # the parts that went up in that call while the end was not closed
+        self.takings = []  # those parts in which a telegram was taken, with the time
+        self.texts, self.numbers = [], {}  # the octets of the PDUs made, and for octets the indexes of their PDUs
         self.request = None  # the octets of the ConnReq that it took in Down
-        self.is_up_late = False  # by a change alone: the session is yet to go up
+        self.is_up_late = False  # only by a change: the session has not gone up yet
         self.red = Receiver(settings.q, settings.t_seq, changes)
         self.session = Session(side, settings, self.tell, changes)
         self.machine = Machine(side == 'il', settings, first, now, changes)
@@ -80,7 +80,7 @@ class End:
         self.told.append(what)
 
     def note_made(self):
-        """The PDUs made since the last note."""
+        """Records the PDUs made since the last note."""
         for index in range(len(self.texts), len(self.machine.made)):
             octets = safe_text(self.machine.made[index], self.settings.rule)
             self.texts.append(octets)
@@ -88,7 +88,7 @@ class End:
             self.tell(('made', index))
 
     def moves(self, move):
-        """A step of the machine alone; where it closes, the session ends."""
+        """Makes one step of the machine; if the machine closes, the session ends."""
         before = self.machine.state
         move()
         self.note_made()
@@ -104,7 +104,7 @@ class End:
                 self.part(octets, now, mark)
 
     def part(self, octets, now, mark):
-        """A part that goes up: machine and session, and leaving where it is asked for."""
+        """Handles a part that goes up: machine, then session, then the disconnect if one of them requests it."""
         before, had, items = self.machine.state, len(self.machine.taken), len(self.session.taken)
         cause = self.machine.arrive(self.reads(octets), now)
         if cause:
@@ -137,7 +137,7 @@ class End:
             self.session.up()
 
     def packs(self, now):
-        """Packs and sends while messages wait and the machine may send; each unit takes a message out."""
+        """Packs and sends while messages wait and the machine may send; each unit takes at least one message."""
         if self.is_up_late:
             self.is_up_late = False
             self.session.up()
@@ -150,7 +150,7 @@ class End:
             self.note_made()
 
     def leaves_waiting(self, most):
-        """How many messages that are sent wait no longer: all of them, but for two changes."""
+        """Returns how many sent messages leave the queue: all of them, except under two changes."""
         if 'sent_messages_stay_waiting' in self.changes:
             return 0
         return 1 if 'later_messages_of_a_unit_stay_waiting' in self.changes else most

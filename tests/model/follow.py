@@ -1,5 +1,5 @@
 #!/usr/bin/env python3
-"""Follows a capture on the model, and prints what `rasta follow` must print: a line for each datagram, and the sums.
+"""Reads a capture in the model, and prints what `rasta follow` must print: a line for each datagram, and the sums.
 
     tests/model/follow.py follow [--code 0|8|16] [--only WORD] [--ports PORTS] [--t-max MS] [--json] FILE
 """
@@ -15,7 +15,7 @@ from texts import OPENINGS, red_seen, safe_seen  # noqa: E402
 
 KEPT, PASSED_MAX, CHANNELS, CONNECTIONS, WRAP = 32, 65535, 4, 16, 2 ** 32
 LINE_MAX, PAYLOAD_MAX = 8192, 2048
-ONLY = ('opens', 'repeat', 'differs', 'ahead', 'late', 'stale', 'anew', 'resent', 'age', 'reason', 'fault')
+ONLY = ('opens', 'repeat', 'differs', 'ahead', 'late', 'stale', 'anew', 'resent', 'age', 'waits', 'reason', 'fault')
 FAULTS = {'red': ('Short', 'Length', 'Reserve'), 'safe': ('Short', 'Length', 'Code', 'Type', 'Body')}
 REASONS = ('closed by user', 'unexpected PDU', 'sequence error', 'timeout', 'service not allowed', 'wrong version',
            'retransmission impossible', 'protocol error')
@@ -24,7 +24,7 @@ DETAILS = {4: ('version differs', 'out of order', 'not of this pair'),
 
 
 class Numbers:
-    """The numbers that were heard or passed over of late: of each its line and octets, or that it is missing."""
+    """The numbers received or skipped lately: for each its line and octets, or that it is missing."""
 
     def __init__(self):
         self.heard = self.missing = self.late = self.repeats = self.differing = self.stale = 0
@@ -38,7 +38,7 @@ class Numbers:
         return (self.known.get(number) or (0, None))[1] == octets
 
     def note(self, number, line, octets):
-        """How it followed, in words; nothing, where it was the first or the next."""
+        """Returns the remark on its order; empty if it is the first or the next."""
         if self.known.get(number):
             first = self.known[number]
             if first[1] == octets:
@@ -66,7 +66,7 @@ class Numbers:
         return said
 
     def keep(self, number, line, octets):
-        """A number that was heard is kept until one is heard that lies a multiple of KEPT from it; one that was passed over, for KEPT numbers."""
+        """Keeps a received number until one is received that is a multiple of KEPT away; a skipped one for KEPT numbers."""
         self.known = {known: first for known, first in self.known.items()
                       if ((number - known) % KEPT if first else (self.newest - known) % WRAP < KEPT)}
         self.known[number] = (line, octets)
@@ -82,30 +82,32 @@ class Numbers:
 
 
 class Direction:
-    """What one end of a connection sent."""
+    """The PDUs that one end of a connection sent."""
 
     def __init__(self):
         self.opening = self.stamp = self.left = self.parting = None
+        self.since, self.confirming = None, {}  # the own timestamp last confirmed; by remainder of SN: SN, TS and CTS of the last PDU
         self.channels = [Numbers() for _ in range(CHANNELS)]
         self.together, self.sequence, self.damaged = Numbers(), Numbers(), [0] * CHANNELS
-        self.openings = self.oldest = self.last = self.silence = self.opened = 0
-        self.kinds = {'HB': 0, 'RetrReq': 0, 'RetrData': 0}
+        self.openings = self.oldest = self.longest = self.last = self.silence = self.opened = 0
+        self.kinds = {'HB': 0, 'RetrReq': 0, 'RetrData': 0, 'DiscReq': 0}
 
     def opens(self, opening, time):
-        self.opening, self.openings, self.last, self.left, self.opened = opening, self.openings + 1, 0, None, time
+        self.opening, self.openings, self.left, self.opened = opening, self.openings + 1, None, time
+        self.since, self.confirming = opening[2], {}
         for numbers in self.channels + [self.together, self.sequence]:
             numbers.begin()
 
     def is_copy(self, channel, number, octets):
-        """Whether an opening was heard already, and nothing else of its end on its channel since."""
+        """Whether this opening was received already, and nothing else of its end on its channel since."""
         newest = self.channels[channel].newest if channel < CHANNELS else None
         return self.together.repeats_as(number, octets) and newest in (None, number)
 
     def follow(self, time, line, channel, number, p, octets, peer):
-        """What is remarkable in a PDU; `peer` is the timestamp of the other end's newest."""
+        """Returns the remarks on a PDU; `peer` is the direction of the other end."""
         words = []
         if p.kind in OPENINGS and not self.is_copy(channel, number, octets):
-            self.opens((p.kind, p.sn), time)
+            self.opens((p.kind, p.sn, p.ts), time)
             words.append('opens')
         if channel < CHANNELS:
             words.append(named('channel', self.channels[channel].note(number, line, octets)))
@@ -114,42 +116,59 @@ class Direction:
         words += [named('all', together), named('sn', self.sequence.note(p.sn, line, octets)) if is_new else '']
         if is_new and together != 'late':
             self.stamp = p.ts
-        age = -1 if peer is None or self.confirms_nothing(p) else (peer - p.cts) % WRAP
-        if not 0 <= age < WRAP // 2:
-            age = None
+        age = None if self.confirms_nothing(p) or peer.opening and after(peer.opening[2], p.cts) is None else after(p.cts, peer.stamp)
+        waits = self.waits(p, peer) if is_new else None
         left = leaving(*p.body[::-1]) if p.kind == 'DiscReq' else None
         if is_new:
-            self.counts(time, p.kind, age, left)
+            self.counts(time, p.kind, age, waits, left)
             self.parting = (time, *p.body[::-1]) if left else self.parting
-        words += ['resent' if p.kind == 'RetrData' else '', '' if age is None else 'age %d ms' % age, left]
+        words += ['resent' if p.kind == 'RetrData' else '', '' if age is None else 'age %d ms' % age, '' if waits is None else 'waits %d ms' % waits, left]
         return [word for word in words if word]
 
+    def waits(self, p, peer):
+        """Returns the time since the own timestamp that was last confirmed: by the PDU of the other end that this one confirms."""
+        sn, ts, cts = peer.confirming.get(p.cs % KEPT, (None, None, None))
+        if (sn, ts) == (p.cs, p.cts) and not self.confirms_nothing(p):
+            self.since = cts
+        self.confirming[p.sn % KEPT] = (None, None, None) if p.kind == 'ConnReq' else (p.sn, p.ts, p.cts)
+        return after(self.since, p.ts)
+
     def confirms_nothing(self, p):
-        """A ConnReq, and the DiscReq of an end that sent nothing but its ConnReq before."""
+        """Whether it is a ConnReq, or the DiscReq of an end that before sent only its ConnReq."""
         is_behind = self.opening is not None and self.opening[0] == 'ConnReq' and p.sn == (self.opening[1] + 1) % WRAP
         return p.kind == 'ConnReq' or p.kind == 'DiscReq' and is_behind
 
-    def counts(self, time, kind, age, left):
+    def silent(self, until):
+        """Returns the longest time without a PDU."""
+        return max(self.silence, until - self.last) if self.last else self.silence
+
+    def counts(self, time, kind, age, waits, left):
         if kind in self.kinds:
             self.kinds[kind] += 1
-        self.oldest = max(self.oldest, age or 0)
-        self.silence = max(self.silence, time - self.last) if self.last else self.silence
+        self.oldest, self.longest = max(self.oldest, age or 0), max(self.longest, waits or 0)
+        self.silence = self.silent(time)
         self.last, self.left = time, left or self.left
 
-    def members(self):
-        """The sums as members of a JSON object."""
+    def members(self, until):
+        """Returns the sums as members of a JSON object; silence lasts up to the last PDU of either end."""
         left = dict(zip(('time', 'reason', 'detail'), self.parting)) if self.left else None
         return {'opening': self.opening and self.opening[0], 'openings': self.openings, 'opened': self.opened or None, **self.together.members(),
-                'heartbeats': self.kinds['HB'], 'requests': self.kinds['RetrReq'], 'resent': self.kinds['RetrData'], 'silence': self.silence,
-                'age': self.oldest, 'last': self.last or None, 'left': left}
+                'heartbeats': self.kinds['HB'], 'requests': self.kinds['RetrReq'], 'resent': self.kinds['RetrData'],
+                'disconnects': self.kinds['DiscReq'], 'silence': self.silent(until), 'age': self.oldest, 'waits': self.longest, 'last': self.last or None, 'left': left}
 
-    def sums(self, first, t_max):
+    def sums(self, first, t_max, until):
         opened = 'opened by %s times %d' % (self.opening[0], self.openings) if self.opening else 'opening not seen'
-        kinds = 'heartbeats %d requests %d resent %d' % tuple(self.kinds.values())
-        age = 'age %d of %d%s' % (self.oldest, t_max, ' reached' if self.oldest >= t_max else '')
+        kinds = 'heartbeats %d requests %d resent %d disconnects %d' % tuple(self.kinds.values())
+        near = ' '.join('%s %d of %d%s' % (word, most, t_max, ' reached' if most >= t_max else '') for word, most in (('age', self.oldest), ('waits', self.longest)))
         last = 'last ' + seconds(self.last - first) if self.last else 'not heard'
-        return ' '.join((opened, self.together.sums(), kinds, 'silence ' + seconds(self.silence), age, last,
+        return ' '.join((opened, self.together.sums(), kinds, 'silence ' + seconds(self.silent(until)), near, last,
                          'DiscReq ' + self.left if self.left else 'no DiscReq'))
+
+
+def after(first, stamp):
+    """Returns how far a timestamp is after another, or None if it is before it or one is unknown."""
+    steps = None if first is None or stamp is None else (stamp - first) % WRAP
+    return steps if steps is not None and steps < WRAP // 2 else None
 
 
 def named(name, said):
@@ -162,13 +181,13 @@ def leaving(reason, detail):
 
 
 class Connection:
-    """Two ends, by their identifiers, the lower one in front, and the channels between them."""
+    """Two ends, by their identifiers, the lower one first, and the channels between them."""
 
     def __init__(self, ends):
         self.ends, self.routes, self.directions, self.last = ends, [], (Direction(), Direction()), 0
 
     def known(self, source, destination):
-        """The number of the channel between two addresses, whichever is the source."""
+        """Returns the number of the channel between two addresses, in either direction."""
         return next((place for place, route in enumerate(self.routes) if set(route) == {source, destination}), None)
 
     def channel(self, source, destination, is_from_low):
@@ -181,26 +200,26 @@ class Connection:
         return CHANNELS
 
     def damages(self, source, place):
-        """A datagram that is no PDU, of the end whose address sent it."""
+        """Counts a datagram that is not a PDU for the end whose address sent it."""
         self.directions[self.routes[place][0] != source].damaged[place] += 1
 
     def up(self):
-        """When the last ConnReq was answered."""
+        """Returns the time of the reply to the last ConnReq."""
         asks, answers = ([d for d in self.directions if d.opening and d.opening[0] == kind] for kind in OPENINGS)
         return answers[0].opened if asks and answers and asks[0].opened <= answers[0].opened else None
 
     def losses(self):
-        """Numbers lost on single channels, and on all."""
+        """Returns the numbers lost on single channels, and on all."""
         return (sum(numbers.missing for direction in self.directions for numbers in direction.channels),
                 sum(direction.together.missing for direction in self.directions))
 
     def sentence(self, first, t_max):
-        up, oldest = self.up(), max(direction.oldest for direction in self.directions)
+        up, longest = self.up(), max(direction.longest for direction in self.directions)
         parts = ['connection %d-%d %s' % (*self.ends, 'was not seen to come up' if up is None else 'came up at ' + seconds(up - first))]
         gone = [(end, direction) for end, direction in zip(self.ends, self.directions) if direction.left]
         parts += ['%d left at %s %s' % (end, seconds(direction.parting[0] - first), direction.left) for end, direction in gone]
         parts += [] if gone else ['nobody left', 'heard last at ' + seconds(self.last - first)]
-        parts += ['lost on single channels %d on all %d' % self.losses(), 'age %d of %d%s' % (oldest, t_max, ' reached' if oldest >= t_max else '')]
+        parts += ['lost on single channels %d on all %d' % self.losses(), 'waits %d of %d%s' % (longest, t_max, ' reached' if longest >= t_max else '')]
         return ', '.join(parts)
 
     def members(self):
@@ -210,13 +229,13 @@ class Connection:
             routes = [{'channel': place + 1, 'low': route[0], 'high': route[1],
                        'datagrams': sum(n.counts()) - n.missing + direction.damaged[place], **n.members(), 'damaged': direction.damaged[place]}
                       for place, (route, n) in enumerate(zip(self.routes, direction.channels))]
-            directions.append({'from': sender, 'to': receiver, **direction.members(), 'channels': routes})
+            directions.append({'from': sender, 'to': receiver, **direction.members(self.last), 'channels': routes})
         return {'low': self.ends[0], 'high': self.ends[1], 'up': self.up(), 'last': self.last, 'lost_on_channels': channels, 'lost_on_all': everywhere,
-                'age': max(direction.oldest for direction in self.directions), 'directions': directions}
+                **{name: max(direction[name] for direction in directions) for name in ('age', 'waits')}, 'directions': directions}
 
     def sums(self, first, t_max):
         for (sender, receiver), direction in zip((self.ends, self.ends[::-1]), self.directions):
-            yield 'sum %d->%d %s' % (sender, receiver, direction.sums(first, t_max))
+            yield 'sum %d->%d %s' % (sender, receiver, direction.sums(first, t_max, self.last))
             for place, route in enumerate(self.routes):
                 n = direction.channels[place]
                 yield 'sum %d->%d ch %d %s-%s datagrams %d %s damaged %d' % (
@@ -229,14 +248,14 @@ class Connection:
 
 
 class Follower:
-    """All connections of a capture, the one that was heard last at the end."""
+    """All connections of a capture, in the order of their last PDUs."""
 
     def __init__(self, rule):
         self.rule, self.connections, self.damaged, self.forgotten, self.unreadable = rule, [], 0, 0, 0
         self.datagrams, self.gone = 0, [0] * 6
 
     def line(self, time, line, source, destination, octets):
-        """What a datagram says, and the words of what is remarkable in it."""
+        """Returns the contents of a datagram, and the words of its remarks."""
         self.datagrams += 1
         way, seen = '->'.join((source, destination)), red_seen(octets)
         number, p = (None, None) if isinstance(seen, str) else (seen[0], safe_seen(seen[1], self.rule))
@@ -248,12 +267,12 @@ class Follower:
         is_from_low = p.sender == connection.ends[0]
         channel = connection.channel(source, destination, is_from_low)
         own, other = connection.directions[::1 if is_from_low else -1]
-        words = own.follow(time, line, channel, number, p, seen[1], other.stamp)
+        words = own.follow(time, line, channel, number, p, seen[1], other)
         return '%d->%d ch %s red %d %s sn %d cs %d ts %d cts %d' % (
             p.sender, p.receiver, channel + 1 if channel < CHANNELS else 'other', number, p.kind, p.sn, p.cs, p.ts, p.cts), words
 
     def damages(self, source, destination):
-        """A datagram that is no PDU, on the channel of the connection that was heard last of those that have it."""
+        """Handles a datagram that is not a PDU, on the channel of the latest connection that has it."""
         self.damaged += 1
         for connection in reversed(self.connections):
             place = connection.known(source, destination)
@@ -270,7 +289,7 @@ class Follower:
         return self.connections[-1]
 
     def members(self, first, t_max):
-        """All sums as one JSON object in one line."""
+        """Returns all sums as one JSON object in one line."""
         counts = [sum(column) for column in zip(self.gone, *(connection.counts() for connection in self.connections))]
         names = ('PDUs', 'missing', 'repeats', 'late', 'differs', 'stale')
         return json.dumps({'first': first or None, 't_max': t_max, 'all': {
@@ -295,13 +314,13 @@ def seconds(micros):
 
 
 def number(text, most):
-    """Decimal digits up to a number."""
+    """Reads decimal digits up to a limit."""
     digits = text.lstrip('0') or text[:1]
     return int(digits) if re.fullmatch('[0-9]{1,20}', digits) and int(digits) <= most else None
 
 
 def time(text):
-    """Microseconds: seconds, a point, and six to nine digits, of which six count."""
+    """Reads microseconds: seconds, a point, and six to nine digits, of which the first six count."""
     found = re.fullmatch(r'([0-9]+)\.([0-9]{6})[0-9]{0,3}', text)
     whole = number(found[1], 999999999999) if found else None
     return None if whole is None else 1000000 * whole + int(found[2])
@@ -318,7 +337,7 @@ def host_v4(host):
 
 
 def host_v6(host):
-    """As RFC 5952 has it, in brackets; an IPv4 address in it stands with points."""
+    """Writes an IPv6 address as in RFC 5952, in brackets; an embedded IPv4 address has points."""
     try:
         seen = ipaddress.IPv6Address(host if re.fullmatch('[0-9a-fA-F:.]*', host) else '')
     except ValueError:
@@ -327,7 +346,7 @@ def host_v6(host):
 
 
 def read(raw):
-    """Time, source, destination and payload of a line, or its first fault."""
+    """Returns time, source, destination and payload of a line, or its first fault."""
     if len(raw) > LINE_MAX:
         return 'too long'
     fields = re.sub('\r?\n$', '', raw.decode('latin-1')).split('\t')
@@ -348,11 +367,18 @@ def is_wanted(only, t_max, words):
         return any(word.split()[0] == only for word in words)
     if only == 'age':
         return any(int(word.split()[1]) >= t_max for word in words if word.startswith('age '))
+    if only == 'waits':
+        return any(is_long(word, t_max) for word in words)
     return only is None or any(word.split()[1] == only for word in words if word.startswith(('channel ', 'all ', 'sn ', 'red ', 'safe ')))
 
 
+def is_long(word, t_max):
+    """Whether this remark is a wait of half of T_max or more; a shorter one is not printed."""
+    return word.startswith('waits ') and 2 * int(word.split()[1]) >= t_max
+
+
 def ranges(text):
-    """The ports that a text names, or none."""
+    """Returns the ports that a text names, or None."""
     found = [re.fullmatch('([0-9]+)(?:-([0-9]+))?', piece) for piece in text.split(',')]
     pairs = [(number(piece[1], 65535), number(piece[2] or piece[1], 65535)) for piece in found if piece]
     if len(pairs) < len(found) or len(pairs) > 4 or any(None in pair or pair[0] > pair[1] for pair in pairs):
@@ -361,7 +387,7 @@ def ranges(text):
 
 
 def followed(raws, code=8, only=None, t_max=1800, ports=None, as_json=False):
-    """Standard output, standard error and exit status."""
+    """Returns standard output, standard error and exit status."""
     follower, first, out, err = Follower(Settings(code=code).rule), None, [], []
     for line, raw in enumerate(raws, 1):
         seen = read(raw)
@@ -374,6 +400,7 @@ def followed(raws, code=8, only=None, t_max=1800, ports=None, as_json=False):
         first = seen[0] if first is None else first
         said, words = follower.line(seen[0], line, *seen[1:])
         if is_wanted(only, t_max, words) and not as_json:
+            words = [word for word in words if not word.startswith('waits ') or is_long(word, t_max)]
             out.append(' '.join([seconds(seen[0] - first), 'line', str(line), said] + words) + '\n')
     out += [said + '\n' for said in ([follower.members(first, t_max)] if as_json else follower.sums(first, t_max))]
     return ''.join(out), ''.join(err), 1 if err else 0

@@ -1,6 +1,6 @@
-"""The safety machine: its rules and its state are those of docs/SAFETY_MACHINE.md, with changes that can be switched on.
+"""The safety machine: its rules and its state are those of docs/protocol.md, with changes that can be switched on.
 
-It has every PDU that it made, and no queue: what is unconfirmed is read off them. Numbers and times wrap at 2^32 in PDUs alone.
+It keeps every PDU that it made, and no queue: the unconfirmed ones are found among them. Only in PDUs do numbers and times wrap at 2^32.
 """
 from texts import CARRIERS, VERSION, Pdu
 
@@ -9,7 +9,7 @@ REACH = 10
 LIVE = ('Start', 'Up', 'RetrReq', 'RetrRun')
 IN_TURN = ('Up', 'RetrRun')
 
-TABLE = {  # (state, next): what is done with each type; a number is the reason to leave
+TABLE = {  # (state, next): the action for each type; a number is the reason to disconnect
     ('Start', True): {'HB': 'take'},
     ('Start', False): {'HB': 2, 'Data': 2},
     ('Up', True): {'HB': 'take', 'Data': 'take', 'RetrReq': 'answer'},
@@ -34,12 +34,12 @@ class Machine:
         self.since = self.expected = self.last_sn = self.last_ts = 0
         self.confirmed, self.confirmed_at, self.answered, self.window = 0, now, 0, 0
         self.state = 'Start' if client else 'Down'
-        self.guard_left = False  # a guard found its time passed or its limit reached
+        self.guard_left = False  # a timeout check found its time passed or its limit reached
         if client:
             self.make('ConnReq', now, (VERSION, settings.n_sendmax))
 
     def arrive(self, p, now):
-        """What comes: a PDU, or the name of the fault of octets that are none. Answers the cause where it is dropped."""
+        """Handles a PDU, or the name of the fault of octets that are not a PDU. Returns the cause if it is dropped."""
         self.guard(now, True)
         if self.state == 'Closed':
             return None
@@ -184,7 +184,7 @@ class Machine:
         return ahead(self.confirmed_at, p.cts)
 
     def fits(self, p, now):
-        """Both confirmation tests: where they pass, number and time are confirmed, and else the end leaves."""
+        """Makes both confirmation tests: if they pass, number and time are confirmed, otherwise the end disconnects."""
         if not self.cs_step(p) < len(self.made) - self.confirmed:
             self.leave(now, 7, 3)
             return False

@@ -1,4 +1,4 @@
-"""Two machines and the network between them, with the clauses of their law (docs/SAFETY_MACHINE.md, two machines)."""
+"""Two machines and the network between them, with the clauses of their law (docs/protocol.md, two machines)."""
 import copy
 
 from machine import Machine
@@ -53,7 +53,7 @@ class World:
         return True
 
     def broken(self):
-        """The first clause of the law that does not hold, or None."""
+        """Returns the first clause of the law that does not hold, or None."""
         il, fe = self.ends['il'], self.ends['fe']
         partners = [g for g in self.joined if g is not None]
         if len(partners) != len(set(partners)):
@@ -61,7 +61,7 @@ class World:
         for f, g in zip(fe, self.joined):
             if g is None:
                 if f.taken:
-                    return 'who is joined to none has taken nothing'
+                    return 'an end with no partner has taken nothing'
                 continue
             for taker, maker in ((f, il[g]), (il[g], f)):
                 if maker.units()[:len(taker.taken)] != taker.taken:
@@ -74,12 +74,12 @@ class World:
                         return 'freshness: taken at %d, basis made at %d, t_max %d' % (now, taker.made[behind - 1].time, taker.settings.t_max)
         for i, g in enumerate(il):
             if i not in partners and g.taken:
-                return 'who is joined to none has taken nothing'
+                return 'an end with no partner has taken nothing'
         return None
 
 
 def run(events, changes=()):
-    """The first broken clause over the events and how many it took; None where an event is refused or the law holds."""
+    """Returns the first broken clause over the events and how many it took; None if an event is refused or the law holds."""
     world = World(changes)
     for count, event in enumerate(events):
         if not world.happens(copy.copy(event)):

@@ -8,7 +8,7 @@ MASK = 0xffffffff
 
 @functools.lru_cache(maxsize=200000)
 def digest(initial_value, octets):
-    """The 16 octets of the digest."""
+    """Returns the 16 octets of the digest."""
     length = len(octets)
     padded = octets + b'\x80' + bytes(-(length + 9) % 64) + struct.pack('<Q', 8 * length % 2 ** 64)
     state = struct.unpack('<4I', initial_value)
@@ -18,7 +18,7 @@ def digest(initial_value, octets):
 
 
 def rounds(state, x):
-    """The three rounds over a block of 16 words."""
+    """Makes the three rounds over a block of 16 words."""
     a, b, c, d = state
     for i in (0, 4, 8, 12):
         a = turned(a + (b & c | ~b & d) + x[i], 3)
@@ -39,6 +39,6 @@ def rounds(state, x):
 
 
 def turned(word, shift):
-    """Its low 32 bits, rotated left."""
+    """Returns its low 32 bits, rotated left."""
     word &= MASK
     return (word << shift | word >> 32 - shift) & MASK

@@ -1,4 +1,4 @@
-"""Two ends with all their incarnations, and what an event does to them.
+"""Two ends with all their incarnations, and the effect of an event on them.
 
 An event is (what, side, now, ..): ('open', side, now, settings, first), ('close', ..), ('put', .., kind, payload), ('init_done', ..),
 ('tick', ..) and ('deliver', .., octets, mark).
@@ -17,17 +17,17 @@ def other(side):
 class Pair:
     def __init__(self, changes=()):
         self.changes = changes
-        self.ends = {'il': [], 'fe': []}  # the incarnations, the first first
-        self.joined = []  # of each field element the place of the interlocking whose ConnReq it took
-        self.dead = {'il': 0, 'fe': 0}  # how many of the PDUs that the present one made were made before the later opening
-        self.is_genuine = True  # every event so far was
+        self.ends = {'il': [], 'fe': []}  # the incarnations, oldest first
+        self.joined = []  # for each field element the index of the interlocking whose ConnReq it took
+        self.dead = {'il': 0, 'fe': 0}  # how many PDUs the present incarnation made before the later of both openings
+        self.is_genuine = True  # whether every event so far was genuine
         self.last = None  # the end of the last accepted event
 
     def present(self, side):
         return self.ends[side][-1] if self.ends[side] else None
 
     def apply(self, event):
-        """Lets an event happen; answers the name of its refusal, where it is refused, and then changes nothing."""
+        """Applies an event. If it is refused, returns the name of the refusal and changes nothing."""
         refusal = self.refusal(event)
         if refusal:
             return refusal
@@ -45,7 +45,7 @@ class Pair:
         return None
 
     def refusal(self, event):
-        """The lowest that holds: EndNotOpen, BadConfig, Clock, then the session's own."""
+        """Returns the first refusal that holds: EndNotOpen, BadConfig, Clock, then the session's own."""
         what, side, now, *rest = event
         end = self.present(side)
         if what == 'open' and not are_fit(side, rest[0]):
@@ -70,7 +70,7 @@ class Pair:
             self.joined.append(None)
 
     def keeps(self, before, end):
-        """What a reopened end keeps of the incarnation before: nothing, but by a change."""
+        """Returns what a reopened end keeps of the incarnation before: nothing, except under a change."""
         if 'reopened_end_keeps_its_expected_number' in self.changes:
             end.red.expected = before.red.expected
         if 'reopened_machine_keeps_its_expected_number' in self.changes:
@@ -88,20 +88,20 @@ class Pair:
             self.joins_later(end)
 
     def joins_later(self, end):
-        """By a change, each ConnReq that bears this end's identifiers joins anew."""
+        """Under a change, each ConnReq with this end's identifiers joins it again."""
         for part in end.went_up:
             if is_asked(end, part) and end.reads(part).kind == 'ConnReq':
                 self.joined[-1] = self.latest_maker(part)
 
     def latest_maker(self, octets):
-        """The place of the latest interlocking that has made a PDU of these octets, or None."""
+        """Returns the index of the latest interlocking that has made a PDU of these octets, or None."""
         for place in range(len(self.ends['il']) - 1, -1, -1):
             if octets in self.ends['il'][place].numbers:
                 return place
         return None
 
     def is_live(self, side, part):
-        """The peer made a PDU of these octets since the later opening, under a code of the same length."""
+        """Whether the peer made a PDU of these octets since the later opening, under a code of the same length."""
         end, peer = self.present(side), self.present(other(side))
         if peer is None or part not in peer.numbers:
             return False
@@ -118,7 +118,7 @@ class Pair:
 
 
 def is_asked(end, part):
-    """Long enough, with both identifiers for this end at their places, and with a valid code at its end."""
+    """Whether it is long enough, has both identifiers of this connection, and a valid code at its end."""
     s = end.settings
     identifiers = s.own.to_bytes(4, 'little') + s.peer.to_bytes(4, 'little')
     return len(part) >= HEADER + s.code and part[4:12] == identifiers and has_code(part, s.rule)

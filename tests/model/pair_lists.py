@@ -1,9 +1,9 @@
 """Random lists of events of a pair, genuine ones and faithful ones.
 
-An event here is one of pair.py, but settings are told by what differs from the defaults, and a datagram by the PDU that it carries:
+An event here is one of pair.py, but settings are given by their differences from the defaults, and a datagram by the PDU that it carries:
 (incarnations back, index of the PDU, number of the datagram), ('stranger', index, number) for one of another connection, or
-('rubbish', number). A digest of the standard library stands for MD4, since no rule asks which it is and MD4 is slow here; a change
-may ask for one that is always zero.
+('rubbish', number). A digest of the standard library replaces MD4, since no rule depends on the digest and MD4 is slow here; a change
+may select a digest that is always zero.
 """
 import copy
 import hashlib
@@ -18,7 +18,7 @@ SIDES = {'il': dict(own=1, peer=2, name=b'IL1', peer_name=b'FE1'), 'fe': dict(ow
 
 
 def of_stranger(maker, index):
-    """What another connection may have made: the same PDU, but with another sender, and other units."""
+    """Makes a PDU of another connection: the same PDU, but with another sender, and other units."""
     pdu = copy.copy(maker.machine.made[index])
     pdu.sender += 10
     if pdu.kind in CARRIERS:
@@ -36,7 +36,7 @@ def zero_digest(initial_value, octets):
 
 
 class Course:
-    """A pair on the way through a list of events."""
+    """A pair in the course of a list of events."""
 
     def __init__(self, changes, promises):
         self.pair, self.changes, self.promises = Pair(changes), changes, promises
@@ -44,7 +44,7 @@ class Course:
         self.is_faithful = True
 
     def happens(self, event):
-        """Whether it was accepted."""
+        """Applies an event; returns whether it was accepted."""
         what, side, now, *rest = event
         if what == 'open':
             changed, first = rest
@@ -64,7 +64,7 @@ class Course:
         return True
 
     def breaks_premise(self, event):
-        """At once; a part that waits may break it later."""
+        """Whether the event breaks the premise at once; a deferred part may break it later."""
         if event[0] != 'deliver':
             return False
         octets = self.octets(event[1], event[3])
@@ -81,7 +81,7 @@ class Course:
         return red_text(number, of_stranger(maker, index) if datagram[0] == 'stranger' else maker.texts[index])
 
     def keeps_faith(self, what, side, rest):
-        """Each end is opened once with the code of the other and not closed by its caller; under a number comes the PDU of that index."""
+        """Whether each end is opened once, with the other's code, and not closed by its caller, and each number comes with the PDU of that index."""
         if what == 'open':
             peer = self.pair.present(other(side))
             return not self.pair.ends[side] and (peer is None or peer.settings.code == rest[0].get('code', 8))
@@ -95,12 +95,12 @@ class Course:
         return None
 
     def is_within(self):
-        """The premise of the promises that are looked at."""
+        """Whether the premise of the promises in question holds."""
         return self.pair.is_genuine and (nothing_lost not in self.promises or self.is_faithful)
 
 
 def run(events, changes, promises):
-    """The first broken clause and how many events it took; None where the premise or every promise holds. A refused event is none."""
+    """Returns the first broken clause and how many events it took; None if the premise is broken or every promise holds. Refused events do not count."""
     course = Course(changes, promises)
     for count, event in enumerate(events):
         course.happens(event)
@@ -122,7 +122,7 @@ class Maker:
         self.is_over, self.clause, self.puts = False, None, 0
 
     def add(self, *event):
-        """One event more, if it is accepted; the list is over before one that leaves the premise, and behind one that breaks a promise."""
+        """Adds an event if it is accepted; the list ends before one that breaks the premise, and after one that breaks a promise."""
         if self.is_over or self.course.breaks_premise(event) or not self.course.happens(event):
             return
         if not self.course.is_within():
@@ -152,7 +152,7 @@ class Maker:
                     t_seq=r.choice((10, 50)), mwa=r.randint(1, 4), code=8)
 
     def both_settings(self):
-        """Of il and of fe: they match in most lists."""
+        """Returns settings for il and fe; they match in most lists."""
         il, fe = self.settings(), self.settings()
         how = self.rng.random()
         if how < 0.03:
@@ -185,7 +185,7 @@ class Maker:
             self.flow()
 
     def flow(self):
-        """All that was made and did not come comes in order."""
+        """Delivers all PDUs that have not come yet, in order."""
         for _ in range(200):
             before = len(self.events)
             for side in ('fe', 'il'):
@@ -205,7 +205,7 @@ class Maker:
 
 
 class GenuineMaker(Maker):
-    """Losses, repeats, delays, damaged numbers, reopenings, closings, times just at their limits."""
+    """Genuine lists: losses, repeats, delays, damaged numbers, reopenings, closings, times just at their limits."""
 
     def step(self):
         r, side = self.rng, self.rng.choice(('il', 'fe'))
@@ -228,7 +228,7 @@ class GenuineMaker(Maker):
             self.flow()
 
     def is_stuck(self, side):
-        """Closed, or waiting for a request that can't come any more."""
+        """Whether the end is closed, or waits for a request that can no longer come."""
         end = self.pair.present(side)
         return end and (end.is_shut() or end.machine.state == 'Down' and self.pair.dead['il'] > 0)
 
@@ -263,7 +263,7 @@ class GenuineMaker(Maker):
         self.add('deliver', side, self.later(side), datagram)
 
     def reopen(self, side):
-        """One end, or both in either order."""
+        """Opens one end, or both in either order."""
         r = self.rng
         settings = dict(zip(('il', 'fe'), self.both_settings()))
         order = r.choice((('fe', 'il'), ('fe', 'il'), ('fe', 'il'), ('il', 'fe'), (side,)))
@@ -274,7 +274,7 @@ class GenuineMaker(Maker):
 
 
 class FaithfulMaker(Maker):
-    """Each PDU comes in time and under its number, out of order and repeated."""
+    """Faithful lists: each PDU comes in time and under its number, out of order and repeated."""
 
     def both_settings(self):
         il, fe = super().both_settings()
@@ -299,7 +299,7 @@ class FaithfulMaker(Maker):
         self.flow()
 
     def later(self, side):
-        """A time at which no deadline has fallen."""
+        """Returns a time at which no deadline has passed."""
         end, r = self.pair.present(side), self.rng
         if r.random() < 0.6:
             return end.time
@@ -319,7 +319,7 @@ class FaithfulMaker(Maker):
 
 
 def simpler(events, runs):
-    """The list with settings as they are by default, where it still breaks a clause."""
+    """Returns the list with default settings, if it still breaks a clause."""
     for place, event in enumerate(events):
         for key in event[3] if event[0] == 'open' else ():
             what, side, now, changed, first = events[place]
@@ -330,7 +330,7 @@ def simpler(events, runs):
 
 
 def told(event):
-    """An event as a line of text."""
+    """Returns an event as a line of text."""
     what, side, now, *rest = event
     if what == 'open':
         changed, first = rest

@@ -1,6 +1,6 @@
-"""The promises of a pair, as sentences that hold or not: those of crates/stack_engine/specs, read aloud.
+"""The promises of a pair, as sentences that hold or not: a translation of crates/stack_engine/specs.
 
-Each function answers None where its promise holds, and else what is false.
+Each function returns None if its promise holds, and otherwise the false sentence.
 """
 from texts import tele_seen, unit_seen
 from pair import other
@@ -12,7 +12,7 @@ def is_beginning(front, whole):
 
 
 def headline(pair):
-    """What an application takes is a beginning of what was put in at the end joined to it."""
+    """The telegrams an application takes are a prefix of those put at the joined end."""
     ils, fes = pair.ends['il'], pair.ends['fe']
     partners = [g for g in pair.joined if g is not None]
     if any(later <= earlier for earlier, later in zip(partners, partners[1:])):
@@ -30,7 +30,7 @@ def headline(pair):
 
 
 def freshness(pair):
-    """What was taken in the last call came in a PDU made upon one that this end made less than its T_max before."""
+    """Every telegram taken in the last call came in a PDU that confirms one this end made less than T_max ago."""
     end, peer = pair.present(pair.last), pair.present(other(pair.last))
     for now, part in end.takings:
         found = [stale(end, now, part, made) for made in (peer.machine.made if peer else ())]
@@ -44,7 +44,7 @@ STALE = ('made', 'basis', 'number', 'stamp', 'recent')
 
 
 def stale(end, now, part, made):
-    """The first of STALE that does not hold: the part is this PDU of the peer, made upon a basis of this end, whose number and
+    """Returns the first of STALE that does not hold: the part is this PDU of the peer, made upon a basis of this end, whose number and
     timestamp it confirms, and which is recent."""
     if end.reads(part).seen() != made.seen():
         return 'made'
@@ -68,7 +68,7 @@ def messages_in(units):
 
 
 def taken_by_joined(pair, side):
-    """What the end took that is joined to the present one."""
+    """Returns what the end joined to the present one took."""
     ils, fes = pair.ends['il'], pair.ends['fe']
     if side == 'fe':
         return ils[pair.joined[-1]].session.taken if pair.joined[-1] is not None else []
@@ -77,7 +77,7 @@ def taken_by_joined(pair, side):
 
 
 def confirmed_taken(pair):
-    """What was put in is a beginning of what the joined end took, then what is unconfirmed, then what waits."""
+    """The telegrams put are a prefix of: those the joined end took, then the unconfirmed ones, then those that wait."""
     for side in ('il', 'fe'):
         end = pair.present(side)
         if end is None or end.is_shut():
@@ -91,7 +91,7 @@ def confirmed_taken(pair):
 
 
 def settled(pair):
-    """Of an end that is settled all that was put in was taken."""
+    """If an end is settled, every telegram put was taken."""
     for side in ('il', 'fe'):
         end = pair.present(side)
         if end and end.is_settled() and not is_beginning(end.session.put_in, taken_by_joined(pair, side)):
@@ -100,7 +100,7 @@ def settled(pair):
 
 
 def bounded(pair):
-    """What an end keeps has its bounds (said of one end, under no premise)."""
+    """The queues of an end have their bounds (for one end, without a premise)."""
     for side in ('il', 'fe'):
         end = pair.present(side)
         if end and len(end.red.waiting) > end.settings.q:
@@ -113,7 +113,7 @@ def bounded(pair):
 
 
 def nothing_lost(pair):
-    """Over faithful lists: nothing is asked for again, and with all arrived what was put in was taken but what waits for the window."""
+    """Over faithful lists: no retransmission is requested, and if all PDUs arrived, every telegram was taken except those that wait for the window."""
     il, fe = pair.present('il'), pair.present('fe')
     for end in (il, fe):
         if end and any(p.kind == 'RetrReq' for p in end.machine.made):
@@ -136,7 +136,7 @@ def nothing_lost(pair):
 
 
 def has_all(end, peer):
-    """Every PDU that the peer made has arrived; asked of an open end."""
+    """Whether every PDU that the peer made has arrived at an open end."""
     return end.is_shut() or end.red.wait.arrived >= set(range(len(peer.texts)))
 
 

@@ -1,6 +1,6 @@
-"""The receiving half of the redundancy layer, and what masking asks of what comes to it.
+"""The receiving half of the redundancy layer, and the condition for masking on what it receives.
 
-A part that waits keeps the mark of the datagram that brought it, by which traces name it.
+A deferred part keeps the mark of its datagram, which identifies it in traces.
 """
 from texts import red_seen
 
@@ -10,7 +10,7 @@ REACH = 10
 class Receiver:
     def __init__(self, q, t_seq, changes=()):
         self.q, self.t_seq, self.changes = q, t_seq, changes
-        self.expected, self.waiting, self.since = 0, {}, 0  # the parts that wait by their numbers, and since when
+        self.expected, self.waiting, self.since = 0, {}, 0  # the deferred parts by number, and since when they wait
         self.wait = Wait(q, t_seq)
 
     def due(self, now):
@@ -18,12 +18,12 @@ class Receiver:
         return bool(self.waiting) and now >= self.since + self.t_seq - early
 
     def released(self, now):
-        """What the deadline lets through: the least number that waits, and its run."""
+        """Releases at the deadline the lowest deferred number and those that follow it."""
         self.wait.time(now)
         return self.follow(min(self.waiting), now) if self.due(now) else []
 
     def follow(self, number, now):
-        """The parts with consecutive numbers from this one on go up."""
+        """Passes up the parts with consecutive numbers from this one on."""
         run = []
         while number in self.waiting:
             run.append((number,) + self.waiting.pop(number))
@@ -32,7 +32,7 @@ class Receiver:
         return run
 
     def arrives(self, octets, now, mark):
-        """Once the deadline was tried: what is answered, and the parts that go up as (number, part, mark)."""
+        """Handles a datagram, after the deadline was checked: returns the result, and the parts that go up as (number, part, mark)."""
         seen = red_seen(octets)
         if isinstance(seen, str):
             return 'red-' + seen, []
@@ -60,7 +60,7 @@ class Receiver:
 
 
 class Wait:
-    """What came, without a receiver: whether all was near, and no deferral deadline fell."""
+    """Watches what came, without a receiver: whether all was near, and no deferral deadline passed."""
 
     def __init__(self, q, t_seq):
         self.q, self.t_seq = q, t_seq

@@ -1,11 +1,11 @@
-"""Random scripts of `sim`, each made line by line beside the model that runs it, so that its lines speak of what is there."""
+"""Random scripts of `sim`, each made line by line while the model runs it, so that its lines refer to what exists."""
 from pair import other
 from search import shortened
 from settings import DEFAULTS
 from sim import Script
 from texts import NUMBERS, red_seen
 
-LIMITS = {  # what a key is set to: both ends of its range, some between
+LIMITS = {  # values of a key: both limits of its range, some between
     'n_sendmax': (1, 1, 2, 3, 20, 32), 'n_maxpacket': (1, 2, 3), 'q': (1, 2, 4, 8), 't_max': (100, 101, 300, 1800, 60000),
     't_h': (10, 11, 99, 300), 't_seq': (10, 50, 1000), 'mwa': (1, 2, 3, 10, 16), 'pdu_limit': (100, 100, 101, 4294901760),
     'channels': (1, 2, 3, 4), 'code': (8, 16), 'sn_il': (0, 100, 2 ** 31, 2 ** 32 - 1, 2 ** 32 - 4, 2 ** 32 - 20),
@@ -33,7 +33,7 @@ class Maker:
             self.done: 1.5, self.opens: 1.5, self.sets: 1, self.close: 0.7, self.trace: 0.5, self.unusual: 0.4, self.busy: 0.2, self.wrong: 0.1}
 
     def made(self):
-        """A whole script, and what must come of it."""
+        """Returns a whole script, and its expected result."""
         self.begin()
         steps, weights = list(self.weights), list(self.weights.values())
         for _ in range(self.rng.choice((5, 20, 40, 80))):
@@ -45,7 +45,7 @@ class Maker:
         return '\n'.join(self.text), self.script.outcome(self.fault)
 
     def add(self, line):
-        """One line more, unless the script has stopped."""
+        """Adds a line, unless the script has stopped."""
         if not self.fault:
             self.text.append(line)
             self.fault = self.script.tried(len(self.text), line)
@@ -70,7 +70,7 @@ class Maker:
             self.opens()
 
     def mend(self):
-        """Most often settings are made such that an end opens."""
+        """Makes settings with which, in most cases, an end opens."""
         s = {**DEFAULTS, **self.script.settings}
         if self.rng.random() < 0.1:
             return
@@ -123,7 +123,7 @@ class Maker:
         self.add(self.rng.choice(WRONG))
 
     def busy(self):
-        """As many PDUs as a limit of 100 allows."""
+        """Makes as many PDUs as a limit of 100 allows."""
         if self.is_over() or self.rng.random() < 0.5:
             self.add('set pdu_limit 100')
             self.add('set n_maxpacket 1')
@@ -157,7 +157,7 @@ class Maker:
         self.add('tick ' + self.end())
 
     def time(self):
-        """The clock of an end goes on, mostly to just where something falls due."""
+        """Advances the clock of an end, mostly to just about its next deadline."""
         r, end = self.rng, self.end()
         now, present = self.script.clocks[end], self.script.pair.present(end)
         marks = [now + 1, now + 5, now + 10]
@@ -181,7 +181,7 @@ class Maker:
         return [label for label in self.script.order if label not in self.script.named]
 
     def label(self):
-        """One that is made: the first unnamed one mostly, or a late one, or any."""
+        """Returns a datagram already made: mostly the first unnamed one, or a late one, or any."""
         r, unnamed, how = self.rng, self.labels(), self.rng.random()
         if unnamed and how < 0.7:
             return unnamed[0]
@@ -200,7 +200,7 @@ class Maker:
             self.add('lose ' + self.label())
 
     def gap(self):
-        """One is lost, those behind it come, and their wait ends."""
+        """Loses one, delivers those after it, and lets their deferral time pass."""
         end = self.end()
         self.add('puts %s %d %s' % (end, self.rng.choice((1, 2, 3)), '0100' if end == 'il' else '0200'))
         unnamed = [label for label in self.labels() if label[0] == end[0]]
@@ -214,7 +214,7 @@ class Maker:
             self.add('tick ' + other(end))
 
     def jump(self):
-        """A damaged number lets a part up at once that has another place, or is of another incarnation."""
+        """Damages a number, so that a part goes up at once that has another place, or is of another incarnation."""
         side = self.end()
         taker, made = self.script.pair.present(other(side)), self.script.labels[side]
         if not (made and taker):
@@ -227,7 +227,7 @@ class Maker:
             self.add('hit %s%d %d 4 %02x' % (side[0], place + 1, self.channel(), bits))
 
     def hit(self):
-        """Damage anywhere, and much of it in the redundancy number, where it leaves the part valid."""
+        """Damages any octet, often of the redundancy number, which leaves the part valid."""
         if not self.script.order:
             return
         r, label = self.rng, self.label()
@@ -238,5 +238,5 @@ class Maker:
 
 
 def shorter(text, differs):
-    """The script with lines left out, as long as it still differs."""
+    """Returns the script with lines left out, as long as it still differs."""
     return '\n'.join(shortened(text.split('\n'), lambda lines: (True, len(lines)) if differs('\n'.join(lines)) else None))

@@ -1,8 +1,8 @@
-"""What every search for a counterexample does: the first random list that breaks a clause, shortened as far as it goes."""
+"""The common part of every search for a counterexample: the first random list that breaks a clause, shortened as far as possible."""
 
 
 def shortened(events, runs):
-    """The list with events left out, as long as it still breaks a clause; `runs` answers the clause and how many events it took."""
+    """Leaves events out as long as the list still breaks a clause; `runs` returns the clause and how many events it took."""
     events = events[:runs(events)[1]]
     size = max(1, len(events) // 2)
     while size:
@@ -17,7 +17,7 @@ def shortened(events, runs):
 
 
 def first_broken(make, runs, lists):
-    """The number of the first list at which a clause is false, and that list shortened; None where there is none among those tried."""
+    """Returns the number of the first list for which a clause is false, and that list shortened; None if no list tried breaks one."""
     for seed in range(lists):
         events = make(seed)
         if events and runs(events):

@@ -1,16 +1,16 @@
-"""The SCI session: the two tables of docs/SESSION.md, with the messages that wait to be sent."""
+"""The SCI session: the two tables of docs/protocol.md, with the messages that wait to be sent."""
 from texts import PAYLOAD_MAX, tele_seen, tele_text, unit_seen
 
 VERSION_CHECK, VERSION_ANSWER = 0x24, 0x25
 REQUEST, BEGIN, COMPLETED = 0x21, 0x22, 0x23
 RESERVED = (VERSION_CHECK, VERSION_ANSWER, REQUEST, BEGIN, COMPLETED)
 WAITING_MAX = 64
-VERSION_DIFFERS, OUT_OF_ORDER, NOT_OF_THIS_PAIR = (4, 1), (4, 2), (4, 3)  # reasons to leave, with their details
+VERSION_DIFFERS, OUT_OF_ORDER, NOT_OF_THIS_PAIR = (4, 1), (4, 2), (4, 3)  # reasons to disconnect, with their details
 BAD_UNIT = (7, 2)
 
 
 class Session:
-    """What it takes and the phases that it comes to are told to `tell`."""
+    """Reports the telegrams it takes and its new phases to `tell`."""
 
     def __init__(self, side, settings, tell, changes=()):
         self.side, self.settings, self.tell, self.changes = side, settings, tell, changes
@@ -28,7 +28,7 @@ class Session:
         self.waiting.append(tele_text(s.protocol, kind, s.name, s.peer_name, payload))
 
     def up(self):
-        """The connection is up."""
+        """Handles the connection going up."""
         if self.phase == 'Idle' and self.side == 'il':
             self.add(VERSION_CHECK, bytes(self.settings.versions[:1]))
             self.goes('Checking')
@@ -39,7 +39,7 @@ class Session:
         self.goes('Ended')
 
     def put_refusal(self, kind, payload):
-        """The lowest that holds."""
+        """Returns the first refusal that holds."""
         if self.phase != 'Established' and not (self.side == 'fe' and self.phase == 'Initialising'):
             return 'NotEstablished'
         if len(self.waiting) >= WAITING_MAX:
@@ -63,7 +63,7 @@ class Session:
         self.goes('Established')
 
     def judge_unit(self, unit):
-        """Judges the telegrams of a unit. Answers reason and detail where the end is to leave; no further message is then judged."""
+        """Checks the telegrams of a unit. If the end must disconnect, returns reason and detail; no further message is then checked."""
         messages = unit_seen(unit)
         if isinstance(messages, str):
             return BAD_UNIT
@@ -115,7 +115,7 @@ class Session:
         return None
 
     def taking_phases(self):
-        """Those in which a field element takes commands."""
+        """Returns the phases in which a field element takes commands."""
         return ('Established', 'Initialising') if 'takes_before_established' in self.changes else ('Established',)
 
     def as_field_element(self, kind, payload):
@@ -138,5 +138,5 @@ class Session:
 
 
 def is_answer(payload):
-    """Result 1 or 2, a version, the length of a checksum, and the checksum."""
+    """Whether it has result 1 or 2, a version, the length of a checksum, and the checksum."""
     return len(payload) >= 3 and payload[0] in (1, 2) and payload[2] <= 16 and len(payload) == 3 + payload[2]

@@ -1,4 +1,4 @@
-"""What an end is opened with, and which settings are BadConfig (docs/PROFILE.md, limits)."""
+"""The settings of an end, and which of them are BadConfig (docs/protocol.md, limits)."""
 import md4
 from texts import Rule, is_name
 

@@ -1,5 +1,5 @@
 #!/usr/bin/env python3
-"""Runs a script of `rasta sim` (docs/SIM.md) on the model, and prints what the program must print.
+"""Runs a script of `rasta sim` (docs/sim.md) on the model, and prints what the program must print.
 
     tests/model/sim.py [sim] SCRIPT
 """
@@ -17,7 +17,7 @@ HEX = set('0123456789abcdefABCDEF')
 
 
 class Stop(Exception):
-    """What stops a script."""
+    """A fault that stops a script."""
 
 
 def unreadable_unless(is_so):
@@ -67,24 +67,24 @@ def up_to(most):
 
 
 CHANNEL = up_to(2 ** 64 - 1)
-FORMS = {  # the words behind the first
+FORMS = {  # the words after the first
     'set': (key, up_to(2 ** 32 - 1)), 'open': (side,), 'close': (side,), 'clock': (side, up_to(2 ** 64 - 1)), 'tick': (side,),
     'put': (side, kind, payload), 'putlen': (side, kind, up_to(1000)), 'puts': (side, up_to(256), kind), 'done': (),
     'give': (label, CHANNEL), 'hit': (label, CHANNEL, up_to(2 ** 64 - 1), lambda word: octets(word, 1)), 'lose': (label,), 'est': ()}
 
 
 class Script:
-    """A script that runs. Its lines are kept until it ends."""
+    """A running script. It keeps its output lines until it ends."""
 
     def __init__(self):
         self.pair, self.lines, self.is_traced = Pair(), [], False
         self.clocks, self.first = {'il': 0, 'fe': 0}, {'il': 100, 'fe': 500}
         self.settings, self.versions = {}, {'il': (3,), 'fe': (3,)}
-        self.labels = {'il': [], 'fe': []}  # the datagrams that each made
+        self.labels = {'il': [], 'fe': []}  # the datagrams that each end made
         self.order, self.next_unnamed, self.named = [], 0, set()
 
     def run(self, text):
-        """What comes of a whole script."""
+        """Runs a whole script and returns its result."""
         for count, line in enumerate(text.split('\n'), 1):
             fault = self.tried(count, line)
             if fault:
@@ -92,7 +92,7 @@ class Script:
         return self.outcome(None)
 
     def tried(self, count, line):
-        """Runs one line. Answers the fault that stops the script, or None."""
+        """Runs one line. Returns the fault that stops the script, or None."""
         try:
             self.line([word for word in line.split(' ') if word])
         except Stop as stop:
@@ -100,7 +100,7 @@ class Script:
         return None
 
     def outcome(self, fault):
-        """Standard output, standard error and exit status. No report follows a fault."""
+        """Returns standard output, standard error and exit status. No report follows a fault."""
         lines = self.lines if fault else self.lines + [self.report(end) for end in ('il', 'fe')]
         return ''.join(line + '\n' for line in lines), fault + '\n' if fault else '', 1 if fault else 0
 

@@ -1,6 +1,6 @@
-"""The octets of all layers: redundancy PDU, safety PDU, unit, telegram (docs/PROFILE.md).
+"""The octets of all layers: redundancy PDU, safety PDU, unit, telegram (docs/protocol.md).
 
-A reader answers what it read, or the name of the first fault.
+A reader returns what it has read, or the name of the first fault.
 """
 import functools
 import struct
@@ -14,7 +14,7 @@ VERSION = b'0303'
 
 
 class Pdu:
-    """A safety PDU. Its body is (version, N_sendmax) of an opening, (detail, reason) of a DiscReq, and else octets."""
+    """A safety PDU. Its body is (version, N_sendmax) for an opening, (detail, reason) for a DiscReq, otherwise octets."""
 
     def __init__(self, **fields):
         self.__dict__.update(fields)
@@ -24,7 +24,7 @@ class Pdu:
 
 
 class Rule:
-    """The rule of a safety code: the first octets of a digest of what stands before them."""
+    """The rule of a safety code: it is the first octets of a digest of all octets before it."""
 
     def __init__(self, octets, digest, initial_value):
         self.octets, self.digest, self.initial_value = octets, digest, initial_value
@@ -41,7 +41,7 @@ def red_text(number, part):
 
 
 def red_seen(octets):
-    """Number and upper part."""
+    """Returns number and upper part."""
     if len(octets) < 8:
         return 'Short'
     length, reserve, number = struct.unpack_from('<HHI', octets)
@@ -57,7 +57,7 @@ def body_text(kind, body):
 
 
 def body_seen(kind, octets):
-    """The body, None where it does not fit the kind."""
+    """Returns the body; None if it does not fit the type."""
     if kind in OPENINGS:
         fits = len(octets) == 14 and octets[:4].isdigit() and octets[6:] == bytes(8) and 1 <= octets[4] + 256 * octets[5] <= 32
         return (octets[:4], octets[4]) if fits else None
@@ -76,7 +76,7 @@ def safe_text(pdu, rule):
 
 
 def has_code(octets, rule):
-    """Whether they end in the code of what stands before it."""
+    """Whether the octets end in the code of those before it."""
     return octets[len(octets) - rule.octets:] == rule.code(octets[:len(octets) - rule.octets])
 
 
@@ -103,7 +103,7 @@ def unit_text(messages):
 
 @functools.lru_cache(maxsize=20000)
 def unit_seen(octets):
-    """The messages, as a tuple."""
+    """Returns the messages, as a tuple."""
     if not octets:
         return 'Empty'
     messages, place = [], 0
@@ -120,7 +120,7 @@ def unit_seen(octets):
 
 
 def is_name(octets):
-    """1 to 20 characters 21 to 7E other than the filling 5F."""
+    """Whether it is 1 to 20 characters 21 to 7E other than the filling 5F."""
     return 1 <= len(octets) <= 20 and all(0x21 <= o <= 0x7e and o != 0x5f for o in octets)
 
 
@@ -130,7 +130,7 @@ def tele_text(protocol, kind, sender, receiver, payload):
 
 @functools.lru_cache(maxsize=20000)
 def tele_seen(octets):
-    """Protocol, kind, sender, receiver, payload."""
+    """Returns protocol, kind, sender, receiver, payload."""
     if len(octets) < MESSAGE_MIN:
         return 'Short'
     if len(octets) > MESSAGE_MAX:

@@ -1,18 +1,18 @@
-"""Wrong worlds: changes of the rules of a pair, and which promises are then false, or that none is and why."""
+"""Wrong worlds: changes of the rules of a pair, and which promises are then false; or that every promise holds, and why."""
 from pair_lists import FaithfulMaker, GenuineMaker, run, simpler
 from promises import bounded, confirmed_taken, freshness, headline, nothing_lost, settled
 from search import shortened
 
 STEPS = 120
-PROMISES = {  # over which lists each is tried; bounded is said of one end
+PROMISES = {  # the lists over which each is tried; `bounded` is about one end
     'headline': (GenuineMaker, headline), 'freshness': (GenuineMaker, freshness), 'confirmed is taken': (GenuineMaker, confirmed_taken),
     'settled': (GenuineMaker, settled), 'nothing lost': (FaithfulMaker, nothing_lost), 'bounded': (GenuineMaker, bounded)}
-LISTS = {  # everything that is promised of a kind of lists
+LISTS = {  # all promises of a kind of lists
     'genuine': (GenuineMaker, (headline, freshness, confirmed_taken, settled, bounded)), 'faithful': (FaithfulMaker, (nothing_lost, bounded))}
 
 SAFETY = ('headline', 'confirmed is taken', 'settled')
-BROKEN = {  # the change: the promises that lists were found to break
-    # joined, live, what an opening keeps
+BROKEN = {  # the change: the promises that some list breaks
+    # joined, live, and the state that an opening keeps
     'joined_overwritten_by_a_later_request': SAFETY,
     'notes_no_request': SAFETY,
     'pdus_before_the_later_opening_stay_live': ('headline', 'confirmed is taken'),
@@ -45,7 +45,7 @@ BROKEN = {  # the change: the promises that lists were found to break
     'holds_back_initial_status': SAFETY + ('nothing lost',),
     'answers_first_version': ('nothing lost',),
 }
-CLAUSES = {  # each clause of a promise, and a change at which lists were found that break it before any other
+CLAUSES = {  # each clause of a promise, and a change under which some list breaks it first
     'headline, joins': 'pdus_before_the_later_opening_stay_live',
     'headline, joined to none': 'notes_no_request',
     'headline, commands': 'takes_repeat_again',
@@ -64,7 +64,7 @@ CLAUSES = {  # each clause of a promise, and a change at which lists were found 
     'nothing lost, up': 'answers_first_version',
     'nothing lost, phases': 'compares_without_wrap',
 }
-NOT_BROKEN = {  # the change: which other rule covers it
+NOT_BROKEN = {  # the change: the other rule that covers it
     'session_judged_on_after_it_ended': 'no row of the tables takes anything in Ended',
     'session_judged_on_as_if_it_had_not_ended': 'only a telegram of the establishment ends a session, and its peer has then put nothing in',
     'live_without_the_length_of_the_code': 'no opening made under one length of code has the length of one under the other, so no connection starts',
@@ -76,13 +76,13 @@ NOT_BROKEN = {  # the change: which other rule covers it
 
 
 def random_list(maker, changes, promises, seed):
-    """A list, and the clause that is false at its end or None."""
+    """Returns a list, and the clause that is false at its end or None."""
     made = maker(seed, changes, promises)
     return made.made(STEPS), made.clause
 
 
 def counterexample(change, promise, lists, of=''):
-    """The number of the first list at which the promise is false by a clause of this name, the list, and the clause; None where there is none."""
+    """Returns the number of the first list that breaks the promise by a clause of this name, the list, and the clause; None if no list does."""
     maker, function = PROMISES[promise]
     for seed in range(lists):
         events, clause = random_list(maker, (change,), (function,), seed)
@@ -92,7 +92,7 @@ def counterexample(change, promise, lists, of=''):
 
 
 def short(events, change, promise):
-    """The list shortened as far as it goes, with settings that are the defaults where they may be."""
+    """Returns the list shortened as far as possible, with default settings if these suffice."""
     function = PROMISES[promise][1]
 
     def runs(less):

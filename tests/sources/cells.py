@@ -1,15 +1,15 @@
-"""The table of the safety machine's states and PDU types, as its definition (`Table.antt`) says it."""
+"""The table of the safety machine's states and PDU types, from its definition (`Table.antt`)."""
 import re
 
 STATES = ('Start', 'Up', 'RetrRun', 'Requesting')
 KINDS = ('Heartbeat', 'Data', 'RetrData', 'RetrReq', 'RetrResp', 'ConnReq', 'ConnResp')
-WORDS = {'Ask': 'ask', 'Answer': 'answer', 'Resume': 'resume', 'Skip': 'drop', 'Refuse UnexpectedPdu': 'leave: unexpected PDU',
-         'Refuse SequenceError': 'leave: sequence error'}
-HEAD = '| State | The next PDU? | ' + ' | '.join(KINDS) + ' |\n' + '|---' * (len(KINDS) + 2) + '|\n'
+WORDS = {'Ask': 'request', 'Answer': 'resend', 'Resume': 'resume', 'Skip': 'drop', 'Refuse UnexpectedPdu': 'reason 1',
+         'Refuse SequenceError': 'reason 2'}
+HEAD = '| State | Next? | ' + ' | '.join(KINDS) + ' |\n' + '|---' * (len(KINDS) + 2) + '|\n'
 
 
 def equations(text):
-    """The equations of each function, in their order: the patterns, and what they answer."""
+    """Returns the equations of each function, in order: the patterns and the result."""
     found = {}
     for name, patterns, answer in re.findall(r'^(\w+)((?: \w+)+) = (.+)$', text, re.M):
         found.setdefault(name, []).append((patterns.split(), answer))
@@ -17,7 +17,7 @@ def equations(text):
 
 
 def value(found, name, words):
-    """What a function answers for these words: the first equation whose patterns fit; a small letter is a variable."""
+    """Returns the value of a function for these words: of the first equation whose patterns match; a small letter is a variable."""
     for patterns, answer in found[name]:
         bound = {}
         for pattern, word in zip(patterns, words):
@@ -31,13 +31,13 @@ def value(found, name, words):
 
 
 def said(answer):
-    """An answer in words."""
+    """Returns a value in words."""
     taken = re.fullmatch(r'Take (\w+)', answer)
     return f'take, {taken[1]}' if taken else WORDS[answer]
 
 
 def table(text):
-    """The table in Markdown, with one line for a state in which the next PDU is treated as the others are."""
+    """Returns the table in Markdown, with one line for a state that treats the next PDU like the others."""
     found, lines = equations(text), ''
     for state in STATES:
         rows = {flag: [said(value(found, 'cell', [state, flag, kind])) for kind in KINDS] for flag in ('true', 'false')}

@@ -1,4 +1,4 @@
-"""What the crates hold: their public functions, which function names which, the edits that touch them, and their definitions."""
+"""Reads the crates: their public functions, which function names which, the edits that touch them, and their definitions."""
 import os
 import re
 from functions import TOP, code_of, items_of, listed, read, words_of
@@ -8,11 +8,12 @@ USE = re.compile(r'^ *(?:pub )?use ([^;]*);', re.M)
 EXPORTED = re.compile(r'^pub use (\w+)::(?:(\w+)|\{([^}]*)\});', re.M)
 DEFINED = re.compile(r'^(?:pub (?:record|data)|\w+ pub) (\w+)', re.M)
 GHOST_USE = re.compile(r'ghost use Rattle\.(\w+)\.specs\.([\w.]+?)(?:\.\{([^}]*)\}| as (\w+));')
+TRIED = ('must-fail', 'wrong')  # the folders whose edits are tried, by `rt ci` and by tests/wrong_bodies
 EDIT = re.compile(r'^file: (.*)\nold: (.*)$', re.M)
 
 
 def mark_public(crate, items, traits):
-    """Tells which functions are reached from outside the crate; of a program, the `pub fn`s of its modules are."""
+    """Decides which functions are reachable from outside the crate; in a program, the `pub fn`s of its modules are."""
     is_program = os.path.exists(os.path.join(TOP, 'crates', crate, 'src', 'main.rt'))
     root = code_of(read('crates', crate, 'src', 'main.rt' if is_program else 'lib.rt'))
     open_modules = {'lib', *re.findall(r'^pub mod (\w+);', root, re.M)}
@@ -28,7 +29,7 @@ def mark_public(crate, items, traits):
 
 
 def tested_in(file):
-    """The library that a file of a crate of tests is about: its name stands in front of the file's."""
+    """Returns the library that a file of a crate of tests is about: the file's name begins with its name."""
     names = [path.split('/')[1] for path in listed('crates', '*', 'src')]
     return max((name for name in names if os.path.basename(file).startswith(name + '_')), key=len, default='')
 
@@ -38,7 +39,7 @@ LAWS_OF_NUMBERS = ('limits_law', 'numbers_law')
 
 
 class Crate:
-    """What the sources of a crate hold."""
+    """The contents of a crate's sources."""
 
     def __init__(self, name, traits):
         apart = [file for file in listed('crates', '*_tests', 'src', '*_*.rt') if tested_in(file) == name]
@@ -50,7 +51,7 @@ class Crate:
         self.tests = {name for file in files for name in re.findall(r'#\[test\]\s+fn (\w+)', code[file])}
         self.imported = {file: words_of(' '.join(USE.findall(code[file]))) for file in files}
         self.words = {file: words_of(code[file]) for file in files}
-        self.types = {}  # the words that stand behind a name's colon, or in front of what makes its value
+        self.types = {}  # the words after a name's colon, or before the expression of its value
         for text in code.values():
             for declared in re.findall(r'\b(\w+): ([^,;(){}=]*)', text) + re.findall(r'\b(\w+)\)? = (\w+)(?:::| \{)', text):
                 self.types.setdefault(declared[0], set()).update(words_of(declared[1]))
@@ -58,7 +59,7 @@ class Crate:
         self.public = [item for item in self.items if item.is_public]
 
     def calls(self, one, other):
-        """Whether one function names another in its body, as far as a search by name can tell."""
+        """Whether one function names another in its body, as far as a search by name finds it."""
         if other.trait:
             return one.owner != other.owner and other.owner in one.words
         if other.name not in one.words:
@@ -67,7 +68,7 @@ class Crate:
         return any(self.is_call(one, other, *place) for place in places)
 
     def is_call(self, one, other, before, joint, lone_joint, opened):
-        """Whether a name in a body is that of a function, by the word and the joint before it and the bracket behind it."""
+        """Whether a name in a body is that of a function, by the word and the joint before it and the bracket after it."""
         if not other.owner and joint == '::':
             return before in (other.module(), 'crate', 'super')
         if not other.owner:
@@ -81,7 +82,7 @@ class Crate:
         return bool(opened and (joint or lone_joint == '.')) and other.owner in (known or self.words[one.file])
 
     def callers(self, item, items, is_last):
-        """Those of the items that are this one or call it, directly or through others, up to the first that is a last one."""
+        """Returns the items that are this one or call it, directly or through others, up to the first that is a last one."""
         seen, todo = {item}, [item]
         while todo:
             called = todo.pop()
@@ -92,10 +93,11 @@ class Crate:
         return [each for each in seen if is_last(each)]
 
     def edits(self):
-        """The public functions that each edit touches: those that reach the function in which its first text stands; of a constant, the law
-        that says its number."""
+        """Returns for each edit that is tried the public functions it touches: those that reach the function with its first text; for a constant, the
+        law that states its number."""
         touched = {}
-        for path in sorted(listed('crates', self.name, '*', '*.edit'), key=os.path.basename):
+        paths = [path for folder in TRIED for path in listed('crates', self.name, folder, '*.edit')]
+        for path in sorted(paths, key=os.path.basename):
             file, old = EDIT.search(read(path)).groups()
             at = read('crates', self.name, file).find(old.strip())
             items = [item for item in self.items if item.file == f'crates/{self.name}/{file}' and at in item.place]
@@ -107,9 +109,9 @@ class Crate:
 
 
 def read_crates():
-    """Every crate, in the order in which docs/ARCHITECTURE.md names their READMEs; those that it does not name come last."""
+    """Returns every crate, in the order in which docs/architecture.md names their READMEs; the others come last."""
     names = [path.split('/')[1] for path in listed('crates', '*', 'src')]
-    layers = re.findall(r'\]\(\.\./crates/(\w+)/README\.md\)', read('docs', 'ARCHITECTURE.md'))
+    layers = re.findall(r'\]\(\.\./crates/(\w+)/README\.md\)', read('docs', 'architecture.md'))
     traits = {name for path in listed('crates', '*', 'src', '**', '*.rt') for name in re.findall(r'^pub trait (\w+)', read(path), re.M)}
     ordered = [name for name in layers if name in names] + [name for name in names if name not in layers]
     crates = {name: Crate(name, traits) for name in ordered}
@@ -122,7 +124,7 @@ def read_crates():
 
 
 def meanings_in(file):
-    """What the ghost names of a source file stand for: crate, spec file, and name there or '' for the whole file."""
+    """Returns the meaning of the ghost names of a source file: crate, spec file, and name there or '' for the whole file."""
     found = {}
     for crate, module, names, alias in GHOST_USE.findall(read(file)):
         if alias:
@@ -143,8 +145,14 @@ class Definitions:
             self.of_files.setdefault(os.path.basename(path)[:-5], set()).update(names)
         self.meanings = {}
 
+    def line_of(self, path, name):
+        """Returns the line of a file on which a definition begins."""
+        text = read(path)
+        found = re.search(rf'^(?:pub (?:record|data)|\w+ pub) {name}\b', text, re.M)
+        return text.count('\n', 0, found.start()) + 1
+
     def named_by(self, item):
-        """Spec file and name of each, in the order of the clauses."""
+        """Returns spec file and name of each, in the order of the clauses."""
         if item.file not in self.meanings:
             self.meanings[item.file] = meanings_in(item.file)
         named = {}

@@ -26,7 +26,7 @@ int main(int count, char **words) {
         noise[place] = rand();
     for (double passed = 0; passed < lasts; passed = seconds() - began) {
         long due = passed * rate;
-        if (due - sent > 100) /* what is late by more is left out, so that there are no heaps */
+        if (due - sent > 100) /* a longer delay is not made up for, so that there are no bursts */
             sent = due - 100;
         for (; sent < due; sent++)
             for (int place = 0; place < many; place++)

@@ -1,4 +1,4 @@
-"""Reads the functions of a source file: what each is for, its clauses and its body."""
+"""Reads the functions of a source file: the type or trait of each, its clauses and its body."""
 import os
 import re
 from dataclasses import dataclass
@@ -26,9 +26,10 @@ class Item:
     words: frozenset  # of signature, clauses and body
     owner: str = ''  # its type or trait
     trait: str = ''  # the trait that it implements or belongs to
+    block: str = ''  # the `impl` or `trait` around it, as a check names it
     about: str = ''  # the first sentence of its comment
     clauses: tuple = ()  # kind, name and text of each
-    sentences: tuple = ()  # what stands in words above each clause
+    sentences: tuple = ()  # the comment above each clause
     is_pub: bool = False
     is_public: bool = False  # reached from outside the crate
     declared: 'Item' = None  # the function of a trait of the crates that it is or implements
@@ -43,7 +44,7 @@ class Item:
         return os.path.basename(self.file)[:-3]
 
     def modules(self):
-        """The modules on the way to it, `lib` for the crate's root."""
+        """Returns the modules on the way to it, `lib` for the crate's root."""
         return self.file[:-3].split('/')[3:]
 
     def has_contract(self):
@@ -59,17 +60,22 @@ def listed(*pattern):
     return sorted(os.path.relpath(path, TOP) for path in glob(os.path.join(TOP, *pattern), recursive=True))
 
 
+def has_edits(crate):
+    """Whether a crate must have edits. Crates of tests have none, nor has the program, which is only `main`."""
+    return not crate.endswith('_tests') and crate != 'rasta_cli'
+
+
 def words_of(text):
     return frozenset(re.findall(r'\w+', text))
 
 
 def code_of(text):
-    """The text with its comments and strings blanked."""
+    """Returns the text with its comments and strings blanked."""
     return HIDDEN.sub(lambda found: re.sub(r'[^\n]', ' ', found.group()), text)
 
 
 def closing(code, at):
-    """The place behind the bracket that closes the one at a place."""
+    """Returns the place after the bracket that closes the one at a place."""
     depth = 0
     for found in BRACKET.finditer(code, at):
         depth += 1 if found.group() in '({[' else -1
@@ -79,7 +85,7 @@ def closing(code, at):
 
 
 def behind_name(code, at):
-    """The clauses behind a function's name with their places, where its body begins, and where it ends."""
+    """Returns the clauses after a function's name with their places, where its body begins, and where it ends."""
     clauses, places = [], []
     while True:
         found = OPENING.search(code, at)
@@ -96,7 +102,7 @@ def behind_name(code, at):
 
 
 def words_above(text, at):
-    """The comment in the lines right above a place."""
+    """Returns the comment in the lines directly above a place."""
     lines = []
     for line in reversed(text[:at].split('\n')[:-1]):
         if not line.strip().startswith('// '):
@@ -106,7 +112,7 @@ def words_above(text, at):
 
 
 def first_sentence(text):
-    """Of the comment with which a text ends, attributes behind it left out."""
+    """Yields the lines of the comment at the end of a text, without attributes after it."""
     lines = []
     for line in reversed(text.splitlines()):
         if line.strip().startswith('///'):
@@ -116,8 +122,45 @@ def first_sentence(text):
     return re.split(r'(?<=[.;:])\s', ' '.join(lines))[0].rstrip('.;:')
 
 
+def arguments_of(text):
+    """Returns the text in the angle brackets at the start of a text, and the rest."""
+    depth = 0
+    for at, letter in enumerate(text):
+        depth += {'<': 1, '>': -1}.get(letter, 0)
+        if depth == 0:
+            return text[1:at], text[at + 1:]
+    return '', text
+
+
+def parameters_of(text):
+    """Returns the names of an `impl`'s parameters, without lifetimes."""
+    flat, before = text, None
+    while before != flat:
+        before, flat = flat, re.sub(r'<[^<>]*>', '', flat)
+    return {re.sub(r'^const +', '', part.strip()).split(':')[0].strip() for part in flat.split(',')}
+
+
+def words_in(arguments):
+    """Returns the types that arguments name, each by its last word, including those inside others."""
+    return [word.split('::')[-1] for word in re.findall(r"(?<!['\w])\w+(?:::\w+)*", arguments)]
+
+
+def block_name(head, owner, trait):
+    """Returns the name of an `impl` in a check: its type and trait and, if it is not for all types, those that it is for:
+    `Actor+UdpChannels+A` for `impl<A> Actor<'_, UdpChannels, A>`, `TextsU16Taker` for `impl<A> Taker for Texts<u16, A>`."""
+    generics, rest = arguments_of(head.strip()) if head.strip().startswith('<') else ('', head)
+    parameters, named = parameters_of(generics), {}
+    for found in re.finditer(r'(\w+) *(?=<)', rest):
+        named.setdefault(found[1], words_in(arguments_of(rest[found.end():])[0]))
+    of_type, of_trait = named.get(owner, []), named.get(trait, [])
+    if trait:
+        rest = [''.join(word[:1].upper() + word[1:] for word in words if word not in parameters) for words in (of_type, of_trait)]
+        return owner + rest[0] + trait + rest[1]
+    return '+'.join([owner, *of_type]) if set(of_type) - parameters else owner
+
+
 def blocks_of(code):
-    """Where each `impl` and `trait` begins and ends, its type, and its trait."""
+    """Returns where each `impl` and `trait` begins and ends, its type, its trait, and its name in a check."""
     for found in BLOCK.finditer(code):
         before, head = None, found.group(2)
         while before != head:
@@ -126,11 +169,12 @@ def blocks_of(code):
         is_implemented = 'for' in names
         owner = names[names.index('for') + 1] if is_implemented else names[0]
         trait = names[0] if is_implemented or found.group(1) == 'trait' else ''
-        yield range(found.start(), closing(code, found.end() - 1)), owner, trait
+        name = block_name(found.group(2), owner, trait) if found.group(1) == 'impl' else owner + trait
+        yield range(found.start(), closing(code, found.end() - 1)), owner, trait, name
 
 
 def items_of(crate, file):
-    """The functions of a file, and its constants."""
+    """Returns the functions of a file, and its constants."""
     text = read(file)
     code = code_of(text)
     blocks = list(blocks_of(code))
@@ -138,10 +182,10 @@ def items_of(crate, file):
     for found in FUNCTION.finditer(code):
         start = found.start()
         clauses, places, body, end = behind_name(code, found.end())
-        owner, trait = next(((owner, trait) for place, owner, trait in blocks if start in place), ('', ''))
+        owner, trait, block = next((names for place, *names in blocks if start in place), ('', '', ''))
         is_pub, is_extern = map(bool, found.groups()[:2])
         items.append(Item(crate, file, range(start, end), code.count('\n', 0, start) + 1, found.group(3), code[body:end],
-                          words_of(code[start:end]), owner, trait, first_sentence(text[:start]), clauses,
+                          words_of(code[start:end]), owner, trait, block, first_sentence(text[:start]), clauses,
                           tuple(words_above(text, place) for place in places), is_pub, is_pub and is_extern))
     for found in CONSTANT.finditer(code):
         items.append(Item(crate, file, range(*found.span()), 0, found.group(1), found.group(2), words_of(found.group(2))))

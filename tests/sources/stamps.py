@@ -1,9 +1,9 @@
 #!/usr/bin/env python3
-"""Lets `rt` take the libraries that `rt ci` left: it leaves them without the sum of their sources by which `rt lib` knows them.
+"""Lets `rt` use the libraries that `rt ci` left: `rt ci` leaves them without the checksum of their sources, by which `rt lib` knows them.
 
     tests/sources/stamps.py
 
-A library that has such a sum, or that is not there, stays as it is.
+A library that has this checksum, or that does not exist, is not changed.
 """
 import importlib.machinery
 import os
@@ -16,7 +16,7 @@ TOP = os.path.dirname(os.path.dirname(os.path.dirname(os.path.abspath(__file__))
 
 
 def kit():
-    """What `rt` itself knows of a crate."""
+    """Returns the toolchain's own functions for crates."""
     path = os.path.join(os.path.dirname(os.path.realpath(shutil.which('rt'))), 'rtlib.py')
     module = types.ModuleType('rtlib')
     module.__file__ = path

@@ -1,4 +1,4 @@
--- Wireshark dissector for the datagrams of a RaSTA connection with an SCI session (layouts: docs/PROFILE.md).
+-- Wireshark dissector for the datagrams of a RaSTA connection with an SCI session (layouts: docs/protocol.md).
 --
 --     wireshark -X lua_script:tools/wireshark/rasta.lua night.pcap
 --     tshark -X lua_script:tools/wireshark/rasta.lua -o rasta.code:16 -d udp.port==5000,rasta -V -r night.pcap
@@ -6,20 +6,20 @@
 -- Or copy it to the folder of personal Lua plugins (Help, About, Folders). Preferences: `rasta.code`, the octets of safety code (0, 8 or
 -- 16), and `rasta.ports`, the UDP ports; any other port by Decode As.
 --
--- What a datagram says is read from it alone. Beside that, from the datagrams before it: which one it repeats (`rasta.repeat_of`), how many
--- redundancy numbers are missing before it (`rasta.gap`), and how old the timestamp that it confirms is (`rasta.age`, in milliseconds). Both passes of
--- tshark tell the same: this is found at the first visit of a packet, and kept by its number, over all channels together and 32 numbers back; sums, single
--- channels and late numbers are those of `rasta follow`. A fault is named as `rasta show` names it, by an expert info and in the field `rasta.fault`; what
--- stands behind it is shown as octets and not read. The safety code is shown and not tested, so a damaged PDU may be shown as if it
+-- The fields of a datagram are decoded from it only. Three more come from the datagrams before it: which one it repeats (`rasta.repeat_of`), how many
+-- redundancy numbers are missing before it (`rasta.gap`), and the age of the timestamp that it confirms (`rasta.age`, in milliseconds). They are found
+-- at the first visit of a packet and kept by its number, so both passes of tshark show the same. They cover all channels together and 32 numbers back; for
+-- sums, single channels and late numbers use `rasta follow`. A fault has the name that `rasta show` prints, as an expert info and in the field
+-- `rasta.fault`; the octets after it are shown and not decoded. The safety code is shown and not tested, so a damaged PDU may be shown as if it
 -- were whole: `rasta show --code N HEX` tests it. tests/wireshark compares both; it was run with Wireshark 4.0.
 
 local rasta = Proto("rasta", "Rail Safe Transport Application")
 
 rasta.prefs.code = Pref.enum("Octets of safety code", 8,
-    "How many octets of safety code stand at the end of a safety PDU; both ends have the same.",
+    "Length of the safety code at the end of a safety PDU, in octets; it is the same for both ends.",
     { { 1, "0", 0 }, { 2, "8", 8 }, { 3, "16", 16 } }, false)
 rasta.prefs.ports = Pref.range("UDP ports", "46101-46102,46201-46202",
-    "UDP ports whose datagrams are RaSTA's. There is no registered one; these are the ports of examples/.", 65535)
+    "UDP ports of RaSTA. No port is registered; these are the ports of examples/.", 65535)
 
 -- Names and numbers.
 
@@ -59,7 +59,7 @@ local f = {
     red_length = ProtoField.uint16("rasta.red.length", "Length", base.DEC, nil, nil, "Octets of the whole redundancy PDU"),
     red_reserve = ProtoField.uint16("rasta.red.reserve", "Reserve", base.HEX, nil, nil, "Reserve, zero"),
     red_seq = ProtoField.uint32("rasta.red.seq", "Sequence number", base.DEC, nil, nil, "Sequence number of the redundancy layer"),
-    octets = ProtoField.bytes("rasta.octets", "Octets not read", base.NONE, "What stands behind a fault"),
+    octets = ProtoField.bytes("rasta.octets", "Octets not read", base.NONE, "The octets after a fault"),
 
     safe = ProtoField.none("rasta.safe", "Safety PDU", "PDU of the safety and retransmission layer"),
     length = ProtoField.uint16("rasta.length", "Message length", base.DEC, nil, nil, "Octets of the whole safety PDU with its safety code"),
@@ -68,10 +68,10 @@ local f = {
     sender = ProtoField.uint32("rasta.sender", "Sender identification", base.DEC, nil, nil, "Identification of the sender"),
     sn = ProtoField.uint32("rasta.sn", "Sequence number (SN)", base.DEC, nil, nil, "Sequence number of the safety PDU"),
     cs = ProtoField.uint32("rasta.cs", "Confirmed sequence number (CS)", base.DEC, nil, nil,
-        "Sequence number of the last PDU that its sender took from the peer"),
+        "Sequence number of the last PDU that its sender accepted from the peer"),
     ts = ProtoField.uint32("rasta.ts", "Timestamp (TS)", base.DEC, nil, nil, "Milliseconds of the sender's clock, modulo 2^32"),
     cts = ProtoField.uint32("rasta.cts", "Confirmed timestamp (CTS)", base.DEC, nil, nil,
-        "Timestamp of the last PDU that its sender took from the peer, in milliseconds of the receiver's clock"),
+        "Timestamp of the last PDU that its sender accepted from the peer, in milliseconds of the receiver's clock"),
     version = ProtoField.string("rasta.version", "Protocol version", base.NONE, "Version of RaSTA, four digits"),
     window = ProtoField.uint16("rasta.nsendmax", "N_sendmax", base.DEC, nil, nil, "How many units the peer may leave unconfirmed, 1 to 32"),
     reserve = ProtoField.bytes("rasta.reserve", "Reserve", base.NONE, "Reserve of a connection request or response, zero"),
@@ -79,7 +79,7 @@ local f = {
     reason = ProtoField.uint16("rasta.reason", "Reason", base.DEC, REASONS, nil, "Reason of the disconnection"),
     code = ProtoField.bytes("rasta.code", "Safety code", base.NONE, "First octets of MD4 over the safety PDU; not tested here"),
     code_status = ProtoField.uint8("rasta.code.status", "Safety code status", base.DEC, { [0] = "not tested" }, nil,
-        "The dissector tests no safety code"),
+        "The dissector does not test the safety code"),
 
     unit = ProtoField.none("rasta.unit", "Unit", "User data of a Data or RetrData: one to three messages"),
     unit_messages = ProtoField.uint8("rasta.unit.messages", "Messages", base.DEC, nil, nil, "How many messages the unit has"),
@@ -90,10 +90,10 @@ local f = {
     telegram = ProtoField.uint16("rasta.telegram.type", "Message type", base.HEX, TELEGRAMS, nil, "Message type of the telegram"),
     from = ProtoField.string("rasta.telegram.sender", "Sender", base.NONE, "Name of the sender, without its filling"),
     from_octets = ProtoField.bytes("rasta.telegram.sender.octets", "Sender, no name", base.NONE,
-        "Octets in the place of the sender that are no name"),
+        "Octets in the place of the sender that are not a name"),
     to = ProtoField.string("rasta.telegram.receiver", "Receiver", base.NONE, "Name of the receiver, without its filling"),
     to_octets = ProtoField.bytes("rasta.telegram.receiver.octets", "Receiver, no name", base.NONE,
-        "Octets in the place of the receiver that are no name"),
+        "Octets in the place of the receiver that are not a name"),
     payload = ProtoField.bytes("rasta.telegram.payload", "Payload", base.NONE, "Payload of the telegram"),
 
     pdi_version = ProtoField.uint8("rasta.pdi.version", "PDI version", base.DEC, nil, nil, "PDI version of the sender"),
@@ -101,20 +101,20 @@ local f = {
     pdi_size = ProtoField.uint8("rasta.pdi.checksum_length", "Checksum length", base.DEC, nil, nil, "Octets of the checksum, 0 to 16"),
     pdi_checksum = ProtoField.bytes("rasta.pdi.checksum", "Checksum", base.NONE, "Checksum of the field element's data"),
 
-    repeat_of = ProtoField.framenum("rasta.repeat_of", "Repeat of", base.NONE, frametype.NONE, nil, "Where the same octets came first, on whatever channel"),
+    repeat_of = ProtoField.framenum("rasta.repeat_of", "Repeat of", base.NONE, frametype.NONE, nil, "First packet with the same octets, on any channel"),
     gap = ProtoField.uint32("rasta.gap", "Missing before it", base.DEC, nil, nil, "Redundancy numbers of its sender that came on no channel so far"),
     age = ProtoField.uint32("rasta.age", "Age of the confirmed timestamp", base.DEC, nil, nil,
         "Newest timestamp of the receiver minus the confirmed one, in milliseconds"),
 }
 rasta.fields = f
 
--- Expert infos: the faults that `rasta show` names for the parts of a datagram, and what opens, asks again and leaves.
+-- Expert infos: the faults that `rasta show` prints for the parts of a datagram, and openings, retransmission requests and disconnects.
 
 local FAULTS = {
     red = { [1] = "Short", [2] = "Length", [3] = "Reserve" },
     safe = { [1] = "Short", [2] = "Length", [4] = "Type", [5] = "Body" }, -- 3 is Code, which is not tested
     unit = { [2] = "Length", [3] = "TooMany" },                           -- 1 is Empty: a Data without a unit has the fault Body
-    message = { [3] = "Name" },                                           -- 1 and 2 are lengths that no unit lets through
+    message = { [3] = "Name" },                                           -- 1 and 2 are lengths that a unit cannot contain
 }
 local e = {
     cut = ProtoExpert.new("rasta.cut", "Cut by the capture", expert.group.UNDECODED, expert.severity.NOTE),
@@ -140,14 +140,14 @@ for part, names in pairs(FAULTS) do
 end
 rasta.experts = experts
 
--- Reading. A part is octets of the datagram from `at` on, `size` of them; the capture may hold fewer, and what it lacks is never touched.
+-- Decoding. A part has `size` octets of the datagram from `at` on; the capture may have fewer, and missing ones are never read.
 
--- how many octets of this part were captured
+-- returns how many octets of this part were captured
 local function held(tvb, at, size)
     return math.max(0, math.min(size, tvb:captured_len() - at))
 end
 
--- adds a field of so many octets and answers its number, or nil where they were not captured
+-- adds a field of `size` octets and returns its number, or nil if they were not captured
 local function number(tree, field, tvb, at, size)
     if held(tvb, at, size) < size then
         return nil
@@ -156,7 +156,7 @@ local function number(tree, field, tvb, at, size)
     return tvb(at, size):le_uint(), item
 end
 
--- adds what was captured of these octets, and nothing where that is none
+-- adds those of these octets that were captured, if any
 local function bytes(tree, field, tvb, at, size)
     local some = held(tvb, at, size)
     if some > 0 then
@@ -173,7 +173,7 @@ local function subtree(tree, field, tvb, at, size)
     return tree:add(field)
 end
 
--- names a fault in the tree and in the list of packets; `which` is its part, with the message's number where it is one of a message
+-- shows a fault in the tree and in the list of packets; `which` is its part, with the message's number if it is in a message
 local function fault(tree, pinfo, part, code, which, why)
     local text = string.format("%s fault %d %s", which, code, FAULTS[part][code])
     tree:add_proto_expert_info(fault_experts[part][code], text .. ": " .. why)
@@ -181,13 +181,13 @@ local function fault(tree, pinfo, part, code, which, why)
     pinfo.cols.info:append(" [" .. text .. "]")
 end
 
--- the rest of a part whose octets the capture does not hold
+-- marks the rest of a part whose octets the capture does not have
 local function cut(tree, pinfo)
     tree:add_proto_expert_info(e.cut, "Cut by the capture: the rest is not read (capture with a greater snapshot length)")
     pinfo.cols.info:append(" [cut by the capture]")
 end
 
--- the name in a place of 20 octets, or nil: 1 to 20 characters 21 to 7e but the filling, and nothing but filling behind them
+-- returns the name in a place of 20 octets, or nil: 1 to 20 characters 21 to 7e other than the filling, and only filling after them
 local function name_in(tvb, at)
     local octets = tvb(at, NAME):bytes()
     local text, filled = {}, false
@@ -204,7 +204,7 @@ local function name_in(tvb, at)
     return #text > 0 and table.concat(text) or nil
 end
 
--- a name, or its octets where it is none
+-- shows a name, or its octets if they are not a name
 local function name(tree, field, field_octets, tvb, at)
     local text = name_in(tvb, at)
     if text then
@@ -215,7 +215,7 @@ local function name(tree, field, field_octets, tvb, at)
     return text
 end
 
--- what the payload of a telegram of the establishment says; false where it has another form
+-- shows the payload of a telegram of the establishment; returns false if it has another form
 local function establishment(tree, kind, tvb, at, size)
     if kind == 0x0024 then
         if size ~= 1 then
@@ -235,7 +235,7 @@ local function establishment(tree, kind, tvb, at, size)
     return RESULTS[result] ~= nil and checksum == size - 3 and checksum <= CHECKSUM_MAX
 end
 
--- a message whose octets were all captured, the k-th of its unit: a telegram
+-- shows a completely captured message, the k-th of its unit: a telegram
 local function telegram(tree, pinfo, tvb, at, size, k)
     tree:add(f.protocol, tvb(at, 1))
     local kind, kind_item = number(tree, f.telegram, tvb, at + 1, 2)
@@ -246,8 +246,8 @@ local function telegram(tree, pinfo, tvb, at, size, k)
     local to = name(tree, f.to, f.to_octets, tvb, at + 3 + NAME)
     local payload = bytes(tree, f.payload, tvb, at + MESSAGE_MIN, size - MESSAGE_MIN)
     if not (from and to) then
-        tree:set_text(string.format("Message %d: no telegram", k))
-        fault(tree, pinfo, "message", 3, "message " .. k, (from and "the receiver" or "the sender") .. " is no name with its filling")
+        tree:set_text(string.format("Message %d: not a telegram", k))
+        fault(tree, pinfo, "message", 3, "message " .. k, (from and "the receiver" or "the sender") .. " is not a name with its filling")
         return
     end
     local what = TELEGRAMS[kind] or string.format("type %04x", kind)
@@ -256,27 +256,27 @@ local function telegram(tree, pinfo, tvb, at, size, k)
     if TELEGRAMS[kind] then
         local inner = payload or tree
         if not establishment(inner, kind, tvb, at + MESSAGE_MIN, size - MESSAGE_MIN) then
-            kind_item:add_proto_expert_info(e.pdi, "The payload has not the form of " .. what)
+            kind_item:add_proto_expert_info(e.pdi, "The payload does not have the form of " .. what)
         end
     elseif payload then
         pinfo.cols.info:append(" " .. tostring(tvb(at + MESSAGE_MIN, size - MESSAGE_MIN):bytes()):lower())
     end
 end
 
--- the places of a unit's messages (from their lengths on), or the number of its fault, what is wrong, and the place
+-- returns the places of a unit's messages (from their lengths on), or nil, the number of its fault, the reason, and the place
 local function messages_of(tvb, at, size)
     local found, place, behind = {}, at, at + size
     while place < behind do
         if #found == UNIT_MESSAGES then
-            return nil, 3, string.format("three messages, and %d octets behind them", behind - place)
+            return nil, 3, string.format("three messages, and %d octets after them", behind - place)
         elseif behind - place < 2 then
-            return nil, 2, "one octet where a length must stand"
+            return nil, 2, "one octet instead of a length"
         end
         local length = tvb(place, 2):le_uint()
         if length < MESSAGE_MIN or length > MESSAGE_MAX then
             return nil, 2, string.format("message %d has a length of %d, not %d to %d", #found + 1, length, MESSAGE_MIN, MESSAGE_MAX)
         elseif place + 2 + length > behind then
-            return nil, 2, string.format("message %d has a length of %d, and %d octets stand there", #found + 1, length, behind - place - 2)
+            return nil, 2, string.format("message %d has a length of %d, but only %d octets follow", #found + 1, length, behind - place - 2)
         end
         found[#found + 1] = { at = place, size = length }
         place = place + 2 + length
@@ -284,7 +284,7 @@ local function messages_of(tvb, at, size)
     return found
 end
 
--- the body of a Data or RetrData
+-- shows the body of a Data or RetrData
 local function unit(tree, pinfo, tvb, at, size)
     local inner = subtree(tree, f.unit, tvb, at, size)
     if held(tvb, at, size) < size then
@@ -305,7 +305,7 @@ local function unit(tree, pinfo, tvb, at, size)
     end
 end
 
--- the body of a ConnReq or ConnResp; answers what is wrong with it
+-- shows the body of a ConnReq or ConnResp; returns its fault, if any
 local function opening(tree, pinfo, tvb, at)
     local digits = tvb(at, 4):raw()
     tree:add(f.version, tvb(at, 4), (digits:gsub("[^\33-\126]", ".")))
@@ -321,7 +321,7 @@ local function opening(tree, pinfo, tvb, at)
     end
 end
 
--- the body of a DiscReq
+-- shows the body of a DiscReq
 local function leaving(tree, pinfo, tvb, at)
     local detail, detail_item = number(tree, f.detail, tvb, at, 2)
     local reason, reason_item = number(tree, f.reason, tvb, at + 2, 2)
@@ -335,7 +335,7 @@ local function leaving(tree, pinfo, tvb, at)
     pinfo.cols.info:append(" " .. text)
 end
 
--- what is wrong with the size of a body
+-- returns the fault in the size of a body, if any
 local function wrong_size(kind, size)
     local due
     if kind == 6200 or kind == 6201 then
@@ -347,10 +347,10 @@ local function wrong_size(kind, size)
     else
         due = size ~= 0 and 0
     end
-    return due and string.format("the body has %d octets, that of %s %s; or the preference rasta.code is wrong", size, TYPES[kind], due)
+    return due and string.format("the body has %d octets, but %s has %s; or the preference rasta.code is wrong", size, TYPES[kind], due)
 end
 
--- a body by its type
+-- shows a body by its type
 local function body(tree, pinfo, tvb, at, size, kind)
     local wrong = wrong_size(kind, size)
     if wrong then
@@ -370,7 +370,7 @@ local function body(tree, pinfo, tvb, at, size, kind)
     end
 end
 
--- the header of a safety PDU: its length and type, or nil where it is not captured
+-- shows the header of a safety PDU: returns its length and type, or nil if it is not captured
 local function safe_header(tree, pinfo, tvb, at)
     local length = number(tree, f.length, tvb, at, 2)
     local kind, kind_item = number(tree, f.kind, tvb, at + 2, 2)
@@ -396,8 +396,8 @@ local function safe_header(tree, pinfo, tvb, at)
     return length, kind
 end
 
--- What is kept across packets: of each sender to a receiver the next redundancy number, the first packets of the newest numbers, and the newest
--- timestamp; and by the number of a packet what was found of it.
+-- Kept across packets: for each sender and receiver the next redundancy number, the first packets of the newest numbers, and the newest timestamp;
+-- and for each packet number the results.
 
 local KEPT, FAR = 32, 65535
 local directions, found_of
@@ -408,7 +408,7 @@ end
 forget()
 rasta.init = forget
 
--- an opening that is no copy of the last one; a copy has its octets and comes on a way on which nothing of its end came since
+-- whether an opening is not a copy of the last one; a copy has the same octets and comes on a way on which nothing of its end came since
 local function begins(direction, way, kind, octets)
     if kind ~= 6200 and kind ~= 6201 then
         return false
@@ -416,7 +416,7 @@ local function begins(direction, way, kind, octets)
     return not direction or direction.opening ~= octets or direction.ways[way] ~= nil
 end
 
--- takes the next number of a direction into account; answers the packet that it repeats, or how many numbers are missing before it
+-- counts the next number of a direction; returns the packet that it repeats, or how many numbers are missing before it
 local function follow_number(direction, seq, octets, packet)
     local place = seq % KEPT
     local kept = direction.kept[place]
@@ -432,7 +432,7 @@ local function follow_number(direction, seq, octets, packet)
     return nil, ahead > 0 and ahead <= FAR and ahead or nil
 end
 
--- what a whole PDU says beside those before it; found at its first visit
+-- compares a whole PDU with those before it, at its first visit
 local function found_in(pinfo, seq, kind, sender, receiver, sn, ts, cts, octets)
     local name, way = sender .. ">" .. receiver, tostring(pinfo.src) .. ":" .. pinfo.src_port .. ">" .. tostring(pinfo.dst) .. ":" .. pinfo.dst_port
     local direction, other = directions[name], directions[receiver .. ">" .. sender]
@@ -448,14 +448,14 @@ local function found_in(pinfo, seq, kind, sender, receiver, sn, ts, cts, octets)
     if found.repeat_of == nil and (direction.ts == nil or (ts - direction.ts) % 4294967296 < 2147483648) then
         direction.ts = ts
     end
-    -- neither a ConnReq nor a DiscReq directly behind it confirms anything
+    -- neither a ConnReq nor a DiscReq directly after it confirms anything
     local confirms = kind ~= 6200 and not (kind == 6216 and direction.request and sn == (direction.request + 1) % 4294967296)
     local age = other and other.ts and confirms and (other.ts - cts) % 4294967296
     found.age = age and age < 2147483648 and age or nil
     return found
 end
 
--- adds what was found of a PDU
+-- adds the results for a PDU
 local function remarks(tree, pinfo, found)
     if found.repeat_of then
         tree:add(f.repeat_of, found.repeat_of):set_generated()
@@ -470,7 +470,7 @@ local function remarks(tree, pinfo, found)
     end
 end
 
--- a PDU whose header was captured, among those before it
+-- compares a PDU whose header was captured with those before it
 local function across(tree, pinfo, tvb, at, size, seq, kind)
     if held(tvb, at, size) < size or not TYPES[kind] then
         return
@@ -484,18 +484,18 @@ local function across(tree, pinfo, tvb, at, size, seq, kind)
     remarks(tree, pinfo, found_of[pinfo.number])
 end
 
--- the upper part of a redundancy PDU
+-- shows the upper part of a redundancy PDU
 local function safe_pdu(tree, pinfo, tvb, at, size, seq)
     local inner = subtree(tree, f.safe, tvb, at, size)
     local code = rasta.prefs.code
     if size < SAFE_HEADER + code then
         bytes(inner, f.octets, tvb, at, size)
-        local why = string.format("%d octets, and header and safety code have %d", size, SAFE_HEADER + code)
+        local why = string.format("%d octets, but header and safety code have %d", size, SAFE_HEADER + code)
         return fault(inner, pinfo, "safe", 1, "safe", why)
     end
     local length, kind = safe_header(inner, pinfo, tvb, at)
-    local wrong = size > SAFE_FRONT_MAX + code and string.format("%d octets, and at most %d are allowed", size, SAFE_FRONT_MAX + code)
-        or length and length ~= size and string.format("the field says %d, and there are %d octets", length, size)
+    local wrong = size > SAFE_FRONT_MAX + code and string.format("%d octets, but at most %d are allowed", size, SAFE_FRONT_MAX + code)
+        or length and length ~= size and string.format("the field has %d, but there are %d octets", length, size)
     local front = size - code
     if wrong then
         bytes(inner, f.octets, tvb, at + SAFE_HEADER, size - SAFE_HEADER)
@@ -504,7 +504,7 @@ local function safe_pdu(tree, pinfo, tvb, at, size, seq)
         return cut(inner, pinfo)
     elseif not TYPES[kind] then
         bytes(inner, f.octets, tvb, at + SAFE_HEADER, front - SAFE_HEADER)
-        fault(inner, pinfo, "safe", 4, "safe", "no PDU has the type " .. kind)
+        fault(inner, pinfo, "safe", 4, "safe", "unknown type " .. kind)
     else
         body(inner, pinfo, tvb, at + SAFE_HEADER, front - SAFE_HEADER, kind)
         across(tree, pinfo, tvb, at, size, seq, kind)
@@ -518,7 +518,7 @@ local function safe_pdu(tree, pinfo, tvb, at, size, seq)
     end
 end
 
--- a datagram
+-- shows a datagram
 function rasta.dissector(tvb, pinfo, tree)
     local size = tvb:reported_len()
     pinfo.cols.protocol = "RaSTA"
@@ -527,7 +527,7 @@ function rasta.dissector(tvb, pinfo, tree)
     local inner = subtree(top, f.red, tvb, 0, math.min(size, RED_HEADER))
     if size < RED_HEADER then
         bytes(inner, f.octets, tvb, 0, size)
-        fault(inner, pinfo, "red", 1, "red", string.format("%d octets, and the header has %d", size, RED_HEADER))
+        fault(inner, pinfo, "red", 1, "red", string.format("%d octets, but the header has %d", size, RED_HEADER))
         return size
     end
     local length = number(inner, f.red_length, tvb, 0, 2)
@@ -537,8 +537,8 @@ function rasta.dissector(tvb, pinfo, tree)
         inner:append_text(string.format(", sequence number %d", seq))
         pinfo.cols.info:append(string.format("seq=%d", seq))
     end
-    local wrong = size > RED_MAX and string.format("%d octets, and at most %d are allowed", size, RED_MAX)
-        or length and length ~= size and string.format("the field says %d, and the datagram has %d octets", length, size)
+    local wrong = size > RED_MAX and string.format("%d octets, but at most %d are allowed", size, RED_MAX)
+        or length and length ~= size and string.format("the field has %d, but the datagram has %d octets", length, size)
     if wrong then
         bytes(inner, f.octets, tvb, RED_HEADER, size - RED_HEADER)
         fault(inner, pinfo, "red", 2, "red", wrong)

@@ -1,11 +1,12 @@
--- The answers of the exported functions, as numbers: those of the header for C. What is below 0 refuses.
+-- The codes of the exported functions as numbers, as in the header for C. A code below 0 is a refusal.
 use Rattle.std.specs.Prelude.{◌≡◌, ℤ, pos, negsuc}
-use Rattle.bekwidas.specs.declared.codes.TheConstants.{ALREADY_OPEN, BAD_SETTINGS, FULL, LOST, NOTHING, NOT_ESTABLISHED, NOT_INITIALISING, NOT_OPEN, NO_MEMORY, OK, RESERVED_KIND, ROOMS, SEND_FIRST, SETTINGS_SIZE, TAKE_FIRST, TIME, TOO_LONG, TOO_SMALL, UNSENT}
+use Rattle.bekwidas.specs.declared.codes.TheConstants.{ALREADY_OPEN, BAD_SETTINGS, FULL, LOST, NOTHING, NOT_ESTABLISHED, NOT_INITIALISING, NOT_OPEN, NO_MEMORY, OK, RESERVED_KIND, ROOMS, SEND_FIRST, SETTINGS_SIZE, TAKE_FIRST, TIME, TOO_LONG, TOO_SMALL, UNSENT, UNWISE}
 
+-- the codes of calls that were done
 abbrev pub DoneAre : Type 0
-DoneAre = (OK ≡ pos 0) × (NOTHING ≡ pos 1) × (UNSENT ≡ pos 2)
+DoneAre = (OK ≡ pos 0) × (NOTHING ≡ pos 1) × (UNSENT ≡ pos 2) × (UNWISE ≡ pos 3)
 
--- -n is negsuc (n - 1)
+-- the codes of refusals; -n is negsuc (n - 1)
 abbrev pub RefusalsAre : Type 0
 RefusalsAre =
     (NOT_OPEN ≡ negsuc 2) × (ALREADY_OPEN ≡ negsuc 3) × (SETTINGS_SIZE ≡ negsuc 4) × (BAD_SETTINGS ≡ negsuc 5) × (ROOMS ≡ negsuc 6)

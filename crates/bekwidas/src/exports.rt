@@ -1,50 +1,64 @@
-//! What C calls.
+//! The functions that C calls.
 
-ghost use Rattle.std.specs.Prelude.{◌≡◌, ◌≢◌, ◌⊎◌, IfErr, IfOk, MatchResult, Some, drop, if◌then◌else◌, length, pos};
-ghost use Rattle.pdi_session.specs.declared.Phase.{Phase};
-ghost use Rattle.stack_end.specs.Ends.{Call, Close, Deliver, InitDone, Put};
-ghost use Rattle.stack_end.specs.Turns.{is_settled};
-ghost use Rattle.end_for_callers.specs.Calls.{Does, outbox_of};
-ghost use Rattle.bekwidas.specs.Codes.{code_of_phase, code_of_state, code_to_open};
-ghost use Rattle.bekwidas.specs.Held.{Became, IsOpened};
-ghost use Rattle.bekwidas.specs.Slots.{DoesWhole, IsRefusal, Same, NoDatagram, NoTelegram, QuietBefore, StaysDatagram, StaysTelegram, Tells, TookDatagram, TookTelegram};
+ghost use Rattle.std.specs.Prelude.{◌≡◌, ◌≢◌, ◌⊎◌, ◌++◌, IfErr, IfOk, MatchResult, Some, drop, take, length, min};
+ghost use Rattle.bekwidas.specs.Answers.{AnswersArrive, AnswersTick, AnswersPut, AnswersInitDone, AnswersClose, AnswersReopen, AnswersTake, AnswersNextDatagram, AnswersNextDeadline, AnswersState, AnswersPhase, AnswersSettled, AnswersCounts, AnswersConfirmed, AnswersConfirmedTime, AnswersDeparture, AnswersStale, AnswersStatistics, StaysOpen};
+ghost use Rattle.bekwidas.specs.Texts.{text_of};
+ghost use Rattle.bekwidas.specs.Codes.{code_to_open};
+ghost use Rattle.bekwidas.specs.Held.{IsOpened};
 ghost use Rattle.bekwidas.specs.declared.exports.TheConstants.{VERSION};
-ghost use Rattle.bekwidas.specs.declared.codes.TheConstants.{ALREADY_OPEN, NO_MEMORY, NOTHING, NOT_OPEN, OK, TOO_SMALL, UNSENT};
+ghost use Rattle.bekwidas.specs.declared.codes.TheConstants.{ALREADY_OPEN, NO_MEMORY, NOTHING, NOT_OPEN, OK, TOO_SMALL};
 
 use crate::codes::{
     ALREADY_OPEN, BAD_SETTINGS, NO_MEMORY, NOT_OPEN, NOTHING, OK, SETTINGS_SIZE, TOO_SMALL,
-    of_call, of_opening, of_phase, of_state, text_of,
+    of_call, of_fault, of_leaver, of_opening, of_phase, of_state, of_version, text_of,
 };
 use crate::handle::Slot;
+use crate::statistics::{PlainStatistics, plain_statistics};
 use end_for_callers::{PLAIN_SETTINGS_SIZE, PlainSettings, Station, TooSmall};
 use std::alloc::Global;
 
-/// Major, minor and patch.
-const VERSION: u32 = 0x0002_00;
+/// The version: major, minor and patch, as 0xMMmmpp.
+const VERSION: u32 = 0x0003_00;
 
-/// What waits for the caller, and what was lost.
+/// How much waits for the caller, and how much was lost.
 #[repr(C)]
 #[derive(Drop)]
 pub struct Counts {
-    /// How many telegrams wait.
+    /// The number of telegrams that wait.
     pub telegrams: u64,
-    /// How many datagrams wait.
+    /// The number of datagrams that wait.
     pub datagrams: u64,
-    /// How many datagrams found no room since it was opened.
+    /// The number of datagrams that found no room since the opening.
     pub unsent: u64,
 }
 
-/// The version of this library.
+/// Who ended a connection, why and when.
+#[repr(C)]
+#[derive(Drop)]
+pub struct PlainDeparture {
+    /// The own time at which the end was closed, in milliseconds.
+    pub time: u64,
+    /// Who ended the connection: 1 for this end, 2 for the peer.
+    pub by: u32,
+    /// The number of the reason, as in a DiscReq.
+    pub reason: u32,
+    /// The number of the detail, as in a DiscReq.
+    pub detail: u32,
+    /// The peer's PDI version, if the session was ended because the versions differ; otherwise 256.
+    pub version: u32,
+}
+
+/// Returns the version of this library.
 #[unsafe(no_mangle)]
 pub extern "C" fn bekr_version() -> u32
-    // The answer is the version of the library.
+    // `bekr_version` returns the constant 0.3.0 as 0xMMmmpp.
     ensures { result ≡ VERSION }
 {
     let version = VERSION;
     version
 }
 
-/// Opens an end.
+/// Opens an end in an empty slot, as `Station::open` does. No other function allocates.
 #[unsafe(no_mangle)]
 pub extern "C" fn bekr_open(
     alloc: Global,
@@ -52,15 +66,15 @@ pub extern "C" fn bekr_open(
     settings: &PlainSettings,
     now: u64,
 ) -> i32
-    // A full slot is refused.
+    // If the slot already holds an end, `bekr_open` returns `ALREADY_OPEN`.
     ensures full { slot.old.is_open ≡ 1 → result ≡ ALREADY_OPEN }
-    // An empty slot answers OK or the first refusal that holds of the settings and the time; where none holds
-    // it may answer that there was no memory.
+    // For an empty slot the result is the code of the first reason against settings and time, or OK
+    // (`code_to_open`). Instead of OK it can be `NO_MEMORY`.
     ensures answer { slot.old.is_open ≢ 1 → (result ≡ code_to_open settings.now now)
         ⊎ ((code_to_open settings.now now ≡ OK) × (result ≡ NO_MEMORY)) }
-    // An end that is opened stands for one opened on the side and with exactly what the settings say.
-    ensures opened { result ≡ OK → IsOpened settings.now now slot.new.handle.held }
-    // A refused opening leaves the slot as it was.
+    // If the result is OK, the slot holds a new end, opened with exactly the content of `settings` (`IsOpened`).
+    ensures opened { result ≡ OK → (slot.new.is_open ≡ 1) × IsOpened settings.now now slot.new.handle.held }
+    // With any result except OK the slot is unchanged.
     ensures refused { result ≢ OK → slot.new ≡ slot.old }
 {
     if slot.is_open() {
@@ -75,11 +89,15 @@ pub extern "C" fn bekr_open(
     }
 }
 
-/// The station of an end that was opened by these settings, or the answer of the refusal.
+/// Opens a station with these settings, or returns the code of the refusal.
 fn open_station(alloc: Global, settings: &PlainSettings, now: u64) -> Result<Box<Station>, i32>
+    // A station is returned only if `code_to_open` is OK. Otherwise the result is that code, or `NO_MEMORY` if the
+    // code is OK.
     ensures answer { MatchResult result (λ _. code_to_open settings.now now ≡ OK) (λ code. (code ≡ code_to_open settings.now now)
         ⊎ ((code_to_open settings.now now ≡ OK) × (code ≡ NO_MEMORY))) }
+    // The station returned is new, and opened with exactly the content of `settings`.
     ensures stands { IfOk result (λ station. IsOpened settings.now now (Some station.value)) }
+    // An error is never the code OK.
     ensures refused { IfErr result (λ code. code ≢ OK) }
 {
     if settings.size != PLAIN_SETTINGS_SIZE {
@@ -104,16 +122,16 @@ fn open_station(alloc: Global, settings: &PlainSettings, now: u64) -> Result<Box
     }
 }
 
-/// Gives the memory back.
+/// Frees the memory of the end. It sends nothing.
 #[unsafe(no_mangle)]
 pub extern "C" fn bekr_free(alloc: Global, slot: &mut Slot)
-    // A slot that was freed holds no end.
+    // After `bekr_free` the slot holds no end.
     ensures { slot.new.is_open ≡ 0 }
 {
     let _station = slot.take(alloc);
 }
 
-/// Takes a datagram.
+/// Processes a received datagram, as `Station::arrive` does.
 #[unsafe(no_mangle)]
 pub extern "C" fn bekr_arrive(
     alloc: Global,
@@ -122,12 +140,11 @@ pub extern "C" fn bekr_arrive(
     octets: &[u8],
     now: u64,
 ) -> i32
-    // Where a call answers OK the station made its step, and all that the end sent and took waits.
-    ensures does { result ≡ OK → Became (DoesWhole (Deliver channel octets.now now)) slot.old.handle.held slot.new.handle.held }
-    // Where it is refused, for another reason than a telegram lost, nothing of the station has changed.
-    ensures refused { IsRefusal result → Became Same slot.old.handle.held slot.new.handle.held }
-    // Where it answers that a datagram found no room, the station made its step.
-    ensures unsent { result ≡ UNSENT → Became (Does (Deliver channel octets.now now)) slot.old.handle.held slot.new.handle.held }
+    // A slot that holds an end keeps it. The end receives the datagram, and the code says if something found no
+    // room. If `refusal` gives a reason, its code is returned and nothing changes.
+    ensures open { slot.old.is_open ≡ 1 → StaysOpen (AnswersArrive channel octets.now now result) slot.old slot.new }
+    // If the slot holds no end, `bekr_arrive` returns `NOT_OPEN`, and the slot still holds none.
+    ensures none { slot.old.is_open ≢ 1 → (result ≡ NOT_OPEN) × (slot.new.is_open ≡ 0) }
 {
     let Some(mut station) = slot.take(alloc) else {
         return NOT_OPEN;
@@ -137,15 +154,14 @@ pub extern "C" fn bekr_arrive(
     code
 }
 
-/// Lets time pass.
+/// Lets time pass, as `Station::tick` does.
 #[unsafe(no_mangle)]
 pub extern "C" fn bekr_tick(alloc: Global, slot: &mut Slot, now: u64) -> i32
-    // Where a call answers OK the station made its step, and all that the end sent and took waits.
-    ensures does { result ≡ OK → Became (DoesWhole (Call.Tick now)) slot.old.handle.held slot.new.handle.held }
-    // Where it is refused, for another reason than a telegram lost, nothing of the station has changed.
-    ensures refused { IsRefusal result → Became Same slot.old.handle.held slot.new.handle.held }
-    // Where it answers that a datagram found no room, the station made its step.
-    ensures unsent { result ≡ UNSENT → Became (Does (Call.Tick now)) slot.old.handle.held slot.new.handle.held }
+    // A slot that holds an end keeps it. Time passes for it, and the code says if something found no room. A tick
+    // with a reason in `refusal` returns its code and changes nothing.
+    ensures open { slot.old.is_open ≡ 1 → StaysOpen (AnswersTick now result) slot.old slot.new }
+    // If the slot holds no end, `bekr_tick` returns `NOT_OPEN`, and the slot still holds none.
+    ensures none { slot.old.is_open ≢ 1 → (result ≡ NOT_OPEN) × (slot.new.is_open ≡ 0) }
 {
     let Some(mut station) = slot.take(alloc) else {
         return NOT_OPEN;
@@ -155,7 +171,7 @@ pub extern "C" fn bekr_tick(alloc: Global, slot: &mut Slot, now: u64) -> i32
     code
 }
 
-/// Puts a telegram in.
+/// Puts a telegram, as `Station::put` does.
 #[unsafe(no_mangle)]
 pub extern "C" fn bekr_put(
     alloc: Global,
@@ -164,12 +180,11 @@ pub extern "C" fn bekr_put(
     payload: &[u8],
     now: u64,
 ) -> i32
-    // Where a call answers OK the station made its step, and all that the end sent and took waits.
-    ensures does { result ≡ OK → Became (DoesWhole (Put kind payload.now now)) slot.old.handle.held slot.new.handle.held }
-    // Where it is refused, for another reason than a telegram lost, nothing of the station has changed.
-    ensures refused { IsRefusal result → Became Same slot.old.handle.held slot.new.handle.held }
-    // Where it answers that a datagram found no room, the station made its step.
-    ensures unsent { result ≡ UNSENT → Became (Does (Put kind payload.now now)) slot.old.handle.held slot.new.handle.held }
+    // A slot that holds an end keeps it. The telegram is put, and the code says if something found no room. If
+    // `refusal_to_put` gives a reason, its code is returned and nothing changes.
+    ensures open { slot.old.is_open ≡ 1 → StaysOpen (AnswersPut kind payload.now now result) slot.old slot.new }
+    // If the slot holds no end, `bekr_put` returns `NOT_OPEN`, and the slot still holds none.
+    ensures none { slot.old.is_open ≢ 1 → (result ≡ NOT_OPEN) × (slot.new.is_open ≡ 0) }
 {
     let Some(mut station) = slot.take(alloc) else {
         return NOT_OPEN;
@@ -179,15 +194,14 @@ pub extern "C" fn bekr_put(
     code
 }
 
-/// The end of the initialisation.
+/// Completes the initialisation, as `Station::init_done` does.
 #[unsafe(no_mangle)]
 pub extern "C" fn bekr_init_done(alloc: Global, slot: &mut Slot, now: u64) -> i32
-    // Where a call answers OK the station made its step, and all that the end sent and took waits.
-    ensures does { result ≡ OK → Became (DoesWhole (InitDone now)) slot.old.handle.held slot.new.handle.held }
-    // Where it is refused, for another reason than a telegram lost, nothing of the station has changed.
-    ensures refused { IsRefusal result → Became Same slot.old.handle.held slot.new.handle.held }
-    // Where it answers that a datagram found no room, the station made its step.
-    ensures unsent { result ≡ UNSENT → Became (Does (InitDone now)) slot.old.handle.held slot.new.handle.held }
+    // A slot that holds an end keeps it. Its initialisation is completed, and the code says if something found no
+    // room. If `refusal_to_init` gives a reason, its code is returned and nothing changes.
+    ensures open { slot.old.is_open ≡ 1 → StaysOpen (AnswersInitDone now result) slot.old slot.new }
+    // If the slot holds no end, `bekr_init_done` returns `NOT_OPEN`, and the slot still holds none.
+    ensures none { slot.old.is_open ≢ 1 → (result ≡ NOT_OPEN) × (slot.new.is_open ≡ 0) }
 {
     let Some(mut station) = slot.take(alloc) else {
         return NOT_OPEN;
@@ -197,15 +211,14 @@ pub extern "C" fn bekr_init_done(alloc: Global, slot: &mut Slot, now: u64) -> i3
     code
 }
 
-/// Leaves the connection.
+/// Closes the connection, as `Station::close` does.
 #[unsafe(no_mangle)]
 pub extern "C" fn bekr_close(alloc: Global, slot: &mut Slot, now: u64) -> i32
-    // Where a call answers OK the station made its step, and all that the end sent and took waits.
-    ensures does { result ≡ OK → Became (DoesWhole (Close now)) slot.old.handle.held slot.new.handle.held }
-    // Where it is refused, for another reason than a telegram lost, nothing of the station has changed.
-    ensures refused { IsRefusal result → Became Same slot.old.handle.held slot.new.handle.held }
-    // Where it answers that a datagram found no room, the station made its step.
-    ensures unsent { result ≡ UNSENT → Became (Does (Close now)) slot.old.handle.held slot.new.handle.held }
+    // A slot that holds an end keeps it. Its connection is closed, and the code says if something found no room. A
+    // time that is not in range returns its code and changes nothing (`refusal_to_close`).
+    ensures open { slot.old.is_open ≡ 1 → StaysOpen (AnswersClose now result) slot.old slot.new }
+    // If the slot holds no end, `bekr_close` returns `NOT_OPEN`, and the slot still holds none.
+    ensures none { slot.old.is_open ≢ 1 → (result ≡ NOT_OPEN) × (slot.new.is_open ≡ 0) }
 {
     let Some(mut station) = slot.take(alloc) else {
         return NOT_OPEN;
@@ -215,7 +228,27 @@ pub extern "C" fn bekr_close(alloc: Global, slot: &mut Slot, now: u64) -> i32
     code
 }
 
-/// Takes the oldest telegram that waits.
+/// Opens the end again with the settings that it has, as `Station::reopen` does.
+#[unsafe(no_mangle)]
+pub extern "C" fn bekr_reopen(alloc: Global, slot: &mut Slot, first_sn: u32, now: u64) -> i32
+    // A slot that holds an end keeps it. The end opens again, with nothing of the old connection, and the code is OK. If
+    // `refusal_to_reopen` gives a reason, its code is returned and nothing changes.
+    ensures open { slot.old.is_open ≡ 1 → StaysOpen (AnswersReopen first_sn now result) slot.old slot.new }
+    // If the slot holds no end, `bekr_reopen` returns `NOT_OPEN`, and the slot still holds none.
+    ensures none { slot.old.is_open ≢ 1 → (result ≡ NOT_OPEN) × (slot.new.is_open ≡ 0) }
+{
+    let Some(mut station) = slot.take(alloc) else {
+        return NOT_OPEN;
+    };
+    let reopened = station.reopen(first_sn, now);
+    slot.put(station);
+    match reopened {
+        Ok(()) => OK,
+        Err(fault) => of_fault(fault),
+    }
+}
+
+/// Fetches the oldest telegram, as `Station::take` does.
 #[unsafe(no_mangle)]
 pub extern "C" fn bekr_take(
     alloc: Global,
@@ -224,14 +257,12 @@ pub extern "C" fn bekr_take(
     payload: &mut [u8],
     length: &mut usize,
 ) -> i32
-    // What is taken is the oldest telegram or datagram, whole, and all else is as it was.
-    ensures took { result ≡ OK → Became (TookTelegram kind.new length.new payload.old payload.new)
-        slot.old.handle.held slot.new.handle.held }
-    // Where the buffer is too small the length needed is told and nothing is taken.
-    ensures short { result ≡ TOO_SMALL → Became (StaysTelegram length.new payload.old payload.new)
-        slot.old.handle.held slot.new.handle.held }
-    // Nothing is answered only where nothing waits.
-    ensures nothing { result ≡ NOTHING → Became NoTelegram slot.old.handle.held slot.new.handle.held }
+    // A slot that holds an end keeps it. OK means that the oldest telegram was fetched. `TOO_SMALL` writes its
+    // size to `length`, and `NOTHING` means that none waits; both leave the station unchanged.
+    ensures open { slot.old.is_open ≡ 1 → StaysOpen (AnswersTake kind.old kind.new length.old length.new payload.old payload.new result) slot.old slot.new }
+    // If the slot holds no end, `bekr_take` returns `NOT_OPEN` and writes nothing, and the slot still holds none.
+    ensures none { slot.old.is_open ≢ 1 → (result ≡ NOT_OPEN) × (slot.new.is_open ≡ 0) × (kind.new ≡ kind.old)
+        × (length.new ≡ length.old) × (payload.new ≡ payload.old) }
 {
     let Some(mut station) = slot.take(alloc) else {
         return NOT_OPEN;
@@ -252,7 +283,7 @@ pub extern "C" fn bekr_take(
     }
 }
 
-/// Takes the oldest datagram that waits.
+/// Fetches the oldest datagram, as `Station::next_datagram` does.
 #[unsafe(no_mangle)]
 pub extern "C" fn bekr_next_datagram(
     alloc: Global,
@@ -261,14 +292,13 @@ pub extern "C" fn bekr_next_datagram(
     octets: &mut [u8],
     length: &mut usize,
 ) -> i32
-    // What is taken is the oldest telegram or datagram, whole, and all else is as it was.
-    ensures took { result ≡ OK → Became (TookDatagram channel.new length.new octets.old octets.new)
-        slot.old.handle.held slot.new.handle.held }
-    // Where the buffer is too small the length needed is told and nothing is taken.
-    ensures short { result ≡ TOO_SMALL → Became (StaysDatagram length.new octets.old octets.new)
-        slot.old.handle.held slot.new.handle.held }
-    // Nothing is answered only where nothing waits.
-    ensures nothing { result ≡ NOTHING → Became NoDatagram slot.old.handle.held slot.new.handle.held }
+    // A slot that holds an end keeps it. OK means that the oldest datagram was fetched. `TOO_SMALL` writes its
+    // size to `length`, and `NOTHING` means that none waits; both leave the queue of datagrams unchanged.
+    ensures open { slot.old.is_open ≡ 1 → StaysOpen (AnswersNextDatagram channel.old channel.new length.old length.new octets.old octets.new result) slot.old slot.new }
+    // If the slot holds no end, `bekr_next_datagram` returns `NOT_OPEN` and writes nothing, and the slot still
+    // holds none.
+    ensures none { slot.old.is_open ≢ 1 → (result ≡ NOT_OPEN) × (slot.new.is_open ≡ 0) × (channel.new ≡ channel.old)
+        × (length.new ≡ length.old) × (octets.new ≡ octets.old) }
 {
     let Some(mut station) = slot.take(alloc) else {
         return NOT_OPEN;
@@ -289,12 +319,15 @@ pub extern "C" fn bekr_next_datagram(
     }
 }
 
-/// The next time at which `bekr_tick` does something.
+/// Returns the next time at which `bekr_tick` has something to do.
 #[unsafe(no_mangle)]
 pub extern "C" fn bekr_next_deadline(alloc: Global, slot: &mut Slot, deadline: &mut u64) -> i32
-    // Before the deadline that is told a tick of an end that is not closed does nothing, and asking changes
-    // nothing.
-    ensures quiet { result ≡ OK → Became (QuietBefore deadline.new) slot.old.handle.held slot.new.handle.held }
+    // A slot that holds an end keeps it. OK writes its deadline, and `NOTHING` means that it has none
+    // (`IsDeadline`). The end does not change.
+    ensures open { slot.old.is_open ≡ 1 → StaysOpen (AnswersNextDeadline deadline.old deadline.new result) slot.old slot.new }
+    // If the slot holds no end, `bekr_next_deadline` returns `NOT_OPEN` and writes nothing, and the slot still
+    // holds none.
+    ensures none { slot.old.is_open ≢ 1 → (result ≡ NOT_OPEN) × (slot.new.is_open ≡ 0) × (deadline.new ≡ deadline.old) }
 {
     let Some(station) = slot.take(alloc) else {
         return NOT_OPEN;
@@ -310,11 +343,14 @@ pub extern "C" fn bekr_next_deadline(alloc: Global, slot: &mut Slot, deadline: &
     }
 }
 
-/// The state of the connection.
+/// Returns the state of the connection.
 #[unsafe(no_mangle)]
 pub extern "C" fn bekr_state(alloc: Global, slot: &mut Slot) -> i32
-    // State, phase and whether all is settled are what the end's state says, and nothing changes.
-    ensures tells { (result ≡ NOT_OPEN) ⊎ Became (Tells (λ v. code_of_state v.upper.machine.connection) result) slot.old.handle.held slot.new.handle.held }
+    // A slot that holds an end keeps it. The result is the number of its connection state, and the end does not
+    // change.
+    ensures open { slot.old.is_open ≡ 1 → StaysOpen (AnswersState result) slot.old slot.new }
+    // If the slot holds no end, `bekr_state` returns `NOT_OPEN`, and the slot still holds none.
+    ensures none { slot.old.is_open ≢ 1 → (result ≡ NOT_OPEN) × (slot.new.is_open ≡ 0) }
 {
     let Some(station) = slot.take(alloc) else {
         return NOT_OPEN;
@@ -324,11 +360,14 @@ pub extern "C" fn bekr_state(alloc: Global, slot: &mut Slot) -> i32
     state
 }
 
-/// The phase of the session.
+/// Returns the phase of the session.
 #[unsafe(no_mangle)]
 pub extern "C" fn bekr_phase(alloc: Global, slot: &mut Slot) -> i32
-    // State, phase and whether all is settled are what the end's state says, and nothing changes.
-    ensures tells { (result ≡ NOT_OPEN) ⊎ Became (Tells (λ v. code_of_phase v.upper.session.phase) result) slot.old.handle.held slot.new.handle.held }
+    // A slot that holds an end keeps it. The result is the number of its session phase, and the end does not
+    // change.
+    ensures open { slot.old.is_open ≡ 1 → StaysOpen (AnswersPhase result) slot.old slot.new }
+    // If the slot holds no end, `bekr_phase` returns `NOT_OPEN`, and the slot still holds none.
+    ensures none { slot.old.is_open ≢ 1 → (result ≡ NOT_OPEN) × (slot.new.is_open ≡ 0) }
 {
     let Some(station) = slot.take(alloc) else {
         return NOT_OPEN;
@@ -338,11 +377,14 @@ pub extern "C" fn bekr_phase(alloc: Global, slot: &mut Slot) -> i32
     phase
 }
 
-/// Whether all that was put in is done with: 1 or 0.
+/// Returns 1 if the end is not closed, no message waits, and no unit is unconfirmed, otherwise 0.
 #[unsafe(no_mangle)]
 pub extern "C" fn bekr_settled(alloc: Global, slot: &mut Slot) -> i32
-    // State, phase and whether all is settled are what the end's state says, and nothing changes.
-    ensures tells { (result ≡ NOT_OPEN) ⊎ Became (Tells (λ v. if is_settled v then pos 1 else pos 0) result) slot.old.handle.held slot.new.handle.held }
+    // A slot that holds an end keeps it. The result is 1 if it is settled and 0 if not, and the end does not
+    // change.
+    ensures open { slot.old.is_open ≡ 1 → StaysOpen (AnswersSettled result) slot.old slot.new }
+    // If the slot holds no end, `bekr_settled` returns `NOT_OPEN`, and the slot still holds none.
+    ensures none { slot.old.is_open ≢ 1 → (result ≡ NOT_OPEN) × (slot.new.is_open ≡ 0) }
 {
     let Some(station) = slot.take(alloc) else {
         return NOT_OPEN;
@@ -352,13 +394,15 @@ pub extern "C" fn bekr_settled(alloc: Global, slot: &mut Slot) -> i32
     if settled { 1 } else { 0 }
 }
 
-/// What waits for the caller, and what was lost.
+/// Returns how much waits for the caller, and how much was lost.
 #[unsafe(no_mangle)]
 pub extern "C" fn bekr_counts(alloc: Global, slot: &mut Slot, counts: &mut Counts) -> i32
-    // What waits and what found no room is counted, and nothing changes.
-    ensures counts { result ≡ OK → Became (λ s t. (t ≡ s) × (counts.new.unsent ≡ (outbox_of s).unsent)
-        × (counts.new.telegrams ≡ length s.inbox.queue.waiting) × (counts.new.datagrams ≡ length (outbox_of s).queue.waiting))
-        slot.old.handle.held slot.new.handle.held }
+    // A slot that holds an end keeps it. The three numbers are its waiting telegrams, waiting datagrams and unsent
+    // datagrams, and the end does not change.
+    ensures open { slot.old.is_open ≡ 1 → StaysOpen (AnswersCounts counts.new result) slot.old slot.new }
+    // If the slot holds no end, `bekr_counts` returns `NOT_OPEN` and writes nothing, and the slot still holds
+    // none.
+    ensures none { slot.old.is_open ≢ 1 → (result ≡ NOT_OPEN) × (slot.new.is_open ≡ 0) × (counts.new ≡ counts.old) }
 {
     let Some(station) = slot.take(alloc) else {
         return NOT_OPEN;
@@ -372,11 +416,122 @@ pub extern "C" fn bekr_counts(alloc: Global, slot: &mut Slot, counts: &mut Count
     OK
 }
 
-/// Writes what a code means, cut to the buffer, and answers how many octets that has.
+/// Returns 1 if the end must be freed and opened again, otherwise 0.
+#[unsafe(no_mangle)]
+pub extern "C" fn bekr_is_stale(alloc: Global, slot: &mut Slot) -> i32
+    // A slot that holds an end keeps it. The result is 1 if its end is closed or can miss the next request, and 0 if
+    // not, and the end does not change.
+    ensures open { slot.old.is_open ≡ 1 → StaysOpen (AnswersStale result) slot.old slot.new }
+    // If the slot holds no end, `bekr_is_stale` returns `NOT_OPEN`, and the slot still holds none.
+    ensures none { slot.old.is_open ≢ 1 → (result ≡ NOT_OPEN) × (slot.new.is_open ≡ 0) }
+{
+    let Some(station) = slot.take(alloc) else {
+        return NOT_OPEN;
+    };
+    let stale = station.is_stale();
+    slot.put(station);
+    if stale { 1 } else { 0 }
+}
+
+/// Returns how many of the telegrams put since the opening the peer has certainly taken.
+#[unsafe(no_mangle)]
+pub extern "C" fn bekr_confirmed(alloc: Global, slot: &mut Slot, count: &mut u64) -> i32
+    // A slot that holds an end keeps it. The result is OK, the number of its telegrams that are certain is written,
+    // and the end does not change.
+    ensures open { slot.old.is_open ≡ 1 → StaysOpen (AnswersConfirmed count.new result) slot.old slot.new }
+    // If the slot holds no end, `bekr_confirmed` returns `NOT_OPEN` and writes nothing, and the slot still holds
+    // none.
+    ensures none { slot.old.is_open ≢ 1 → (result ≡ NOT_OPEN) × (slot.new.is_open ≡ 0) × (count.new ≡ count.old) }
+{
+    let Some(station) = slot.take(alloc) else {
+        return NOT_OPEN;
+    };
+    *count = station.confirmed();
+    slot.put(station);
+    OK
+}
+
+/// Returns the own time that the peer last confirmed.
+#[unsafe(no_mangle)]
+pub extern "C" fn bekr_confirmed_time(alloc: Global, slot: &mut Slot, time: &mut u64) -> i32
+    // A slot that holds an end keeps it. The result is OK, the confirmed timestamp of its connection is written, and
+    // the end does not change.
+    ensures open { slot.old.is_open ≡ 1 → StaysOpen (AnswersConfirmedTime time.new result) slot.old slot.new }
+    // If the slot holds no end, `bekr_confirmed_time` returns `NOT_OPEN` and writes nothing, and the slot still
+    // holds none.
+    ensures none { slot.old.is_open ≢ 1 → (result ≡ NOT_OPEN) × (slot.new.is_open ≡ 0) × (time.new ≡ time.old) }
+{
+    let Some(station) = slot.take(alloc) else {
+        return NOT_OPEN;
+    };
+    *time = station.confirmed_time();
+    slot.put(station);
+    OK
+}
+
+/// Returns who ended the connection, why and when.
+#[unsafe(no_mangle)]
+pub extern "C" fn bekr_departure(
+    alloc: Global,
+    slot: &mut Slot,
+    departure: &mut PlainDeparture,
+) -> i32
+    // A slot that holds an end keeps it. OK writes the departure that the end has recorded; `NOTHING` means that it
+    // has recorded none, and writes nothing. The end does not change.
+    ensures open { slot.old.is_open ≡ 1 → StaysOpen (AnswersDeparture departure.old departure.new result) slot.old slot.new }
+    // If the slot holds no end, `bekr_departure` returns `NOT_OPEN` and writes nothing, and the slot still holds
+    // none.
+    ensures none { slot.old.is_open ≢ 1 → (result ≡ NOT_OPEN) × (slot.new.is_open ≡ 0) × (departure.new ≡ departure.old) }
+{
+    let Some(station) = slot.take(alloc) else {
+        return NOT_OPEN;
+    };
+    let left = station.departure();
+    slot.put(station);
+    match left {
+        Some(left) => {
+            *departure = PlainDeparture {
+                time: left.time,
+                by: of_leaver(left.by),
+                reason: u32::from(left.reason),
+                detail: u32::from(left.detail),
+                version: of_version(left.version),
+            };
+            OK
+        }
+        None => NOTHING,
+    }
+}
+
+/// Returns all that the end has counted since its opening.
+#[unsafe(no_mangle)]
+pub extern "C" fn bekr_statistics(
+    alloc: Global,
+    slot: &mut Slot,
+    statistics: &mut PlainStatistics,
+) -> i32
+    // A slot that holds an end keeps it. The numbers are the counts of the end, and the end does not change.
+    ensures open { slot.old.is_open ≡ 1 → StaysOpen (AnswersStatistics statistics.new result) slot.old slot.new }
+    // If the slot holds no end, `bekr_statistics` returns `NOT_OPEN` and writes nothing, and the slot still holds
+    // none.
+    ensures none { slot.old.is_open ≢ 1 → (result ≡ NOT_OPEN) × (slot.new.is_open ≡ 0) × (statistics.new ≡ statistics.old) }
+{
+    let Some(station) = slot.take(alloc) else {
+        return NOT_OPEN;
+    };
+    *statistics = plain_statistics(station.statistics());
+    slot.put(station);
+    OK
+}
+
+/// Writes the meaning of a code, cut to the buffer, and returns the length of the complete text.
 #[unsafe(no_mangle)]
 pub extern "C" fn bekr_fault_text(code: i32, text: &mut [u8]) -> usize
-    // A text is written in front of the buffer alone.
-    ensures { drop result text.new ≡ drop result text.old }
+    // `bekr_fault_text` returns the length of the text of the code, even if it does not fit.
+    ensures length { result ≡ length (text_of code) }
+    // The buffer starts with the text, cut to the buffer's length, and is unchanged after it.
+    ensures written { let size = min (length (text_of code)) (length text.old)
+        in text.new ≡ take size (text_of code) ++ drop size text.old }
 {
     let said = text_of(code).as_bytes();
     let size = std::cmp::min(said.len(), text.len());

@@ -1,4 +1,4 @@
-//! What C holds of an end: a pointer to a station, of which it sees nothing.
+//! The part of an end that C holds: a pointer to a station, whose content it does not see.
 
 ghost use Rattle.std.specs.Prelude.{◌≡◌, ◌≢◌, ◌==◌, IsSome, IfSome, IfNone, Some, None, Option};
 ghost use Rattle.bekwidas.specs.Held.{Held, holds, held_coded};
@@ -10,13 +10,13 @@ use parts::Parts;
 use std::alloc::Global;
 use std::marker::Model;
 
-/// What stands at the pointer is not told to C.
+/// The type at the pointer, as C sees it.
 #[repr(C)]
 pub struct Opaque {
     octet: u8,
 }
 
-/// A box of which C sees a pointer alone, or nothing.
+/// A box of which C sees only the pointer, or nothing.
 #[repr(C)]
 #[derive(Drop)]
 pub struct Handle {
@@ -30,7 +30,9 @@ impl Model for Handle {
 }
 
 impl Handle {
+    /// Makes a handle from the parts of a box.
     fn of_parts(parts: Parts<Station, Global>) -> Handle
+        // The handle holds the station of the box.
         ensures { result.held ≡ Some parts.value }
     {
         let Parts { ptr, alloc } = parts;
@@ -40,8 +42,10 @@ impl Handle {
         }
     }
 
+    /// Returns the parts of the box that a handle holds.
     fn into_parts(self) -> Parts<Station, Global>
         requires { IsSome self.held }
+        // The parts are those of the station that the handle held.
         ensures { Some result.value ≡ self.held }
     {
         let Handle { ptr, alloc } = self;
@@ -51,7 +55,9 @@ impl Handle {
         }
     }
 
+    /// Makes a handle without a station.
     fn empty(alloc: Global) -> Handle
+        // An empty handle holds nothing.
         ensures { result.held ≡ None }
     {
         Handle {
@@ -61,7 +67,7 @@ impl Handle {
     }
 }
 
-/// Where a station is kept for C. One that is all zeros holds none.
+/// The place of a station in the memory of C. A slot of zeros holds none.
 #[repr(C)]
 #[derive(Drop)]
 pub struct Slot {
@@ -71,17 +77,23 @@ pub struct Slot {
 }
 
 impl Slot {
-    /// Whether it holds a station.
+    /// Returns true if the slot holds a station.
     pub fn is_open(&self) -> bool
+        // `is_open` is true if and only if the flag is 1.
         ensures { result ≡ (self.now.is_open == 1) }
     {
         self.is_open == 1
     }
 
-    /// Takes the station out, if there is one.
+    /// Takes the station out of the slot, if there is one.
     pub fn take(&mut self, alloc: Global) -> Option<Box<Station>>
+        // A station that `take` returns is the one that the slot held.
         ensures some { IfSome result (λ station. Some station.value ≡ self.old.handle.held) }
+        // `take` returns a station only if the slot held one.
+        ensures was_open { IfSome result (λ _. self.old.is_open ≡ 1) }
+        // `take` returns `None` only if the slot held no station.
         ensures none { IfNone result (self.old.is_open ≢ 1) }
+        // After `take` the slot holds no station.
         ensures empty { self.new.is_open ≡ 0 }
     {
         let empty = Slot {
@@ -95,9 +107,11 @@ impl Slot {
         Some(was.handle.into_parts().into_box())
     }
 
-    /// Puts a station in, where there is none.
+    /// Puts a station into the slot, which its callers have emptied before.
     pub fn put(&mut self, station: Box<Station>)
+        // After `put` the slot holds this station.
         ensures held { self.new.handle.held ≡ Some station.value }
+        // After `put` the slot is open.
         ensures open { self.new.is_open ≡ 1 }
     {
         let filled = Slot {

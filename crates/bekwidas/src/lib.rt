@@ -1,16 +1,17 @@
-//! An end for C: `capi/bekwidas.h` says what a caller may do. Datagrams and deadlines go in, datagrams and telegrams come out; all memory is
-//! taken by `bek_open`.
+//! An end for C. `capi/bekwidas.h` states what a caller must do. Datagrams and times go in; datagrams and
+//! telegrams come out. Only `bek_open` allocates.
 //!
-//! C holds a `Slot`: a pointer to a station, of which it sees nothing, and whether there is one. Each function here takes the station out of
-//! the slot, calls it, and puts it back. Nothing here has a `requires`: what a caller may do wrong is answered. No rule stands here: what an
-//! end does is `stack_end`'s, and what waits for its caller `end_for_callers`'.
+//! C holds a `Slot`: a pointer to a station, whose content it does not see, and a flag that says if there is one.
+//! Each function takes the station out of the slot, calls it, and puts it back.
 //!
-//! Contracts: no function has a precondition: each is safe and total for all numbers and octets,
-//! and for a slot that holds an end or none.
+//! No function has a `requires`: each is safe for all numbers and bytes, and for a slot with or without an end. A
+//! wrong call returns a code. The rules of an end are in `stack_end`, those of the queues in `end_for_callers`.
 #![tactic(auto)]
 
 mod codes;
 mod exports;
+mod faults;
 mod handle;
+mod statistics;
 
 pub use codes::numbers_law;

@@ -1,7 +1,7 @@
-//! A settings file for C: `capi/bekwidas_toml.h` says what a caller may do. The text of a file goes in; the settings of an end come out, as
-//! `bek_open` takes them, and its addresses.
+//! A settings file for C. `capi/bekwidas_toml.h` states what a caller must do. The text of a file goes in; the
+//! settings of an end, as `bek_open` takes them, and its addresses come out.
 //!
-//! No rule stands here: what a file says is `settings_file`'s, and how it stands in the settings of C `end_for_callers`'.
+//! The rules of a settings file are in `settings_file`, those of the settings of C in `end_for_callers`.
 #![tactic(auto)]
 
 ghost use Rattle.std.specs.Prelude.{◌≡◌, ◌≢◌, IfErr, IfOk, None, Ok, Some, drop, option_map, take, map, string_bytes};
@@ -22,17 +22,18 @@ pub const OK: i32 = 0;
 pub const NOTHING: i32 = 1;
 /// The side is neither 1 nor 2.
 pub const BAD_SIDE: i32 = -6;
-/// There was no memory.
+/// An allocation failed.
 pub const NO_MEMORY: i32 = -8;
 /// The buffer is too small.
 pub const TOO_SMALL: i32 = -13;
-/// The text is no settings file for this side.
+/// The text is not a valid settings file for this side.
 pub const NO_SETTINGS: i32 = -19;
 
-/// Reads the text of a settings file for one end into the settings; their rooms stay as they are, and their first sequence number where the file
-/// says that one is drawn.
+/// Reads the text of a settings file for one end into `settings`. Their two rooms stay. Their first sequence
+/// number also stays if the file wants a random one.
 ///
-/// Where the text is none, what is wrong comes in front of `said`, cut to it, and `length` is how many octets that has.
+/// If the text is not a valid settings file, its fault is written to `said`, cut to its length, and the length of
+/// the complete fault text to `length`.
 #[unsafe(no_mangle)]
 pub extern "C" fn bekr_toml_settings(
     alloc: Global,
@@ -42,12 +43,12 @@ pub extern "C" fn bekr_toml_settings(
     said: &mut [u8],
     length: &mut usize,
 ) -> i32
-    // The settings that are written open an end with exactly what the file says for that side, and with the
-    // rooms that stood there.
+    // If the result is OK, the new settings open an end with exactly the content of the file for this side, with
+    // the old rooms (`Reads`). Without a first sequence number in the file they keep the old one.
     ensures read { result ≡ OK → Reads side text.now settings.old settings.new }
-    // Where the text is called no settings file, it is none for that side.
+    // If the result is `NO_SETTINGS`, the text is not a valid settings file for this side.
     ensures wrong { result ≡ NO_SETTINGS → NoFile side text.now }
-    // Where anything is refused the settings are as they were.
+    // With any result except OK the settings are unchanged.
     ensures refused { result ≢ OK → settings.new ≡ settings.old }
 {
     let Some(end) = side_of(side) else {
@@ -65,7 +66,7 @@ pub extern "C" fn bekr_toml_settings(
                     *settings = plain;
                     OK
                 }
-                // (no file has a number that is too great for them)
+                // Never happens: the ranges of a settings file are below 2^32.
                 None => BAD_SIDE,
             }
         }
@@ -73,8 +74,8 @@ pub extern "C" fn bekr_toml_settings(
     }
 }
 
-/// The address of a channel, counted from 1, in the text of a settings file: the own one where `is_remote` is 0, and else the peer's. It comes
-/// in front of `address`, and `length` is how many octets it has.
+/// Reads the address of a channel, numbered from 1, from the text of a settings file: the own one if `is_remote`
+/// is 0, otherwise the peer's. It is written to the start of `address`, and its size to `length`.
 #[unsafe(no_mangle)]
 pub extern "C" fn bekr_toml_address(
     alloc: Global,
@@ -85,15 +86,15 @@ pub extern "C" fn bekr_toml_address(
     address: &mut [u8],
     length: &mut usize,
 ) -> i32
-    // The address that is written is that of the channel in the file, in front of the buffer.
+    // If the result is OK, the bytes written are the address that the file has for this channel (`Addressed`).
     ensures read { result ≡ OK → Addressed side is_remote channel text.now (Some (take length.new address.new)) }
-    // There is no such channel where NOTHING is answered.
+    // If the result is `NOTHING`, the file has no such channel.
     ensures nothing { result ≡ NOTHING → Addressed side is_remote channel text.now None }
-    // Where the text is called no settings file, it is none for that side.
+    // `bekr_toml_address` returns `NO_SETTINGS` only for a text that is not a valid settings file for this side.
     ensures wrong { result ≡ NO_SETTINGS → NoFile side text.now }
-    // The rest of the buffer is as it was.
+    // The buffer after the address is unchanged.
     ensures rest { result ≡ OK → drop length.new address.new ≡ drop length.new address.old }
-    // Where anything is refused the buffer is as it was.
+    // Unless the address is written, the buffer is unchanged.
     ensures refused { result ≢ OK → address.new ≡ address.old }
 {
     let Some(end) = side_of(side) else {
@@ -119,15 +120,17 @@ pub extern "C" fn bekr_toml_address(
 /// Why a text was not read.
 #[derive(Drop)]
 enum Unread {
-    /// Memory was refused.
+    /// An allocation failed.
     Memory,
-    /// It is no UTF-8.
+    /// The text is not UTF-8.
     NotText,
-    /// It is no settings file for this side.
+    /// The text is not a valid settings file for this side.
     Settings(SettingsFault),
 }
 
+/// Returns the side with this number.
 fn side_of(side: u32) -> Option<Side>
+    // The number 1 is the interlocking, 2 the field element, and any other no side.
     ensures { result ≡ side_in side }
 {
     match side {
@@ -137,8 +140,10 @@ fn side_of(side: u32) -> Option<Side>
     }
 }
 
-/// The address of a channel, counted from 1.
+/// Returns the address of a channel, numbered from 1.
 fn address_of(file: &Settings, is_remote: u32, channel: u32) -> Option<&str>
+    // The address is that of the list at place `channel` - 1, and `None` if there is no such place or the channel
+    // is 0.
     ensures { option_map (λ a. a.now) result ≡ address_of is_remote channel (settings_seen file.now) }
 {
     if channel == 0 {
@@ -148,7 +153,9 @@ fn address_of(file: &Settings, is_remote: u32, channel: u32) -> Option<&str>
     Some(found.as_str())
 }
 
+/// Returns the own addresses, or the peer's.
 fn addresses(file: &Settings, is_remote: u32) -> &[String]
+    // The own addresses are returned if `is_remote` is 0, otherwise the peer's.
     ensures { map string_bytes result.now ≡ addresses_in is_remote (settings_seen file.now) }
 {
     if is_remote == 0 {
@@ -158,8 +165,11 @@ fn addresses(file: &Settings, is_remote: u32) -> &[String]
     }
 }
 
+/// Reads a settings file for one side.
 fn read(alloc: Global, side: Side, text: &[u8]) -> Result<Settings, Unread>
+    // A file that is returned has exactly the content that `file_settings` reads from the text.
     ensures ok { IfOk result (λ file. file_settings side text.now ≡ Ok (settings_seen file)) }
+    // An error other than Memory means that the text is not UTF-8, or that `file_settings` refuses it.
     ensures err { IfErr result (IsUnread side text.now) }
 {
     let Ok(text) = str::from_utf8(text) else {
@@ -172,14 +182,16 @@ fn read(alloc: Global, side: Side, text: &[u8]) -> Result<Settings, Unread>
     }
 }
 
-/// Writes why a text is no settings file, cut to a row, and tells how many octets that has.
+/// Writes the fault to `row`, cut to its length, and returns the code.
 fn tell(alloc: Global, fault: &Unread, row: &mut [u8], length: &mut usize) -> i32
+    // The code `NO_SETTINGS` is returned only if the fault is one of the text, not a failed allocation.
     ensures named { result ≡ NO_SETTINGS → fault.now ≢ unread.Memory }
+    // The code of a fault is never OK.
     ensures refused { result ≢ OK }
 {
     match fault {
         Unread::Memory => NO_MEMORY,
-        Unread::NotText => write_told("no UTF-8 text", row, length),
+        Unread::NotText => write_told("not valid UTF-8", row, length),
         Unread::Settings(fault) => match format!(in alloc; "{fault}") {
             Ok(text) => write_told(text.as_str(), row, length),
             Err(_) => NO_MEMORY,
@@ -187,7 +199,9 @@ fn tell(alloc: Global, fault: &Unread, row: &mut [u8], length: &mut usize) -> i3
     }
 }
 
+/// Writes a text to `row`, cut to its length, and the size of the complete text to `length`.
 fn write_told(text: &str, row: &mut [u8], length: &mut usize) -> i32
+    // `write_told` always returns `NO_SETTINGS`.
     ensures { result ≡ NO_SETTINGS }
 {
     let octets = text.as_bytes();

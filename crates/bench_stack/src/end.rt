@@ -1,4 +1,4 @@
-//! An end for C: two ends joined over channels that only count, and one end over a row of datagrams from the other.
+//! An end for C: two ends joined by channels that only count, and one end that receives datagrams made before.
 
 ghost use Rattle.std.specs.Prelude.{◌≡◌, ◌≤◌, ◌^◌, None, length};
 
@@ -13,15 +13,16 @@ use pdi_session::{Phase, Taker};
 use stack_end::{End, Listener};
 use std::alloc::{Allocator, Global};
 
-/// How many datagrams one end sends at most before its peer hears them.
+/// How many datagrams one end keeps at most for its peer.
 const KEPT_MAX: usize = 8;
 
-/// The kind of each telegram.
+/// The message type of each telegram.
 const KIND: u16 = 0x0100;
 
+/// A datagram in place.
 type Datagram = ArrayVec<u8, RED_PDU_MAX>;
 
-/// What an end did.
+/// The counts of one end.
 #[repr(C)]
 pub struct EndTally {
     /// How many datagrams it sent.
@@ -32,16 +33,16 @@ pub struct EndTally {
     pub is_established: bool,
 }
 
-/// How many octets one end holds.
+/// The memory of one end, in bytes.
 #[repr(C)]
 pub struct EndHeld {
-    /// Those of the value itself.
+    /// The size of the value itself.
     pub own: u64,
-    /// Those that its opening took from a heap.
+    /// What its opening allocates.
     pub taken: u64,
 }
 
-/// Channels that count what is sent, and keep copies of what goes out on channel 1 while they are told to.
+/// Channels that count what is sent, and keep copies of the datagrams on channel 1 while `keeps` is set.
 #[derive(Drop)]
 struct Wire {
     kept: ArrayVec<Datagram, KEPT_MAX>,
@@ -91,7 +92,7 @@ impl Taker for Telegrams {
     }
 }
 
-/// An end whose clock stands, and what its application took.
+/// An end whose clock is always 0, and the count of telegrams that its application took.
 #[derive(Drop)]
 struct Station<A: Allocator = Global> {
     end: End<Wire, A>,
@@ -100,7 +101,7 @@ struct Station<A: Allocator = Global> {
 }
 
 impl<A: Allocator + Copy> Station<A> {
-    /// An end of the greatest window, the longest times, two channels, and a heartbeat after `mwa` units.
+    /// Opens an end with the greatest window, the longest times, two channels, and a heartbeat after `mwa` units.
     fn open(alloc: A, side: Side, mwa: u32, q: u32) -> Option<Self> {
         let wire = Wire {
             kept: ArrayVec::new(),
@@ -114,31 +115,35 @@ impl<A: Allocator + Copy> Station<A> {
         })
     }
 
+    /// Delivers a datagram to the end.
     fn hear(&mut self, channel: usize, datagram: &[u8]) {
         self.end.arrive(channel, datagram, 0, &mut self.telegrams);
     }
 
+    /// Puts a telegram, and returns whether it was accepted.
     fn put(&mut self, payload: &[u8]) -> bool {
         self.end.put(KIND, payload, 0).is_ok()
     }
 
+    /// Reports the end of the initialisation.
     fn done(&mut self) -> Option<()> {
         self.end.init_done(0).ok()
     }
 
-    /// What it has sent on channel 1 since it was last asked.
+    /// Returns the datagrams sent on channel 1 since the last call.
     fn said(&mut self) -> ArrayVec<Datagram, KEPT_MAX> {
         let wire = self.end.channels();
         std::mem::replace(&mut wire.kept, ArrayVec::new())
     }
 
-    /// From now on it keeps nothing of what it sends, and counts anew.
+    /// Stops keeping datagrams, and counts from 0 again.
     fn forget(&mut self) {
         let wire = self.end.channels();
         wire.keeps = false;
         wire.sent = 0;
     }
 
+    /// Returns the counts of the end.
     fn tally(&self) -> EndTally {
         EndTally {
             sent: self.end.channels_seen().sent,
@@ -148,7 +153,7 @@ impl<A: Allocator + Copy> Station<A> {
     }
 }
 
-/// The settings of an end.
+/// Returns the settings of an end.
 fn config(side: Side, mwa: u32, q: u32) -> Option<EndConfig> {
     let (id, name, peer_id, peer_name) = match side {
         Side::Interlocking => (1, "IL1", 2, "FE1"),
@@ -183,7 +188,7 @@ struct Joined {
     fe: Station,
 }
 
-/// All that one end said comes to the other.
+/// Delivers to one end everything that the other has sent.
 fn pass(from: &mut Station, to: &mut Station) {
     for datagram in from.said().iter() {
         to.hear(1, datagram.as_slice());
@@ -191,7 +196,7 @@ fn pass(from: &mut Station, to: &mut Station) {
 }
 
 impl Joined {
-    /// Two ends with an established session.
+    /// Opens two ends with an established session.
     fn open(alloc: Global, mwa: u32) -> Option<Joined> {
         let mut fe = Station::open(alloc, Side::FieldElement, mwa, 4)?;
         let mut il = Station::open(alloc, Side::Interlocking, mwa, 4)?;
@@ -208,8 +213,10 @@ impl Joined {
     }
 }
 
-/// Makes two rows: the datagrams of a telegram that the interlocking puts in again and again, and those of the heartbeats
-/// by which the field element confirms them. A row that is too short has what fits. It answers how many telegrams were taken.
+/// Fills two buffers: one with the datagrams of a telegram that the interlocking puts `times` times, the other with
+/// those of the heartbeats by which the field element confirms them. What does not fit is left out. Returns how
+/// many telegrams were taken.
+///
 /// C: `bench_end_rows(const uint8_t *, size_t, uint32_t, uint32_t, uint8_t *, size_t, uint8_t *, size_t)`.
 #[unsafe(no_mangle)]
 pub extern "C" fn bench_end_rows(
@@ -241,9 +248,10 @@ pub extern "C" fn bench_end_rows(
     joined.fe.telegrams.taken
 }
 
-/// Writes datagrams behind the filled front of a row, as far as there is room, and answers how much is filled then.
+/// Writes datagrams after the filled part of a buffer, as far as there is room. Returns how many bytes are filled.
 fn keep(datagrams: &ArrayVec<Datagram, KEPT_MAX>, row: &mut [u8], filled: usize) -> usize
     requires { filled ≤ length row.old }
+    // `keep` never fills more than the buffer has.
     ensures { result ≤ length row.new }
 {
     let mut filled = filled;
@@ -253,7 +261,9 @@ fn keep(datagrams: &ArrayVec<Datagram, KEPT_MAX>, row: &mut [u8], filled: usize)
     filled
 }
 
-/// A field element with a new session hears a row of datagrams of one size, each on a number of channels.
+/// Delivers up to `times` datagrams of one size from a buffer to a field element with a new session, each on
+/// `copies` channels.
+///
 /// C: `bench_end_arrives(const uint8_t *, size_t, size_t, uint32_t, uint32_t, uint32_t)`.
 #[unsafe(no_mangle)]
 pub extern "C" fn bench_end_arrives(
@@ -282,8 +292,9 @@ pub extern "C" fn bench_end_arrives(
     joined.fe.tally()
 }
 
-/// An interlocking with a new session puts a telegram in `mwa` times and hears the next of a row of heartbeats of one
-/// size, and does both again and again.
+/// Repeats `times` times: an interlocking with a new session puts a telegram `mwa` times, and receives the next
+/// heartbeat of one size from a buffer.
+///
 /// C: `bench_end_puts(const uint8_t *, size_t, uint32_t, uint32_t, const uint8_t *, size_t, size_t)`.
 #[unsafe(no_mangle)]
 pub extern "C" fn bench_end_puts(
@@ -313,7 +324,7 @@ pub extern "C" fn bench_end_puts(
     joined.il.tally()
 }
 
-/// What is told where no session was set up.
+/// Returns the counts that are reported if no session could be established.
 fn no_end() -> EndTally {
     EndTally {
         sent: 0,
@@ -322,7 +333,9 @@ fn no_end() -> EndTally {
     }
 }
 
-/// How many octets one end holds with a table of `q` places. C: `bench_end_octets(uint32_t)`.
+/// Returns the memory that one end uses with a deferral queue of `q` places.
+///
+/// C: `bench_end_octets(uint32_t)`.
 #[unsafe(no_mangle)]
 pub extern "C" fn bench_end_octets(alloc: Global, q: u32) -> EndHeld {
     EndHeld {
@@ -331,7 +344,7 @@ pub extern "C" fn bench_end_octets(alloc: Global, q: u32) -> EndHeld {
     }
 }
 
-/// How many octets of a heap are in use once an end is opened over it, and nothing else.
+/// Returns how many bytes of a heap are in use after an end is opened over it.
 fn taken_from_heap(alloc: Global, q: u32) -> Option<usize> {
     let heap = LocalHeap::new(alloc, 1 << 18).ok()?;
     let _end = Station::open(&heap, Side::FieldElement, 16, q)?;

@@ -1,4 +1,5 @@
-//! MD4, the decoders and the layers for C, as `bench/` times and compares them. No part of the stack.
+//! MD4, the decoders and the layers as C functions, which `bench/` times and compares. No part of the stack uses
+//! this crate.
 #![tactic(auto)]
 
 ghost use Rattle.std.specs.Prelude.{◌≡◌, ◌<◌, ◌≤◌, ◌++◌, length};
@@ -13,21 +14,23 @@ use std::alloc::Global;
 mod end;
 mod machine;
 
-/// The digest of octets, written to 16 octets. C: `bench_md4(const uint8_t *, size_t, uint8_t *, size_t)`.
+/// Writes the MD4 digest of the bytes to a buffer of 16 bytes.
+///
+/// C: `bench_md4(const uint8_t *, size_t, uint8_t *, size_t)`.
 #[unsafe(no_mangle)]
 pub extern "C" fn bench_md4(octets: &[u8], out: &mut [u8])
     requires { length out.old ≡ 16 }
-    // What is written is MD4's digest of the octets (RFC 1320).
+    // The buffer holds the MD4 digest of the bytes (RFC 1320).
     ensures { out.new ≡ digest INITIAL_VALUE octets.now }
 {
     out.copy_from_slice(&md4::digest(INITIAL_VALUE, octets));
 }
 
-/// The digest of two pieces, one behind the other.
+/// Writes the MD4 digest of two pieces, one after the other, to a buffer of 16 bytes.
 #[unsafe(no_mangle)]
 pub extern "C" fn bench_md4_pieces(first: &[u8], second: &[u8], out: &mut [u8])
     requires { length out.old ≡ 16 }
-    // What is written is the digest of both pieces, one behind the other.
+    // The buffer holds the digest of the first piece followed by the second.
     ensures { out.new ≡ digest INITIAL_VALUE (first.now ++ second.now) }
 {
     let mut md4 = Md4::new(INITIAL_VALUE);
@@ -36,15 +39,18 @@ pub extern "C" fn bench_md4_pieces(first: &[u8], second: &[u8], out: &mut [u8])
     out.copy_from_slice(&md4.finish());
 }
 
-/// Decodes a datagram with a code of 16 octets, or else of 8, over the initial value of RFC 1320:
-/// redundancy PDU, safety PDU, unit and telegrams. It answers how many octets of payload there are,
-/// and 1,000,000 where a decoder refuses. C: `bench_decode(const uint8_t *, size_t, uint32_t)`.
+/// Decodes a datagram: redundancy PDU, safety PDU, unit and telegrams. The safety code has 16 bytes if `code` is
+/// 16, otherwise 8, with the initial value of RFC 1320. Returns the number of payload bytes, or 1,000,000 if a
+/// decoder fails.
+///
+/// C: `bench_decode(const uint8_t *, size_t, uint32_t)`.
 #[unsafe(no_mangle)]
 pub extern "C" fn bench_decode(datagram: &[u8], code: u32) -> u32 {
     payload_octets(datagram, &rule_of(code)).unwrap_or(1_000_000)
 }
 
-/// The rule of a code of 16 octets, or else of 8, over the initial value of RFC 1320.
+/// Returns the settings of a safety code of 16 bytes if `code` is 16, otherwise of 8, with the initial value of RFC
+/// 1320.
 fn rule_of(code: u32) -> CodeRule {
     let length = if code == 16 {
         CodeLength::Sixteen
@@ -57,6 +63,7 @@ fn rule_of(code: u32) -> CodeRule {
     }
 }
 
+/// Decodes a datagram and returns the number of payload bytes in its telegrams.
 fn payload_octets(datagram: &[u8], rule: &CodeRule) -> Option<u32> {
     let red = red_layer::pdu::decode(datagram).ok()?;
     let safe = safe_pdu::decode(red.upper, rule).ok()?;
@@ -69,7 +76,7 @@ fn payload_octets(datagram: &[u8], rule: &CodeRule) -> Option<u32> {
     Some(octets)
 }
 
-/// Takes parts and forgets them.
+/// Takes parts and discards them.
 #[derive(Drop)]
 struct Nowhere;
 
@@ -83,8 +90,9 @@ impl Upward for Nowhere {
     ghost later = { λ _ _ _ _ h. h };
 }
 
-/// Hands a row of datagrams of one size to a new receiving half of the redundancy layer, `times` times,
-/// and answers how many of them were dropped as old.
+/// Passes datagrams of one size to a new receiving half of the redundancy layer, all of them `times` times. Returns
+/// how many were dropped as old.
+///
 /// C: `bench_repeats(const uint8_t *, size_t, size_t, uint32_t)`.
 #[unsafe(no_mangle)]
 pub extern "C" fn bench_repeats(alloc: Global, datagrams: &[u8], size: usize, times: u32) -> u32
@@ -104,9 +112,10 @@ pub extern "C" fn bench_repeats(alloc: Global, datagrams: &[u8], size: usize, ti
     dropped
 }
 
-/// Writes octets behind the filled front of a row, where there is room, and answers how much is filled then.
+/// Writes bytes after the filled part of a buffer, if there is room. Returns how many bytes are filled.
 fn append(row: &mut [u8], filled: usize, more: &[u8]) -> usize
     requires { filled ≤ length row.old }
+    // `append` never fills more than the buffer has.
     ensures { result ≤ length row.new }
 {
     if more.len() > row.len() - filled {

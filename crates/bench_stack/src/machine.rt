@@ -1,4 +1,4 @@
-//! The safety machine for C: two ends joined in memory, and one end over a row of PDUs that the other made.
+//! The safety machine for C: two ends joined in memory, and one end that receives PDUs made before.
 
 ghost use Rattle.std.specs.Prelude.{◌≡◌, ◌+◌, ◌≤◌, ◌<◌, ◌^◌, length, IfSome};
 ghost use Rattle.octets.specs.declared.limits.TheConstants.{UNIT_MAX};
@@ -12,12 +12,12 @@ use octets::limits::SAFE_PDU_MAX;
 use safe_machine::{ConnectionState, Machine, MachineConfig, PduOut, Role, Unit, UnitIn};
 use std::alloc::Global;
 
-/// What one end did.
+/// The counts of one end.
 #[repr(C)]
 pub struct Tally {
     /// How many PDUs it made.
     pub made: u32,
-    /// The sum of their last octets, modulo 2^32.
+    /// The sum of their last bytes, modulo 2^32.
     pub last_octets: u32,
     /// How many units it took.
     pub taken: u32,
@@ -25,16 +25,16 @@ pub struct Tally {
     pub is_up: bool,
 }
 
-/// How many octets one machine holds.
+/// The memory of one machine, in bytes.
 #[repr(C)]
 pub struct Held {
-    /// Those of the value itself.
+    /// The size of the value itself.
     pub own: u64,
-    /// Those that its opening took from a heap.
+    /// What its opening allocates.
     pub taken: u64,
 }
 
-/// Counts PDUs, and sums their last octets, so that no compiler leaves out a code.
+/// Counts PDUs and adds up their last bytes, so that the compiler cannot omit the computation of a safety code.
 #[derive(Drop)]
 struct Counted {
     pdus: u32,
@@ -99,6 +99,7 @@ impl UnitIn for Units {
     }
 }
 
+/// Returns the counts of one end.
 fn tally_of(made: &Counted, units: &Units, state: ConnectionState) -> Tally {
     Tally {
         made: made.pdus,
@@ -108,7 +109,7 @@ fn tally_of(made: &Counted, units: &Units, state: ConnectionState) -> Tally {
     }
 }
 
-/// The settings of an end: the greatest window, the longest times, and a heartbeat after `mwa` units.
+/// Returns the settings of an end: the greatest window, the longest times, and a heartbeat after `mwa` units.
 fn settings(own: u32, peer: u32, code: u32, mwa: u32) -> MachineConfig {
     MachineConfig {
         own,
@@ -129,8 +130,9 @@ struct Ends {
     server: Machine,
 }
 
-/// Two ends that have opened a connection: both are in Up.
+/// Opens two ends and a connection between them. Both are then in Up.
 fn joined(alloc: Global, code: u32, mwa: u32) -> Option<Ends>
+    // The client has received one PDU and the server two; each raises the index of the next one by at most 321.
     ensures { IfSome result (λ ends. (ends.client.expected ≤ 321) × (ends.server.expected ≤ 642)) }
 {
     let mut asked = Latest::new();
@@ -151,12 +153,14 @@ fn joined(alloc: Global, code: u32, mwa: u32) -> Option<Ends>
 }
 
 impl Ends {
-    /// The client sends a unit, the server hears it, and the client hears the heartbeat that the server makes, if any.
+    /// Sends a unit from the client to the server, and delivers the heartbeat that the server makes, if any.
     fn pass(&mut self, unit: &Unit, data: &mut Latest, heartbeat: &mut Latest, units: &mut Units)
         requires unit { IsUnitSized unit.now.items }
         requires client { self.old.client.expected < 2 ^ 61 }
         requires server { self.old.server.expected < 2 ^ 61 }
+        // In `pass`, the client receives at most one PDU, which raises its expected index by at most 321.
         ensures client { self.new.client.expected ≤ self.old.client.expected + 321 }
+        // In `pass`, the server receives one PDU, which raises its expected index by at most 321.
         ensures server { self.new.server.expected ≤ self.old.server.expected + 321 }
     {
         heartbeat.pdu.clear();
@@ -168,9 +172,12 @@ impl Ends {
     }
 }
 
-/// Makes two rows: the client's Data, which carry one unit again and again, and the heartbeats by which the server confirms
-/// them, one after each `mwa` units. A row that is too short has what fits. It answers how many units the server took.
-/// C: `bench_machine_rows(const uint8_t *, size_t, uint32_t, uint32_t, uint32_t, uint8_t *, size_t, uint8_t *, size_t)`.
+/// Fills two buffers: one with the Data of a client that sends one unit `times` times, the other with the
+/// heartbeats by which the server confirms them, one after each `mwa` units. What does not fit is left out. Returns
+/// how many units the server took.
+///
+/// C: `bench_machine_rows(const uint8_t *, size_t, uint32_t, uint32_t, uint32_t, uint8_t *, size_t, uint8_t *,
+/// size_t)`.
 #[unsafe(no_mangle)]
 pub extern "C" fn bench_machine_rows(
     alloc: Global,
@@ -200,7 +207,8 @@ pub extern "C" fn bench_machine_rows(
     units.taken
 }
 
-/// A server that has just opened its connection hears a row of Data, each of one size.
+/// Delivers up to `times` Data of one size from a buffer to a server with a new connection.
+///
 /// C: `bench_machine_arrives(const uint8_t *, size_t, size_t, uint32_t, uint32_t, uint32_t)`.
 #[unsafe(no_mangle)]
 pub extern "C" fn bench_machine_arrives(
@@ -228,9 +236,11 @@ pub extern "C" fn bench_machine_arrives(
     tally_of(&made, &units, ends.server.state())
 }
 
-/// A client that has just opened its connection sends a unit `mwa` times and hears the next of a row of heartbeats of one
-/// size, and does both again and again.
-/// C: `bench_machine_sends(const uint8_t *, size_t, uint32_t, uint32_t, uint32_t, const uint8_t *, size_t, size_t)`.
+/// Repeats `times` times: a client with a new connection sends a unit `mwa` times, and receives the next heartbeat
+/// of one size from a buffer.
+///
+/// C: `bench_machine_sends(const uint8_t *, size_t, uint32_t, uint32_t, uint32_t, const uint8_t *, size_t,
+/// size_t)`.
 #[unsafe(no_mangle)]
 pub extern "C" fn bench_machine_sends(
     alloc: Global,
@@ -262,9 +272,10 @@ pub extern "C" fn bench_machine_sends(
     tally_of(&made, &units, ends.client.state())
 }
 
-/// Sends a unit `times` times, or as often as the window allows.
+/// Sends a unit `times` times, or until the window is full.
 fn send_times(client: &mut Machine, unit: &Unit, times: u32, made: &mut Counted)
     requires { IsUnitSized unit.now.items }
+    // `send_times` does not change the index of the peer's next PDU.
     ensures { client.new.expected ≡ client.old.expected }
 {
     for _ in 0..times {
@@ -274,7 +285,9 @@ fn send_times(client: &mut Machine, unit: &Unit, times: u32, made: &mut Counted)
     }
 }
 
-/// How many octets one machine holds. C: `bench_machine_octets(void)`.
+/// Returns the memory that one machine uses.
+///
+/// C: `bench_machine_octets(void)`.
 #[unsafe(no_mangle)]
 pub extern "C" fn bench_machine_octets(alloc: Global) -> Held {
     let own = size_of::<Machine>() as u64;
@@ -284,7 +297,7 @@ pub extern "C" fn bench_machine_octets(alloc: Global) -> Held {
     }
 }
 
-/// How many octets of a heap are in use once a machine is opened over it, and nothing else.
+/// Returns how many bytes of a heap are in use after a machine is opened over it.
 fn taken_from_heap(alloc: Global) -> Option<usize> {
     let heap = LocalHeap::new(alloc, 1 << 16).ok()?;
     let config = settings(2, 1, 16, 16);

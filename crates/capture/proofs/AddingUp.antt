@@ -1,4 +1,4 @@
--- The sums over all connections add up to the datagrams.
+-- The sums over all connections add up to the number of datagrams.
 use Rattle.std.proofs.Common.{◌≡◌, ℕ, ◌+◌, ◌-◌, ◌^◌, ◌<◌, ◌==◌, ◌&&◌, Bool, true, false, cond, List, [], ◌∷◌, length, slice_index_or, refl, arith, Option, Some, None, is_none, reverse}
 use Rattle.std.proofs.lemmas.List.{length-reverse}
 use Rattle.std.specs.List.{sum_by, remove}
@@ -8,6 +8,7 @@ use Rattle.capture.specs.declared.connections.Connection.{Connection}
 use Rattle.capture.specs.declared.connections.TheConstants.{CONNECTIONS}
 use Rattle.capture.specs.declared.direction.Direction.{Direction}
 use Rattle.capture.specs.declared.direction.SessionOpening.{SessionOpening}
+use Rattle.capture.specs.declared.direction.Peer.{Peer}
 use Rattle.capture.specs.declared.direction.Place.{Place}
 use Rattle.capture.specs.declared.following.Totals.{Totals}
 use Rattle.capture.specs.declared.heard.Header.{Header}
@@ -16,13 +17,13 @@ use Rattle.capture.specs.declared.heard.Heard.TheVariants.{Pdu, NoSafe, NoRed}
 use Rattle.capture.specs.declared.line.Record.{Record}
 use Rattle.capture.specs.declared.window.Window.{Window}
 use Rattle.capture.specs.Numbers.{judged}
-use Rattle.capture.specs.Following.{followed, is_opened, opened_as, opened_with, opening_of}
+use Rattle.capture.specs.Following.{followed, is_opened, opened_as, opened_with, opening_of, peer_of}
 use Rattle.capture.specs.Connecting.{behind_of, connection_after, connection_damaged, damage_at, damage_noted, damaged_by, damaged_on, ends_of, found, is_from_low, is_source_low, known_place_of, left, left_at, opened, place_in, place_of, step, taken, taken_at}
 use Rattle.capture.specs.Whole.{counted_in, gone_with, totals_of, window_counted}
 use Rattle.capture.specs.Laws.{Came, Kept, SumsAddUp, datagrams_in, datagrams_of, kept_after, kept_along, none_came}
 use Rattle.capture.proofs.Sums.{one_noted}
 
--- how many datagrams a connection has counted, and a list of them
+-- How many datagrams a connection has counted, and a list of connections.
 abbrev pub weight : Connection → ℕ
 weight c = datagrams_in c.from_low.together + datagrams_in c.from_high.together
 
@@ -34,7 +35,7 @@ opened_same : (b : Bool) (d : Direction) (o : Option SessionOpening) (time : ℕ
 opened_same true d o time = refl
 opened_same false d o time = refl
 
-one_followed : (d : Direction) (peer : Option ℕ) (place : Place) (seq : ℕ) (h : Header) → datagrams_in d.together < 2 ^ 64 - 1
+one_followed : (d : Direction) (peer : Peer) (place : Place) (seq : ℕ) (h : Header) → datagrams_in d.together < 2 ^ 64 - 1
     → datagrams_in (followed d peer place seq h).together ≡ datagrams_in d.together + 1
 one_followed d peer place seq h room =
     let same = opened_same (is_opened d (opening_of h) place.channel seq h.fingerprint) d (opening_of h) place.time in
@@ -52,8 +53,8 @@ either false x y n hx hy = hy
 one_more : (c : Connection) (line : ℕ) (r : Record) (seq : ℕ) (h : Header) → weight c < 2 ^ 64 - 1
     → weight (connection_after c line r seq h) ≡ weight c + 1
 one_more c line r seq h room =
-    let low = one_followed c.from_low c.from_high.stamp (place_in c line r) seq h (omega arith) in
-    let high = one_followed c.from_high c.from_low.stamp (place_in c line r) seq h (omega arith) in
+    let low = one_followed c.from_low (peer_of c.from_high h) (place_in c line r) seq h (omega arith) in
+    let high = one_followed c.from_high (peer_of c.from_low h) (place_in c line r) seq h (omega arith) in
     either (is_from_low c h) _ _ _ (omega (arith, low)) (omega (arith, high))
 
 window_sum : (t : Totals) (w : Window) → datagrams_of t + datagrams_in w < 2 ^ 64
@@ -66,7 +67,7 @@ counted_sum t c room =
     let high = window_sum (window_counted t c.from_low.together) c.from_high.together (omega (arith, low)) in
     omega (arith, low, high)
 
--- a connection that is forgotten counts among those that are gone
+-- A connection that is forgotten is counted among the forgotten ones.
 none_left : (b : Bool) (cs : List Connection) (gone : Totals) → (b ≡ true → 0 < length cs) → datagrams_of gone + weights cs < 2 ^ 64
     → datagrams_of (cond b (counted_in gone (slice_index_or cs 0 (opened 0 0))) gone) + weights (cond b (remove cs 0) cs)
     ≡ datagrams_of gone + weights cs
@@ -87,7 +88,7 @@ first_none : (b : Bool) (new : Connection) (cs : List Connection) (gone : Totals
 first_none true new cs gone empty kept = omega (arith, kept, empty)
 first_none false new cs gone empty kept = omega (arith, kept, empty)
 
--- what is taken out and what stays is what was there
+-- The connection that is taken out and the ones that stay have the weight of all before.
 taken_left : (o : Option ℕ) (new : Connection) (cs : List Connection) (gone : Totals) → ((p : ℕ) → o ≡ Some p → p < length cs)
     → weight new ≡ 0 → datagrams_of gone + weights cs < 2 ^ 64
     → datagrams_of (cond ((length cs == CONNECTIONS) && is_none o) (counted_in gone (slice_index_or cs 0 (opened 0 0))) gone)
@@ -121,7 +122,7 @@ one_stepped cs line r seq h gone room =
     let push = sum_by_push weight (left h.sender h.receiver cs) (connection_after c line r seq h) in
     omega (arith, same, one, push)
 
--- a datagram that is no PDU changes no connection's numbers
+-- A datagram that is not a PDU changes no connection's numbers.
 damaged_same : (b : Bool) (c : Connection) (place : ℕ) → weight (damaged_by b c place) ≡ weight c
 damaged_same true c place = refl
 damaged_same false c place = refl
@@ -150,7 +151,7 @@ behind_within cs r p h =
 noted_same : (cs : List Connection) (r : Record) → weights (damage_noted cs r) ≡ weights cs
 noted_same cs r = at_same (behind_of cs r) cs r (behind_within cs r)
 
--- the sums over all
+-- The sums over all connections.
 pub totals_sum : (cs : List Connection) (gone : Totals) → datagrams_of gone + weights cs < 2 ^ 64
     → datagrams_of (totals_of gone cs) ≡ datagrams_of gone + weights cs
 totals_sum [] gone room = omega arith
@@ -160,7 +161,7 @@ totals_sum (c ∷ cs) gone room =
     let rest = totals_sum cs (counted_in gone c) (omega (arith, more, one)) in
     omega (arith, more, one, rest)
 
--- all datagrams that were counted
+-- All datagrams that are counted.
 abbrev all_of : Kept → ℕ
 all_of k = datagrams_of k.gone + weights k.connections + k.damaged
 

@@ -7,7 +7,7 @@ use Rattle.capture.specs.declared.window.Judged.TheVariants.{First, Next, Ahead,
 use Rattle.capture.specs.Numbers.{ahead, judged, judged_ahead, judged_by, judged_from, noted, noted_as, open_window, seen_of}
 use Rattle.capture.specs.Laws.{EachCounted, EachOnce, all_noted, datagrams_in, reached, reached_by}
 
--- a number that followed so counts once
+-- A number is counted once, however it followed.
 pub one_noted : (j : Judged) (w : Window) (s : Seen) → datagrams_in w < 2 ^ 64 - 1 → datagrams_in (noted_as j w s) ≡ datagrams_in w + 1
 one_noted First w s h = omega arith
 one_noted Next w s h = omega arith
@@ -18,7 +18,7 @@ one_noted (Differs line) w s h = omega arith
 one_noted Stale w s h = omega arith
 one_noted Anew w s h = omega arith
 
--- and so do all of a list, from any window on
+-- So are all numbers of a list, from any window on.
 pub all_counted : (ss : List Seen) (w : Window) → datagrams_in w + length ss < 2 ^ 64 → datagrams_in (all_noted w ss) ≡ datagrams_in w + length ss
 all_counted [] w h = omega arith
 all_counted (s ∷ ss) w h =
@@ -29,7 +29,7 @@ all_counted (s ∷ ss) w h =
 pub counted_law : EachCounted
 counted_law ss h = let all = all_counted ss open_window (omega arith) in omega (arith, all)
 
--- what is late was missing
+-- A late number was missing.
 late_ahead : (w : Window) (steps : ℕ) → judged_ahead w steps ≡ Late → 0 < w.missing
 late_ahead w steps h = grind arith
 
@@ -44,7 +44,7 @@ late_by (Some seen) w n f h = grind arith
 pub late_was_missing : (w : Window) (n f : ℕ) → judged w n f ≡ Late → 0 < w.missing
 late_was_missing w n f h = late_by (seen_of w n) w n f h
 
--- how many numbers a window has reached
+-- How many numbers a window has reached.
 abbrev reached_in : Window → ℕ
 reached_in w = w.heard + w.late + w.missing
 

@@ -1,4 +1,4 @@
--- The connections of a capture as a list, the one that was heard last at its end.
+-- The connections of a capture as a list; the last one has the latest PDU.
 use Rattle.std.specs.Prelude.{ℕ, ◌-◌, ◌==◌, ◌&&◌, ◌||◌, Bool, true, false, nat_le, List, [], ◌∷◌, ◌++◌, length, slice_index, slice_index_or, slice_set, replicate, reverse, if◌then◌else◌, Option, Some, None, is_some}
 use Rattle.std.specs.List.{position, remove}
 use Rattle.std.specs.Str.{bytes_eq}
@@ -15,9 +15,9 @@ use Rattle.capture.specs.declared.connections.TheConstants.{CONNECTIONS}
 use Rattle.capture.specs.declared.connections.Route.{Route}
 use Rattle.capture.specs.declared.connections.Connection.{Connection}
 use Rattle.capture.specs.Numbers.{counted}
-use Rattle.capture.specs.Following.{followed, open_direction, remarks_of}
+use Rattle.capture.specs.Following.{followed, open_direction, peer_of, remarks_of}
 
--- nothing of the connection was heard yet
+-- A connection between two ends without PDUs.
 abbrev pub opened : ℕ → ℕ → Connection
 opened low high =
     record {
@@ -29,155 +29,173 @@ opened low high =
       from_high = open_direction;
     }
 
--- the identifiers of two ends, the lower one in front
+-- The identifiers of two ends, the lower one first.
 abbrev pub ends_of : ℕ → ℕ → ℕ × ℕ
 ends_of sender receiver = if nat_le sender receiver then (sender, receiver) else (receiver, sender)
 
--- where the connection with these identifiers stands
+-- The place of the connection with these identifiers.
 abbrev pub place_of : ℕ → ℕ → List Connection → Option ℕ
 place_of low high cs = position (λ (c : Connection). (c.low == low) && (c.high == high)) cs
 
--- without the one that was silent longest, where the list is full
+-- The list without the connection silent longest, if it is full.
 abbrev pub room_made : List Connection → List Connection
 room_made cs = if length cs == CONNECTIONS then remove cs 0 else cs
 
+-- The connection at a place, or a new one.
 abbrev pub taken_at : Option ℕ → Connection → List Connection → Connection
 taken_at (Some place) new cs = slice_index_or cs place new
 taken_at None new cs = new
 
+-- The other connections that stay: without the one at a place, or with room made for a new one.
 abbrev pub left_at : Option ℕ → List Connection → List Connection
 left_at (Some place) cs = remove cs place
 left_at None cs = room_made cs
 
+-- The place of the connection between two ends.
 abbrev pub found : ℕ → ℕ → List Connection → Option ℕ
 found sender receiver cs = place_of (ends_of sender receiver).0 (ends_of sender receiver).1 cs
 
--- the connection between two ends: a new one, where none is followed
+-- The connection between two ends; a new one if none is kept.
 abbrev pub taken : ℕ → ℕ → List Connection → Connection
 taken sender receiver cs =
     taken_at (found sender receiver cs) (opened (ends_of sender receiver).0 (ends_of sender receiver).1) cs
 
--- the others that stay
+-- The other connections that stay.
 abbrev pub left : ℕ → ℕ → List Connection → List Connection
 left sender receiver cs = left_at (found sender receiver cs) cs
 
+-- Both hosts are IPv4 or both IPv6, with the same bytes.
 abbrev pub is_same_host : Host → Host → Bool
 is_same_host (V4 a) (V4 b) = bytes_eq a b
 is_same_host (V6 a) (V6 b) = bytes_eq a b
 is_same_host _ _ = false
 
+-- Both addresses have the same host and port.
 abbrev pub is_same_address : Address → Address → Bool
 is_same_address a b = (a.port == b.port) && is_same_host a.host b.host
 
--- the channel between these addresses, whichever is the source
+-- The channel is between these addresses, in either direction.
 abbrev pub is_between : Route → Record → Bool
 is_between route r =
     (is_same_address route.low r.source && is_same_address route.high r.destination)
     || (is_same_address route.low r.destination && is_same_address route.high r.source)
 
--- the place is free, or holds the channel
+-- The place is free, or has the channel between these addresses.
 abbrev pub is_held : Option Route → Record → Bool
 is_held None r = true
 is_held (Some route) r = is_between route r
 
+-- The first place that is free or has the channel.
 abbrev pub route_place_of : List (Option Route) → Record → Option ℕ
 route_place_of routes r = position (λ route. is_held route r) routes
 
--- the number of a datagram's channel: the first place that holds it
+-- The number of a place; `CHANNELS` if there is none.
 abbrev pub channel_at : Option ℕ → ℕ
 channel_at (Some place) = place
 channel_at None = CHANNELS
 
+-- The number of a datagram's channel.
 abbrev pub channel_of : List (Option Route) → Record → ℕ
 channel_of routes r = channel_at (route_place_of routes r)
 
--- the addresses of both ends, by which of them made the datagram
+-- The addresses of both ends; the end with the lower identifier sent the datagram if `true`.
 abbrev pub route_from : Bool → Record → Route
 route_from true r = record { low = r.source; high = r.destination }
 route_from false r = record { low = r.destination; high = r.source }
 
+-- A place with its channel; a free one takes the datagram's addresses.
 abbrev pub route_of : Option Route → Bool → Record → Option Route
 route_of (Some route) from_low r = Some route
 route_of None from_low r = Some (route_from from_low r)
 
+-- The channels with this place in use.
 abbrev pub routes_at : Option ℕ → List (Option Route) → Bool → Record → List (Option Route)
 routes_at (Some place) routes from_low r = slice_set routes place (route_of (slice_index_or routes place None) from_low r)
 routes_at None routes from_low r = routes
 
--- the channels after a datagram: a new one is noted at the first free place
+-- The channels after a datagram; a new one is added at the first free place.
 abbrev pub routes_after : List (Option Route) → Bool → Record → List (Option Route)
 routes_after routes from_low r = routes_at (route_place_of routes r) routes from_low r
 
+-- The time, line and channel of a PDU.
 abbrev pub place_in : Connection → ℕ → Record → Place
 place_in c line r = record { time = r.time; line = line; channel = channel_of c.routes r }
 
--- the end with the lower identifier made it
+-- The end with the lower identifier made the PDU.
 abbrev pub is_from_low : Connection → Header → Bool
 is_from_low c h = h.sender == c.low
 
--- what is remarkable in a PDU, by what its own end and the other end sent before
+-- The remarks on a PDU, by what its own end and the other end sent before.
 abbrev pub connection_remarks : Connection → ℕ → Record → ℕ → Header → Remarks
 connection_remarks c line r seq h =
-    if is_from_low c h then remarks_of c.from_low c.from_high.stamp (place_in c line r) seq h
-    else remarks_of c.from_high c.from_low.stamp (place_in c line r) seq h
+    if is_from_low c h then remarks_of c.from_low (peer_of c.from_high h) (place_in c line r) seq h
+    else remarks_of c.from_high (peer_of c.from_low h) (place_in c line r) seq h
 
--- the connection after it
+-- The connection with the time and channel of a PDU.
 abbrev pub heard_in : Connection → Record → Header → Connection
 heard_in c r h = record c { last = r.time; routes = routes_after c.routes (is_from_low c h) r }
 
+-- The connection after a PDU.
 abbrev pub connection_after : Connection → ℕ → Record → ℕ → Header → Connection
 connection_after c line r seq h =
-    if is_from_low c h then record (heard_in c r h) { from_low = followed c.from_low c.from_high.stamp (place_in c line r) seq h }
-    else record (heard_in c r h) { from_high = followed c.from_high c.from_low.stamp (place_in c line r) seq h }
+    if is_from_low c h then record (heard_in c r h) { from_low = followed c.from_low (peer_of c.from_high h) (place_in c line r) seq h }
+    else record (heard_in c r h) { from_high = followed c.from_high (peer_of c.from_low h) (place_in c line r) seq h }
 
--- the step: what is remarkable in a PDU of a line, and the connections after it
+-- The remarks on a PDU of a line.
 abbrev pub step_remarks : List Connection → ℕ → Record → ℕ → Header → Remarks
 step_remarks cs line r seq h = connection_remarks (taken h.sender h.receiver cs) line r seq h
 
+-- The connections after a PDU of a line.
 abbrev pub step : List Connection → ℕ → Record → ℕ → Header → List Connection
 step cs line r seq h =
     left h.sender h.receiver cs ++ connection_after (taken h.sender h.receiver cs) line r seq h ∷ []
 
--- where a connection has the channel between these addresses
+-- The place has the channel between these addresses.
 abbrev pub is_known : Option Route → Record → Bool
 is_known None r = false
 is_known (Some route) r = is_between route r
 
+-- The first place that has the channel.
 abbrev pub known_place_of : List (Option Route) → Record → Option ℕ
 known_place_of routes r = position (λ route. is_known route r) routes
 
+-- The connection has the channel between these addresses.
 abbrev pub has_channel : Connection → Record → Bool
 has_channel c r = is_some (known_place_of c.routes r)
 
--- how many stand behind the last connection that has it
+-- How many connections come after the last one that has the channel.
 abbrev pub behind_of : List Connection → Record → Option ℕ
 behind_of cs r = position (λ (c : Connection). has_channel c r) (reverse cs)
 
--- the address of the end with the lower identifier sent it
+-- The address of the end with the lower identifier sent the datagram.
 abbrev pub is_source_low : Option Route → Record → Bool
 is_source_low None r = false
 is_source_low (Some route) r = is_same_address route.low r.source
 
--- one more datagram that is no PDU on a channel
+-- The direction with one more damaged datagram on a channel.
 abbrev pub damaged_at : Direction → ℕ → Direction
 damaged_at d place = record d { damaged = slice_set d.damaged place (counted (slice_index d.damaged place) 1) }
 
+-- The connection with one more damaged datagram in the direction of its sender.
 abbrev pub damaged_by : Bool → Connection → ℕ → Connection
 damaged_by true c place = record c { from_low = damaged_at c.from_low place }
 damaged_by false c place = record c { from_high = damaged_at c.from_high place }
 
+-- The connection with one more damaged datagram on this channel, if it has the channel.
 abbrev pub damaged_on : Option ℕ → Connection → Record → Connection
 damaged_on None c r = c
 damaged_on (Some place) c r = damaged_by (is_source_low (slice_index_or c.routes place None) r) c place
 
+-- The connection after a damaged datagram.
 abbrev pub connection_damaged : Connection → Record → Connection
 connection_damaged c r = damaged_on (known_place_of c.routes r) c r
 
+-- The connections after a damaged datagram, at a place counted from the end.
 abbrev pub damage_at : Option ℕ → List Connection → Record → List Connection
 damage_at None cs r = cs
 damage_at (Some behind) cs r =
     slice_set cs (length cs - 1 - behind) (connection_damaged (slice_index_or cs (length cs - 1 - behind) (opened 0 0)) r)
 
--- a datagram that is no PDU is counted on its channel, of the connection that was heard last where several have that
+-- The connections after a damaged datagram: it is counted on its channel; if several connections have that, in the last one.
 abbrev pub damage_noted : List Connection → Record → List Connection
 damage_noted cs r = damage_at (behind_of cs r) cs r

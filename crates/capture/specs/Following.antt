@@ -1,5 +1,5 @@
 -- What is remarkable in a PDU, and what is kept of it.
-use Rattle.std.specs.Prelude.{ℕ, ◌-◌, max, ◌^◌, ◌==◌, ◌&&◌, Bool, true, false, not, nat_lt, List, map, slice_index_or, slice_set, replicate, if◌then◌else◌, Option, Some, None}
+use Rattle.std.specs.Prelude.{ℕ, ◌-◌, max, ◌^◌, ◌==◌, ◌&&◌, Bool, true, false, not, nat_le, nat_lt, List, map, slice_index_or, slice_set, replicate, if◌then◌else◌, Option, Some, None}
 use Rattle.safe_pdu.specs.declared.Kind.{Kind}
 use Rattle.safe_pdu.specs.declared.Kind.TheVariants.{ConnReq, ConnResp, DiscReq, Heartbeat, RetrData, RetrReq}
 use Rattle.safe_pdu.specs.declared.Leaving.{Leaving}
@@ -8,14 +8,17 @@ use Rattle.capture.specs.declared.window.Window.{Window}
 use Rattle.capture.specs.declared.window.Judged.{Judged}
 use Rattle.capture.specs.declared.window.Judged.TheVariants.{Differs, Late, Repeat, Stale}
 use Rattle.capture.specs.declared.direction.TheConstants.{CHANNELS}
+use Rattle.capture.specs.declared.direction.Confirmation.{Confirmation}
 use Rattle.capture.specs.declared.direction.Direction.{Direction}
 use Rattle.capture.specs.declared.direction.SessionOpening.{SessionOpening}
+use Rattle.capture.specs.declared.direction.Peer.{Peer}
 use Rattle.capture.specs.declared.direction.Place.{Place}
 use Rattle.capture.specs.declared.direction.Remarks.{Remarks}
 use Rattle.capture.specs.declared.direction.Tally.{Tally}
-use Rattle.capture.specs.Numbers.{ahead, counted, judged, noted, open_window, reopened}
+use Rattle.capture.specs.declared.window.TheConstants.{KEPT}
+use Rattle.capture.specs.Numbers.{ahead, counted, judged, noted, open_window, reopened, slot}
 
--- nothing was counted yet
+-- All counts before the first PDU.
 abbrev pub open_tally : Tally
 open_tally =
     record {
@@ -23,7 +26,9 @@ open_tally =
       heartbeats = 0;
       requests = 0;
       resent = 0;
+      disconnects = 0;
       oldest = 0;
+      longest = 0;
       last = 0;
       silence = 0;
       leaving = None;
@@ -31,7 +36,11 @@ open_tally =
       left = 0;
     }
 
--- nothing was heard yet
+-- No PDU of this session is kept.
+abbrev pub none_confirming : List (Option Confirmation)
+none_confirming = replicate KEPT None
+
+-- A direction before the first PDU.
 abbrev pub open_direction : Direction
 open_direction =
     record {
@@ -40,29 +49,32 @@ open_direction =
       sequence = open_window;
       stamp = None;
       opening = None;
+      confirmations = none_confirming;
+      since = None;
       damaged = replicate CHANNELS 0;
       tally = open_tally;
     }
 
--- the numbers of a channel that is told apart
+-- How a number follows on its channel; nothing on a further channel.
 abbrev pub channel_judged : List Window → ℕ → ℕ → ℕ → Option Judged
 channel_judged ws channel seq octets =
     if nat_lt channel CHANNELS then Some (judged (slice_index_or ws channel open_window) seq octets) else None
 
+-- The windows of the channels after a number.
 abbrev pub channel_noted : List Window → Place → ℕ → ℕ → List Window
 channel_noted ws place seq octets =
     if nat_lt place.channel CHANNELS
     then slice_set ws place.channel (noted (slice_index_or ws place.channel open_window) seq place.line octets)
     else ws
 
--- a PDU is new where its redundancy number was heard on no channel, and could be told if it had been
+-- A PDU is new: its redundancy number came before on no channel, as far as that is known.
 abbrev pub is_new : Judged → Bool
 is_new (Repeat _) = false
 is_new (Differs _) = false
 is_new Stale = false
 is_new _ = true
 
--- and the newest, where it is no late one
+-- A PDU is the newest: it is new and not late.
 abbrev pub is_furthest : Judged → Bool
 is_furthest (Repeat _) = false
 is_furthest (Differs _) = false
@@ -70,81 +82,146 @@ is_furthest Stale = false
 is_furthest Late = false
 is_furthest _ = true
 
--- only a new PDU counts among the sequence numbers
+-- How the sequence number of a new PDU follows.
 abbrev pub sequence_judged : Bool → Window → Header → Option Judged
 sequence_judged true w h = Some (judged w h.sn h.fingerprint)
 sequence_judged false w h = None
 
+-- The window of sequence numbers after a PDU; only a new one changes it.
 abbrev pub sequence_noted : Bool → Window → ℕ → Header → Window
 sequence_noted true w line h = noted w h.sn line h.fingerprint
 sequence_noted false w line h = w
 
+-- The PDU carries a unit that was sent before.
 abbrev pub is_resent : Kind → Bool
 is_resent RetrData = true
 is_resent _ = false
 
--- a confirmed timestamp that is later than all that were heard has no age
+-- An age; a confirmed timestamp later than all that came has none.
 abbrev pub age_within : ℕ → Option ℕ
 age_within age = if nat_lt age (2 ^ 31) then Some age else None
 
--- how old a confirmed timestamp is at the end that made it: that end's last timestamp minus the confirmed one
+-- The age of a confirmed timestamp: the newest timestamp of the end that made it, minus the confirmed one.
 abbrev pub age_at : Option ℕ → ℕ → Option ℕ
 age_at None confirmed = None
 age_at (Some stamp) confirmed = age_within (ahead confirmed stamp)
 
+-- The PDU type is ConnReq.
 abbrev pub is_request : Kind → Bool
 is_request ConnReq = true
 is_request _ = false
 
--- the sequence number follows directly on that of the last opening, and that was a ConnReq
+-- The sequence number is the next one after the last opening, and that was a ConnReq.
 abbrev pub is_behind_request : Option SessionOpening → ℕ → Bool
 is_behind_request None sn = false
 is_behind_request (Some opening) sn = is_request opening.kind && (ahead opening.sn sn == 1)
 
--- a ConnReq confirms nothing, nor does the DiscReq of an end that sent nothing but its ConnReq before
+-- The PDU confirms nothing: it is a ConnReq, or a DiscReq directly after one.
 abbrev pub confirms_nothing : Option SessionOpening → Kind → ℕ → Bool
 confirms_nothing opening ConnReq sn = true
 confirms_nothing opening DiscReq sn = is_behind_request opening sn
 confirms_nothing opening _ sn = false
 
-abbrev pub age_of : Option SessionOpening → Option ℕ → Header → Option ℕ
-age_of opening stamp h = if confirms_nothing opening h.kind h.sn then None else age_at stamp h.cts
+-- The timestamp of the last opening, if it was recorded.
+abbrev pub opened_at : Option SessionOpening → Option ℕ
+opened_at None = None
+opened_at (Some opening) = Some opening.ts
 
--- a ConnReq or ConnResp opens
+-- A timestamp is from before the opening of its end, so from another session.
+abbrev pub is_before : Option ℕ → ℕ → Bool
+is_before None stamp = false
+is_before (Some opened) stamp = nat_le (2 ^ 31) (ahead opened stamp)
+
+-- The age of a timestamp of the other end; one from before that end's last opening has none.
+abbrev pub age_in : Peer → ℕ → Option ℕ
+age_in peer confirmed = if is_before peer.opened confirmed then None else age_at peer.stamp confirmed
+
+-- The age of the timestamp that a PDU confirms.
+abbrev pub age_of : Option SessionOpening → Peer → Header → Option ℕ
+age_of opening peer h = if confirms_nothing opening h.kind h.sn then None else age_in peer h.cts
+
+-- What a PDU confirms; a ConnReq confirms nothing.
+abbrev pub confirmation_of : Header → Option Confirmation
+confirmation_of h = if is_request h.kind then None else Some (record { sn = h.sn; ts = h.ts; cts = h.cts })
+
+-- The timestamp that the PDU with this SN and TS confirms, if it is kept.
+abbrev pub confirmed_as : ℕ → ℕ → Option Confirmation → Option ℕ
+confirmed_as sn ts None = None
+confirmed_as sn ts (Some c) = if (c.sn == sn) && (c.ts == ts) then Some c.cts else None
+
+-- The timestamp of its own end that a PDU shows to be confirmed. It confirms the other end's PDU with its CS as SN and its CTS as TS; this is what that one
+-- confirms.
+abbrev pub confirmed_by : List (Option Confirmation) → Header → Option ℕ
+confirmed_by cs h = confirmed_as h.cs h.cts (slice_index_or cs (slot h.cs) None)
+
+-- What the other end said, as far as it concerns a PDU.
+abbrev pub peer_of : Direction → Header → Peer
+peer_of d h = record { opened = opened_at d.opening; stamp = d.stamp; confirmed = confirmed_by d.confirmations h }
+
+-- The PDUs that are kept, after one more; only a new one changes them.
+abbrev pub confirming : Bool → List (Option Confirmation) → Header → List (Option Confirmation)
+confirming true cs h = slice_set cs (slot h.sn) (confirmation_of h)
+confirming false cs h = cs
+
+-- The confirmed timestamp, or that of before if none is known.
+abbrev pub newer : Option ℕ → Option ℕ → Option ℕ
+newer (Some confirmed) since = Some confirmed
+newer None since = since
+
+-- The own timestamp that an end last knew to be confirmed, after a PDU; only a new one changes it, and one that confirms nothing does not.
+abbrev pub since_after : Bool → Option SessionOpening → Option ℕ → Option ℕ → Header → Option ℕ
+since_after true opening since confirmed h = if confirms_nothing opening h.kind h.sn then since else newer confirmed since
+since_after false opening since confirmed h = since
+
+-- How long an end has waited at this timestamp; a copy has no wait.
+abbrev pub waits_at : Bool → Option ℕ → ℕ → Option ℕ
+waits_at true (Some since) ts = age_within (ahead since ts)
+waits_at true None ts = None
+waits_at false since ts = None
+
+-- How long the end of a PDU has waited when it made it.
+abbrev pub waits_of : Bool → Direction → Peer → Header → Option ℕ
+waits_of is_new d peer h = waits_at is_new (since_after is_new d.opening d.since peer.confirmed h) h.ts
+
+-- Only a ConnReq and a ConnResp are openings.
 abbrev pub opening_as : Kind → SessionOpening → Option SessionOpening
 opening_as ConnReq opening = Some opening
 opening_as ConnResp opening = Some opening
 opening_as _ opening = None
 
+-- The opening that a PDU is, if any.
 abbrev pub opening_of : Header → Option SessionOpening
-opening_of h = opening_as h.kind (record { kind = h.kind; sn = h.sn })
+opening_of h = opening_as h.kind (record { kind = h.kind; sn = h.sn; ts = h.ts })
 
+-- The number came before, with the same bytes.
 abbrev pub is_repeat : Judged → Bool
 is_repeat (Repeat _) = true
 is_repeat _ = false
 
+-- There is a newest number, and it is another one.
 abbrev pub is_other : Option ℕ → ℕ → Bool
 is_other None seq = false
 is_other (Some newest) seq = not (newest == seq)
 
--- another number than this is the newest of a channel that is told apart
+-- The newest number of this channel is another one than this.
 abbrev pub has_gone_on : List Window → ℕ → ℕ → Bool
 has_gone_on ws channel seq =
     if nat_lt channel CHANNELS then is_other (slice_index_or ws channel open_window).newest seq else false
 
--- an opening is a copy of one that is kept, with the same octets, while nothing else of its end came on its channel
+-- An opening is a copy: it is kept with the same bytes, and nothing else of its end has come on its channel since.
 abbrev pub is_copy : Direction → ℕ → ℕ → ℕ → Bool
 is_copy d channel seq octets = is_repeat (judged d.together seq octets) && not (has_gone_on d.channels channel seq)
 
--- it begins the numbers anew, unless it is such a copy: so behind other PDUs of its end it opens, whatever its numbers
+-- The PDU opens a session: it is an opening and not a copy, whatever its numbers.
 abbrev pub is_opened : Direction → Option SessionOpening → ℕ → ℕ → ℕ → Bool
 is_opened d None channel seq octets = false
 is_opened d (Some opening) channel seq octets = not (is_copy d channel seq octets)
 
+-- The counts after an opening.
 abbrev pub tally_opened : Tally → ℕ → Tally
-tally_opened t time = record t { openings = counted t.openings 1; last = 0; leaving = None; opened = time }
+tally_opened t time = record t { openings = counted t.openings 1; leaving = None; opened = time }
 
--- what is kept once an opening came: what was counted, but for the reason of a leaving before
+-- The direction after an opening: all numbers start again, and counts stay except for the reason of a disconnect.
 abbrev pub opened_as : Bool → Direction → Option SessionOpening → ℕ → Direction
 opened_as true d opening time =
     record d {
@@ -152,54 +229,63 @@ opened_as true d opening time =
       together = reopened d.together;
       sequence = reopened d.sequence;
       opening = opening;
+      confirmations = none_confirming;
+      since = opened_at opening;
       tally = tally_opened d.tally time;
     }
 opened_as false d opening time = d
 
+-- The direction after a PDU's opening, if it opens.
 abbrev pub opened_with : Direction → Place → ℕ → Header → Direction
 opened_with d place seq h =
     opened_as (is_opened d (opening_of h) place.channel seq h.fingerprint) d (opening_of h) place.time
 
+-- The counts with one more PDU of this type.
 abbrev pub kind_counted : Kind → Tally → Tally
 kind_counted Heartbeat t = record t { heartbeats = counted t.heartbeats 1 }
 kind_counted RetrReq t = record t { requests = counted t.requests 1 }
 kind_counted RetrData t = record t { resent = counted t.resent 1 }
+kind_counted DiscReq t = record t { disconnects = counted t.disconnects 1 }
 kind_counted _ t = t
 
--- the greatest age, the longest silence and the last reason so far
-abbrev pub oldest_of : Option ℕ → ℕ → ℕ
-oldest_of None oldest = oldest
-oldest_of (Some age) oldest = max oldest age
+-- The greatest so far.
+abbrev pub greatest_of : Option ℕ → ℕ → ℕ
+greatest_of None greatest = greatest
+greatest_of (Some more) greatest = max greatest more
 
+-- The longest time without a PDU, up to this time; before the first PDU nothing counts.
 abbrev pub silence_of : Tally → ℕ → ℕ
 silence_of t time = if nat_lt 0 t.last then max t.silence (time - t.last) else t.silence
 
+-- The last reason so far.
 abbrev pub leaving_after : Option Leaving → Option Leaving → Option Leaving
 leaving_after (Some leaving) before = Some leaving
 leaving_after None before = before
 
--- when the last DiscReq was heard
+-- The time of the last DiscReq.
 abbrev pub left_after : Option Leaving → ℕ → ℕ → ℕ
 left_after (Some leaving) time before = time
 left_after None time before = before
 
--- what is counted after a new PDU
-abbrev pub tallied : Tally → ℕ → Option ℕ → Header → Tally
-tallied t time age h =
+-- The counts after a new PDU.
+abbrev pub tallied : Tally → ℕ → Option ℕ → Option ℕ → Header → Tally
+tallied t time age waits h =
     record (kind_counted h.kind t) {
-      oldest = oldest_of age t.oldest;
+      oldest = greatest_of age t.oldest;
+      longest = greatest_of waits t.longest;
       silence = silence_of t time;
       last = time;
       leaving = leaving_after h.leaving t.leaving;
       left = left_after h.leaving time t.left;
     }
 
-abbrev pub tally_after : Bool → Tally → ℕ → Option ℕ → Header → Tally
-tally_after true t time age h = tallied t time age h
-tally_after false t time age h = t
+-- The counts after a PDU; only a new one changes them.
+abbrev pub tally_after : Bool → Tally → ℕ → Option ℕ → Option ℕ → Header → Tally
+tally_after true t time age waits h = tallied t time age waits h
+tally_after false t time age waits h = t
 
--- what is remarkable in a PDU with this redundancy number, once its opening is taken into account
-abbrev pub remarks_in : Direction → Bool → Option ℕ → Place → ℕ → Header → Remarks
+-- The remarks on a PDU with this redundancy number, after its opening was handled.
+abbrev pub remarks_in : Direction → Bool → Peer → Place → ℕ → Header → Remarks
 remarks_in d opens peer place seq h =
     record {
       opens = opens;
@@ -209,23 +295,30 @@ remarks_in d opens peer place seq h =
       sequence = sequence_judged (is_new (judged d.together seq h.fingerprint)) d.sequence h;
       resent = is_resent h.kind;
       age = age_of d.opening peer h;
+      waits = waits_of (is_new (judged d.together seq h.fingerprint)) d peer h;
       leaving = h.leaving;
     }
 
-abbrev pub remarks_of : Direction → Option ℕ → Place → ℕ → Header → Remarks
+-- The remarks on a PDU with this redundancy number.
+abbrev pub remarks_of : Direction → Peer → Place → ℕ → Header → Remarks
 remarks_of d peer place seq h =
     remarks_in (opened_with d place seq h) (is_opened d (opening_of h) place.channel seq h.fingerprint) peer place seq h
 
--- what is kept after it
-abbrev pub followed_in : Direction → Option ℕ → Place → ℕ → Header → Direction
+-- The direction after a PDU, after its opening was handled.
+abbrev pub followed_in : Direction → Peer → Place → ℕ → Header → Direction
 followed_in d peer place seq h =
     record d {
       channels = channel_noted d.channels place seq h.fingerprint;
       together = noted d.together seq place.line h.fingerprint;
       sequence = sequence_noted (is_new (judged d.together seq h.fingerprint)) d.sequence place.line h;
       stamp = if is_furthest (judged d.together seq h.fingerprint) then Some h.ts else d.stamp;
-      tally = tally_after (is_new (judged d.together seq h.fingerprint)) d.tally place.time (age_of d.opening peer h) h;
+      confirmations = confirming (is_new (judged d.together seq h.fingerprint)) d.confirmations h;
+      since = since_after (is_new (judged d.together seq h.fingerprint)) d.opening d.since peer.confirmed h;
+      tally =
+          tally_after (is_new (judged d.together seq h.fingerprint)) d.tally place.time (age_of d.opening peer h)
+          (waits_of (is_new (judged d.together seq h.fingerprint)) d peer h) h;
     }
 
-abbrev pub followed : Direction → Option ℕ → Place → ℕ → Header → Direction
+-- The direction after a PDU.
+abbrev pub followed : Direction → Peer → Place → ℕ → Header → Direction
 followed d peer place seq h = followed_in (opened_with d place seq h) peer place seq h

@@ -1,4 +1,4 @@
--- The UDP datagram of a frame: its link, its packet.
+-- The UDP datagram of a frame: its link header, its packet.
 use Rattle.std.specs.Prelude.{ℕ, ◌+◌, ◌*◌, ◌/◌, ◌==◌, ◌&&◌, ◌||◌, Bool, nat_eq, List, if◌then◌else◌, Option, Some, None, Result, Err}
 use Rattle.capture.specs.Places.{big_at, octet_at}
 use Rattle.capture.specs.Packets.{in_ipv4, in_ipv6}
@@ -10,7 +10,7 @@ use Rattle.capture.specs.declared.frame.Packet.{Packet}
 use Rattle.capture.specs.declared.frame.Passed.{Passed}
 use Rattle.capture.specs.declared.frame.Passed.TheVariants.{Truncated, Other}
 
--- the LINKTYPE numbers that are known
+-- The link header of a LINKTYPE number, if it is known.
 abbrev pub link_of : ℕ → Option Link
 link_of number =
     if nat_eq number 0 || nat_eq number 108 then Some Loopback
@@ -20,64 +20,71 @@ link_of number =
     else if nat_eq number 276 then Some Cooked2
     else None
 
+-- A packet at a place, if its EtherType was read.
 abbrev pub packet_with : ℕ → Option ℕ → Option Packet
 packet_with place (Some kind) = Some (record { kind = kind; place = place })
 packet_with place None = None
 
--- the packet at a place, behind a header with the EtherType at another
+-- The packet at a place, with the EtherType at another place.
 abbrev pub kind_at : ℕ → ℕ → List ℕ → Option Packet
 kind_at at place octets = packet_with place (big_at at octets)
 
--- 802.1Q, 802.1ad and its forerunner
+-- The EtherTypes of VLAN tags: 802.1Q, 802.1ad, and the older 0x9100.
 abbrev pub is_tag : ℕ → Bool
 is_tag kind = (kind == 0x8100) || ((kind == 0x88a8) || (kind == 0x9100))
 
--- behind a VLAN tag, where there is one
+-- The packet after a VLAN tag, if there is one.
 abbrev pub behind_tag : List ℕ → Packet → Option Packet
 behind_tag octets p = if is_tag p.kind then kind_at (p.place + 2) (p.place + 4) octets else Some p
 
+-- The packet after a further VLAN tag, if there was a packet.
 abbrev pub behind_next : List ℕ → Option Packet → Option Packet
 behind_next octets (Some p) = behind_tag octets p
 behind_next octets None = None
 
--- behind up to two of them
+-- The packet after up to two VLAN tags.
 abbrev pub tagged : List ℕ → Packet → Option Packet
 tagged octets p = behind_next octets (behind_tag octets p)
 
+-- The packet after its VLAN tags, if there was a packet.
 abbrev pub tagged_next : List ℕ → Option Packet → Option Packet
 tagged_next octets (Some p) = tagged octets p
 tagged_next octets None = None
 
--- the EtherType of an IP version
+-- The EtherType of an IP version; 0 for others.
 abbrev pub version_kind : ℕ → ℕ
 version_kind version = if nat_eq version 4 then IPV4 else if nat_eq version 6 then IPV6 else 0
 
+-- The packet at the start of a raw frame, by the version in its first byte.
 abbrev pub raw_with : Option ℕ → Option Packet
 raw_with (Some first) = Some (record { kind = version_kind (first / 16); place = 0 })
 raw_with None = None
 
+-- The packet of a frame without a link header.
 abbrev pub raw_at : List ℕ → Option Packet
 raw_at octets = raw_with (octet_at 0 octets)
 
--- a family in either order of octets
+-- A protocol family in either byte order.
 abbrev pub is_family : ℕ → ℕ → ℕ → Bool
 is_family high low family = ((high == 0) && (low == family)) || ((high == family * 256) && (low == 0))
 
--- 2 is IPv4; 24, 28 and 30 are IPv6, by system
+-- The EtherType of a family: 2 is IPv4; 24, 28 and 30 are IPv6, depending on the system.
 abbrev pub family_kind : ℕ → ℕ → ℕ
 family_kind high low =
     if is_family high low 2 then IPV4
     else if is_family high low 24 || (is_family high low 28 || is_family high low 30) then IPV6
     else 0
 
+-- The packet after the family of four bytes.
 abbrev pub loopback_with : Option ℕ → Option ℕ → Option Packet
 loopback_with (Some high) (Some low) = Some (record { kind = family_kind high low; place = 4 })
 loopback_with _ _ = None
 
+-- The packet of a loopback frame.
 abbrev pub loopback_at : List ℕ → Option Packet
 loopback_at octets = loopback_with (big_at 0 octets) (big_at 2 octets)
 
--- the packet of a frame
+-- The packet of a frame, by its link header.
 abbrev pub packet_of : Link → List ℕ → Option Packet
 packet_of Ethernet octets = tagged_next octets (kind_at 12 14 octets)
 packet_of Cooked octets = tagged_next octets (kind_at 14 16 octets)
@@ -85,15 +92,16 @@ packet_of Cooked2 octets = tagged_next octets (kind_at 0 20 octets)
 packet_of Raw octets = raw_at octets
 packet_of Loopback octets = loopback_at octets
 
--- by its EtherType
+-- The datagram in a packet, by its EtherType; any other is passed over.
 abbrev pub in_packet : List ℕ → Packet → Result Found Passed
 in_packet octets p =
     if p.kind == IPV4 then in_ipv4 octets p.place else if p.kind == IPV6 then in_ipv6 octets p.place else Err Other
 
+-- The datagram in the packet that was found; the frame is truncated if there is none.
 abbrev pub found_with : List ℕ → Option Packet → Result Found Passed
 found_with octets None = Err Truncated
 found_with octets (Some p) = in_packet octets p
 
--- the datagram of a frame, or why there is none
+-- The datagram of a frame, or why there is none.
 abbrev pub found_in : Link → List ℕ → Result Found Passed
 found_in link octets = found_with octets (packet_of link octets)

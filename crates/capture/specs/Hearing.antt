@@ -1,4 +1,4 @@
--- What a datagram says, by the definitions of its decoders.
+-- A decoded datagram, by the definitions of its decoders.
 use Rattle.std.specs.Prelude.{ℕ, ◌+◌, ◌*◌, ◌%◌, ◌^◌, List, fold, Option, Some, None, Result, Ok, Err}
 use Rattle.red_layer.specs.declared.pdu.RedFault.{RedFault}
 use Rattle.red_layer.specs.pdu.RedText.{red_seen}
@@ -15,18 +15,20 @@ use Rattle.capture.specs.declared.heard.TheConstants.{FINGERPRINT_BASE}
 use Rattle.capture.specs.declared.heard.Heard.{Heard}
 use Rattle.capture.specs.declared.heard.Heard.TheVariants as heard
 
--- reason and detail, of a DiscReq
+-- Reason and detail of a DiscReq; nothing for other types.
 abbrev pub leaving_of : Kind → List ℕ → Option Leaving
 leaving_of DiscReq body = Some (record { detail = detail_of body; reason = reason_of body })
 leaving_of _ body = None
 
--- the number that octets spell to a large base, behind a leading 1 and modulo 2^64
+-- The fingerprint with one more byte, modulo 2^64.
 abbrev pub with_octet : ℕ → ℕ → ℕ
 with_octet fingerprint octet = (fingerprint * FINGERPRINT_BASE % 2 ^ 64 + octet) % 2 ^ 64
 
+-- The fingerprint of bytes: the number that they spell to a large base, after a leading 1 and modulo 2^64.
 abbrev pub fingerprint_of : List ℕ → ℕ
 fingerprint_of octets = fold with_octet 1 octets
 
+-- The header fields of a safety PDU, with this fingerprint.
 abbrev pub header_of : Pdu → ℕ → Header
 header_of p fingerprint =
     record {
@@ -41,15 +43,16 @@ header_of p fingerprint =
       leaving = leaving_of p.kind p.body;
     }
 
--- a redundancy PDU with this number around this upper part
+-- A redundancy PDU with this number around this part.
 abbrev pub heard_above : ℕ → List ℕ → Result Pdu SafeFault → Heard
 heard_above seq upper (Ok p) = heard.Pdu seq (header_of p (fingerprint_of upper))
 heard_above seq upper (Err fault) = heard.NoSafe seq fault
 
+-- The datagram in a redundancy PDU that was decoded, or its fault.
 abbrev pub heard_with : CodeRule → Result (ℕ × List ℕ) RedFault → Heard
 heard_with rule (Ok p) = heard_above p.0 p.1 (safe_seen rule p.1)
 heard_with rule (Err fault) = heard.NoRed fault
 
--- what a datagram says under a rule of the code
+-- A datagram, decoded with this rule of the safety code.
 abbrev pub heard_of : CodeRule → List ℕ → Heard
 heard_of rule octets = heard_with rule (red_seen octets)

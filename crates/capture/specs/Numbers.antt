@@ -1,4 +1,4 @@
--- How a number follows on those that were heard, and what is kept of it.
+-- How a number follows the ones seen before it, and what is kept of it.
 use Rattle.std.specs.Prelude.{ℕ, ◌+◌, ◌-◌, ◌%◌, ◌^◌, ◌==◌, ◌&&◌, nat_lt, nat_le, min, List, slice_index_or, slice_set, replicate, if◌then◌else◌, Option, Some, None}
 use Rattle.capture.specs.declared.window.TheConstants.{KEPT, LATE_MAX, PASSED_MAX}
 use Rattle.capture.specs.declared.window.Seen.{Seen}
@@ -6,14 +6,15 @@ use Rattle.capture.specs.declared.window.Window.{Window}
 use Rattle.capture.specs.declared.window.Judged.{Judged}
 use Rattle.capture.specs.declared.window.Judged.TheVariants.{First, Next, Ahead, Late, Repeat, Differs, Stale, Anew}
 
--- a count goes as far as 64 bits do
+-- A sum of counts, limited to 2^64 - 1.
 abbrev pub counted : ℕ → ℕ → ℕ
 counted count more = min (count + more) (2 ^ 64 - 1)
 
+-- No number is kept.
 abbrev pub none_kept : List (Option Seen)
 none_kept = replicate KEPT None
 
--- no number was heard yet
+-- The window before any number was seen.
 abbrev pub open_window : Window
 open_window =
     record {
@@ -28,24 +29,25 @@ open_window =
       stale = 0;
     }
 
--- the slot of a number is its remainder
+-- The slot of a number: its remainder.
 abbrev pub slot : ℕ → ℕ
 slot number = number % KEPT
 
+-- An entry, if it is of this number.
 abbrev pub of_number : ℕ → Option Seen → Option Seen
 of_number number None = None
 of_number number (Some seen) = if seen.number == number then Some seen else None
 
--- where a number was heard, if it is kept: its slot is its own
+-- The entry of a number, if it is kept.
 abbrev pub seen_of : Window → ℕ → Option Seen
 seen_of w number = of_number number (slice_index_or w.seen (slot number) None)
 
--- how many steps a number lies ahead of another in the ring of 32 bits
+-- The distance from one number to another on the ring of 2^32 numbers.
 abbrev pub ahead : ℕ → ℕ → ℕ
 ahead from to = (to + (2 ^ 32 - from)) % 2 ^ 32
 
--- at most PASSED_MAX numbers may be passed over; one of those directly before the newest that was passed over is late, and what lies
--- further back stale; any other begins anew
+-- How a number that is not kept follows, by its distance from the newest. At most `PASSED_MAX` numbers may be skipped. A skipped number close before the
+-- newest is late, one further back is stale, and any other starts again.
 abbrev pub judged_ahead : Window → ℕ → Judged
 judged_ahead w steps =
     if nat_le steps 1 then Next
@@ -54,37 +56,38 @@ judged_ahead w steps =
     else if nat_le (2 ^ 31) steps then Stale
     else Anew
 
--- by the newest, where there is one
+-- How a number that is not kept follows; the first one if there is no newest.
 abbrev pub judged_from : Window → Option ℕ → ℕ → Judged
 judged_from w None number = First
 judged_from w (Some newest) number = judged_ahead w (ahead newest number)
 
--- a number that is kept: the octets are those that it stood for, or others
+-- A number that is kept: a repeat if the fingerprint is the same, otherwise it differs.
 abbrev pub judged_again : Seen → ℕ → Judged
 judged_again seen fingerprint = if seen.fingerprint == fingerprint then Repeat seen.line else Differs seen.line
 
+-- How a number follows, by the entry that is kept of it, if any.
 abbrev pub judged_by : Option Seen → Window → ℕ → ℕ → Judged
 judged_by (Some seen) w number fingerprint = judged_again seen fingerprint
 judged_by None w number fingerprint = judged_from w w.newest number
 
--- how a number follows, by the fingerprint of its octets
+-- How a number follows, by the fingerprint of its bytes.
 abbrev pub judged : Window → ℕ → ℕ → Judged
 judged w number fingerprint = judged_by (seen_of w number) w number fingerprint
 
--- the numbers begin with the next one, and what was counted stays
+-- The window that starts again with the next number; its counts stay.
 abbrev pub reopened : Window → Window
 reopened w = record w { newest = None; behind = 0; seen = none_kept }
 
--- the number stands in its slot
+-- The window with this entry in its slot.
 abbrev pub kept : Window → Seen → Window
 kept w seen = record w { seen = slice_set w.seen (slot seen.number) (Some seen) }
 
--- the number is the newest, so many steps ahead of the one before
+-- The window with this number as the newest, `steps` ahead of the one before.
 abbrev pub moved : Window → ℕ → Seen → Window
 moved w steps seen =
     kept (record w { newest = Some seen.number; behind = min (w.behind + steps) LATE_MAX; heard = counted w.heard 1 }) seen
 
--- what is kept after a number that followed so
+-- The window after a number that followed in this way.
 abbrev pub noted_as : Judged → Window → Seen → Window
 noted_as First w seen = moved (reopened w) 0 seen
 noted_as Next w seen = moved w 1 seen
@@ -95,6 +98,7 @@ noted_as (Differs _) w seen = record w { differing = counted w.differing 1 }
 noted_as Stale w seen = record w { stale = counted w.stale 1 }
 noted_as Anew w seen = moved (reopened w) 0 seen
 
+-- The window after a number on this line.
 abbrev pub noted : Window → ℕ → ℕ → ℕ → Window
 noted w number line fingerprint =
     noted_as (judged w number fingerprint) w (record { number = number; line = line; fingerprint = fingerprint })

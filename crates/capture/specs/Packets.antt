@@ -1,4 +1,4 @@
--- The UDP datagram of an IP packet, by places.
+-- The UDP datagram of an IP packet, by its places in the frame.
 use Rattle.std.specs.Prelude.{ℕ, ◌+◌, ◌*◌, ◌/◌, ◌%◌, ◌==◌, ◌||◌, Bool, not, nat_eq, nat_lt, List, length, if◌then◌else◌, Option, Some, Result, Ok, Err}
 use Rattle.capture.specs.declared.line.Address.{Address}
 use Rattle.capture.specs.declared.line.Host.{Host}
@@ -10,27 +10,29 @@ use Rattle.capture.specs.declared.frame.Passed.{Passed}
 use Rattle.capture.specs.declared.frame.Passed.TheVariants.{Truncated, Other, Fragment, Length}
 use Rattle.capture.specs.declared.frame.Upper.{Upper}
 
--- a datagram of a size at a place lies within its packet, and within the frame
+-- A datagram of this size at a place; it must be within its packet and within the frame.
 abbrev pub udp_between : ℕ → Address → Address → ℕ → ℕ → ℕ → Result Found Passed
 udp_between octets source destination place size end =
     if nat_lt size 8 || nat_lt end (place + size) then Err Length
     else if nat_lt octets (place + size) then Err Truncated
     else Ok (record { source = source; destination = destination; start = place + 8; end = place + size })
 
+-- The datagram with both ports, if its header is complete.
 abbrev pub udp_with : ℕ → Host → Host → ℕ → ℕ → Option ℕ → Option ℕ → Option ℕ → Result Found Passed
 udp_with octets source destination place end (Some from) (Some to) (Some size) =
     udp_between octets (record { host = source; port = from }) (record { host = destination; port = to }) place size end
 udp_with octets source destination place end _ _ _ = Err Truncated
 
--- ports, length and check sum, and then the payload
+-- The datagram at a place: ports, length and checksum, then the payload.
 abbrev pub in_udp : List ℕ → Host → Host → ℕ → ℕ → Result Found Passed
 in_udp octets source destination place end =
     udp_with (length octets) source destination place end (big_at place octets) (big_at (place + 2) octets) (big_at (place + 4) octets)
 
--- more fragments follow, or it does not begin at the front
+-- The packet is a fragment: more fragments follow, or its offset is not 0.
 abbrev pub is_fragment : ℕ → Bool
 is_fragment flags = not (nat_eq (flags % 0x4000) 0)
 
+-- The datagram of an IPv4 packet, by its header fields.
 abbrev pub ipv4_with : List ℕ → ℕ → Option ℕ → Option ℕ → Option ℕ → Option ℕ → Option (List ℕ) → Option (List ℕ) → Result Found Passed
 ipv4_with octets place (Some first) (Some total) (Some flags) (Some protocol) (Some source) (Some destination) =
     if not (nat_eq (first / 16) 4) || (nat_lt (first % 16 * 4) 20 || nat_lt total (first % 16 * 4)) then Err Length
@@ -39,61 +41,67 @@ ipv4_with octets place (Some first) (Some total) (Some flags) (Some protocol) (S
     else in_udp octets (V4 source) (V4 destination) (place + first % 16 * 4) (place + total)
 ipv4_with octets place _ _ _ _ _ _ = Err Truncated
 
--- version and length of the header, total length, flags, protocol, both addresses
+-- The datagram of the IPv4 packet at a place: version and header length, total length, flags, protocol, both addresses.
 abbrev pub in_ipv4 : List ℕ → ℕ → Result Found Passed
 in_ipv4 octets place =
     ipv4_with octets place (octet_at place octets) (big_at (place + 2) octets) (big_at (place + 6) octets) (octet_at (place + 9) octets)
     (four_at (place + 12) octets) (four_at (place + 16) octets)
 
--- options hop by hop, a route, options for the destination
+-- Headers that are skipped: hop-by-hop options, routing, destination options.
 abbrev pub is_passed : ℕ → Bool
 is_passed kind = (kind == 0) || ((kind == 43) || (kind == 60))
 
+-- The header after options, by its number and their length.
 abbrev pub options_with : ℕ → Option ℕ → Option ℕ → Result Upper Passed
 options_with place (Some kind) (Some eights) = Ok (record { kind = kind; place = place + 8 + eights * 8 })
 options_with place _ _ = Err Truncated
 
--- what follows, and a length in eights of octets without the first
+-- The header after options: its number, then a length in units of 8 bytes without the first 8.
 abbrev pub behind_options : List ℕ → ℕ → Result Upper Passed
 behind_options octets place = options_with place (octet_at place octets) (octet_at (place + 1) octets)
 
--- more fragments follow, or it does not begin at the front
+-- The fragment is one of several: more follow, or its offset is not 0.
 abbrev pub is_piece : ℕ → Bool
 is_piece part = not (nat_eq (part / 8) 0) || nat_eq (part % 2) 1
 
--- one piece of a datagram is told, one of something else is not
+-- The reason for a fragment: one of a UDP datagram is reported, one of anything else is passed over.
 abbrev pub piece_of : ℕ → Result Upper Passed
 piece_of kind = if (kind == UDP) || is_passed kind then Err Fragment else Err Other
 
+-- The header after a fragment header, if the fragment is a whole packet.
 abbrev pub fragment_with : ℕ → Option ℕ → Option ℕ → Result Upper Passed
 fragment_with place (Some kind) (Some part) =
     if is_piece part then piece_of kind else Ok (record { kind = kind; place = place + 8 })
 fragment_with place _ _ = Err Truncated
 
--- what follows, and which part of the packet this is
+-- The header after a fragment header: its number, then offset and flag.
 abbrev pub behind_fragment : List ℕ → ℕ → Result Upper Passed
 behind_fragment octets place = fragment_with place (octet_at place octets) (big_at (place + 2) octets)
 
+-- The header after this one, if this one is skipped; otherwise itself.
 abbrev pub behind_header : List ℕ → Upper → Result Upper Passed
 behind_header octets u =
     if is_passed u.kind then behind_options octets u.place
     else if u.kind == FRAGMENT then behind_fragment octets u.place
     else Ok u
 
+-- The next header, if there is no fault so far.
 abbrev pub behind_next : List ℕ → Result Upper Passed → Result Upper Passed
 behind_next octets (Ok u) = behind_header octets u
 behind_next octets (Err why) = Err why
 
--- behind up to five headers
+-- The header after up to five skipped headers.
 abbrev pub upper_of : List ℕ → Upper → Result Upper Passed
 upper_of octets u =
     behind_next octets (behind_next octets (behind_next octets (behind_next octets (behind_header octets u))))
 
+-- The datagram in the header that was found, if that is UDP.
 abbrev pub upper_with : List ℕ → List ℕ → List ℕ → ℕ → Result Upper Passed → Result Found Passed
 upper_with octets source destination end (Ok u) =
     if u.kind == UDP then in_udp octets (V6 source) (V6 destination) u.place end else Err Other
 upper_with octets source destination end (Err why) = Err why
 
+-- The datagram of an IPv6 packet, by its header fields.
 abbrev pub ipv6_with : List ℕ → ℕ → Option ℕ → Option ℕ → Option ℕ → Option (List ℕ) → Option (List ℕ) → Result Found Passed
 ipv6_with octets place (Some first) (Some size) (Some kind) (Some source) (Some destination) =
     if not (nat_eq (first / 16) 6) then Err Length
@@ -101,7 +109,7 @@ ipv6_with octets place (Some first) (Some size) (Some kind) (Some source) (Some 
     upper_with octets source destination (place + 40 + size) (upper_of octets (record { kind = kind; place = place + 40 }))
 ipv6_with octets place _ _ _ _ _ = Err Truncated
 
--- version, length, next header, both addresses
+-- The datagram of the IPv6 packet at a place: version, length, next header, both addresses.
 abbrev pub in_ipv6 : List ℕ → ℕ → Result Found Passed
 in_ipv6 octets place =
     ipv6_with octets place (octet_at place octets) (big_at (place + 4) octets) (octet_at (place + 6) octets)

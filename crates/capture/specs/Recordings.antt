@@ -1,4 +1,4 @@
--- A recording, block by block.
+-- A recording, block by block: pcap and pcapng.
 use Rattle.std.specs.Prelude.{◌≤◌, ℕ, ◌+◌, ◌-◌, ◌*◌, ◌/◌, ◌%◌, ◌==◌, ◌&&◌, ◌||◌, Bool, true, false, not, nat_eq, nat_lt, nat_le, min, List, length, take, slice_index_or, slice_set, replicate, if◌then◌else◌, Option, Some, None, is_none, Result, Ok, Err}
 use Rattle.std.specs.List.{position}
 use Rattle.capture.specs.Frames.{link_of}
@@ -19,14 +19,15 @@ use Rattle.capture.specs.declared.file.FilePart.TheVariants.{Start, Head, Record
 use Rattle.capture.specs.declared.file.Recording.{Recording}
 use Rattle.capture.specs.declared.file.Step.{Step}
 
+-- No interface is known.
 abbrev pub none_described : List (Option Interface)
 none_described = replicate INTERFACES None
 
--- nothing was taken yet
+-- The state before the first block.
 abbrev pub opened : Recording
 opened = record { part = Start; interfaces = none_described }
 
--- how many octets are next
+-- How many bytes the next block has.
 abbrev pub wanted : FilePart → ℕ
 wanted Start = 4
 wanted (Head form) = 20
@@ -38,23 +39,25 @@ wanted (Opening big size) = size - 12
 wanted (Block big) = 8
 wanted (Rest big kind size) = size - 8
 
--- a frame lies within its block
+-- A frame is within the bytes of its block, and its start is not after its end.
 abbrev pub EndsWithin : List ℕ → BlockContent → Type 0
 EndsWithin octets (event.Frame f) = (f.start ≤ f.end) × (f.end ≤ length octets)
 EndsWithin octets event.Nothing = Unit {0}
 EndsWithin octets event.Text = Unit {0}
 
--- on to a part, with nothing to tell
+-- A step to this part, without content.
 abbrev pub part_after : FilePart → Step
 part_after part = record { part = part; event = event.Nothing; change = Keep }
 
+-- The step of a file that is not a recording.
 abbrev pub text_step : Step
 text_step = record { part = Start; event = event.Text; change = Keep }
 
+-- The step to the header of a pcap file of this form.
 abbrev pub form_step : Bool → Bool → Step
 form_step big nanos = part_after (Head (record { big = big; nanos = nanos }))
 
--- the four octets that a pcap file begins with tell order and unit; those of a section begin a pcapng file
+-- The first four bytes: four numbers name byte order and unit of a pcap file, one starts a pcapng section; anything else is a text.
 abbrev pub start_with : Option ℕ → Step
 start_with (Some first) =
     if nat_eq first 0xa1b2c3d4 then form_step true false
@@ -65,32 +68,37 @@ start_with (Some first) =
     else text_step
 start_with None = text_step
 
+-- The step of the first four bytes.
 abbrev pub start_step : List ℕ → Step
 start_step octets = start_with (long_at true 0 octets)
 
+-- A pcap header with this version and link number.
 abbrev pub head_with : FileForm → Option ℕ → Option ℕ → Result Step FileFault
 head_with form (Some version) (Some network) =
     if not (nat_eq version 2) then Err fault.Version else Ok (part_after (Record form (link_of (network % 65536))))
 head_with form _ _ = Err fault.Length
 
+-- The step of a pcap header.
 abbrev pub head_step : FileForm → List ℕ → Result Step FileFault
 head_step form octets = head_with form (short_at form.big 0 octets) (long_at form.big 16 octets)
 
--- whole microseconds of seconds and a part of one
+-- Whole microseconds from seconds and a fraction.
 abbrev pub micros_of : Bool → ℕ → ℕ → ℕ
 micros_of nanos seconds part = seconds * 1000000 + (if nanos then part / 1000 else part)
 
+-- A record header with this time, recorded size and original size.
 abbrev pub record_with : FileForm → Option Link → Option ℕ → Option ℕ → Option ℕ → Option ℕ → Result Step FileFault
 record_with form link (Some seconds) (Some part) (Some size) (Some original) =
     if nat_lt BLOCK_MAX size then Err fault.Length
     else Ok (part_after (Body form link (micros_of form.nanos seconds part) size (nat_le original size)))
 record_with form link _ _ _ _ = Err fault.Length
 
--- time, how many octets of the frame stand here, how many it had
+-- The step of a record header: time, recorded size, original size.
 abbrev pub record_step : FileForm → Option Link → List ℕ → Result Step FileFault
 record_step form link octets =
     record_with form link (long_at form.big 0 octets) (long_at form.big 4 octets) (long_at form.big 8 octets) (long_at form.big 12 octets)
 
+-- The step of a record's frame.
 abbrev pub body_step : FileForm → Option Link → ℕ → ℕ → Bool → List ℕ → Step
 body_step form link time size whole octets =
     record {
@@ -99,24 +107,29 @@ body_step form link time size whole octets =
       change = Keep;
     }
 
+-- The length of a section header, kept as bytes.
 abbrev pub section_with : Option (List ℕ) → Result Step FileFault
 section_with (Some size) = Ok (part_after (Order size))
 section_with None = Err fault.Length
 
+-- The step of a section's length.
 abbrev pub section_step : List ℕ → Result Step FileFault
 section_step octets = section_with (four_at 0 octets)
 
--- a length of a block: at least the least, no more than BLOCK_MAX, a multiple of four
+-- The length of a block: at least `least`, at most `BLOCK_MAX`, a multiple of four.
 abbrev pub sized_block : ℕ → ℕ → Bool
 sized_block least size = nat_le least size && (nat_le size BLOCK_MAX && nat_eq (size % 4) 0)
 
+-- A section header of this length: at least 28 bytes.
 abbrev pub size_with : Bool → Option ℕ → Result Step FileFault
 size_with big (Some size) = if sized_block 28 size then Ok (part_after (Opening big size)) else Err fault.Length
 size_with big None = Err fault.Length
 
+-- The step of a section's length, once the byte order is known.
 abbrev pub size_step : Bool → List ℕ → Result Step FileFault
 size_step big size = size_with big (long_at big 0 size)
 
+-- The byte order mark in either order, then the length.
 abbrev pub order_with : Option ℕ → List ℕ → Result Step FileFault
 order_with (Some magic) size =
     if nat_eq magic 0x1a2b3c4d then size_step true size
@@ -124,21 +137,23 @@ order_with (Some magic) size =
     else Err fault.Order
 order_with None size = Err fault.Order
 
+-- The step of a byte order mark.
 abbrev pub order_step : List ℕ → List ℕ → Result Step FileFault
 order_step size octets = order_with (long_at true 0 octets) size
 
--- a number stands there
+-- The number that was read is this one.
 abbrev pub is_number : Option ℕ → ℕ → Bool
 is_number (Some found) number = found == number
 is_number None number = false
 
--- the rest of a section's header: version 1, and the length once more at its end
+-- The step of the rest of a section header: the length again at its end, and version 1.
 abbrev pub head_of_section : Bool → ℕ → List ℕ → Result Step FileFault
 head_of_section big size octets =
     if not (is_number (long_at big (size - 16) octets) size) then Err fault.Trailer
     else if not (is_number (short_at big 0 octets) 1) then Err fault.Version
     else Ok (record { part = Block big; event = event.Nothing; change = Clear })
 
+-- A block of this type and length; `raw` has the bytes of the length.
 abbrev pub block_with : Bool → Option ℕ → Option (List ℕ) → Option ℕ → Result Step FileFault
 block_with big (Some kind) (Some raw) (Some size) =
     if nat_eq kind SECTION then Ok (part_after (Order raw))
@@ -146,14 +161,15 @@ block_with big (Some kind) (Some raw) (Some size) =
     else Ok (part_after (Rest big kind size))
 block_with big _ _ _ = Err fault.Length
 
--- type and length; those of a section's header are in its own order
+-- The step of a block's type and length; the length of a section header is in the section's own order.
 abbrev pub block_step : Bool → List ℕ → Result Step FileFault
 block_step big octets = block_with big (long_at big 0 octets) (four_at 4 octets) (long_at big 4 octets)
 
--- the first place with no interface
+-- The first place without an interface.
 abbrev pub at_first_free : List (Option Interface) → Option ℕ
 at_first_free interfaces = position (λ (interface : Option Interface). is_none interface) interfaces
 
+-- The description of an interface with this link number.
 abbrev pub interface_with : List (Option Interface) → Bool → List ℕ → Option ℕ → Result Step FileFault
 interface_with interfaces big inner (Some link) =
     if nat_lt (length inner) 8 then Err fault.Length
@@ -168,14 +184,15 @@ interface_with interfaces big inner (Some link) =
     })
 interface_with interfaces big inner None = Err fault.Length
 
--- the description of an interface
+-- The step of an interface's description.
 abbrev pub interface_step : List (Option Interface) → Bool → List ℕ → Result Step FileFault
 interface_step interfaces big inner = interface_with interfaces big inner (short_at big 0 inner)
 
--- the interface of a number
+-- The interface with this number.
 abbrev pub described : List (Option Interface) → ℕ → Option Interface
 described interfaces number = if nat_lt number INTERFACES then slice_index_or interfaces number None else None
 
+-- The step of an enhanced packet of this interface.
 abbrev pub frame_on : Option Interface → Bool → ℕ → ℕ → ℕ → ℕ → Result Step FileFault
 frame_on None big high low size original = Err fault.Interface
 frame_on (Some interface) big high low size original =
@@ -194,30 +211,32 @@ frame_on (Some interface) big high low size original =
       change = Keep;
     })
 
+-- An enhanced packet with these fields.
 abbrev pub packet_with : List (Option Interface) → Bool → ℕ → Option ℕ → Option ℕ → Option ℕ → Option ℕ → Option ℕ → Result Step FileFault
 packet_with interfaces big long (Some number) (Some high) (Some low) (Some size) (Some original) =
     if nat_lt (long - 20) size then Err fault.Length else frame_on (described interfaces number) big high low size original
 packet_with interfaces big long _ _ _ _ _ = Err fault.Length
 
--- an enhanced packet: interface, time, how many octets stand here, how many it had
+-- The step of an enhanced packet: interface, time, recorded size, original size.
 abbrev pub packet_step : List (Option Interface) → Bool → List ℕ → Result Step FileFault
 packet_step interfaces big inner =
     packet_with interfaces big (length inner) (long_at big 0 inner) (long_at big 4 inner) (long_at big 8 inner) (long_at big 12 inner)
     (long_at big 16 inner)
 
--- a block that is not known is passed over
+-- The step of a block by its type; an unknown block is skipped.
 abbrev pub inner_step : List (Option Interface) → Bool → ℕ → List ℕ → Result Step FileFault
 inner_step interfaces big kind inner =
     if nat_eq kind 1 then interface_step interfaces big inner
     else if nat_eq kind 6 then packet_step interfaces big inner
     else Ok (part_after (Block big))
 
--- the rest of a block, with the length once more at its end
+-- The step of the rest of a block, with the length again at its end.
 abbrev pub cut_step : List (Option Interface) → Bool → ℕ → ℕ → List ℕ → Result Step FileFault
 cut_step interfaces big kind size octets =
     if not (is_number (long_at big (size - 12) octets) size) || nat_lt (length octets) (size - 12) then Err fault.Trailer
     else inner_step interfaces big kind (take (size - 12) octets)
 
+-- The step of the part that comes next.
 abbrev pub step_at : FilePart → List (Option Interface) → List ℕ → Result Step FileFault
 step_at Start interfaces octets = Ok (start_step octets)
 step_at (Head form) interfaces octets = head_step form octets
@@ -229,24 +248,27 @@ step_at (Opening big size) interfaces octets = head_of_section big size octets
 step_at (Block big) interfaces octets = block_step big octets
 step_at (Rest big kind size) interfaces octets = cut_step interfaces big kind size octets
 
--- what comes of the block that stands next
+-- The step that a recording makes with these bytes.
 abbrev pub step_of : Recording → List ℕ → Result Step FileFault
 step_of r octets = step_at r.part r.interfaces octets
 
+-- The content of a step, or its fault.
 abbrev pub event_of : Result Step FileFault → Result BlockContent FileFault
 event_of (Ok s) = Ok s.event
 event_of (Err fault) = Err fault
 
+-- The interfaces with one more at this place.
 abbrev pub added_at : Option ℕ → Interface → List (Option Interface) → List (Option Interface)
 added_at (Some place) interface interfaces = slice_set interfaces place (Some interface)
 added_at None interface interfaces = interfaces
 
+-- The interfaces after a change.
 abbrev pub interfaces_after : List (Option Interface) → Change → List (Option Interface)
 interfaces_after interfaces Keep = interfaces
 interfaces_after interfaces Clear = none_described
 interfaces_after interfaces (Add interface) = added_at (at_first_free interfaces) interface interfaces
 
--- the recording behind it; a fault changes nothing
+-- The recording after a step; a fault changes nothing.
 abbrev pub going_on : Recording → Result Step FileFault → Recording
 going_on r (Ok s) = record { part = s.part; interfaces = interfaces_after r.interfaces s.change }
 going_on r (Err fault) = r

@@ -13,39 +13,43 @@ use Rattle.capture.specs.declared.window.Window.{Window}
 use Rattle.capture.specs.Numbers.{counted}
 use Rattle.capture.specs.Connecting.{damage_noted, found, opened, step, step_remarks}
 
--- what is remarkable in a datagram
+-- What is remarkable in a datagram.
 abbrev pub remark_of : List Connection → ℕ → Record → Heard → Remark
 remark_of cs line r (heard.Pdu seq h) = remark.Pdu seq h (step_remarks cs line r seq h)
 remark_of cs line r (heard.NoSafe seq fault) = remark.NoSafe seq fault
 remark_of cs line r (heard.NoRed fault) = remark.NoRed fault
 
--- the connections after it: one that is no PDU is counted on its channel
+-- The connections after a datagram; one that is not a PDU is counted on its channel.
 abbrev pub connections_after : List Connection → ℕ → Record → Heard → List Connection
 connections_after cs line r (heard.Pdu seq h) = step cs line r seq h
 connections_after cs line r (heard.NoSafe seq fault) = damage_noted cs r
 connections_after cs line r (heard.NoRed fault) = damage_noted cs r
 
+-- How many datagrams were damaged, after this one.
 abbrev pub damaged_after : ℕ → Heard → ℕ
 damaged_after damaged (heard.Pdu seq h) = damaged
 damaged_after damaged (heard.NoSafe seq fault) = counted damaged 1
 damaged_after damaged (heard.NoRed fault) = counted damaged 1
 
--- a further connection, for which there is no room: one is forgotten
+-- The PDU needs a further connection and there is no room: one is forgotten.
 abbrev pub forgets : List Connection → Header → Bool
 forgets cs h = (length cs == CONNECTIONS) && is_none (found h.sender h.receiver cs)
 
+-- How many connections were forgotten, after a PDU.
 abbrev pub forgotten_with : ℕ → List Connection → Header → ℕ
 forgotten_with forgotten cs h = if forgets cs h then counted forgotten 1 else forgotten
 
+-- How many connections were forgotten, after a datagram.
 abbrev pub forgotten_after : ℕ → List Connection → Heard → ℕ
 forgotten_after forgotten cs (heard.Pdu seq h) = forgotten_with forgotten cs h
 forgotten_after forgotten cs (heard.NoSafe seq fault) = forgotten
 forgotten_after forgotten cs (heard.NoRed fault) = forgotten
 
+-- Sums of nothing.
 abbrev pub no_totals : Totals
 no_totals = record { heard = 0; missing = 0; late = 0; repeats = 0; differing = 0; stale = 0 }
 
--- the sums with the numbers of a direction more
+-- The sums with the counts of one more window.
 abbrev pub window_counted : Totals → Window → Totals
 window_counted t w =
     record {
@@ -57,19 +61,20 @@ window_counted t w =
       stale = counted t.stale w.stale;
     }
 
--- and with a connection more, both its directions
+-- The sums with both directions of one more connection.
 abbrev pub counted_in : Totals → Connection → Totals
 counted_in t c = window_counted (window_counted t c.from_low.together) c.from_high.together
 
--- the sums over the connections that were forgotten, once a PDU came
+-- The sums over the forgotten connections, after a PDU.
 abbrev pub gone_with : Totals → List Connection → Header → Totals
 gone_with gone cs h = if forgets cs h then counted_in gone (slice_index_or cs 0 (opened 0 0)) else gone
 
+-- The sums over the forgotten connections, after a datagram.
 abbrev pub gone_after : Totals → List Connection → Heard → Totals
 gone_after gone cs (heard.Pdu seq h) = gone_with gone cs h
 gone_after gone cs (heard.NoSafe seq fault) = gone
 gone_after gone cs (heard.NoRed fault) = gone
 
--- the sums over all connections, those that were forgotten among them
+-- The sums over all connections; `gone` has those of the forgotten ones.
 abbrev pub totals_of : Totals → List Connection → Totals
 totals_of gone cs = fold counted_in gone cs

@@ -1,4 +1,7 @@
-//! The connections of a capture: the one that was heard last stands last.
+//! The connections of a capture; the one with the latest PDU is the last.
+//!
+//! A connection is found by the identifiers of its ends. A damaged datagram is counted by its addresses only, since
+//! its identifiers cannot be trusted.
 
 ghost use Rattle.std.specs.Prelude.{◌≡◌, ◌<◌, ◌≤◌, ◌++◌, ◌∷◌, [], length, IfSome, reverse, slice_index_or};
 ghost use Rattle.std.specs.List.{remove};
@@ -6,33 +9,33 @@ ghost use Rattle.arrayvec.specs.ArrayVec.{array_vec_len};
 ghost use Rattle.capture.specs.Whole.{forgets};
 ghost use Rattle.capture.specs.Connecting.{behind_of, channel_of, connection_after, connection_damaged, connection_remarks, damage_noted, damaged_at, ends_of, has_channel, is_between, is_from_low, is_held, is_known, is_same_address, is_same_host, is_source_low, known_place_of, left, opened, place_of, room_made, route_from, route_place_of, routes_after, step, step_remarks, taken};
 
-use crate::direction::{CHANNELS, Direction, Place, Remarks, follow_pdu};
+use crate::direction::{CHANNELS, Direction, Place, Remarks, follow_pdu, see_peer};
 use crate::heard::Header;
 use crate::line::{Address, Host, Record};
 use arrayvec::ArrayVec;
 
-/// How many connections are followed at most.
+/// How many connections are kept: some 230 KiB of memory.
 pub const CONNECTIONS: usize = 16;
 
-/// The two addresses of a channel, as the first PDU on it tells them.
+/// The two addresses of a channel, as in the first PDU on it.
 #[derive(Clone, Copy, Debug, PartialEq, Eq)]
 pub struct Route {
-    /// That of the end with the lower identifier.
+    /// The address of the end with the lower identifier.
     pub low: Address,
-    /// That of the other end.
+    /// The address of the other end.
     pub high: Address,
 }
 
-/// A connection, as far as it was heard.
+/// A connection, as far as its PDUs were recorded.
 #[derive(Clone, Copy, Debug, PartialEq, Eq)]
 pub struct Connection {
     /// The lower identifier of its ends.
     pub low: u32,
-    /// The higher one.
+    /// The higher identifier.
     pub high: u32,
-    /// When it was heard last, in microseconds.
+    /// The time of its latest PDU, in microseconds.
     pub last: u64,
-    /// Its channels, as they were heard.
+    /// Its channels, in the order of their first PDUs.
     pub routes: [Option<Route>; CHANNELS],
     /// What the end with the lower identifier sent.
     pub from_low: Direction,
@@ -41,19 +44,21 @@ pub struct Connection {
 }
 
 impl Default for Connection {
-    /// A connection of which nothing was heard.
+    /// Returns a connection without PDUs.
     fn default() -> Self
+        // The default connection has the identifiers 0 and 0, and no PDU.
         ensures { result ≡ opened 0 0 }
     {
         open(0, 0)
     }
 }
 
-/// The connections that are followed; the one that was heard last stands last.
+/// The connections that are kept; the last one has the latest PDU.
 pub type Connections = ArrayVec<Connection, CONNECTIONS>;
 
-/// Takes a PDU of a line into account, and answers what is remarkable in it. Where a further connection finds no room,
-/// the one that was silent longest is forgotten.
+/// Adds a PDU on this line to its connection and returns what is remarkable in it.
+///
+/// If it needs a further connection and there is no room, the connection silent longest is forgotten.
 pub fn follow(
     connections: &mut Connections,
     line: u64,
@@ -61,12 +66,11 @@ pub fn follow(
     seq: u32,
     header: &Header,
 ) -> Remarks
-    // The remarks on a PDU are those at its own connection, a new one where none is followed.
+    // The remarks are those in the PDU's own connection, a new one if none has its identifiers (`step_remarks`).
     ensures remarks { result ≡ step_remarks connections.old.items line record.now seq header.now }
-    // A PDU changes its own connection, which then stands last, and no other one that stays.
-    // Of 16 connections the one silent longest is forgotten for a further one (`room_made`).
-    // A channel is a pair of addresses, whichever is the source; a fifth of a connection is not told apart
-    // (`routes_after`, `channel_of`).
+    // The PDU's connection changes and is then the last; no other one that stays changes. If there are 16 and it is a
+    // further one, the first is forgotten (`room_made`). A channel is a pair of addresses in either direction. A
+    // fifth channel of a connection is not distinguished (`routes_after`, `channel_of`).
     ensures step { connections.new.items ≡ step connections.old.items line record.now seq header.now }
 {
     bring_to_end(connections, header.sender, header.receiver);
@@ -80,8 +84,9 @@ pub fn follow(
     )
 }
 
-/// Whether a PDU is of a further connection, for which one has to be forgotten.
+/// Returns `true` if a PDU needs a further connection and one must be forgotten.
 pub(crate) fn has_no_room(connections: &Connections, header: &Header) -> bool
+    // The result is true exactly if 16 connections are kept and none has the PDU's identifiers.
     ensures { result ≡ forgets connections.now.items header.now }
 {
     if !connections.is_full() {
@@ -91,8 +96,10 @@ pub(crate) fn has_no_room(connections: &Connections, header: &Header) -> bool
     place(connections, low, high).is_none()
 }
 
-/// Makes the connection between two ends the last of the list: a new one, where none is followed.
+/// Moves the connection between two ends to the end of the list, or adds a new one.
 fn bring_to_end(connections: &mut Connections, sender: u32, receiver: u32)
+    // The list is the others that stay, in order, then the connection between `sender` and `receiver`, new if there
+    // was none (`left`, `taken`).
     ensures { connections.new.items
         ≡ left sender receiver connections.old.items ++ taken sender receiver connections.old.items ∷ [] }
 {
@@ -106,10 +113,11 @@ fn bring_to_end(connections: &mut Connections, sender: u32, receiver: u32)
     }
 }
 
-/// Makes the connection at a place the last of the list. The one that was heard last stands there already, and is not moved: a
-/// connection has some 13 KiB.
+/// Moves the connection at a place to the end of the list. The last one is not moved, since a connection has some 14
+/// KiB.
 fn move_to_end(connections: &mut Connections, place: usize)
     requires { place < array_vec_len connections.old }
+    // The list is the others in order, then the connection at `place`.
     ensures { connections.new.items
         ≡ remove connections.old.items place ++ slice_index_or connections.old.items place (opened 0 0) ∷ [] }
 {
@@ -120,8 +128,9 @@ fn move_to_end(connections: &mut Connections, place: usize)
     }
 }
 
-/// The identifiers of two ends, the lower one in front.
+/// Returns the identifiers of two ends, the lower one first.
 fn ends(sender: u32, receiver: u32) -> (u32, u32)
+    // The pair is sorted: the lower identifier is the first (`ends_of`).
     ensures { result ≡ ends_of sender receiver }
 {
     if sender <= receiver {
@@ -131,19 +140,24 @@ fn ends(sender: u32, receiver: u32) -> (u32, u32)
     }
 }
 
-/// Where the connection with these identifiers stands.
+/// Returns the place of the connection with these identifiers.
 fn place(connections: &Connections, low: u32, high: u32) -> Option<usize>
+    // The place is the first whose connection has exactly `low` and `high`.
     ensures value { result ≡ place_of low high connections.now.items }
+    // The place of a connection is within the list.
     ensures bound { IfSome result (λ place. place < array_vec_len connections.now) }
+    // The list has at most `CONNECTIONS` connections.
     ensures fits { array_vec_len connections.now ≤ CONNECTIONS }
 {
     connections.as_slice().iter().position(|connection| connection.low == low
         && connection.high == high)
 }
 
-/// Forgets the connection that was silent longest, where there is no room for one more.
+/// Forgets the connection silent longest, if the list is full.
 fn make_room(connections: &mut Connections)
+    // A full list loses its first connection; any other list does not change.
     ensures left { connections.new.items ≡ room_made connections.old.items }
+    // After the call there is room for one more connection.
     ensures room { array_vec_len connections.new < CONNECTIONS }
 {
     if connections.is_full() {
@@ -151,8 +165,9 @@ fn make_room(connections: &mut Connections)
     }
 }
 
-/// A connection of which nothing was heard.
+/// Returns a connection between two ends without PDUs.
 fn open(low: u32, high: u32) -> Connection
+    // The connection has the identifiers `low` and `high`, no time and no channels, and both directions are empty.
     ensures { result ≡ opened low high }
 {
     Connection {
@@ -165,7 +180,7 @@ fn open(low: u32, high: u32) -> Connection
     }
 }
 
-/// Takes a PDU of a connection into account.
+/// Adds a PDU to its connection.
 fn follow_in(
     connection: &mut Connection,
     line: u64,
@@ -173,7 +188,11 @@ fn follow_in(
     seq: u32,
     header: &Header,
 ) -> Remarks
+    // The remarks are those in the direction of the end that made the PDU, by what the other end said
+    // (`connection_remarks`).
     ensures remarks { result ≡ connection_remarks connection.old line record.now seq header.now }
+    // The time, the channels and the direction of the PDU's end change; the other direction does not
+    // (`connection_after`).
     ensures after { connection.new ≡ connection_after connection.old line record.now seq header.now }
 {
     connection.last = record.time;
@@ -186,24 +205,28 @@ fn follow_in(
         channel,
     };
     if from_low {
-        let peer = connection.from_high.stamp;
+        let peer = see_peer(&connection.from_high, header);
         follow_pdu(&mut connection.from_low, peer, place, seq, header)
     } else {
-        let peer = connection.from_low.stamp;
+        let peer = see_peer(&connection.from_low, header);
         follow_pdu(&mut connection.from_high, peer, place, seq, header)
     }
 }
 
-/// Whether the end with the lower identifier made a PDU.
+/// Returns `true` if the end with the lower identifier made a PDU.
 fn comes_from_low(connection: &Connection, header: &Header) -> bool
+    // The sender of the PDU is compared with the lower identifier.
     ensures { result ≡ is_from_low connection.now header.now }
 {
     header.sender == connection.low
 }
 
-/// The number of a datagram's channel, which is noted where it is new and there is room for it.
+/// Returns the number of a datagram's channel, and adds a new channel if there is room.
 fn note_route(routes: &mut [Option<Route>; CHANNELS], from_low: bool, record: &Record) -> usize
+    // The number is the place of the channel or of the first free one, and `CHANNELS` if there is neither
+    // (`channel_of`).
     ensures channel { result ≡ channel_of routes.old record.now }
+    // A new channel is added at the first free place; known ones do not change (`routes_after`).
     ensures noted { routes.new ≡ routes_after routes.old from_low record.now }
 {
     match route_place(routes, record) {
@@ -217,8 +240,9 @@ fn note_route(routes: &mut [Option<Route>; CHANNELS], from_low: bool, record: &R
     }
 }
 
-/// The addresses of both ends, by which of them made a datagram.
+/// Returns the addresses of both ends.
 fn addresses(from_low: bool, record: &Record) -> Route
+    // The source is the address of the end that made the datagram: the lower one if `from_low` (`route_from`).
     ensures { result ≡ route_from from_low record.now }
 {
     if from_low {
@@ -233,16 +257,19 @@ fn addresses(from_low: bool, record: &Record) -> Route
     }
 }
 
-/// The first place that holds a datagram's channel, or none.
+/// Returns the first place that has a datagram's channel or is free.
 fn route_place(routes: &[Option<Route>; CHANNELS], record: &Record) -> Option<usize>
+    // The place is the first one that `is_held`: free, or of the channel between these addresses.
     ensures value { result ≡ route_place_of routes.now record.now }
+    // The place of a channel is below `CHANNELS`.
     ensures bound { IfSome result (λ place. place < CHANNELS) }
 {
     routes.iter().position(|route| holds(route, record))
 }
 
-/// Whether a place is free, or holds the channel between a datagram's addresses, whichever is the source.
+/// Returns `true` if a place is free, or has the channel between a datagram's addresses.
 fn holds(route: &Option<Route>, record: &Record) -> bool
+    // A free place counts; a used one only if its addresses are those of the `record`, in either direction.
     ensures { result ≡ is_held route.now record.now }
 {
     match route {
@@ -251,17 +278,21 @@ fn holds(route: &Option<Route>, record: &Record) -> bool
     }
 }
 
-/// Whether a channel is the one between a datagram's addresses, whichever is the source.
+/// Returns `true` if a channel is between a datagram's addresses, in either direction.
 fn joins(route: &Route, record: &Record) -> bool
+    // Both addresses of the `route` are those of the source and destination, in this or the other order
+    // (`is_between`).
     ensures { result ≡ is_between route.now record.now }
 {
     is_same(route.low, record.source) && is_same(route.high, record.destination)
         || is_same(route.low, record.destination) && is_same(route.high, record.source)
 }
 
-/// Counts a datagram that is no PDU on the channel between its addresses, where a connection has that; where several
-/// have it, the one that was heard last.
+/// Counts a datagram that is not a PDU on the channel between its addresses, if a connection has that channel; of
+/// several, in the one with the latest PDU.
 pub(crate) fn note_damage(connections: &mut Connections, record: &Record)
+    // Only the count of damage on that channel grows, in the last connection that has it; without one, nothing
+    // changes (`damage_at`).
     ensures { connections.new.items ≡ damage_noted connections.old.items record.now }
 {
     if let Some(behind) = behind(connections, record) {
@@ -270,9 +301,11 @@ pub(crate) fn note_damage(connections: &mut Connections, record: &Record)
     }
 }
 
-/// How many connections stand behind the last one that has a datagram's channel.
+/// Returns how many connections come after the last one that has a datagram's channel.
 fn behind(connections: &Connections, record: &Record) -> Option<usize>
+    // The number counts from the end of the list; `None` if no connection has the channel (`behind_of`).
     ensures value { result ≡ behind_of connections.now.items record.now }
+    // The number is below the length of the list, so it names a connection.
     ensures bound { IfSome result (λ behind. behind < array_vec_len connections.now) }
 {
     connections
@@ -282,21 +315,27 @@ fn behind(connections: &Connections, record: &Record) -> Option<usize>
         .position(|connection| is_way(connection, record))
 }
 
+/// Returns `true` if a connection has a datagram's channel.
 fn is_way(connection: &Connection, record: &Record) -> bool
+    // The result is true exactly if one of its channels is between the addresses of the `record`.
     ensures { result ≡ has_channel connection.now record.now }
 {
     known_place(&connection.routes, record).is_some()
 }
 
-/// Where a datagram's channel stands, if it is one of these.
+/// Returns the place of a datagram's channel, if it is one of these.
 fn known_place(routes: &[Option<Route>; CHANNELS], record: &Record) -> Option<usize>
+    // The place is the first one with the channel between these addresses; free places do not count (`is_known`).
     ensures value { result ≡ known_place_of routes.now record.now }
+    // The place of a known channel is below `CHANNELS`.
     ensures bound { IfSome result (λ place. place < CHANNELS) }
 {
     routes.iter().position(|route| knows(route, record))
 }
 
+/// Returns `true` if a place has a datagram's channel.
 fn knows(route: &Option<Route>, record: &Record) -> bool
+    // A free place does not count; a used one is compared by its addresses.
     ensures { result ≡ is_known route.now record.now }
 {
     match route {
@@ -305,8 +344,10 @@ fn knows(route: &Option<Route>, record: &Record) -> bool
     }
 }
 
-/// Counts a datagram that is no PDU on its channel, by the end whose address sent it.
+/// Counts a datagram that is not a PDU on its channel, for the end whose address sent it.
 fn damage(connection: &mut Connection, record: &Record)
+    // The count grows in the direction of the end whose address is the source; without such a channel, nothing
+    // changes (`connection_damaged`).
     ensures { connection.new ≡ connection_damaged connection.old record.now }
 {
     if let Some(place) = known_place(&connection.routes, record) {
@@ -318,8 +359,9 @@ fn damage(connection: &mut Connection, record: &Record)
     }
 }
 
-/// Whether the address of the end with the lower identifier sent a datagram.
+/// Returns `true` if the address of the end with the lower identifier sent a datagram.
 fn is_low(route: &Option<Route>, record: &Record) -> bool
+    // The source of the `record` is compared with the lower end's address; a free place has none.
     ensures { result ≡ is_source_low route.now record.now }
 {
     match route {
@@ -328,20 +370,26 @@ fn is_low(route: &Option<Route>, record: &Record) -> bool
     }
 }
 
+/// Counts one more damaged datagram on a channel.
 fn count_damage(direction: &mut Direction, place: usize)
     requires { place < CHANNELS }
+    // The count at `place` grows by 1, limited to 2^64 - 1.
     ensures { direction.new ≡ damaged_at direction.old place }
 {
     direction.damaged[place] = direction.damaged[place].saturating_add(1);
 }
 
+/// Compares two addresses.
 fn is_same(one: Address, other: Address) -> bool
+    // The addresses are the same if port and host are.
     ensures { result ≡ is_same_address one other }
 {
     one.port == other.port && is_host(one.host, other.host)
 }
 
+/// Compares two hosts.
 fn is_host(one: Host, other: Host) -> bool
+    // Hosts are the same if both are IPv4 or both IPv6, with equal bytes.
     ensures { result ≡ is_same_host one other }
 {
     match (one, other) {

@@ -1,107 +1,154 @@
-//! What is remarkable in a PDU, by what was heard before it.
+//! One direction of a connection: what is remarkable in a PDU, by what the same end sent before it.
+//!
+//! A ConnReq or ConnResp opens a session, whatever its numbers, unless it is a copy of one that is still kept and
+//! nothing else of its end has come on its channel since.
+//!
+//! The age of a confirmed timestamp is by the clock of the end that made it: its newest timestamp minus the confirmed
+//! one. A ConnReq confirms nothing, nor does a DiscReq directly after it.
+//!
+//! An end waits for a confirmation: its own timestamp minus the last one that was confirmed to it is what its timeout
+//! check compares with T_max. What was confirmed to it is in the PDU that it took last, and its CS and CTS name that
+//! PDU: so a PDU that passed the recorder, but that the end did not take, does not count.
 
 ghost use Rattle.std.specs.Prelude.{◌≡◌, ◌<◌, length, map, true};
-ghost use Rattle.capture.specs.Following.{age_at, age_of, age_within, channel_judged, channel_noted, confirms_nothing, followed, followed_in, has_gone_on, is_behind_request, is_copy, is_furthest, is_new, is_opened, is_other, is_repeat, is_request, is_resent, kind_counted, open_direction, opened_as, opened_with, opening_of, remarks_in, remarks_of, sequence_judged, sequence_noted, tallied, tally_opened};
-ghost use Rattle.capture.specs.Numbers.{reopened};
+ghost use Rattle.capture.specs.Following.{age_at, age_in, age_of, age_within, channel_judged, channel_noted, confirmation_of, confirmed_as, confirmed_by, confirming, confirms_nothing, followed, followed_in, greatest_of, has_gone_on, is_before, is_behind_request, is_copy, is_furthest, is_new, is_opened, is_other, is_repeat, is_request, is_resent, kind_counted, newer, none_confirming, open_direction, opened_as, opened_at, opened_with, opening_of, peer_of, remarks_in, remarks_of, sequence_judged, sequence_noted, silence_of, since_after, tallied, tally_after, tally_opened, waits_at, waits_of};
+ghost use Rattle.capture.specs.Numbers.{ahead, reopened, slot};
 
 use crate::heard::Header;
-use crate::window::{Judged, Window, judge, note, reopen};
+use crate::window::{Judged, KEPT, Window, judge, note, reopen};
 use safe_pdu::{Kind, Leaving};
 
-/// How many channels of a connection are told apart.
+/// How many channels of a connection are distinguished. RaSTA has two; four leave room.
 pub const CHANNELS: usize = 4;
 
-/// What one end of a connection sent, as far as it was heard.
+/// What one end of a connection has sent.
 #[derive(Clone, Copy, Debug, PartialEq, Eq)]
 pub struct Direction {
-    /// The redundancy numbers of each channel.
+    /// The redundancy numbers on each channel.
     pub channels: [Window; CHANNELS],
-    /// The redundancy numbers of all channels together.
+    /// The redundancy numbers on all channels together.
     pub together: Window,
     /// The sequence numbers of the safety PDUs.
     pub sequence: Window,
     /// The timestamp of the newest PDU.
     pub stamp: Option<u32>,
-    /// The ConnReq or ConnResp that was heard last.
+    /// The last ConnReq or ConnResp.
     pub opening: Option<SessionOpening>,
-    /// How many of its datagrams on each channel were no PDU.
+    /// For each remainder of a sequence number, what the last PDU with it confirms.
+    pub confirmations: [Option<Confirmation>; KEPT],
+    /// The own timestamp that was last confirmed to the end, as far as its PDUs show; that of its opening until then.
+    pub since: Option<u32>,
+    /// How many of its datagrams on each channel were not a PDU.
     pub damaged: [u64; CHANNELS],
-    /// What its PDUs were.
+    /// The counts of its PDUs.
     pub tally: Tally,
 }
 
-/// A ConnReq or ConnResp by which an end opened.
+/// A ConnReq or ConnResp that opened a session.
 #[derive(Clone, Copy, Debug, PartialEq, Eq)]
 pub struct SessionOpening {
     /// Which of the two it is.
     pub kind: Kind,
     /// The sequence number (SN).
     pub sn: u32,
+    /// The timestamp (TS) in milliseconds.
+    pub ts: u32,
 }
 
-/// What the PDUs of a direction were, each counted once.
+/// What a PDU confirms.
+#[derive(Clone, Copy, Debug, PartialEq, Eq)]
+pub struct Confirmation {
+    /// Its sequence number (SN).
+    pub sn: u32,
+    /// Its timestamp (TS) in milliseconds.
+    pub ts: u32,
+    /// The timestamp of the other end that it confirms (CTS), in milliseconds.
+    pub cts: u32,
+}
+
+/// What the other end said, as far as it concerns a PDU.
+#[derive(Clone, Copy, Debug, PartialEq, Eq)]
+pub struct Peer {
+    /// The timestamp of its last opening.
+    pub opened: Option<u32>,
+    /// The timestamp of its newest PDU.
+    pub stamp: Option<u32>,
+    /// The timestamp that its PDU confirms which this PDU confirms.
+    pub confirmed: Option<u32>,
+}
+
+/// The counts of a direction's PDUs; copies count once.
 #[derive(Clone, Copy, Debug, PartialEq, Eq)]
 pub struct Tally {
-    /// Openings: a ConnReq or ConnResp that is no copy of the last one.
+    /// Openings: each ConnReq or ConnResp that is not a copy.
     pub openings: u64,
     /// Heartbeats.
     pub heartbeats: u64,
-    /// Requests for retransmission (RetrReq).
+    /// Retransmission requests (RetrReq).
     pub requests: u64,
     /// Units that were sent again (RetrData).
     pub resent: u64,
+    /// Disconnects (DiscReq), over all openings.
+    pub disconnects: u64,
     /// The greatest age of a confirmed timestamp, in milliseconds.
     pub oldest: u32,
-    /// When the last one was heard, in microseconds; 0 before the first since an opening.
+    /// The longest wait for a confirmation, in milliseconds.
+    pub longest: u32,
+    /// The time of the last PDU, in microseconds; 0 before the first.
     pub last: u64,
-    /// The longest time between two of them, in microseconds; none between two openings counts.
+    /// The longest time between two PDUs, in microseconds.
     pub silence: u64,
     /// Reason and detail of the last DiscReq since an opening.
     pub leaving: Option<Leaving>,
-    /// When the last opening was heard, in microseconds; 0 before the first.
+    /// The time of the last opening, in microseconds; 0 before the first.
     pub opened: u64,
-    /// When that DiscReq was heard, in microseconds; of no meaning where there is none.
+    /// The time of that DiscReq, in microseconds; it has no meaning without one.
     pub left: u64,
 }
 
 /// What is remarkable in a PDU.
 #[derive(Clone, Copy, Debug, PartialEq, Eq)]
 pub struct Remarks {
-    /// It opens (ConnReq or ConnResp) and is no copy: the numbers of its end begin anew.
+    /// It opens a session and is not a copy: the numbers of its end start again.
     pub opens: bool,
-    /// The number of its channel, from 0 on; from `CHANNELS` on channels are not told apart.
+    /// The number of its channel, from 0; `CHANNELS` for any further channel.
     pub route: usize,
-    /// How its redundancy number follows on those of its channel; none where the channel is not told apart.
+    /// How its redundancy number follows on its channel; `None` on a further channel.
     pub channel: Option<Judged>,
-    /// How it follows on those of all channels.
+    /// How its redundancy number follows on all channels together.
     pub together: Judged,
-    /// How its sequence number follows; none where the PDU was heard before.
+    /// How its sequence number follows; `None` if the PDU came before, or that is unknown.
     pub sequence: Option<Judged>,
     /// It carries a unit that was sent before (RetrData).
     pub resent: bool,
-    /// How old the timestamp that it confirms is at the end that made that timestamp, in milliseconds; none of a
-    /// ConnReq or a DiscReq directly behind it, and where that end was not heard, or nothing as late as the confirmed
-    /// timestamp.
+    /// The age of the confirmed timestamp at the end that made it, in milliseconds.
+    ///
+    /// `None` for a ConnReq or a DiscReq directly after it; if the timestamp is from before the last opening of that
+    /// end; and if no PDU of that end is as late.
     pub age: Option<u32>,
-    /// Reason and detail, of a DiscReq.
+    /// How long its end had waited for a confirmation when it made it, in milliseconds.
+    ///
+    /// `None` for a copy, and if neither the opening of its end nor a confirmation to it was recorded.
+    pub waits: Option<u32>,
+    /// Reason and detail, if it is a DiscReq.
     pub leaving: Option<Leaving>,
 }
 
-/// Where a PDU stands in the capture.
+/// The time, line and channel of a PDU.
 #[derive(Clone, Copy, Debug, PartialEq, Eq)]
 pub struct Place {
     /// When it was recorded, in microseconds.
     pub time: u64,
-    /// The number of its line, from 1 on.
+    /// The number of its line, from 1.
     pub line: u64,
-    /// The number of its channel, from 0 on; from `CHANNELS` on channels are not told apart.
+    /// The number of its channel, from 0; `CHANNELS` for any further channel.
     pub channel: usize,
 }
 
 impl Direction {
-    /// Nothing was heard yet.
+    /// Returns a direction without PDUs.
     pub fn new() -> Self
-        // A direction begins with nothing heard.
+        // The new direction has empty windows, no timestamp and no opening, and all counts 0.
         ensures { result ≡ open_direction }
     {
         Direction {
@@ -110,13 +157,17 @@ impl Direction {
             sequence: Window::new(),
             stamp: None,
             opening: None,
+            confirmations: [None; KEPT],
+            since: None,
             damaged: [0; CHANNELS],
             tally: Tally {
                 openings: 0,
                 heartbeats: 0,
                 requests: 0,
                 resent: 0,
+                disconnects: 0,
                 oldest: 0,
+                longest: 0,
                 last: 0,
                 silence: 0,
                 leaving: None,
@@ -127,30 +178,24 @@ impl Direction {
     }
 }
 
-/// Takes a PDU into account, and answers what is remarkable in it. `peer` is the timestamp of the newest PDU from the
-/// other end.
+/// Adds a PDU to its direction and returns what is remarkable in it. `peer` is what the other end said before.
 pub fn follow_pdu(
     direction: &mut Direction,
-    peer: Option<u32>,
+    peer: Peer,
     place: Place,
     seq: u32,
     header: &Header,
 ) -> Remarks
-    // The remarks on a PDU judge its redundancy number on its channel and over all channels, and its sequence
-    // number (`channel_judged`, `judged`, `sequence_judged`).
-    // The remarks on a PDU tell whether it opens, whether it sends a unit again, its confirmed timestamp's age,
-    // and why it leaves (`is_opened`, `is_resent`, `age_of`).
-    // The age of a confirmed timestamp is the last timestamp of the end that made it minus the confirmed one
-    // (`age_at`).
-    // A DiscReq whose number follows directly on its own end's ConnReq confirms nothing, and has no age
-    // (`confirms_nothing`).
-    // It is such a copy only where the last one is kept, with the same octets, and nothing else of its end came
-    // on its channel since (`is_opened`, `is_copy`).
+    // The remarks judge the redundancy number on its channel and on all channels, then the sequence number
+    // (`channel_judged`, `judged`, `sequence_judged`). They also have the opening, the retransmission, the age, the
+    // wait and the reason (`is_opened`, `is_resent`, `age_of`, `waits_of`). An opening is a copy only if the first
+    // one is kept with the same bytes, and nothing else has come on its channel since (`is_copy`). The age is the
+    // peer's newest timestamp minus the confirmed one (`age_at`); a ConnReq and a DiscReq directly after it have none
+    // (`confirms_nothing`), nor has a timestamp from before the peer's opening (`is_before`). The wait of a new PDU
+    // is its timestamp minus the one that was last confirmed to its end (`since_after`).
     ensures remarks { result ≡ remarks_of direction.old peer place seq header.now }
-    // What is kept of a direction after a PDU is exactly the stated step.
-    // A PDU whose redundancy number was heard before counts no second time among sequence numbers and types
-    // (`is_new`).
-    // A ConnReq or ConnResp that is no copy of the last one begins all numbers of its end anew (`opened_with`).
+    // A PDU whose redundancy number came before changes only the windows of redundancy numbers (`is_new`). An opening
+    // that is not a copy first restarts all numbers of its end (`opened_with`).
     ensures followed { direction.new ≡ followed direction.old peer place seq header.now }
 {
     let opening = opening_in(header);
@@ -161,16 +206,19 @@ pub fn follow_pdu(
     follow_opened(direction, opens, peer, place, seq, header)
 }
 
-/// Takes a PDU into account whose opening was.
+/// Adds a PDU after its opening was handled.
 fn follow_opened(
     direction: &mut Direction,
     opens: bool,
-    peer: Option<u32>,
+    peer: Peer,
     place: Place,
     seq: u32,
     header: &Header,
 ) -> Remarks
+    // The remarks are those of `remarks_in`, with `opens` as it was decided before.
     ensures remarks { result ≡ remarks_in direction.old opens peer place seq header.now }
+    // The windows, the timestamp and the counts take the PDU in; a repeat, a differing or a stale one does not reach
+    // sequence numbers and counts (`followed_in`).
     ensures followed { direction.new ≡ followed_in direction.old peer place seq header.now }
 {
     let octets = header.fingerprint;
@@ -182,8 +230,19 @@ fn follow_opened(
     if is_newest(together) {
         direction.stamp = Some(header.ts);
     }
+    let confirmed = peer.confirmed;
+    let since = confirm(
+        is_new,
+        direction.opening,
+        direction.since,
+        confirmed,
+        header,
+    );
+    let waits = wait(is_new, since, header.ts);
+    direction.since = since;
+    keep_confirmation(&mut direction.confirmations, is_new, header);
     if is_new {
-        count(&mut direction.tally, place.time, age, header);
+        count(&mut direction.tally, place.time, age, waits, header);
     }
     Remarks {
         opens,
@@ -193,18 +252,132 @@ fn follow_opened(
         sequence,
         resent: carries_again(header.kind),
         age,
+        waits,
         leaving: header.leaving,
     }
 }
 
-/// The opening that a PDU is; none of a PDU that opens nothing.
+/// Returns what an end said, as far as it concerns a PDU of the other end.
+pub(crate) fn see_peer(direction: &Direction, header: &Header) -> Peer
+    // The result has the timestamps of the last opening and the newest PDU, and the timestamp that the PDU confirms
+    // which `header` confirms (`peer_of`).
+    ensures { result ≡ peer_of direction.now header.now }
+{
+    Peer {
+        opened: opened(direction.opening),
+        stamp: direction.stamp,
+        confirmed: confirmed(&direction.confirmations, header),
+    }
+}
+
+/// Returns the timestamp of an opening.
+fn opened(opening: Option<SessionOpening>) -> Option<u32>
+    // The result is the TS of the `opening`, or `None` without one.
+    ensures { result ≡ opened_at opening }
+{
+    let opening = opening?;
+    Some(opening.ts)
+}
+
+/// Returns the timestamp that the PDU confirms which a PDU confirms.
+fn confirmed(confirmations: &[Option<Confirmation>; KEPT], header: &Header) -> Option<u32>
+    // The PDU is the one with the CS of `header` as its SN and the CTS as its TS; `None` without it
+    // (`confirmed_by`).
+    ensures { result ≡ confirmed_by confirmations.now header.now }
+{
+    let confirmation = confirmations[header.cs as usize % KEPT]?;
+    if confirmation.sn == header.cs && confirmation.ts == header.cts {
+        return Some(confirmation.cts);
+    }
+    None
+}
+
+/// Keeps what a new PDU confirms.
+fn keep_confirmation(
+    confirmations: &mut [Option<Confirmation>; KEPT],
+    is_new: bool,
+    header: &Header,
+)
+    // Only the entry in the slot of the SN changes, and only if the PDU `is_new`; a ConnReq leaves it empty.
+    ensures { confirmations.new ≡ confirming is_new confirmations.old header.now }
+{
+    if is_new {
+        confirmations[header.sn as usize % KEPT] = read_confirmation(header);
+    }
+}
+
+/// Returns what a PDU confirms.
+fn read_confirmation(header: &Header) -> Option<Confirmation>
+    // A ConnReq confirms nothing; any other PDU has its SN, TS and CTS.
+    ensures { result ≡ confirmation_of header.now }
+{
+    if matches!(header.kind, Kind::ConnReq) {
+        return None;
+    }
+    Some(Confirmation {
+        sn: header.sn,
+        ts: header.ts,
+        cts: header.cts,
+    })
+}
+
+/// Returns the own timestamp that was last confirmed to an end, after one of its PDUs.
+fn confirm(
+    is_new: bool,
+    opening: Option<SessionOpening>,
+    since: Option<u32>,
+    confirmed: Option<u32>,
+    header: &Header,
+) -> Option<u32>
+    // The result is `confirmed` if the PDU is new and confirms something, and that is known; otherwise it is `since`
+    // (`since_after`).
+    ensures { result ≡ since_after is_new opening since confirmed header.now }
+{
+    if !is_new || confirms_none(opening, header.kind, header.sn) {
+        return since;
+    }
+    match confirmed {
+        Some(confirmed) => Some(confirmed),
+        None => since,
+    }
+}
+
+/// Returns how long an end has waited at this timestamp, in milliseconds.
+fn wait(is_new: bool, since: Option<u32>, ts: u32) -> Option<u32>
+    // The wait is `ts` minus `since` on the ring of 2^32; a copy has none, nor has an end without `since`, or from
+    // 2^31 on (`waits_at`).
+    ensures { result ≡ waits_at is_new since ts }
+{
+    if !is_new {
+        return None;
+    }
+    let since = since?;
+    distance(since, ts)
+}
+
+/// Returns how far a timestamp is after another one.
+fn distance(from: u32, to: u32) -> Option<u32>
+    // The distance is `to` minus `from` on the ring of 2^32; from 2^31 on, `to` is before `from`: `None`.
+    ensures { result ≡ age_within (ahead from to) }
+{
+    let steps = to.wrapping_sub(from);
+    if steps < 0x8000_0000 {
+        Some(steps)
+    } else {
+        None
+    }
+}
+
+/// Returns the opening in a PDU.
 fn opening_in(header: &Header) -> Option<SessionOpening>
+    // Only a ConnReq and a ConnResp are openings; the opening has their type and sequence number.
     ensures { result ≡ opening_of header.now }
 {
     match header.kind {
         Kind::ConnReq | Kind::ConnResp => Some(SessionOpening {
             kind: header.kind,
             sn: header.sn,
+            ts: header.ts,
         }),
         Kind::RetrReq
         | Kind::RetrResp
@@ -215,7 +388,7 @@ fn opening_in(header: &Header) -> Option<SessionOpening>
     }
 }
 
-/// Whether a PDU opens, and is no copy of the last opening.
+/// Returns `true` if a PDU opens a session and is not a copy.
 fn begins_anew(
     direction: &Direction,
     opening: Option<SessionOpening>,
@@ -223,6 +396,7 @@ fn begins_anew(
     seq: u32,
     octets: u64,
 ) -> bool
+    // Without an `opening` the result is false; with one, it is true unless the PDU is a copy (`is_opened`).
     ensures { result ≡ is_opened direction.now opening channel seq octets }
 {
     match opening {
@@ -231,22 +405,28 @@ fn begins_anew(
     }
 }
 
-/// Whether an opening is a copy of the last one: that is kept, with the same octets, and on this channel nothing else of
-/// its end came since.
+/// Returns `true` if an opening is a copy: it is kept with the same bytes, and on this channel nothing else of its
+/// end has come since.
 fn copies(direction: &Direction, channel: usize, seq: u32, octets: u64) -> bool
+    // The result is true if the number repeats one of all channels, and the newest of its channel is not another
+    // number (`is_copy`).
     ensures { result ≡ is_copy direction.now channel seq octets }
 {
     repeats(judge(&direction.together, seq, octets)) && !goes_on(&direction.channels, channel, seq)
 }
 
+/// Returns `true` for a repeat.
 fn repeats(judged: Judged) -> bool
+    // Only `Repeat` counts; other bytes under the number do not (`is_repeat`).
     ensures { result ≡ is_repeat judged }
 {
     matches!(judged, Judged::Repeat(_))
 }
 
-/// Whether another number than this is the newest of a channel that is told apart.
+/// Returns `true` if another number is the newest of this channel.
 fn goes_on(channels: &[Window; CHANNELS], channel: usize, seq: u32) -> bool
+    // On a further channel the result is false; otherwise it compares the channel's newest number with `seq`
+    // (`has_gone_on`).
     ensures { result ≡ has_gone_on channels.now channel seq }
 {
     if channel < CHANNELS {
@@ -255,7 +435,9 @@ fn goes_on(channels: &[Window; CHANNELS], channel: usize, seq: u32) -> bool
     false
 }
 
+/// Returns `true` if there is a newest number and it is another one.
 fn differs(newest: Option<u32>, seq: u32) -> bool
+    // Without a `newest` number the result is false.
     ensures { result ≡ is_other newest seq }
 {
     match newest {
@@ -264,21 +446,26 @@ fn differs(newest: Option<u32>, seq: u32) -> bool
     }
 }
 
-/// Begins all numbers anew.
+/// Starts a session: all numbers start again.
 fn open(direction: &mut Direction, opening: Option<SessionOpening>, time: u64)
+    // All windows start again and keep their counts. No confirmation is kept, and the end waits from the timestamp of
+    // the `opening` on. The tally counts the opening, and forgets the reason (`opened_as`).
     ensures { direction.new ≡ opened_as true direction.old opening time }
 {
     reopen_all(&mut direction.channels);
     reopen(&mut direction.together);
     reopen(&mut direction.sequence);
     direction.opening = opening;
+    direction.confirmations = [None; KEPT];
+    direction.since = opened(opening);
     direction.tally.openings = direction.tally.openings.saturating_add(1);
-    direction.tally.last = 0;
     direction.tally.leaving = None;
     direction.tally.opened = time;
 }
 
+/// Starts the windows of all channels again.
 fn reopen_all(channels: &mut [Window; CHANNELS])
+    // Every channel's window is `reopened`.
     ensures { channels.new ≡ map reopened channels.old }
 {
     reopen(&mut channels[0]);
@@ -287,13 +474,16 @@ fn reopen_all(channels: &mut [Window; CHANNELS])
     reopen(&mut channels[3]);
 }
 
+/// Adds a redundancy number to the window of its channel.
 fn note_channel(
     channels: &mut [Window; CHANNELS],
     place: Place,
     seq: u32,
     octets: u64,
 ) -> Option<Judged>
+    // The result is how the number follows on its channel; `None` on a further channel (`channel_judged`).
     ensures judged { result ≡ channel_judged channels.old place.channel seq octets }
+    // Only the window of this channel changes; on a further channel none does.
     ensures noted { channels.new ≡ channel_noted channels.old place seq octets }
 {
     if place.channel < CHANNELS {
@@ -302,8 +492,10 @@ fn note_channel(
     None
 }
 
-/// Whether a PDU that followed so was not heard before, on whatever channel; of a stale one that can't be told.
+/// Returns `true` if a PDU has not come before on any channel. For a stale one that is unknown, and the result is
+/// `false`.
 fn is_first_copy(together: Judged) -> bool
+    // The result is false exactly for a repeat, a differing and a stale number (`is_new`).
     ensures { result ≡ is_new together }
 {
     match together {
@@ -312,8 +504,9 @@ fn is_first_copy(together: Judged) -> bool
     }
 }
 
-/// Whether a PDU that followed so is the newest: no late or stale one.
+/// Returns `true` if a PDU is the newest: new, and not late.
 fn is_newest(together: Judged) -> bool
+    // The result is true exactly for the first, the next, one ahead, and one that starts again (`is_furthest`).
     ensures { result ≡ is_furthest together }
 {
     match together {
@@ -322,8 +515,11 @@ fn is_newest(together: Judged) -> bool
     }
 }
 
+/// Adds the sequence number of a new PDU to its window.
 fn note_sequence(window: &mut Window, is_new: bool, line: u64, header: &Header) -> Option<Judged>
+    // A new PDU is judged by its sequence number and fingerprint; for any other the result is `None`.
     ensures judged { result ≡ sequence_judged is_new window.old header.now }
+    // Only a new PDU changes the `window`.
     ensures noted { window.new ≡ sequence_noted is_new window.old line header.now }
 {
     if is_new {
@@ -332,7 +528,9 @@ fn note_sequence(window: &mut Window, is_new: bool, line: u64, header: &Header) 
     None
 }
 
+/// Returns `true` for a unit that is sent again.
 fn carries_again(kind: Kind) -> bool
+    // The result is true exactly for RetrData.
     ensures { result ≡ is_resent kind }
 {
     match kind {
@@ -347,18 +545,34 @@ fn carries_again(kind: Kind) -> bool
     }
 }
 
-/// How old the timestamp that a PDU confirms is at the end that made it, in milliseconds of the ring of 32 bits.
-fn age(opening: Option<SessionOpening>, stamp: Option<u32>, header: &Header) -> Option<u32>
-    ensures { result ≡ age_of opening stamp header.now }
+/// Returns the age of the confirmed timestamp at the end that made it, in milliseconds.
+fn age(opening: Option<SessionOpening>, peer: Peer, header: &Header) -> Option<u32>
+    // A PDU that confirms nothing has no age; for any other it is the age of its CTS in the session of the `peer`
+    // (`age_of`).
+    ensures { result ≡ age_of opening peer header.now }
 {
-    if confirms_none(opening, header.kind, header.sn) {
+    if confirms_none(opening, header.kind, header.sn) || precedes(peer.opened, header.cts) {
         return None;
     }
-    age_behind(stamp, header.cts)
+    age_behind(peer.stamp, header.cts)
 }
 
-/// Whether a PDU confirms nothing: a ConnReq, and the DiscReq of an end that sent nothing but its ConnReq before.
+/// Returns `true` if a timestamp is from before the opening of its end.
+fn precedes(opened: Option<u32>, stamp: u32) -> bool
+    // Without an opening the result is false; with one, the `stamp` is before it if it is 2^31 or more ahead on the
+    // ring of 2^32.
+    ensures { result ≡ is_before opened stamp }
+{
+    match opened {
+        None => false,
+        Some(opened) => stamp.wrapping_sub(opened) >= 0x8000_0000,
+    }
+}
+
+/// Returns `true` if a PDU confirms nothing: a ConnReq, or a DiscReq directly after one.
 fn confirms_none(opening: Option<SessionOpening>, kind: Kind, sn: u32) -> bool
+    // A ConnReq confirms nothing; a DiscReq confirms nothing if its `sn` is the next one after the ConnReq
+    // (`confirms_nothing`).
     ensures { result ≡ confirms_nothing opening kind sn }
 {
     match kind {
@@ -373,8 +587,9 @@ fn confirms_none(opening: Option<SessionOpening>, kind: Kind, sn: u32) -> bool
     }
 }
 
-/// Whether a sequence number follows directly on that of the last opening, and that was a ConnReq.
+/// Returns `true` if a sequence number is the next one after the last opening, and that was a ConnReq.
 fn follows_request(opening: Option<SessionOpening>, sn: u32) -> bool
+    // The result is true exactly if the `opening` is a ConnReq and `sn` is one step ahead of it.
     ensures { result ≡ is_behind_request opening sn }
 {
     match opening {
@@ -383,25 +598,25 @@ fn follows_request(opening: Option<SessionOpening>, sn: u32) -> bool
     }
 }
 
+/// Returns how far a confirmed timestamp is before the newest one.
 fn age_behind(stamp: Option<u32>, confirmed: u32) -> Option<u32>
+    // The age is `stamp` minus `confirmed` on the ring of 2^32; `None` without a stamp, or from 2^31 on.
     ensures { result ≡ age_at stamp confirmed }
 {
     let stamp = stamp?;
-    let age = stamp.wrapping_sub(confirmed);
-    if age < 0x8000_0000 { Some(age) } else { None }
+    distance(confirmed, stamp)
 }
 
-/// Counts a PDU that was not heard before.
-fn count(tally: &mut Tally, time: u64, age: Option<u32>, header: &Header)
-    ensures { tally.new ≡ tallied tally.old time age header.now }
+/// Counts a PDU that has not come before.
+fn count(tally: &mut Tally, time: u64, age: Option<u32>, waits: Option<u32>, header: &Header)
+    // The tally counts the type, and keeps the greatest age, the longest wait, the longest silence, this time, and
+    // the reason and time of a DiscReq (`tallied`).
+    ensures { tally.new ≡ tallied tally.old time age waits header.now }
 {
     count_kind(tally, header.kind);
-    if let Some(age) = age {
-        tally.oldest = tally.oldest.max(age);
-    }
-    if tally.last > 0 {
-        tally.silence = tally.silence.max(time.saturating_sub(tally.last));
-    }
+    tally.oldest = greatest(age, tally.oldest);
+    tally.longest = greatest(waits, tally.longest);
+    tally.silence = silence(tally, time);
     tally.last = time;
     if header.leaving.is_some() {
         tally.leaving = header.leaving;
@@ -409,13 +624,39 @@ fn count(tally: &mut Tally, time: u64, age: Option<u32>, header: &Header)
     }
 }
 
+/// Returns the longest time without a PDU up to this time, both in microseconds.
+pub fn silence(tally: &Tally, time: u64) -> u64
+    // The result is the longest time between two PDUs, or that from the last PDU to `time` if it is longer; before the
+    // first PDU nothing counts (`silence_of`).
+    ensures { result ≡ silence_of tally.now time }
+{
+    if tally.last > 0 {
+        return tally.silence.max(time.saturating_sub(tally.last));
+    }
+    tally.silence
+}
+
+/// Returns the greater of a value, if there is one, and the greatest so far.
+fn greatest(more: Option<u32>, so_far: u32) -> u32
+    // Without `more` the result is `so_far`, otherwise the greater of both.
+    ensures { result ≡ greatest_of more so_far }
+{
+    match more {
+        None => so_far,
+        Some(more) => so_far.max(more),
+    }
+}
+
+/// Counts the type of a PDU.
 fn count_kind(tally: &mut Tally, kind: Kind)
+    // Heartbeats, RetrReq, RetrData and DiscReq have counts; other types change nothing (`kind_counted`).
     ensures { tally.new ≡ kind_counted kind tally.old }
 {
     match kind {
         Kind::Heartbeat => tally.heartbeats = tally.heartbeats.saturating_add(1),
         Kind::RetrReq => tally.requests = tally.requests.saturating_add(1),
         Kind::RetrData => tally.resent = tally.resent.saturating_add(1),
-        Kind::ConnReq | Kind::ConnResp | Kind::RetrResp | Kind::DiscReq | Kind::Data => {}
+        Kind::DiscReq => tally.disconnects = tally.disconnects.saturating_add(1),
+        Kind::ConnReq | Kind::ConnResp | Kind::RetrResp | Kind::Data => {}
     }
 }

@@ -1,6 +1,11 @@
-//! A recording as a file, block by block: classic pcap, and pcapng (draft-ietf-opsawg-pcap, draft-ietf-opsawg-pcapng).
+//! The blocks of a recording: classic pcap, and pcapng (draft-ietf-opsawg-pcap, draft-ietf-opsawg-pcapng).
 //!
-//! Each block is taken as soon as it has come: `wants` says how many octets are next, and `take` takes them.
+//! The caller reads as many bytes as `wants` returns, and hands them to `take`. After a fault a recording cannot go
+//! on, since the place of the next block is unknown.
+//!
+//! pcap files may have either byte order and either unit of time. Of pcapng, section headers, interfaces and enhanced
+//! packets are read. Other blocks are skipped, simple packets too, since they have no time. The offset of an
+//! interface's times is not read.
 
 ghost use Rattle.std.specs.Prelude.{◌≡◌, ◌<◌, ◌≤◌, ◌+◌, ◌^◌, length, IfOk, IfSome};
 ghost use Rattle.capture.specs.Recordings.{EndsWithin, at_first_free, block_step, body_step, cut_step, described, event_of, going_on, head_of_section, head_step, interface_step, interfaces_after, micros_of, opened, order_step, packet_step, part_after, record_step, section_step, size_step, sized_block, start_step, step_of, text_step, wanted};
@@ -9,124 +14,124 @@ use crate::frame::Link;
 use crate::interfaces::{Interface, is_readable, micros, resolution};
 use crate::places::{big, four, long, short};
 
-/// How many octets a block has at most. Recorders cut frames at 262,144.
+/// Largest block, in bytes. Recorders cut frames at 262,144.
 pub const BLOCK_MAX: u32 = 524_288;
 
-/// How many interfaces a section of a pcapng file has at most.
+/// Largest number of interfaces in a section of a pcapng file.
 pub const INTERFACES: usize = 16;
 
-/// What a pcap file says of all its records.
+/// The form of a pcap file, the same for all its records.
 #[derive(Clone, Copy, Debug, PartialEq, Eq)]
 pub struct FileForm {
-    /// Numbers stand with the most significant octet first.
+    /// The most significant byte of a number comes first.
     pub big: bool,
-    /// Times have nanoseconds, in place of microseconds.
+    /// Times are in nanoseconds, not microseconds.
     pub nanos: bool,
 }
 
-/// What stands next in a recording.
+/// What comes next in a recording.
 #[derive(Clone, Copy, Debug, PartialEq, Eq)]
 pub enum FilePart {
-    /// The first four octets.
+    /// The first four bytes.
     Start,
     /// The rest of the header of a pcap file.
     Head(FileForm),
-    /// The header of a record of a pcap file.
+    /// The header of a pcap record.
     Record(FileForm, Option<Link>),
-    /// The frame of such a record, with its time and size, and whether it is whole.
+    /// The frame of a pcap record, with its time and size, and `true` if it is complete.
     Body(FileForm, Option<Link>, u64, u32, bool),
-    /// The length of a pcapng section's header.
+    /// The length of a pcapng section header.
     Section,
-    /// The order of its numbers, behind its length.
+    /// The byte order mark of a section, after its length.
     Order([u8; 4]),
-    /// The rest of it, with the order of numbers and the length of all.
+    /// The rest of a section header, with its byte order (`true`: big-endian) and its length.
     Opening(bool, u32),
-    /// The type and the length of a pcapng block.
+    /// The type and length of a pcapng block, with the byte order.
     Block(bool),
-    /// The rest of it, with its type and the length of all.
+    /// The rest of a block, with the byte order, its type and its length.
     Rest(bool, u32, u32),
 }
 
-/// A frame in the octets of its block.
+/// A frame in the bytes of its block.
 #[derive(Clone, Copy, Debug, PartialEq, Eq)]
 pub struct Framed {
-    /// How it begins, where that is known here.
+    /// Its link header, if it is known here.
     pub link: Option<Link>,
     /// When it was recorded, in whole microseconds since 1970.
     pub time: u64,
-    /// Where it begins in its block.
+    /// The place of its first byte in the block.
     pub start: usize,
-    /// Where it ends.
+    /// The place after its last byte.
     pub end: usize,
     /// Nothing of it was cut off.
     pub whole: bool,
 }
 
-/// What a block says.
+/// The content of a block.
 #[derive(Clone, Copy, Debug, PartialEq, Eq)]
 pub enum BlockContent {
-    /// Nothing of a frame.
+    /// No frame.
     Nothing,
-    /// These are no octets of a recording; they may be text.
+    /// The file is not a recording; it may be a text.
     Text,
     /// A frame.
     Frame(Framed),
 }
 
-/// Why a file is no recording, or goes on as none.
+/// Why a file is not a recording, or cannot go on as one.
 #[derive(Clone, Copy, Debug, PartialEq, Eq)]
 pub enum FileFault {
-    /// It is of a version that is not known here.
+    /// Its version is not known here.
     Version,
-    /// A length is too small for its block or frame, no multiple of four, or beyond `BLOCK_MAX`.
+    /// A length is too small for its block or frame, not a multiple of four, or above `BLOCK_MAX`.
     Length,
-    /// A section says neither order of octets.
+    /// A section has neither byte order mark.
     Order,
-    /// The length behind a block is not the one before it.
+    /// The length after a block differs from the one before it.
     Trailer,
     /// A frame is of an interface that is not described.
     Interface,
-    /// The unit of an interface's times is none of 10^0 to 10^-19 seconds, and none of 2^0 to 2^-40.
+    /// The unit of an interface's times is not one of 10^0 to 10^-19 and 2^0 to 2^-40 seconds.
     Resolution,
-    /// There are more interfaces than `INTERFACES`.
+    /// There are more than `INTERFACES` interfaces.
     Interfaces,
 }
 
-/// What a block does to the interfaces that are known.
+/// What a block changes in the known interfaces.
 #[derive(Clone, Copy, Debug, PartialEq, Eq)]
 pub(crate) enum Change {
     /// Nothing.
     Keep,
-    /// A section begins: none is known.
+    /// A section starts: no interface is known.
     Clear,
-    /// One more is.
+    /// One more is known.
     Add(Interface),
 }
 
-/// What comes of a block.
+/// The step that a block makes.
 #[derive(Clone, Copy, Debug, PartialEq, Eq)]
 pub(crate) struct Step {
-    /// What stands next.
+    /// What comes next.
     pub part: FilePart,
-    /// What the block says.
+    /// The content of the block.
     pub event: BlockContent,
-    /// What it does to the interfaces.
+    /// The change of the interfaces.
     pub change: Change,
 }
 
-/// How far a recording was taken.
+/// The state of a recording that is read block by block.
 #[derive(Clone, Copy, Debug, PartialEq, Eq)]
 pub struct Recording {
-    /// What stands next.
+    /// What comes next.
     pub part: FilePart,
-    /// The interfaces of the section, in their order.
+    /// The interfaces of the section, in order.
     pub interfaces: [Option<Interface>; INTERFACES],
 }
 
 impl Recording {
-    /// Nothing was taken yet.
+    /// Returns the state before the first block.
     pub fn new() -> Self
-        // A recording begins with its first four octets, and no interface.
+        // The new recording starts with the first four bytes, and knows no interface.
         ensures { result ≡ opened }
     {
         Recording {
@@ -135,9 +140,9 @@ impl Recording {
         }
     }
 
-    /// How many octets are to be taken next.
+    /// Returns how many bytes the next block has.
     pub fn wants(&self) -> u32
-        // How many octets are taken next.
+        // The size is that of the part that comes next (`wanted`): fixed, or from a length that was read before.
         ensures { result ≡ wanted self.now.part }
     {
         match self.part {
@@ -151,19 +156,27 @@ impl Recording {
         }
     }
 
-    /// Takes a block, of any octets, and answers what it says.
-    ///
-    /// # Errors
-    ///
-    /// The first fault of a block. The recording is then as before, and cannot go on.
+    /// Takes the next block and returns its content. `octets` may contain any bytes.
+    /// ///
+    /// /// # Errors
+    /// ///
+    /// /// Returns the first fault of the block; the recording is then unchanged. Which of them are possible depends
+    /// on the block:
+    /// ///
+    /// /// - `Length` if there are too few bytes, or a length does not fit;
+    /// /// - `Version` if the version of the file or section is not known;
+    /// /// - `Order` if a section has neither byte order mark;
+    /// /// - `Trailer` if the length after a block differs;
+    /// /// - `Resolution` or `Interfaces` if an interface cannot be read, or there are too many;
+    /// /// - `Interface` if a frame is of an interface that is not described.
     pub fn take(&mut self, octets: &[u8]) -> Result<BlockContent, FileFault>
         requires { length octets.now ≤ 2 ^ 32 }
-        // A block, of any octets, says exactly what the definitions say, or its first fault is named.
+        // The content is that of the step (`step_of`) that the next part makes with these bytes, or its first fault.
         ensures event { result ≡ event_of (step_of self.old octets.now) }
-        // What stands next after a block, and which interfaces are known, is exactly the stated step; a fault
-        // changes nothing.
+        // After a block, the next part and the interfaces are those of the step; after a fault nothing has changed
+        // (`going_on`).
         ensures next { self.new ≡ going_on self.old (step_of self.old octets.now) }
-        // A frame lies within its block.
+        // A frame is within the bytes of its block, and its start is not after its end.
         ensures within { IfOk result (EndsWithin octets.now) }
     {
         match take_step(self, octets) {
@@ -177,10 +190,12 @@ impl Recording {
     }
 }
 
-/// What comes of the block that stands next.
+/// Reads the next block.
 fn take_step(recording: &Recording, octets: &[u8]) -> Result<Step, FileFault>
     requires { length octets.now ≤ 2 ^ 32 }
+    // The step is that of the part that comes next, read with its own definition (`step_at`).
     ensures step { result ≡ step_of recording.now octets.now }
+    // A frame of this step is within its block.
     ensures within { IfOk result (λ step. EndsWithin octets.now step.event) }
 {
     match recording.part {
@@ -198,8 +213,9 @@ fn take_step(recording: &Recording, octets: &[u8]) -> Result<Step, FileFault>
     }
 }
 
-/// A step on to a part, of which nothing is told.
+/// Returns a step to another part, without content.
 fn on_to(part: FilePart) -> Step
+    // The step goes to `part`, has no frame, and keeps the interfaces.
     ensures { result ≡ part_after part }
 {
     Step {
@@ -209,9 +225,12 @@ fn on_to(part: FilePart) -> Step
     }
 }
 
-/// The first four octets: the form of a pcap file, a pcapng section, or text.
+/// Reads the first four bytes: the form of a pcap file, a pcapng section, or a text.
 fn start(octets: &[u8]) -> Step
+    // Four magic numbers name byte order and unit of a pcap file, one starts a section; anything else is a text
+    // (`start_with`).
     ensures step { result ≡ start_step octets.now }
+    // The first four bytes contain no frame.
     ensures within { EndsWithin octets.now result.event }
 {
     let Some(first) = long(true, octets, 0) else {
@@ -239,10 +258,12 @@ fn start(octets: &[u8]) -> Step
     }
 }
 
-/// The type of the block that begins a pcapng section.
+/// The type of the block that starts a pcapng section, the same in either byte order.
 const SECTION: u32 = 0x0a0d_0d0a;
 
+/// Returns the step of a file that is not a recording.
 fn text() -> Step
+    // The step stays at the start and reports a text.
     ensures { result ≡ text_step }
 {
     Step {
@@ -252,9 +273,12 @@ fn text() -> Step
     }
 }
 
-/// The rest of a pcap file's header: version 2, and the link of all frames.
+/// Reads the rest of a pcap header: version 2, and the link header of all frames.
 fn head(form: FileForm, octets: &[u8]) -> Result<Step, FileFault>
+    // Too few bytes are `Length`, another version than 2 is `Version`. Otherwise records follow, with the link of the
+    // number's lower 16 bits (`head_with`).
     ensures step { result ≡ head_step form octets.now }
+    // The header of a pcap file contains no frame.
     ensures within { IfOk result (λ step. EndsWithin octets.now step.event) }
 {
     let Some(version) = short(form.big, octets, 0) else {
@@ -269,9 +293,12 @@ fn head(form: FileForm, octets: &[u8]) -> Result<Step, FileFault>
     Ok(on_to(FilePart::Record(form, Link::numbered(network % 0x1_0000))))
 }
 
-/// The header of a record: its time, how many octets of the frame stand here, and how many it had.
+/// Reads the header of a pcap record: its time, the recorded size of the frame, and its original size.
 fn record_head(form: FileForm, link: Option<Link>, octets: &[u8]) -> Result<Step, FileFault>
+    // Too few bytes, or a size above `BLOCK_MAX`, are `Length`. Otherwise the frame follows; it is complete if its
+    // original size is not larger (`record_with`).
     ensures step { result ≡ record_step form link octets.now }
+    // The header of a record contains no frame.
     ensures within { IfOk result (λ step. EndsWithin octets.now step.event) }
 {
     let Some(seconds) = long(form.big, octets, 0) else {
@@ -293,15 +320,16 @@ fn record_head(form: FileForm, link: Option<Link>, octets: &[u8]) -> Result<Step
     Ok(on_to(FilePart::Body(form, link, time, size, original <= size)))
 }
 
-/// Whole microseconds of seconds and a part of one.
+/// Returns whole microseconds from seconds and a fraction.
 fn moment(nanos: bool, seconds: u32, part: u32) -> u64
+    // A fraction in nanoseconds is divided by 1,000; the rest is cut off.
     ensures { result ≡ micros_of nanos seconds part }
 {
     let part = if nanos { part / 1000 } else { part };
     seconds as u64 * 1_000_000 + part as u64
 }
 
-/// The frame of a record.
+/// Returns the frame of a pcap record.
 fn body(
     form: FileForm,
     link: Option<Link>,
@@ -310,7 +338,10 @@ fn body(
     whole: bool,
     octets: &[u8],
 ) -> Step
+    // The frame is all of the bytes, at most `size`, with the time and link that were read before; another record
+    // follows.
     ensures step { result ≡ body_step form link time size whole octets.now }
+    // The frame of a record ends within the bytes that were handed over.
     ensures within { EndsWithin octets.now result.event }
 {
     let end = octets.len().min(size as usize);
@@ -327,9 +358,11 @@ fn body(
     }
 }
 
-/// The length of a section's header, in an order that is not known yet.
+/// Reads the length of a section header; the byte order is not known yet.
 fn section(octets: &[u8]) -> Result<Step, FileFault>
+    // The four bytes are kept as they are for the byte order mark that follows; fewer are `Length`.
     ensures step { result ≡ section_step octets.now }
+    // The length of a section contains no frame.
     ensures within { IfOk result (λ step. EndsWithin octets.now step.event) }
 {
     match four(octets, 0) {
@@ -338,9 +371,11 @@ fn section(octets: &[u8]) -> Result<Step, FileFault>
     }
 }
 
-/// The order of a section's numbers, by which its length is read.
+/// Reads the byte order mark of a section, then the length in that order.
 fn order(size: &[u8; 4], octets: &[u8]) -> Result<Step, FileFault>
+    // The mark must be 0x1a2b3c4d in one of the two orders, otherwise the fault is `Order`.
     ensures step { result ≡ order_step size.now octets.now }
+    // The byte order mark contains no frame.
     ensures within { IfOk result (λ step. EndsWithin octets.now step.event) }
 {
     match long(true, octets, 0) {
@@ -350,9 +385,12 @@ fn order(size: &[u8; 4], octets: &[u8]) -> Result<Step, FileFault>
     }
 }
 
-/// A section's header of a length.
+/// Checks the length of a section header.
 fn read_section_size(big: bool, size: &[u8; 4]) -> Result<Step, FileFault>
+    // The length must be that of a block of at least 28 bytes, otherwise the fault is `Length`; the rest of the
+    // header follows.
     ensures step { result ≡ size_step big size.now }
+    // A step to the rest of a section has no content.
     ensures within { IfOk result (λ step. step.event ≡ BlockContent.Nothing) }
 {
     match long(big, size, 0) {
@@ -367,16 +405,20 @@ fn read_section_size(big: bool, size: &[u8; 4]) -> Result<Step, FileFault>
     }
 }
 
-/// Whether a block may have this length, where it has at least another.
+/// Returns `true` if a block may have this length.
 fn is_sized(least: u32, size: u32) -> bool
+    // The length is at least `least`, at most `BLOCK_MAX`, and a multiple of four.
     ensures { result ≡ sized_block least size }
 {
     least <= size && size <= BLOCK_MAX && size % 4 == 0
 }
 
-/// The rest of a section's header: version 1, options, and the length again.
+/// Reads the rest of a section header: version 1, options, and the length again.
 fn opening(big: bool, size: u32, octets: &[u8]) -> Result<Step, FileFault>
+    // The length at the end is checked first (`Trailer`), then the version (`Version`); blocks follow, and no
+    // interface is known.
     ensures step { result ≡ head_of_section big size octets.now }
+    // The header of a section contains no frame.
     ensures within { IfOk result (λ step. EndsWithin octets.now step.event) }
 {
     if long(big, octets, size.saturating_sub(16) as usize) != Some(size) {
@@ -392,9 +434,13 @@ fn opening(big: bool, size: u32, octets: &[u8]) -> Result<Step, FileFault>
     })
 }
 
-/// The type and length of a block; those of a section's header are in its own order.
+/// Reads the type and length of a block. The length of a section header is kept as bytes, since the section has its
+/// own byte order.
 fn block(big: bool, octets: &[u8]) -> Result<Step, FileFault>
+    // A section's type leads to its byte order mark. Any other block must have a length of at least 12 (`Length`),
+    // and its rest follows (`block_with`).
     ensures step { result ≡ block_step big octets.now }
+    // The head of a block contains no frame.
     ensures within { IfOk result (λ step. EndsWithin octets.now step.event) }
 {
     let Some(kind) = long(big, octets, 0) else {
@@ -415,7 +461,7 @@ fn block(big: bool, octets: &[u8]) -> Result<Step, FileFault>
     Ok(on_to(FilePart::Rest(big, kind, size)))
 }
 
-/// The rest of a block: what it says, and the length again.
+/// Reads the rest of a block: its content, and the length again.
 fn rest(
     interfaces: &[Option<Interface>; INTERFACES],
     big: bool,
@@ -424,7 +470,10 @@ fn rest(
     octets: &[u8],
 ) -> Result<Step, FileFault>
     requires { length octets.now ≤ 2 ^ 32 }
+    // The length at the end must be the same (`Trailer`). An interface and an enhanced packet are read, any other
+    // block is skipped (`inner_step`).
     ensures step { result ≡ cut_step interfaces.now big kind size octets.now }
+    // A frame in the rest of a block is within it.
     ensures within { IfOk result (λ step. EndsWithin octets.now step.event) }
 {
     let end = size.saturating_sub(12) as usize;
@@ -439,13 +488,16 @@ fn rest(
     }
 }
 
-/// The description of an interface: its link, and the unit of its times.
+/// Reads the description of an interface: its link header, and the unit of its times.
 fn describe(
     interfaces: &[Option<Interface>; INTERFACES],
     big: bool,
     inner: &[u8],
 ) -> Result<Step, FileFault>
+    // Fewer than 8 bytes are `Length`, an unreadable unit is `Resolution`, a seventeenth interface is `Interfaces`;
+    // otherwise it is added (`interface_with`).
     ensures step { result ≡ interface_step interfaces.now big inner.now }
+    // The description of an interface has no content.
     ensures within { IfOk result (λ step. step.event ≡ BlockContent.Nothing) }
 {
     let Some(link) = short(big, inner, 0) else {
@@ -471,14 +523,17 @@ fn describe(
     })
 }
 
-/// An enhanced packet block: the frame of an interface, with its time.
+/// Reads an enhanced packet block: the frame of an interface, with its time.
 fn enhanced(
     interfaces: &[Option<Interface>; INTERFACES],
     big: bool,
     inner: &[u8],
 ) -> Result<Step, FileFault>
     requires { length inner.now ≤ 2 ^ 32 }
+    // Too few bytes, or a frame beyond the block, are `Length`. An interface that is not described is `Interface`.
+    // Otherwise the frame starts at byte 20 (`packet_with`, `frame_on`).
     ensures step { result ≡ packet_step interfaces.now big inner.now }
+    // The frame of an enhanced packet is within the `inner` bytes.
     ensures within { IfOk result (λ step. EndsWithin inner.now step.event) }
 {
     let Some(number) = long(big, inner, 0) else {
@@ -515,8 +570,9 @@ fn enhanced(
     }
 }
 
-/// The interface of a number.
+/// Returns the interface with this number.
 fn described_at(interfaces: &[Option<Interface>; INTERFACES], number: u32) -> Option<Interface>
+    // The result is the interface at this place; `None` for a number of `INTERFACES` or more (`described`).
     ensures { result ≡ described interfaces.now number }
 {
     let place = number as usize;
@@ -526,16 +582,19 @@ fn described_at(interfaces: &[Option<Interface>; INTERFACES], number: u32) -> Op
     None
 }
 
-/// The first place where no interface is known yet.
+/// Returns the first place without an interface.
 fn first_free(interfaces: &[Option<Interface>; INTERFACES]) -> Option<usize>
+    // The result is the first empty place, or `None` if all are in use.
     ensures value { result ≡ at_first_free interfaces.now }
+    // The place is within the list, so that the interface can be added there.
     ensures bound { IfSome result (λ place. place < INTERFACES) }
 {
     interfaces.iter().position(|interface| interface.is_none())
 }
 
-/// The interfaces after a block.
+/// Applies a change to the interfaces.
 fn apply(interfaces: &mut [Option<Interface>; INTERFACES], change: Change)
+    // The interfaces stay, are all removed, or have a new one at the first free place (`interfaces_after`).
     ensures { interfaces.new ≡ interfaces_after interfaces.old change }
 {
     match change {

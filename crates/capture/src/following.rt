@@ -1,4 +1,7 @@
-//! A whole capture: connections, datagrams that say nothing, and the sums over all.
+//! A whole capture: its connections, the datagrams that are not PDUs, and the sums over all.
+//!
+//! 16 connections are kept; for a further one, the connection silent longest is forgotten. A number further back than
+//! the window is stale and changes only its count, so a copy on a slow channel is not a restart.
 
 ghost use Rattle.std.specs.Prelude.{◌≡◌, [], fold};
 ghost use Rattle.capture.specs.Whole.{connections_after, counted_in, damaged_after, forgotten_after, forgotten_with, gone_after, gone_with, no_totals, remark_of, totals_of, window_counted};
@@ -13,61 +16,61 @@ use arrayvec::ArrayVec;
 use red_layer::pdu::RedFault;
 use safe_pdu::SafeFault;
 
-/// What is kept of a capture, in memory of one size whatever it says.
+/// The state of a capture, in memory of a fixed size.
 #[derive(Drop)]
 pub struct Following {
-    /// The connections; the one that was heard last stands last.
+    /// The connections; the last one is the one with the latest PDU.
     pub connections: Connections,
     /// How many datagrams came.
     pub datagrams: u64,
-    /// How many of them were no PDU.
+    /// How many of them were not a PDU.
     pub damaged: u64,
     /// The sums over the connections that were forgotten.
     pub gone: Totals,
-    /// How many connections were forgotten for want of room.
+    /// How many connections were forgotten for lack of room.
     pub forgotten: u64,
 }
 
 /// What is remarkable in a datagram.
 #[derive(Clone, Copy, Debug, PartialEq, Eq)]
 pub enum Remark {
-    /// It is no redundancy PDU.
+    /// It is not a redundancy PDU.
     NoRed(RedFault),
-    /// Its redundancy PDU has this number, and carries no safety PDU.
+    /// It is a redundancy PDU with this number, whose part is not a safety PDU.
     NoSafe(u32, SafeFault),
-    /// Its redundancy PDU has this number, and this is remarkable in its safety PDU.
+    /// It is a redundancy PDU with this number around a safety PDU, with these remarks.
     Pdu(u32, Header, Remarks),
 }
 
-/// Sums over directions: of each datagram with a PDU one of them but `missing` counts, by its redundancy number.
+/// Sums over directions, by redundancy numbers. Each PDU is counted in exactly one of them, but never in `missing`.
 #[derive(Clone, Copy, Debug, PartialEq, Eq)]
 pub struct Totals {
-    /// Numbers that were heard in their turn.
+    /// Numbers that came in order.
     pub heard: u64,
-    /// Numbers that were passed over, and heard on no channel.
+    /// Numbers that were skipped and came on no channel.
     pub missing: u64,
-    /// Numbers that were passed over, and heard later.
+    /// Numbers that were skipped and came later.
     pub late: u64,
-    /// Datagrams with a number that was heard before, on whatever channel, and the same octets.
+    /// PDUs whose number came before on any channel, with the same bytes.
     pub repeats: u64,
-    /// Datagrams with a number that was heard before, and other octets.
+    /// PDUs whose number came before, with other bytes.
     pub differing: u64,
-    /// Datagrams that came so late that nothing can be said of them.
+    /// PDUs that came so late that it is unknown if they came before.
     pub stale: u64,
 }
 
 impl Following {
-    /// Nothing was heard yet.
+    /// Returns the state before the first datagram.
     pub fn new() -> Self
-        // What is kept of a capture begins without a connection.
+        // A new `Following` has no connection.
         ensures connections { result.connections.items ≡ [] }
-        // It begins with no datagram counted.
+        // No datagram is counted in a new `Following`.
         ensures datagrams { result.datagrams ≡ 0 }
-        // It begins with no datagram counted as damaged.
+        // No damaged datagram is counted in a new `Following`.
         ensures damaged { result.damaged ≡ 0 }
-        // It begins without sums of connections that were forgotten.
+        // A new `Following` has no sums of forgotten connections.
         ensures gone { result.gone ≡ no_totals }
-        // It begins with no connection forgotten.
+        // A new `Following` has forgotten no connection.
         ensures forgotten { result.forgotten ≡ 0 }
     {
         Following {
@@ -79,23 +82,22 @@ impl Following {
         }
     }
 
-    /// Takes a datagram of a line into account, and answers what is remarkable in it.
+    /// Adds a datagram on this line to the capture and returns what is remarkable in it.
     pub fn hear(&mut self, line: u64, record: &Record, heard: &Heard) -> Remark
-        // What a datagram says is what the decoders' definitions say: number, type, header fields, reason and
-        // detail of a DiscReq, or the fault.
-        // What is remarkable in a datagram is its PDU's remarks, or the fault for which it is no PDU.
+        // For a PDU the remark has its number, its header and its remarks; for any other datagram, the fault of the
+        // layer that rejects it.
         ensures remark { result ≡ remark_of self.old.connections.items line record.now heard.now }
-        // A datagram that is no PDU changes nothing of connections but a count of damage at the last one heard
-        // with its channel (`damage_noted`).
+        // A PDU changes its own connection. Any other datagram changes only the count of damage in the last
+        // connection with its channel (`damage_noted`).
         ensures connections { self.new.connections.items
             ≡ connections_after self.old.connections.items line record.now heard.now }
-        // Each datagram is counted.
+        // The count of datagrams grows by 1.
         ensures datagrams { self.new.datagrams ≡ counted self.old.datagrams 1 }
-        // A datagram that is no PDU is counted among the damaged ones.
+        // The count of damaged datagrams grows by 1 exactly if the datagram is not a PDU.
         ensures damaged { self.new.damaged ≡ damaged_after self.old.damaged heard.now }
-        // The sums of a connection that is forgotten are kept.
+        // If a connection is forgotten, its sums are added to those of the forgotten ones.
         ensures gone { self.new.gone ≡ gone_after self.old.gone self.old.connections.items heard.now }
-        // A connection that is forgotten is counted.
+        // If a connection is forgotten, the count of forgotten ones grows by 1.
         ensures forgotten { self.new.forgotten
             ≡ forgotten_after self.old.forgotten self.old.connections.items heard.now }
     {
@@ -121,8 +123,9 @@ impl Following {
     }
 }
 
-/// How many connections are forgotten, once a PDU is taken into account.
+/// Returns the count of forgotten connections after a PDU.
 fn count_forgotten(forgotten: u64, connections: &Connections, header: &Header) -> u64
+    // The count grows by 1 exactly if the PDU needs a connection and there is no room (`forgets`).
     ensures { result ≡ forgotten_with forgotten connections.now.items header.now }
 {
     if has_no_room(connections, header) {
@@ -131,8 +134,9 @@ fn count_forgotten(forgotten: u64, connections: &Connections, header: &Header) -
     forgotten
 }
 
-/// The sums over the connections that are forgotten, once a PDU is taken into account.
+/// Returns the sums of forgotten connections after a PDU.
 fn sum_forgotten(gone: Totals, connections: &Connections, header: &Header) -> Totals
+    // If a connection is forgotten, it is the first one, and its sums are added.
     ensures { result ≡ gone_with gone connections.now.items header.now }
 {
     if has_no_room(connections, header) {
@@ -141,9 +145,9 @@ fn sum_forgotten(gone: Totals, connections: &Connections, header: &Header) -> To
     gone
 }
 
-/// The sums over all connections, those that were forgotten among them.
+/// Returns the sums over all connections; `gone` has those of the forgotten ones.
 pub fn sum_up(gone: Totals, connections: &[Connection]) -> Totals
-    // The sums are those over all connections, those that were forgotten among them.
+    // The sums of both directions of each connection are added to `gone`, each limited to 2^64 - 1.
     ensures { result ≡ totals_of gone connections.now }
 {
     connections.iter().fold(
@@ -152,7 +156,9 @@ pub fn sum_up(gone: Totals, connections: &[Connection]) -> Totals
     )
 }
 
+/// Returns sums of nothing.
 fn new_totals() -> Totals
+    // All six sums are 0.
     ensures { result ≡ no_totals }
 {
     Totals {
@@ -165,15 +171,18 @@ fn new_totals() -> Totals
     }
 }
 
-/// The sums with a connection more, both its directions.
+/// Adds a connection to the sums.
 fn add_connection(totals: Totals, connection: &Connection) -> Totals
+    // Both directions are added, each by its window over all channels (`counted_in`).
     ensures { result ≡ counted_in totals connection.now }
 {
     let low = count_window(totals, &connection.from_low.together);
     count_window(low, &connection.from_high.together)
 }
 
+/// Adds a window to the sums.
 fn count_window(totals: Totals, window: &Window) -> Totals
+    // Each count of the `window` is added to its sum, limited to 2^64 - 1.
     ensures { result ≡ window_counted totals window.now }
 {
     Totals {

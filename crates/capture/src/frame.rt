@@ -1,5 +1,7 @@
-//! A frame of a recording, and the UDP datagram in it: Ethernet with VLAN tags (IEEE 802.3, 802.1Q), the cooked headers of
-//! Linux, raw IP and loopback; IPv4 (RFC 791), IPv6 (RFC 8200) and UDP (RFC 768).
+//! The UDP datagram in a recorded frame: Ethernet with VLAN tags (IEEE 802.3, 802.1Q), the cooked headers of Linux,
+//! raw IP and loopback; IPv4 (RFC 791), IPv6 (RFC 8200) and UDP (RFC 768).
+//!
+//! Fragments are not joined. Up to two VLAN tags and up to five IPv6 headers before UDP are skipped.
 
 ghost use Rattle.std.specs.Prelude.{◌≡◌, ◌≤◌, ◌<◌, ◌^◌, ◌+◌, length, IfOk, IfSome};
 ghost use Rattle.capture.specs.Frames.{behind_tag, family_kind, found_in, in_packet, is_family, is_tag, kind_at, link_of, loopback_at, packet_of, raw_at, tagged, version_kind};
@@ -8,25 +10,25 @@ ghost use Rattle.capture.specs.Packets.{behind_fragment, behind_header, behind_o
 use crate::places::{big, four, octet, sixteen};
 use crate::{Address, Host};
 
-/// How a frame begins.
+/// The link header of a frame.
 #[derive(Clone, Copy, Debug, PartialEq, Eq)]
 pub enum Link {
     /// Ethernet, LINKTYPE 1.
     Ethernet,
     /// The cooked header of Linux (SLL), LINKTYPE 113.
     Cooked,
-    /// Its second form (SLL2), LINKTYPE 276.
+    /// The second cooked header of Linux (SLL2), LINKTYPE 276.
     Cooked2,
-    /// An IP packet with nothing before it, LINKTYPE 101 and 228.
+    /// No link header, only an IP packet: LINKTYPE 101 and 228.
     Raw,
-    /// A family of addresses in four octets, LINKTYPE 0 and 108.
+    /// An address family in four bytes, LINKTYPE 0 and 108.
     Loopback,
 }
 
 impl Link {
-    /// The link of a LINKTYPE number, where it is known here.
+    /// Returns the link header of a LINKTYPE number, if it is known here.
     pub fn numbered(number: u32) -> Option<Link>
-        // The LINKTYPE numbers that are known are 0, 1, 101, 108, 113, 228 and 276.
+        // Known are exactly 0, 1, 101, 108, 113, 228 and 276, with the link headers of `link_of`.
         ensures { result ≡ link_of number }
     {
         match number {
@@ -43,57 +45,62 @@ impl Link {
 /// A UDP datagram in a frame.
 #[derive(Clone, Copy, Debug, PartialEq, Eq)]
 pub struct Found {
-    /// Where it comes from.
+    /// The host and port that sent it.
     pub source: Address,
-    /// Where it goes to.
+    /// The host and port that it was sent to.
     pub destination: Address,
-    /// Where its payload begins in the frame.
+    /// The place in the frame of the first byte of its payload.
     pub start: usize,
-    /// Where it ends.
+    /// The place after its last byte.
     pub end: usize,
 }
 
-/// Why a frame has no UDP datagram to be read.
+/// Why a frame has no UDP datagram that can be read.
 #[derive(Clone, Copy, Debug, PartialEq, Eq)]
 pub enum Passed {
-    /// It ends before what its headers say.
+    /// The frame ends before its headers do.
     Truncated,
-    /// It carries something else than UDP over IP, or has more than five headers before it.
+    /// It carries something other than UDP over IP, or has more than five IPv6 headers before it.
     Other,
-    /// It is a fragment of a datagram. Fragments are not joined.
+    /// It is a fragment of a datagram.
     Fragment,
     /// A length in its headers does not fit the others.
     Length,
 }
 
+/// The EtherType of IPv4.
 const IPV4: u16 = 0x0800;
 
+/// The EtherType of IPv6.
 const IPV6: u16 = 0x86dd;
 
-/// A packet behind the header of its link.
+/// The packet after a link header.
 #[derive(Clone, Copy, Debug, PartialEq, Eq)]
 pub(crate) struct Packet {
     /// Its EtherType.
     pub kind: u16,
-    /// Where it begins in the frame.
+    /// The place in the frame of its first byte.
     pub place: usize,
 }
 
-/// Finds the UDP datagram of a frame, of any octets.
-///
-/// # Errors
-///
-/// Why there is none; of several reasons the one that is met first from the front.
+/// Finds the UDP datagram in a frame. `octets` may contain any bytes.
+/// ///
+/// /// # Errors
+/// ///
+/// /// Returns the first that applies, layer by layer from the front:
+/// ///
+/// /// - `Truncated` if a header is not complete, or the datagram ends after the frame;
+/// /// - `Other` if the packet is not IPv4 or IPv6, or carries something other than UDP;
+/// /// - `Fragment` if the packet is a fragment;
+/// /// - `Length` if the version or a length in a header does not fit.
 pub fn find_datagram(link: Link, octets: &[u8]) -> Result<Found, Passed>
     requires { length octets.now < 2 ^ 32 }
-    // The UDP datagram of a frame is found at exactly the places that the definitions say, or the first reason
-    // why there is none is named.
-    // Of it, of an IPv6 packet: what stands behind up to five headers, and which fragments are told (`in_ipv6`,
-    // `upper_of`).
+    // The result is the places of `found_in`, or the first reason why there is no datagram. Those are the places of a
+    // UDP payload in IPv4 or in IPv6, after up to five further headers.
     ensures found { result ≡ found_in link octets.now }
-    // A payload ends within its frame.
+    // The payload ends within the frame, so the caller may cut it out.
     ensures fits { IfOk result (λ found. found.end ≤ length octets.now) }
-    // A payload begins before it ends.
+    // The payload does not start after its end.
     ensures order { IfOk result (λ found. found.start ≤ found.end) }
 {
     match find_packet(link, octets) {
@@ -102,10 +109,15 @@ pub fn find_datagram(link: Link, octets: &[u8]) -> Result<Found, Passed>
     }
 }
 
+/// Reads the packet by its EtherType.
 fn read_packet(octets: &[u8], packet: Packet) -> Result<Found, Passed>
     requires near { packet.place < 2 ^ 33 }
+    // IPv4 and IPv6 packets are read by their own definitions; for any other EtherType the result is `Other`
+    // (`in_packet`).
     ensures found { result ≡ in_packet octets.now packet }
+    // If a datagram is found in the `packet`, it ends within the `octets`.
     ensures fits { IfOk result (λ found. found.end ≤ length octets.now) }
+    // If a datagram is found in the `packet`, its start is not after its end.
     ensures order { IfOk result (λ found. found.start ≤ found.end) }
 {
     match packet.kind {
@@ -115,10 +127,13 @@ fn read_packet(octets: &[u8], packet: Packet) -> Result<Found, Passed>
     }
 }
 
-/// The packet of a frame, or none where the header of its link is not whole.
+/// Returns the packet of a frame; `None` if the link header is not complete.
 fn find_packet(link: Link, octets: &[u8]) -> Option<Packet>
     requires { length octets.now < 2 ^ 32 }
+    // The packet is that of `packet_of`: after the header of this `link`, and after up to two VLAN tags for Ethernet
+    // and the cooked headers.
     ensures packet { result ≡ packet_of link octets.now }
+    // The place of a packet is small, so that sums of places do not overflow.
     ensures near { IfSome result (λ packet. packet.place < 2 ^ 33) }
 {
     match link {
@@ -130,28 +145,33 @@ fn find_packet(link: Link, octets: &[u8]) -> Option<Packet>
     }
 }
 
-/// The packet behind a header whose EtherType stands at a place.
+/// Returns the packet at `place`, whose EtherType is at `at`.
 fn kind(octets: &[u8], at: usize, place: usize) -> Option<Packet>
+    // There is a packet if the two bytes of the EtherType are there.
     ensures { result ≡ kind_at at place octets.now }
 {
     let kind = big(octets, at)?;
     Some(Packet { kind, place })
 }
 
-/// The packet behind up to two VLAN tags.
+/// Skips up to two VLAN tags.
 fn untag(octets: &[u8], packet: Packet) -> Option<Packet>
     requires near { packet.place ≤ 20 }
+    // The result is the packet after the first two tags, as far as the `packet` has tags (`tagged`).
     ensures packet { result ≡ tagged octets.now packet }
+    // The place after both tags stays below 2^33.
     ensures near { IfSome result (λ packet. packet.place < 2 ^ 33) }
 {
     let inner = untag_once(octets, packet)?;
     untag_once(octets, inner)
 }
 
-/// The packet behind a VLAN tag, or the packet itself where it has none.
+/// Skips a VLAN tag; a packet without one is returned as it is.
 fn untag_once(octets: &[u8], packet: Packet) -> Option<Packet>
     requires near { packet.place ≤ 24 }
+    // After a tag, the EtherType is 2 bytes further on, and the packet 4 bytes (`behind_tag`).
     ensures packet { result ≡ behind_tag octets.now packet }
+    // A tag moves the place by at most 4 bytes.
     ensures near { IfSome result (λ inner. inner.place ≤ packet.place + 4) }
 {
     if has_tag(packet.kind) {
@@ -160,16 +180,19 @@ fn untag_once(octets: &[u8], packet: Packet) -> Option<Packet>
     Some(packet)
 }
 
-/// Whether an EtherType says that a VLAN tag follows (802.1Q, 802.1ad and its forerunner).
+/// Returns `true` for the EtherTypes of VLAN tags (802.1Q, 802.1ad, and the older 0x9100).
 fn has_tag(kind: u16) -> bool
+    // Exactly 0x8100, 0x88a8 and 0x9100 are tags.
     ensures { result ≡ is_tag kind }
 {
     kind == 0x8100 || kind == 0x88a8 || kind == 0x9100
 }
 
-/// The packet at the front, by its version.
+/// Returns the packet of a frame without a link header, by its IP version.
 fn raw(octets: &[u8]) -> Option<Packet>
+    // The packet starts at the first byte; its EtherType is that of the version in the upper four bits (`raw_at`).
     ensures packet { result ≡ raw_at octets.now }
+    // The place of a raw packet is at most 20.
     ensures near { IfSome result (λ packet. packet.place ≤ 20) }
 {
     let first = octet(octets, 0)?;
@@ -177,7 +200,9 @@ fn raw(octets: &[u8]) -> Option<Packet>
     Some(Packet { kind, place: 0 })
 }
 
+/// Returns the EtherType of an IP version.
 fn of_version(version: u8) -> u16
+    // The result is that of IPv4 for 4, of IPv6 for 6, and 0 for any other version.
     ensures { result ≡ version_kind version }
 {
     match version {
@@ -187,9 +212,11 @@ fn of_version(version: u8) -> u16
     }
 }
 
-/// The packet behind a family of addresses, which stands in the order of octets of the machine that recorded.
+/// Returns the packet after an address family, which is in the byte order of the recording machine.
 fn loopback(octets: &[u8]) -> Option<Packet>
+    // The packet starts after four bytes; its EtherType is that of the family in them (`loopback_at`).
     ensures packet { result ≡ loopback_at octets.now }
+    // The place of a loopback packet is at most 20.
     ensures near { IfSome result (λ packet. packet.place ≤ 20) }
 {
     let high = big(octets, 0)?;
@@ -198,7 +225,9 @@ fn loopback(octets: &[u8]) -> Option<Packet>
     Some(Packet { kind, place: 4 })
 }
 
+/// Returns the EtherType of an address family.
 fn of_family(high: u16, low: u16) -> u16
+    // Family 2 is IPv4; 24, 28 and 30 are IPv6; for any other the result is 0 (`family_kind`).
     ensures { result ≡ family_kind high low }
 {
     if stands(high, low, 2) {
@@ -210,9 +239,10 @@ fn of_family(high: u16, low: u16) -> u16
     }
 }
 
-/// Whether a family stands in four octets, in either order.
+/// Returns `true` if four bytes are this family, in either byte order.
 fn stands(high: u16, low: u16, family: u16) -> bool
     requires { family < 256 }
+    // The family is in the low byte of `low`, or in the high byte of `high`, and all other bytes are 0.
     ensures { result ≡ is_family high low family }
 {
     high == 0 && low == family || high == family * 256 && low == 0
@@ -221,8 +251,12 @@ fn stands(high: u16, low: u16, family: u16) -> bool
 /// Reads the IPv4 packet at a place.
 fn read_ipv4(octets: &[u8], place: usize) -> Result<Found, Passed>
     requires near { place < 2 ^ 33 }
+    // The header's version and lengths, then the protocol, then the fragment fields are checked, in this order; then
+    // UDP is read (`in_ipv4`).
     ensures found { result ≡ in_ipv4 octets.now place }
+    // A datagram in an IPv4 packet ends within the `octets`.
     ensures fits { IfOk result (λ found. found.end ≤ length octets.now) }
+    // A datagram in an IPv4 packet has its start not after its end.
     ensures order { IfOk result (λ found. found.start ≤ found.end) }
 {
     let Some(first) = octet(octets, place) else {
@@ -262,8 +296,9 @@ fn read_ipv4(octets: &[u8], place: usize) -> Result<Found, Passed>
     )
 }
 
-/// Whether a packet is one of several: more follow, or it does not begin at the front.
+/// Returns `true` if a packet is a fragment: more follow, or its offset is not 0.
 fn has_parts(flags: u16) -> bool
+    // The result is true exactly if one of the lower 14 bits of the `flags` is set.
     ensures { result ≡ is_fragment flags }
 {
     flags % 0x4000 != 0
@@ -272,8 +307,12 @@ fn has_parts(flags: u16) -> bool
 /// Reads the IPv6 packet at a place.
 fn read_ipv6(octets: &[u8], place: usize) -> Result<Found, Passed>
     requires near { place < 2 ^ 33 }
+    // The version is checked, up to five headers are skipped, and UDP is read; any other header is `Other`
+    // (`in_ipv6`).
     ensures found { result ≡ in_ipv6 octets.now place }
+    // A datagram in an IPv6 packet ends within the `octets`.
     ensures fits { IfOk result (λ found. found.end ≤ length octets.now) }
+    // A datagram in an IPv6 packet has its start not after its end.
     ensures order { IfOk result (λ found. found.start ≤ found.end) }
 {
     let Some(first) = octet(octets, place) else {
@@ -309,21 +348,25 @@ fn read_ipv6(octets: &[u8], place: usize) -> Result<Found, Passed>
     )
 }
 
-/// What stands behind a header of an IPv6 packet.
+/// A header of an IPv6 packet, or what follows its headers.
 #[derive(Clone, Copy, Debug, PartialEq, Eq)]
 pub(crate) struct Upper {
     /// Its number, as in the field *next header*.
     pub kind: u8,
-    /// Where it begins in the frame.
+    /// The place in the frame of its first byte.
     pub place: usize,
 }
 
+/// The protocol number of UDP.
 const UDP: u8 = 17;
 
-/// What stands behind up to five headers, of which a packet has at most so many (RFC 8200, 4.1).
+/// Skips up to five headers; a packet should have no more of them (RFC 8200, 4.1).
 fn find_upper(octets: &[u8], first: Upper) -> Result<Upper, Passed>
     requires near { first.place < 2 ^ 33 + 2 ^ 12 }
+    // The result is what follows after five steps over headers, or the first reason why one cannot be skipped
+    // (`upper_of`).
     ensures upper { result ≡ upper_of octets.now first }
+    // Five headers move the place by less than 2^14 bytes.
     ensures near { IfOk result (λ upper. upper.place < 2 ^ 33 + 2 ^ 14) }
 {
     let second = pass_header(octets, first)?;
@@ -333,10 +376,13 @@ fn find_upper(octets: &[u8], first: Upper) -> Result<Upper, Passed>
     pass_header(octets, fifth)
 }
 
-/// What stands behind a header, or that itself where it is none that is passed over.
+/// Skips a header; anything that is not skipped is returned as it is.
 fn pass_header(octets: &[u8], upper: Upper) -> Result<Upper, Passed>
     requires near { upper.place < 2 ^ 34 }
+    // Options and routes are skipped by their length, a fragment header that is a whole packet by 8 bytes; anything
+    // else stays (`behind_header`).
     ensures upper { result ≡ behind_header octets.now upper }
+    // One header moves the place by at most 2,048 bytes.
     ensures near { IfOk result (λ next. next.place ≤ upper.place + 2048) }
 {
     if is_option(upper.kind) {
@@ -348,19 +394,24 @@ fn pass_header(octets: &[u8], upper: Upper) -> Result<Upper, Passed>
     }
 }
 
+/// The number of the IPv6 fragment header.
 const FRAGMENT: u8 = 44;
 
-/// Whether a header is passed over: options hop by hop, a route, options for the destination.
+/// Returns `true` for headers that are skipped: hop-by-hop options, routing, destination options.
 fn is_option(kind: u8) -> bool
+    // Exactly 0, 43 and 60 are skipped.
     ensures { result ≡ is_passed kind }
 {
     kind == 0 || kind == 43 || kind == 60
 }
 
-/// What stands behind options: they tell their length in eights of octets, the first not counted.
+/// Skips options. Their length is in units of 8 bytes, without the first 8.
 fn pass_options(octets: &[u8], place: usize) -> Result<Upper, Passed>
     requires near { place < 2 ^ 34 }
+    // The next header's number is in the first byte, the length in the second (`behind_options`); too few bytes are
+    // `Truncated`.
     ensures upper { result ≡ behind_options octets.now place }
+    // Options move the place by at most 2,048 bytes.
     ensures near { IfOk result (λ next. next.place ≤ place + 2048) }
 {
     let Some(kind) = octet(octets, place) else {
@@ -375,10 +426,13 @@ fn pass_options(octets: &[u8], place: usize) -> Result<Upper, Passed>
     })
 }
 
-/// What stands behind the header of a fragment that is the whole of its packet (RFC 6946).
+/// Skips the header of a fragment that is a whole packet (RFC 6946).
 fn pass_fragment(octets: &[u8], place: usize) -> Result<Upper, Passed>
     requires near { place < 2 ^ 34 }
+    // A real fragment is `Fragment` if UDP or a skipped header follows, otherwise `Other`. A whole packet goes on 8
+    // bytes later (`behind_fragment`).
     ensures upper { result ≡ behind_fragment octets.now place }
+    // A fragment header moves the place by at most 2,048 bytes.
     ensures near { IfOk result (λ next. next.place ≤ place + 2048) }
 {
     let Some(kind) = octet(octets, place) else {
@@ -399,14 +453,15 @@ fn pass_fragment(octets: &[u8], place: usize) -> Result<Upper, Passed>
     Err(Passed::Other)
 }
 
-/// Whether a fragment is one of several: more follow, or it does not begin at the front.
+/// Returns `true` if a fragment is one of several: more follow, or its offset is not 0.
 fn is_part(part: u16) -> bool
+    // The result is true exactly if the upper 13 bits of `part` are not all 0, or its lowest bit is 1.
     ensures { result ≡ is_piece part }
 {
     part / 8 != 0 || part % 2 == 1
 }
 
-/// Reads the UDP datagram between two places.
+/// Reads the UDP datagram at `place` in a packet that ends at `end`.
 fn read_udp(
     octets: &[u8],
     source: Host,
@@ -415,8 +470,12 @@ fn read_udp(
     end: usize,
 ) -> Result<Found, Passed>
     requires near { place < 2 ^ 34 }
+    // The ports and the size are read from the UDP header (`in_udp`); if it is not complete, the result is
+    // `Truncated`.
     ensures found { result ≡ in_udp octets.now source destination place end }
+    // The datagram that is read ends within the `octets`.
     ensures fits { IfOk result (λ found. found.end ≤ length octets.now) }
+    // The datagram that is read has its start not after its end.
     ensures order { IfOk result (λ found. found.start ≤ found.end) }
 {
     let Some(from) = big(octets, place) else {
@@ -439,7 +498,7 @@ fn read_udp(
     measure(octets.len(), source, destination, place, size as usize, end)
 }
 
-/// The datagram of a size at a place in a packet that ends at another one.
+/// Checks the size of a datagram against its packet and the frame.
 fn measure(
     octets: usize,
     source: Address,
@@ -450,8 +509,12 @@ fn measure(
 ) -> Result<Found, Passed>
     requires near { place < 2 ^ 34 }
     requires small { size < 2 ^ 16 }
+    // The size must be at least 8 and within the packet (`Length`), then within the frame (`Truncated`). The payload
+    // follows the 8 bytes of the header.
     ensures found { result ≡ udp_between octets source destination place size end }
+    // The datagram ends within the frame of `octets` bytes.
     ensures fits { IfOk result (λ found. found.end ≤ octets) }
+    // A size of at least 8 keeps the start not after the end.
     ensures order { IfOk result (λ found. found.start ≤ found.end) }
 {
     if size < 8 || place + size > end {

@@ -1,4 +1,4 @@
-//! What a datagram says, or why it says nothing.
+//! Decoding of a recorded datagram: a redundancy PDU around a safety PDU.
 
 ghost use Rattle.std.specs.Prelude.{◌≡◌};
 ghost use Rattle.safe_pdu.specs.Bodies.{IsBody};
@@ -9,24 +9,24 @@ ghost use Rattle.capture.specs.Hearing.{fingerprint_of, header_of, heard_of, hea
 use red_layer::pdu::RedFault;
 use safe_pdu::{CodeRule, Kind, Leaving, SafeFault, SafePdu, read_leaving};
 
-/// The base of fingerprints: an odd number with its bits spread, so that each octet reaches the high ones.
+/// The base of fingerprints: odd, with its bits spread, so that each byte changes the high bits.
 const FINGERPRINT_BASE: u64 = 11_400_714_819_323_198_485;
 
-/// What the decoders answer to a datagram.
+/// A decoded datagram, or the fault of the layer that rejects it.
 #[derive(Clone, Copy, Debug, PartialEq, Eq)]
 pub enum Heard {
-    /// It is no redundancy PDU.
+    /// It is not a redundancy PDU.
     NoRed(RedFault),
-    /// It is a redundancy PDU with this number, whose upper part is no safety PDU.
+    /// It is a redundancy PDU with this number, whose part is not a safety PDU.
     NoSafe(u32, SafeFault),
-    /// It is a redundancy PDU with this number, around a safety PDU.
+    /// It is a redundancy PDU with this number around a safety PDU.
     Pdu(u32, Header),
 }
 
-/// The fields of a safety PDU, and why its sender left.
+/// The header fields of a safety PDU, and the reason of a DiscReq.
 #[derive(Clone, Copy, Debug, PartialEq, Eq)]
 pub struct Header {
-    /// The type.
+    /// The PDU type.
     pub kind: Kind,
     /// The identifier of the end that it is for.
     pub receiver: u32,
@@ -40,16 +40,16 @@ pub struct Header {
     pub ts: u32,
     /// The confirmed timestamp (CTS) in milliseconds.
     pub cts: u32,
-    /// A fingerprint of the PDU's octets, which tells it from others with its numbers.
+    /// A fingerprint of the PDU's bytes; it distinguishes PDUs with one number.
     pub fingerprint: u64,
-    /// Reason and detail, of a DiscReq.
+    /// Reason and detail, if it is a DiscReq.
     pub leaving: Option<Leaving>,
 }
 
-/// What a datagram of any octets says, read under a rule of the safety code.
+/// Decodes a datagram of any bytes, with this rule of the safety code.
 pub fn hear(octets: &[u8], rule: &CodeRule) -> Heard
-    // What a datagram says is what the decoders' definitions say: number, type, header fields, reason and
-    // detail of a DiscReq, or the fault.
+    // The result is that of both decoders: the redundancy number and the header fields, with reason and detail of a
+    // DiscReq. Otherwise it is the first fault of the layer that rejects it (`heard_of`).
     ensures { result ≡ heard_of rule.now octets.now }
 {
     match red_layer::pdu::decode(octets) {
@@ -58,7 +58,9 @@ pub fn hear(octets: &[u8], rule: &CodeRule) -> Heard
     }
 }
 
+/// Decodes the part of a redundancy PDU.
 fn hear_upper(seq: u32, upper: &[u8], rule: &CodeRule) -> Heard
+    // The result is the header of the safety PDU in `upper`, or its fault, each with the redundancy number `seq`.
     ensures { result ≡ heard_above seq upper.now (safe_seen rule.now upper.now) }
 {
     match safe_pdu::decode(upper, rule) {
@@ -67,8 +69,11 @@ fn hear_upper(seq: u32, upper: &[u8], rule: &CodeRule) -> Heard
     }
 }
 
+/// Copies the header fields of a safety PDU and computes its fingerprint.
 fn read_header(pdu: &SafePdu<'_>, octets: &[u8]) -> Header
     requires { IsBody pdu.now.kind pdu.now.body.now }
+    // The header has the fields of the `pdu`, the fingerprint of all its bytes, and the reason of a DiscReq
+    // (`header_of`).
     ensures { result ≡ header_of (pdu_of pdu.now) (fingerprint_of octets.now) }
 {
     Header {
@@ -84,8 +89,9 @@ fn read_header(pdu: &SafePdu<'_>, octets: &[u8]) -> Header
     }
 }
 
-/// The number that octets spell to a large base, behind a leading 1 and modulo 2^64.
+/// Computes the fingerprint: the number that the bytes spell to a large base, after a leading 1 and modulo 2^64.
 fn spell(octets: &[u8]) -> u64
+    // The fingerprint starts at 1 and takes in every byte in order (`fingerprint_of`).
     ensures { result ≡ fingerprint_of octets.now }
 {
     octets
@@ -93,7 +99,9 @@ fn spell(octets: &[u8]) -> u64
         .fold(1, |fingerprint, octet| join_octet(fingerprint, *octet))
 }
 
+/// Adds a byte to a fingerprint.
 fn join_octet(fingerprint: u64, octet: u8) -> u64
+    // The result is the fingerprint times the base plus the byte, modulo 2^64.
     ensures { result ≡ with_octet fingerprint octet }
 {
     fingerprint
@@ -101,8 +109,10 @@ fn join_octet(fingerprint: u64, octet: u8) -> u64
         .wrapping_add(octet as u64)
 }
 
+/// Returns reason and detail of a DiscReq.
 fn leaving(kind: Kind, body: &[u8]) -> Option<Leaving>
     requires { IsBody kind body.now }
+    // Only a DiscReq has a reason and a detail; they are read from its `body`.
     ensures { result ≡ leaving_of kind body.now }
 {
     match kind {

@@ -6,38 +6,43 @@ ghost use Rattle.capture.specs.Times.{binary_micros, decimal_micros, is_unit, op
 use crate::frame::Link;
 use crate::places::{octet, short};
 
-/// An interface that was recorded.
+/// An interface that a pcapng file describes.
 #[derive(Clone, Copy, Debug, PartialEq, Eq)]
 pub struct Interface {
-    /// How its frames begin, where that is known here.
+    /// The link header of its frames, if it is known here.
     pub link: Option<Link>,
-    /// The unit of its times (`if_tsresol`): below 128 a power of ten, from there on one of two; 6 where nothing is said.
+    /// The unit of its times (`if_tsresol`): below 128 a power of ten, from 128 on a power of two; 6 (microseconds)
+    /// if no option names it.
     pub resolution: u8,
 }
 
 /// How far the options of an interface were read.
 #[derive(Clone, Copy, Debug, PartialEq, Eq)]
 pub(crate) enum Walk {
-    /// The next one stands here.
+    /// The next option is at this place.
     At(usize),
-    /// The unit of times is told.
+    /// The option with the unit of times was found.
     Found(u8),
-    /// There are no more.
+    /// There are no more options.
     Ended,
 }
 
-/// The unit of times that the options behind the first eight octets of a description tell; 6 where none does.
+/// Returns the unit of times from the options after the first eight bytes of a description; 6 if no option has it.
 pub(crate) fn resolution(big: bool, inner: &[u8]) -> u8
+    // The result is the value of the first option 9 of one byte, from the eighth byte on; 6 if the options end before
+    // one (`resolution_of`).
     ensures { result ≡ resolution_of big inner.now }
 {
-    // No option has less than four octets, so that there are no more of them than octets.
+    // Each option has at least four bytes, so there are no more options than bytes.
     let walk = inner
         .iter()
         .fold(Walk::At(8), |walk, _| option(big, inner, walk));
     unit_found(walk)
 }
 
+/// Returns the unit that was found, or microseconds.
 fn unit_found(walk: Walk) -> u8
+    // The result is the unit found; it is 6 if no option had one (`walked_out`).
     ensures { result ≡ walked_out walk }
 {
     match walk {
@@ -46,8 +51,10 @@ fn unit_found(walk: Walk) -> u8
     }
 }
 
-/// One option more: code, length, and a value that is filled up to a multiple of four.
+/// Reads one more option: code, length, and a value padded to a multiple of four bytes.
 fn option(big: bool, inner: &[u8], walk: Walk) -> Walk
+    // A walk that has ended or has found the unit does not change; otherwise the option at its place is read
+    // (`option_step`).
     ensures { result ≡ option_step big inner.now walk }
 {
     match walk {
@@ -56,7 +63,10 @@ fn option(big: bool, inner: &[u8], walk: Walk) -> Walk
     }
 }
 
+/// Reads the option at a place.
 fn option_at(big: bool, inner: &[u8], place: usize) -> Walk
+    // Code 0, or too few bytes, ends the options; code 9 with one byte is the unit. Any other option is skipped
+    // together with its padding (`resolution_seen`).
     ensures { result ≡ resolution_seen big inner.now place }
 {
     let Some(code) = short(big, inner, place) else {
@@ -78,8 +88,10 @@ fn option_at(big: bool, inner: &[u8], place: usize) -> Walk
     Walk::At(place.saturating_add(4 + filled))
 }
 
-/// The whole microseconds of a time in units of an interface; as far as 64 bits go.
+/// Converts a time in units of an interface to whole microseconds, limited to 2^64 - 1.
 pub(crate) fn micros(resolution: u8, high: u32, low: u32) -> u64
+    // The 64-bit time is `high` * 2^32 + `low`. Its unit is a power of ten below resolution 128, otherwise a power of
+    // two (`tick_micros`).
     ensures { result ≡ tick_micros resolution high low }
 {
     let ticks = high as u64 * 4_294_967_296 + low as u64;
@@ -90,8 +102,9 @@ pub(crate) fn micros(resolution: u8, high: u32, low: u32) -> u64
     }
 }
 
-/// Of powers of ten: 6 is a microsecond.
+/// Converts from units of a negative power of ten of a second.
 fn decimal(power: u8, ticks: u64) -> u64
+    // Up to power 6 the time is multiplied, at most to 2^64 - 1; above 6 it is divided and cut off.
     ensures { result ≡ decimal_micros power ticks }
 {
     if power <= 6 {
@@ -101,8 +114,9 @@ fn decimal(power: u8, ticks: u64) -> u64
     }
 }
 
-/// A power of ten, up to the 19th.
+/// Returns a power of ten, up to the 13th.
 fn ten_to_the(power: u8) -> u64
+    // The result is 10 to the `power`; from 13 on it is always 10^13.
     ensures { result ≡ ten_to power }
 {
     match power {
@@ -123,8 +137,9 @@ fn ten_to_the(power: u8) -> u64
     }
 }
 
-/// Of powers of two, up to the 40th.
+/// Converts from units of a negative power of two of a second, at most the 40th.
 fn binary(power: u8, ticks: u64) -> u64
+    // Whole seconds and the rest are converted separately, each limited to 2^64 - 1, and added (`binary_micros`).
     ensures { result ≡ binary_micros power ticks }
 {
     let unit = 1u64 << power.min(40);
@@ -132,8 +147,9 @@ fn binary(power: u8, ticks: u64) -> u64
     whole.saturating_add((ticks % unit).saturating_mul(1_000_000) / unit)
 }
 
-/// Whether times in this unit can be read: powers of ten up to the 19th, and of two up to the 40th.
+/// Returns `true` if times in this unit can be read: 10^0 to 10^-19 seconds, and 2^0 to 2^-40.
 pub(crate) fn is_readable(resolution: u8) -> bool
+    // Exactly the resolutions 0 to 19 and 128 to 168 are units.
     ensures { result ≡ is_unit resolution }
 {
     resolution <= 19 || resolution >= 128 && resolution <= 168

@@ -1,20 +1,20 @@
-//! What holds of every list of numbers and of every capture.
+//! The law of a capture: what holds for every list of numbers and of datagrams.
 
 ghost use Rattle.capture.specs.Laws.{EachCounted, EachOnce, LimitsAre, SumsAddUp};
 
-/// The laws of what is kept, which do nothing when they are called: they hold of every list of numbers and of datagrams.
+/// States the laws of a capture. Calling it does nothing.
 pub fn sums_law()
-    // Of every list of numbers: each up to the newest was heard in its turn, came late, or is missing.
+    // In a window, each number up to the newest came in order, came late, or is missing, for lists that reach fewer
+    // than 2^64 numbers.
     ensures once { EachOnce }
 
-    // Of every list of numbers: each one that came counts once, as heard, late, a repeat, a differing one, or
-    // stale.
+    // In a window, each number that came is counted once: in order, late, a repeat, differing or stale.
     ensures counted { EachCounted }
 
-    // Of every capture: PDUs, late ones, repeats, differing ones, stale and damaged ones add up to its
-    // datagrams.
+    // For every capture of fewer than 2^64 - 1 datagrams, the sums over all connections and the damaged datagrams add
+    // up to the number of datagrams.
     ensures adds_up { SumsAddUp }
 
-    // The limits are the stated numbers.
+    // The limits of this crate have the values in `LimitsAre`.
     ensures limits { LimitsAre }
 {}

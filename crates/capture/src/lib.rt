@@ -1,10 +1,10 @@
-//! A recorded connection: the lines of a capture, and what the datagrams in them say.
+//! Reading of recorded connections: datagrams from a text or a pcap or pcapng file, and what is remarkable in them.
 //!
-//! A line is what `tshark -T fields -e frame.time_epoch -e ip.src -e udp.srcport -e ip.dst -e udp.dstport
-//! -e udp.payload` prints for a datagram. Nothing here allocates, whatever the capture says.
+//! A line of a text is what `tshark -T fields -e frame.time_epoch -e ip.src -e udp.srcport -e ip.dst -e udp.dstport
+//! -e udp.payload` prints for a datagram. Nothing here allocates, and no call waits.
 //!
-//! Contracts: the laws are of fewer than 2^64 numbers and datagrams. That octets with one
-//! fingerprint are the same is not proved, since it has 64 bits.
+//! The laws hold for fewer than 2^64 numbers and datagrams. Two datagrams with one fingerprint count as equal; that
+//! is not proved, since a fingerprint has only 64 bits.
 #![tactic(auto)]
 
 mod connections;
@@ -22,7 +22,10 @@ mod window;
 mod words;
 
 pub use connections::{CONNECTIONS, Connection, Connections, Route, follow};
-pub use direction::{CHANNELS, Direction, Place, Remarks, SessionOpening, Tally, follow_pdu};
+pub use direction::{
+    CHANNELS, Confirmation, Direction, Peer, Place, Remarks, SessionOpening, Tally, follow_pdu,
+    silence,
+};
 pub use file::{
     BLOCK_MAX, BlockContent, FileFault, FileForm, FilePart, Framed, INTERFACES, Recording,
 };

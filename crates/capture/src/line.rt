@@ -1,26 +1,26 @@
-//! A line of a capture: six fields parted by tabs.
+//! The reader of a capture's line: six fields separated by tabs.
 
 ghost use Rattle.std.specs.Prelude.{◌≡◌, ◌≤◌, IfOk};
 ghost use Rattle.capture.specs.Lines.{address_of, line_of, payload_of, payload_seen, record_seen};
 
 use crate::words::{are_parted_by, host, number, part, time};
 
-/// How many octets of a payload are kept at most; the longest redundancy PDU has 1,258.
+/// Largest payload that is kept, in bytes. A redundancy PDU has at most 1,258.
 pub const PAYLOAD_ROOM: usize = 2048;
 
-/// Where the octets of a payload are put.
+/// The caller's buffer for a payload.
 pub type Buffer = [u8; PAYLOAD_ROOM];
 
-/// The address of a host, most significant octet first.
+/// The address of a host, most significant byte first.
 #[derive(Clone, Copy, Debug, PartialEq, Eq)]
 pub enum Host {
-    /// The four octets of an IPv4 address.
+    /// An IPv4 address.
     V4([u8; 4]),
-    /// The sixteen octets of an IPv6 address.
+    /// An IPv6 address.
     V6([u8; 16]),
 }
 
-/// Where a datagram comes from or goes to.
+/// The host and port that a datagram comes from or goes to.
 #[derive(Clone, Copy, Debug, PartialEq, Eq)]
 pub struct Address {
     /// The address of the host.
@@ -29,50 +29,59 @@ pub struct Address {
     pub port: u16,
 }
 
-/// A datagram that was recorded; its payload stands in front of the caller's buffer.
+/// A recorded datagram. Its payload is at the start of the caller's buffer.
 #[derive(Clone, Copy, Debug, PartialEq, Eq)]
 pub struct Record {
     /// When it was recorded, in whole microseconds since 1970.
     pub time: u64,
-    /// Where it comes from.
+    /// The host and port that sent it.
     pub source: Address,
-    /// Where it goes to.
+    /// The host and port that it was sent to.
     pub destination: Address,
-    /// How many octets its payload has.
+    /// The size of its payload in bytes.
     pub size: usize,
 }
 
-/// Why a line is no datagram. Where several hold, the reader names the first of this list.
+/// Why a line is not a datagram. If several apply, the reader returns the first in this order.
 #[derive(Clone, Copy, Debug, PartialEq, Eq)]
 pub enum LineFault {
-    /// There are fewer or more than six fields.
+    /// There are not exactly six fields.
     Fields,
     /// The time is not seconds, a point, and six to nine digits.
     Time,
-    /// The source is no IPv4 address (four numbers of at most 255 parted by points) and no IPv6 address (RFC 4291, 2.2), or
-    /// its port no number of at most 65,535.
+    /// The source is not an IPv4 address (four numbers of at most 255 separated by points) or an IPv6 address (RFC
+    /// 4291, 2.2), or its port is not a number of at most 65,535.
     Source,
-    /// The destination is none in the same way.
+    /// The same for the destination.
     Destination,
-    /// The payload has more than 2,048 octets.
+    /// The payload has more than 2,048 bytes.
     Long,
-    /// The payload is not hex digits, two for each octet.
+    /// The payload is not hexadecimal digits, two for each byte.
     Payload,
 }
 
+/// The byte between fields.
 const TAB: u8 = 9;
 
-/// Reads a line, without the line feed at its end, and puts the payload in front of the buffer. What stands in the
-/// buffer behind the payload, or after a fault, is not said.
+/// Reads a line without its line feed, and writes the payload to the start of the buffer.
+///
+/// The contracts say nothing about the rest of the buffer, nor about the buffer after a fault.
 ///
 /// # Errors
 ///
-/// Refused, and the first that holds is named: `Fields`, `Time`, `Source`, `Destination`, `Long`, `Payload`.
+/// Returns the first that applies:
+///
+/// - `Fields` if there are not exactly six fields;
+/// - `Time` if the time is not seconds, a point, and six to nine digits;
+/// - `Source` if the source is not an address with a port;
+/// - `Destination` if the destination is not an address with a port;
+/// - `Long` if the payload has more than 2,048 bytes;
+/// - `Payload` if the payload is not two hexadecimal digits for each byte.
 pub fn read_line(line: &[u8], buffer: &mut Buffer) -> Result<Record, LineFault>
-    // A line is read as exactly the datagram its six fields spell, time in whole microseconds, two addresses,
-    // payload; else its first fault is named.
+    // The result and the payload in the buffer are what the six fields spell: time in microseconds, two addresses,
+    // bytes. Otherwise the first fault is returned (`line_of`).
     ensures read { record_seen result buffer.new ≡ line_of line.now }
-    // A payload that is read has at most 2,048 octets.
+    // The size of the payload is at most 2,048 bytes, so it is within the buffer.
     ensures fits { IfOk result (λ found. found.size ≤ PAYLOAD_ROOM) }
 {
     if !are_parted_by(line, TAB, 5) {
@@ -103,8 +112,9 @@ pub fn read_line(line: &[u8], buffer: &mut Buffer) -> Result<Record, LineFault>
     }
 }
 
-/// The address that the texts of a host and of a port spell.
+/// Reads an address from the texts of a host and of a port.
 fn read_address(host_text: &[u8], port_text: &[u8]) -> Option<Address>
+    // There is an address if `host_text` is a host and `port_text` a decimal number of at most 65,535 (`address_of`).
     ensures { result ≡ address_of host_text.now port_text.now }
 {
     let host = host(host_text)?;
@@ -113,9 +123,12 @@ fn read_address(host_text: &[u8], port_text: &[u8]) -> Option<Address>
     Some(Address { host, port })
 }
 
-/// Puts the octets that hex digits spell in front of the buffer, and answers how many they are.
+/// Decodes hexadecimal digits to the start of the buffer and returns how many bytes they are.
 fn put_payload(digits: &[u8], buffer: &mut Buffer) -> Result<usize, LineFault>
+    // The bytes at the start of the buffer are the decoded `digits`. The call fails with `Long` beyond 2,048 bytes,
+    // and with `Payload` for other texts (`payload_of`).
     ensures put { payload_seen result buffer.new ≡ payload_of digits.now }
+    // The number of bytes is at most `PAYLOAD_ROOM`.
     ensures fits { IfOk result (λ size. size ≤ PAYLOAD_ROOM) }
 {
     if digits.len() > 2 * PAYLOAD_ROOM {

@@ -1,12 +1,13 @@
-//! Numbers at places in octets, where there are enough of them.
+//! Numbers at places in bytes. Each function returns `None` if there are not enough bytes.
 
 ghost use Rattle.std.specs.Prelude.{◌≡◌, ◌≤◌, ◌+◌, length, IfSome};
 ghost use Rattle.capture.specs.Places.{big_at, four_at, long_at, octet_at, short_at, sixteen_at};
 
 use byteorder::{BigEndian, ByteOrder, LittleEndian};
 
-/// The octet at a place.
+/// Returns the byte at a place.
 pub(crate) fn octet(octets: &[u8], place: usize) -> Option<u8>
+    // The result is the byte at `place`, if the place is below the length.
     ensures { result ≡ octet_at place octets.now }
 {
     if place < octets.len() {
@@ -15,8 +16,9 @@ pub(crate) fn octet(octets: &[u8], place: usize) -> Option<u8>
     None
 }
 
-/// The number in the two octets from a place on, most significant first.
+/// Returns the 16-bit number at a place, most significant byte first.
 pub(crate) fn big(octets: &[u8], place: usize) -> Option<u16>
+    // The result is the big-endian number of the two bytes from `place` on (`big_at`).
     ensures { result ≡ big_at place octets.now }
 {
     if octets.len() >= 2 && place <= octets.len() - 2 {
@@ -25,8 +27,9 @@ pub(crate) fn big(octets: &[u8], place: usize) -> Option<u16>
     None
 }
 
-/// The four octets from a place on.
+/// Returns the four bytes from a place on.
 pub(crate) fn four(octets: &[u8], place: usize) -> Option<[u8; 4]>
+    // The result is the four bytes from `place` on, in their order.
     ensures { result ≡ four_at place octets.now }
 {
     if octets.len() >= 4 && place <= octets.len() - 4 {
@@ -40,8 +43,9 @@ pub(crate) fn four(octets: &[u8], place: usize) -> Option<[u8; 4]>
     None
 }
 
-/// The sixteen octets from a place on.
+/// Returns the sixteen bytes from a place on.
 pub(crate) fn sixteen(octets: &[u8], place: usize) -> Option<[u8; 16]>
+    // The result is the sixteen bytes from `place` on, in their order.
     ensures { result ≡ sixteen_at place octets.now }
 {
     if octets.len() < 16 || place > octets.len() - 16 {
@@ -52,8 +56,9 @@ pub(crate) fn sixteen(octets: &[u8], place: usize) -> Option<[u8; 16]>
     Some(found)
 }
 
-/// The number in the two octets from a place on, in either order.
+/// Returns the 16-bit number at a place, in either byte order.
 pub(crate) fn short(big: bool, octets: &[u8], place: usize) -> Option<u16>
+    // The result is the number of the two bytes from `place` on: big-endian if `big`, otherwise little-endian.
     ensures { result ≡ short_at big place octets.now }
 {
     if octets.len() < 2 || place > octets.len() - 2 {
@@ -66,8 +71,9 @@ pub(crate) fn short(big: bool, octets: &[u8], place: usize) -> Option<u16>
     }
 }
 
-/// The number in the four octets from a place on, in either order.
+/// Returns the 32-bit number at a place, in either byte order.
 pub(crate) fn long(big: bool, octets: &[u8], place: usize) -> Option<u32>
+    // The result is the number of the four bytes from `place` on: big-endian if `big`, otherwise little-endian.
     ensures { result ≡ long_at big place octets.now }
 {
     if octets.len() < 4 || place > octets.len() - 4 {

@@ -1,4 +1,4 @@
-//! The ports whose datagrams are followed.
+//! The choice of UDP ports: which recorded datagrams are followed.
 
 ghost use Rattle.std.specs.Prelude.{◌≡◌, ◌≤◌, IfSome};
 ghost use Rattle.capture.specs.Ports.{has_port, holds_port, is_chosen, ports_of, range_between, range_of, slot_of};
@@ -6,29 +6,34 @@ ghost use Rattle.capture.specs.Ports.{has_port, holds_port, is_chosen, ports_of,
 use crate::line::Record;
 use crate::words::{are_parted_by, count_marks, number, part};
 
-/// How many ranges of ports are named at most: as many as channels of a connection are told apart.
+/// Largest number of port ranges in a choice: one for each channel that a connection can have here.
 pub const RANGES: usize = 4;
 
+/// The byte between ranges.
 const COMMA: u8 = 44;
 
+/// The byte between the ports of a range.
 const HYPHEN: u8 = 45;
 
-/// The ports from one to another, with both.
+/// A range of UDP ports, both limits included.
 #[derive(Clone, Copy, Debug, PartialEq, Eq)]
 pub struct PortRange {
-    /// The lowest.
+    /// The lowest port.
     pub first: u16,
-    /// The highest.
+    /// The highest port; not below `first`.
     pub last: u16,
 }
 
-/// Ranges of ports.
+/// Up to four ranges of ports; unused places are `None`.
 pub type Ports = [Option<PortRange>; RANGES];
 
-/// The ports that a text names: one to four ranges parted by commas, each a port or two parted by a hyphen, of which the
-/// second is not below the first. None of any other text.
+/// Reads one to four port ranges separated by commas. A range is a port, or two ports separated by a hyphen, the
+/// lower one first.
+///
+/// Returns `None` for any other text.
 pub fn read_ports(text: &[u8]) -> Option<Ports>
-    // A text names one to four ranges of ports, or is none.
+    // The result is the ranges of `ports_of`, in the order of the text. It is `None` if there are more than four, or
+    // if one of them is not a range.
     ensures { result ≡ ports_of text.now }
 {
     let commas = count_marks(text, COMMA);
@@ -46,8 +51,10 @@ pub fn read_ports(text: &[u8]) -> Option<Ports>
     Some([a, b, c, d])
 }
 
-/// The range that a text names, where there is a text for it.
+/// Reads the range at one of the four places, if the text has one there.
 fn read_slot(is_there: bool, text: &[u8]) -> Option<Option<PortRange>>
+    // An absent place is read as an empty one; a text that is present must be a range, otherwise the result is `None`
+    // (`slot_of`).
     ensures { result ≡ slot_of is_there text.now }
 {
     if is_there {
@@ -57,7 +64,10 @@ fn read_slot(is_there: bool, text: &[u8]) -> Option<Option<PortRange>>
     Some(None)
 }
 
+/// Reads a port, or two ports separated by a hyphen.
 fn read_range(text: &[u8]) -> Option<PortRange>
+    // A text without a hyphen is the range of one port. Otherwise its limits are the numbers before and after the
+    // first hyphen (`range_of`).
     ensures { result ≡ range_of text.now }
 {
     if are_parted_by(text, HYPHEN, 0) {
@@ -67,9 +77,11 @@ fn read_range(text: &[u8]) -> Option<PortRange>
     between(number(first, 65_535), number(last, 65_535))
 }
 
+/// Returns the range between two ports that were read.
 fn between(first: Option<u64>, last: Option<u64>) -> Option<PortRange>
     requires first { IfSome first (λ n. n ≤ 65535) }
     requires last { IfSome last (λ n. n ≤ 65535) }
+    // There is a range only if both numbers were read and the second is not below the first (`range_between`).
     ensures { result ≡ range_between first last }
 {
     let first = first?;
@@ -83,9 +95,10 @@ fn between(first: Option<u64>, last: Option<u64>) -> Option<PortRange>
     None
 }
 
-/// Whether a datagram is followed: one of its ports is among these, or none are named.
+/// Returns `true` if a datagram is followed: no ports are named, or its source or destination port is among them.
 pub fn is_followed(ports: &Option<Ports>, record: &Record) -> bool
-    // A datagram is followed where one of its ports is named, and each is where none are.
+    // Without named `ports` every datagram is chosen. With them, exactly those whose source or destination port is in
+    // one of the ranges.
     ensures { result ≡ is_chosen ports.now record.now }
 {
     match ports {
@@ -94,13 +107,17 @@ pub fn is_followed(ports: &Option<Ports>, record: &Record) -> bool
     }
 }
 
+/// Returns `true` if a port is in one of the ranges.
 fn has(ports: &Ports, port: u16) -> bool
+    // The result is true exactly if one of the four places `holds_port`.
     ensures { result ≡ has_port ports.now port }
 {
     ports.iter().any(|range| holds(range, port))
 }
 
+/// Returns `true` if a port is in this range.
 fn holds(range: &Option<PortRange>, port: u16) -> bool
+    // An empty place holds no port; a range holds the ports from its first to its last.
     ensures { result ≡ holds_port range.now port }
 {
     match range {

@@ -1,76 +1,77 @@
-//! The numbers that were heard of late, and how the next one follows on them.
+//! The window of recent numbers: which were seen, and how the next one follows them.
 
 ghost use Rattle.std.specs.Prelude.{◌≡◌, ◌<◌, ◌%◌};
 ghost use Rattle.capture.specs.Numbers.{judged, judged_again, judged_ahead, judged_from, kept, moved, noted, of_number, open_window, reopened, seen_of};
 
-/// How many numbers are kept: those with different remainders by 32.
+/// How many numbers are kept: one for each remainder modulo 32. 32 divides 2^32, so the ring wraps within it.
 pub const KEPT: usize = 32;
 
-/// How many numbers before the newest may come late: one less than are kept, so that none takes the newest's place.
+/// How many numbers before the newest may still come late: one less than are kept, so that a late number never takes
+/// the slot of the newest.
 pub const LATE_MAX: u32 = 31;
 
-/// How many numbers may be passed over at most; a number further ahead begins the numbers anew.
+/// Largest gap that counts as missing numbers; a number further ahead starts the window again.
 pub const PASSED_MAX: u32 = 65_535;
 
-/// A number that was heard.
+/// A number that was seen.
 #[derive(Clone, Copy, Debug, PartialEq, Eq)]
 pub struct Seen {
     /// The number.
     pub number: u32,
-    /// The line that it was heard in first.
+    /// The line on which it was seen first.
     pub line: u64,
-    /// The fingerprint of the octets that it stood for there.
+    /// The fingerprint of the bytes that it had there.
     pub fingerprint: u64,
 }
 
-/// The numbers that were heard of late.
+/// The recent numbers of a channel or a direction, and their counts.
 #[derive(Clone, Copy, Debug, PartialEq, Eq)]
 pub struct Window {
-    /// The furthest number so far; none where the numbers begin with the next one.
+    /// The furthest number so far; `None` if the next number starts the window.
     pub newest: Option<u32>,
-    /// How many of the numbers directly before it were heard or passed over since the numbers began, up to `LATE_MAX`.
+    /// How many of the numbers directly before it were seen or skipped since the window started, at most `LATE_MAX`.
     pub behind: u32,
-    /// The last number that was heard of each remainder, since the numbers began.
+    /// For each remainder, the last number that was seen since the window started.
     pub seen: [Option<Seen>; KEPT],
-    /// How many different numbers were heard in their turn.
+    /// How many different numbers came in order.
     pub heard: u64,
-    /// How many were passed over and not heard later.
+    /// How many were skipped and have not come.
     pub missing: u64,
-    /// How many were passed over and heard later.
+    /// How many were skipped and came later.
     pub late: u64,
-    /// How many were heard again, with the same octets.
+    /// How many came again with the same bytes.
     pub repeats: u64,
-    /// How many were heard again, with other octets.
+    /// How many came again with other bytes.
     pub differing: u64,
-    /// How many came so late that nothing can be said of them.
+    /// How many came so late that it is unknown if they came before.
     pub stale: u64,
 }
 
-/// How a number follows on those before it.
+/// How a number follows the ones seen before it.
 #[derive(Clone, Copy, Debug, PartialEq, Eq)]
 pub enum Judged {
-    /// It is the first of all.
+    /// It is the first one.
     First,
     /// It is the next one.
     Next,
-    /// It lies beyond the next one: how many numbers are between them.
+    /// It is further ahead; so many numbers are missing in between.
     Ahead(u32),
-    /// It was passed over, and comes behind a number that it should stand before.
+    /// It was skipped, and comes after a later number.
     Late,
-    /// It was heard in this line before, with the same octets.
+    /// It came on this line before, with the same bytes.
     Repeat(u64),
-    /// It was heard in this line before, with other octets.
+    /// It came on this line before, with other bytes.
     Differs(u64),
-    /// It lies further back than what is kept: it was heard before, or is missing still, or is from before the first one.
+    /// It is further back than the window: it came before, is still missing, or is older than the first one.
     Stale,
-    /// It lies further ahead than a gap may be: numbers begin anew.
+    /// It is further ahead than a gap may be: the window starts again.
     Anew,
 }
 
 impl Window {
-    /// No number was heard yet.
+    /// Returns a window without numbers.
     pub fn new() -> Self
-        // A window begins with no number heard.
+        // The new window has no newest number, no entry, and all counts 0.
         ensures { result ≡ open_window }
     {
         Window {
@@ -87,13 +88,11 @@ impl Window {
     }
 }
 
-/// How a number follows on those that were heard, by the fingerprint of the octets that it stands for.
+/// Returns how a number follows the ones seen, by the number and the fingerprint of its bytes.
 pub fn judge(window: &Window, number: u32, fingerprint: u64) -> Judged
-    // A number is judged by those heard: the first, the next, ahead by a number, late, a repeat of that line,
-    // other octets than in that line, stale, or begun anew.
-    // What is called a repeat has the fingerprint of the octets that it repeats (`judged_again`).
-    // A number that is not kept and lies up to 2^31 steps behind the newest is stale, but for one of the 31
-    // before it that was passed over (`judged_ahead`).
+    // A kept number is a repeat if its fingerprint is the same, otherwise it differs. Any other is judged by its
+    // distance from the newest. Up to 2^31 steps back it is stale, unless it is one of the 31 before the newest that
+    // was skipped.
     ensures { result ≡ judged window.now number fingerprint }
 {
     match find(window, number) {
@@ -102,15 +101,17 @@ pub fn judge(window: &Window, number: u32, fingerprint: u64) -> Judged
     }
 }
 
-/// Where a number was heard, if it is kept.
+/// Returns the entry of a number, if it is kept.
 fn find(window: &Window, number: u32) -> Option<Seen>
+    // The entry is in the slot of the number's remainder, and is of this number.
     ensures { result ≡ seen_of window.now number }
 {
     keep_number(window.seen[number as usize % KEPT], number)
 }
 
-/// What was seen, where it is of this number.
+/// Returns the entry if it is of this number.
 fn keep_number(seen: Option<Seen>, number: u32) -> Option<Seen>
+    // An entry of another number is dropped (`of_number`).
     ensures { result ≡ of_number number seen }
 {
     match seen {
@@ -125,7 +126,9 @@ fn keep_number(seen: Option<Seen>, number: u32) -> Option<Seen>
     }
 }
 
+/// Compares a number that came again with its first arrival.
 fn judge_again(seen: Seen, fingerprint: u64) -> Judged
+    // The same fingerprint is a repeat of that line; another one differs from that line.
     ensures { result ≡ judged_again seen fingerprint }
 {
     if seen.fingerprint == fingerprint {
@@ -135,8 +138,9 @@ fn judge_again(seen: Seen, fingerprint: u64) -> Judged
     }
 }
 
-/// How a number that is not kept follows on the newest.
+/// Judges a number that is not kept.
 fn judge_new(window: &Window, number: u32) -> Judged
+    // Without a newest number it is the first; otherwise its distance from the newest counts.
     ensures { result ≡ judged_from window.now window.now.newest number }
 {
     match window.newest {
@@ -145,8 +149,10 @@ fn judge_new(window: &Window, number: u32) -> Judged
     }
 }
 
-/// How a number that is not kept follows on the newest; `steps` is how far it lies ahead, in the ring of 32 bits.
+/// Judges a number that is not kept by its distance ahead of the newest on the ring of 2^32.
 fn judge_ahead(window: &Window, steps: u32) -> Judged
+    // At most 1 is next, at most `PASSED_MAX` + 1 a gap; close before the newest it is late, if any number is
+    // missing. At 2^31 and beyond it is stale; otherwise the window starts again.
     ensures { result ≡ judged_ahead window.now steps }
 {
     if steps <= 1 {
@@ -162,12 +168,12 @@ fn judge_ahead(window: &Window, steps: u32) -> Judged
     }
 }
 
-/// Takes a number of a line into account, and answers how it followed.
+/// Adds a number to the window and returns how it followed.
 pub fn note(window: &mut Window, number: u32, line: u64, fingerprint: u64) -> Judged
-    // `note` answers as `judge` does how the number that it takes into account follows.
+    // The result is how the number followed the window before the call.
     ensures judged { result ≡ judged window.old number fingerprint }
-    // A window keeps 32 numbers; passed ones are missing until they come late; a stale one changes nothing but
-    // its count.
+    // The window is changed by that: a gap adds missing numbers, a late one takes one of them away. A repeat, a
+    // differing and a stale number change only their counts (`noted_as`).
     ensures noted { window.new ≡ noted window.old number line fingerprint }
 {
     let judged = judge(window, number, fingerprint);
@@ -198,8 +204,9 @@ pub fn note(window: &mut Window, number: u32, line: u64, fingerprint: u64) -> Ju
     judged
 }
 
-/// Begins the numbers with the next one; what was counted stays.
+/// Starts the window again with the next number; its counts stay.
 pub(crate) fn reopen(window: &mut Window)
+    // No number is kept any more, and there is no newest; all counts are as before.
     ensures { window.new ≡ reopened window.old }
 {
     window.newest = None;
@@ -207,8 +214,9 @@ pub(crate) fn reopen(window: &mut Window)
     window.seen = [None; KEPT];
 }
 
-/// Makes a number the newest, which lies so many steps ahead of the one before.
+/// Makes a number the newest, `steps` ahead of the one before.
 fn move_on(window: &mut Window, steps: u32, seen: Seen)
+    // The number is the newest and is kept; `behind` grows by `steps` up to `LATE_MAX`, and `heard` by 1 (`moved`).
     ensures { window.new ≡ moved window.old steps seen }
 {
     window.newest = Some(seen.number);
@@ -219,6 +227,7 @@ fn move_on(window: &mut Window, steps: u32, seen: Seen)
 
 /// Keeps a number in the slot of its remainder.
 fn keep(window: &mut Window, seen: Seen)
+    // Only the entry in the slot of the number changes.
     ensures { window.new ≡ kept window.old seen }
 {
     window.seen[seen.number as usize % KEPT] = Some(seen);

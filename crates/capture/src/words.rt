@@ -1,4 +1,4 @@
-//! The fields of a line: times, hosts and numbers.
+//! Readers of the fields of a line: times, hosts and numbers.
 
 ghost use Rattle.std.specs.Prelude.{◌≡◌, ◌≤◌, ◌^◌, ◌==◌, ◌<◌, length, IfSome, nat_eq, count_by};
 ghost use Rattle.std.specs.List.{list_all};
@@ -8,16 +8,20 @@ ghost use Rattle.capture.specs.Words.{before, behind, four_of, host_of, is_numer
 use crate::line::Host;
 use std::net::Ipv6Addr;
 
+/// The byte between the numbers of an IPv4 address, and before a fraction.
 const POINT: u8 = 46;
 
+/// The byte by which an IPv6 address is recognised.
 const COLON: u8 = 58;
 
-/// The latest second that a line may name: the year 33658.
+/// The latest second that a line may name: in the year 33658.
 pub(crate) const SECONDS_MAX: u64 = 999_999_999_999;
 
-/// What stands before the first mark, and what stands behind it.
+/// Splits a text at the first mark: the text before it and the text after it.
 pub(crate) fn part(octets: &[u8], mark: u8) -> (&[u8], &[u8])
+    // The first half is the text before the first mark, or all if there is no mark.
     ensures front { result.0.now ≡ before mark octets.now }
+    // The second half is the text after the first mark, or nothing if there is no mark.
     ensures back { result.1.now ≡ behind mark octets.now }
 {
     match place(octets, mark) {
@@ -30,30 +34,36 @@ pub(crate) fn part(octets: &[u8], mark: u8) -> (&[u8], &[u8])
     }
 }
 
-/// Where the first mark stands.
+/// Returns the place of the first mark.
 fn place(octets: &[u8], mark: u8) -> Option<usize>
+    // The place is that of the first byte equal to `mark`, or `None` if no byte is.
     ensures value { result ≡ place_of mark octets.now }
+    // The place is within the text, so that the text can be split there.
     ensures bound { IfSome result (λ place. place < length octets.now) }
 {
     octets.iter().position(|octet| *octet == mark)
 }
 
-/// Whether a mark stands `times` times in octets.
+/// Returns `true` if a mark occurs exactly `times` times.
 pub(crate) fn are_parted_by(octets: &[u8], mark: u8, times: usize) -> bool
+    // The result is true exactly if the number of bytes equal to `mark` is `times`.
     ensures { result ≡ nat_eq (count_by (λ o. o == mark) octets.now) times }
 {
     count_marks(octets, mark) == times
 }
 
-/// How often a mark stands in octets.
+/// Counts a mark.
 pub(crate) fn count_marks(octets: &[u8], mark: u8) -> usize
+    // The result is how many bytes are equal to `mark`.
     ensures { result ≡ marks mark octets.now }
 {
     octets.iter().filter(|octet| **octet == mark).count()
 }
 
-/// The time in microseconds that seconds, a point and six to nine digits spell; what is below a microsecond is cut off.
+/// Reads a time: seconds, a point, and six to nine digits. Returns whole microseconds; the rest is cut off.
 pub(crate) fn time(text: &[u8]) -> Option<u64>
+    // There is a time only with exactly one point, at most `SECONDS_MAX` seconds, and six to nine digits after the
+    // point (`time_of`).
     ensures { result ≡ time_of text.now }
 {
     if !are_parted_by(text, POINT, 1) {
@@ -65,9 +75,11 @@ pub(crate) fn time(text: &[u8]) -> Option<u64>
     Some(seconds * 1_000_000 + micros)
 }
 
-/// The whole microseconds of a fraction of six to nine digits.
+/// Reads a fraction of six to nine digits as whole microseconds.
 fn micros(fraction: &[u8]) -> Option<u64>
+    // The microseconds are the number of the first six digits; `None` unless there are six to nine digits.
     ensures value { result ≡ micros_of fraction.now }
+    // A fraction is less than a second.
     ensures bound { IfSome result (λ n. n ≤ 999999) }
 {
     if fraction.len() < 6 || fraction.len() > 9 || !is_decimal(fraction) {
@@ -77,8 +89,9 @@ fn micros(fraction: &[u8]) -> Option<u64>
     number(front, 999_999)
 }
 
-/// The host that a text spells: an IPv6 address where it has a colon, and else an IPv4 address.
+/// Reads a host: an IPv6 address if the text has a colon, otherwise an IPv4 address.
 pub(crate) fn host(text: &[u8]) -> Option<Host>
+    // A text without a colon is read as four numbers, any other as `sixteen_of` reads it.
     ensures { result ≡ host_of text.now }
 {
     if are_parted_by(text, COLON, 0) {
@@ -89,8 +102,9 @@ pub(crate) fn host(text: &[u8]) -> Option<Host>
     Some(Host::V6(octets))
 }
 
-/// The sixteen octets that a text spells as RFC 4291 has it (2.2).
+/// Reads an IPv6 address in a text form of RFC 4291 (2.2).
 fn sixteen(text: &[u8]) -> Option<[u8; 16]>
+    // The bytes are those of the address that std's definition `read_ipv6` reads from the whole text.
     ensures { result ≡ sixteen_of text.now }
 {
     match Ipv6Addr::parse_ascii(text) {
@@ -99,8 +113,10 @@ fn sixteen(text: &[u8]) -> Option<[u8; 16]>
     }
 }
 
-/// The four octets that four numbers of at most 255, parted by points, spell.
+/// Reads an IPv4 address: four numbers of at most 255 separated by points.
 fn four(text: &[u8]) -> Option<[u8; 4]>
+    // There is an address only with exactly three points and a number of at most 255 at each of the four places
+    // (`four_of`).
     ensures { result ≡ four_of text.now }
 {
     if !are_parted_by(text, POINT, 3) {
@@ -116,17 +132,22 @@ fn four(text: &[u8]) -> Option<[u8; 4]>
     Some([a, b, c, d])
 }
 
+/// Reads one number of an IPv4 address.
 fn octet(text: &[u8]) -> Option<u8>
+    // The result is the decimal number, if it is at most 255.
     ensures { result ≡ number_of 255 text.now }
 {
     let number = number(text, 255)?;
     Some(number as u8)
 }
 
-/// The number that decimal digits spell, where it is at most `most`.
+/// Reads a decimal number of at most `most`.
 pub(crate) fn number(word: &[u8], most: u64) -> Option<u64>
     requires { most ≤ 10 ^ 18 }
+    // The result is the value of the digits (`number_of`). It is `None` if a byte is not a digit, there are no
+    // digits, or the value is above `most`.
     ensures value { result ≡ number_of most word.now }
+    // A number that is returned is at most `most`, so callers may narrow it.
     ensures bound { IfSome result (λ n. n ≤ most) }
 {
     if !is_decimal(word) {
@@ -142,8 +163,9 @@ pub(crate) fn number(word: &[u8], most: u64) -> Option<u64>
     Some(number)
 }
 
-/// Whether octets are decimal digits, one or more.
+/// Returns `true` for one or more decimal digits.
 fn is_decimal(word: &[u8]) -> bool
+    // An empty text is not a numeral; any other is one if all its bytes are digits.
     ensures { result ≡ is_numeral word.now }
 {
     if word.is_empty() {
@@ -152,7 +174,9 @@ fn is_decimal(word: &[u8]) -> bool
     are_digits(word)
 }
 
+/// Returns `true` if every byte is a decimal digit.
 fn are_digits(word: &[u8]) -> bool
+    // The result is true exactly if all bytes are ASCII digits.
     ensures { result ≡ list_all is_ascii_digit word.now }
 {
     word.iter().all(|octet| octet.is_ascii_digit())

@@ -16,7 +16,7 @@ texts-drop f i cs d inner =
 texts-end : (f : Connection → List ℕ) (i : ℕ) (cs : List Connection) → length cs ≤ i → flat_map f (drop i cs) ≡ []
 texts-end f i cs over = let none : drop i cs ≡ [] = drop_all i cs over in rw none refl
 
--- the sums of a connection that were written, and what those behind it lead to
+-- The text of the connections so far and that of the remaining ones make up the whole text.
 pub sums_left : (f : Connection → List ℕ) (i : ℕ) (cs : List Connection) (d : Connection) (a b end : Option (List ℕ)) → i < length cs
     → Appends a b (f (get_or cs i d)) → Appends b end (flat_map f (drop (i + 1) cs)) → Appends a end (flat_map f (drop i cs))
 sums_left f i cs d a b end inner line behind = rw (texts-drop f i cs d inner) (Appends-trans a b end _ _ line behind)

@@ -1,4 +1,4 @@
--- The front of a line that is kept.
+-- The prefix of a line that is kept.
 use Rattle.std.proofs.Common.{◌≡◌, ◌≤◌, ◌+◌, ◌-◌, ℕ, zero, suc, min, List, [], ◌∷◌, ◌++◌, length, take, refl, ap, sym, ◌∙◌, arith, take_all, append-nil, Option, Some, None, IfSome}
 use Rattle.std.proofs.Math.Seq.{take-append-add}
 use Rattle.std.proofs.lemmas.List.{take_min}
@@ -9,15 +9,15 @@ take-take_append zero xs ys = refl
 take-take_append (suc n) [] ys = refl
 take-take_append (suc n) (x ∷ xs) ys = ap (λ l. x ∷ l) (take-take_append n xs ys)
 
--- a front that grows is the front of what has grown
+-- Cutting before and after an extension is the same as cutting after it.
 pub cut_more : (xs ys : List ℕ) → cut (cut xs ++ ys) ≡ cut (xs ++ ys)
 cut_more xs ys = take-take_append 8193 xs ys
 
--- what is short is its own front
+-- A line within the limit is its own prefix.
 pub cut_kept : (xs : List ℕ) → length xs ≤ 8193 → xs ≡ cut (xs ++ [])
 cut_kept xs short = sym (ap cut (append-nil xs) ∙ take_all 8193 xs short)
 
--- as much of a part as there is room for
+-- Of a further part, as much is kept as there is room for.
 pub keep_front : (xs ys : List ℕ) (size : ℕ) → length xs ≤ 8193 → size ≡ min (length ys) (8193 - length xs) → xs ++ take size ys ≡ cut (xs ++ ys)
 keep_front xs ys size short is =
     let r = 8193 - length xs in

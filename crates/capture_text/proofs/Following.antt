@@ -14,7 +14,7 @@ use Rattle.capture_text.specs.FaultText.{fault_text}
 use Rattle.capture_text.specs.Steps.{without_end}
 use Rattle.capture_text.specs.Capture.{Read, line_printed, line_told, lines_printed, lines_told, text_printed, text_told, with_line, with_lines, with_long, with_text}
 
--- the first line is what stands through the first line feed
+-- The first line is the text up to and with the first line feed.
 step_at : (b : Bool) (front xs : List ℕ) (x : ℕ)
     → lines_from (front ++ x ∷ []) xs ≡ ((front ++ x ∷ []) ++ take_through 10 xs) ∷ lines_from [] (drop_through 10 xs)
     → cond b ((front ++ x ∷ []) ∷ lines_from [] xs) (lines_from (front ++ x ∷ []) xs)
@@ -35,7 +35,7 @@ first_line x xs = step_at (x == 10) [] xs x (some_front [] x xs)
 past : (most size all : ℕ) → nat_lt most all ≡ true → size ≡ min (most + 1) all → nat_lt most size ≡ true
 past most size all long is = grind arith
 
--- the front of a line is too long where the line is
+-- The prefix of a line that is too long is too long.
 long_front : (line : List ℕ) → is_long line ≡ true → is_long (cut line) ≡ true
 long_front line long = past 8192 (length (cut line)) (length line) long (length-take 8193 line)
 
@@ -45,7 +45,7 @@ short_front line short = take_all 8193 line (grind (arith, short))
 pub not_long : (line : List ℕ) → length line ≤ 8192 → is_long line ≡ false
 not_long line short = grind (arith, short)
 
--- what depends on a line that is not too long alone is the same of its front
+-- A function of lines within the limit has the same value for the line and for its prefix.
 by_length : {X : Type 0} (f : List ℕ → X) (x : X) (line : List ℕ)
     → cond (is_long (cut line)) x (f (cut line)) ≡ cond (is_long line) x (f line)
 by_length f x line = ⊎_elim
@@ -62,7 +62,7 @@ told_alike a r line = by_length (λ l. text_told a r (without_end l)) (fault_tex
 read_alike : (a : Asked) (r : Read) (line : List ℕ) → with_line a r (cut line) ≡ with_line a r line
 read_alike a r line = by_length (λ l. with_text a r (without_end l)) (with_long r) line
 
--- Where the octets were known: those that are left lead from what was read, printed and told so far to what all lead to.
+-- If the bytes are known: the remaining lines lead from the state, text and faults so far to those of all lines.
 abbrev pub Leads : Asked → Option (List ℕ) → Option (List ℕ) → Read → Read → Option (List ℕ) → Option (List ℕ) → Option (List ℕ)
     → Option (List ℕ) → Type 0
 Leads a None known r0 r w0 w e0 e = Unit {0}
@@ -75,7 +75,7 @@ pub leads_start : (a : Asked) (known : Option (List ℕ)) (r : Read) (w e : Opti
 leads_start a None r w e = tt
 leads_start a (Some all) r w e = (all, refl, refl, (λ end h. h), (λ end h. h))
 
--- a flush changes nothing of that
+-- A flush does not change this.
 pub leads_flush : (a : Asked) (known0 known : Option (List ℕ)) (r0 r : Read) (w0 w w' e0 e : Option (List ℕ))
     → Leads a known0 known r0 r w0 w e0 e → Appends w w' [] → Leads a known0 known r0 r w0 w' e0 e
 leads_flush a None known r0 r w0 w w' e0 e h flushed = tt
@@ -86,7 +86,7 @@ some_left : (rest line : List ℕ) → line ≡ cut (take_through 10 rest) → 0
 some_left [] line kept some = absurd (omega (arith, ap length kept, some))
 some_left (x ∷ xs) line kept some = (x, xs, refl)
 
--- one line more
+-- One more line.
 line_more : (a : Asked) (x : ℕ) (xs line : List ℕ) (r : Read) → line ≡ cut (take_through 10 (x ∷ xs))
     → (with_lines a r (lines_of (x ∷ xs)) ≡ with_lines a (with_line a r line) (lines_of (drop_through 10 (x ∷ xs))))
     × (lines_printed a r (lines_of (x ∷ xs)) ≡ line_printed a r line ++ lines_printed a (with_line a r line) (lines_of (drop_through 10 (x ∷ xs))))
@@ -130,7 +130,7 @@ leads_line a (Some all) known known' r0 r r' w0 w w' e0 e e' line (rest, left, r
           (Appends-trans e e' end _ _ told' h)),
     )
 
--- nothing is left
+-- Nothing is left.
 none_left : (rest line : List ℕ) → line ≡ cut (take_through 10 rest) → length line ≡ 0 → rest ≡ []
 none_left rest line kept none =
     let size = length-take 8193 (take_through 10 rest) in

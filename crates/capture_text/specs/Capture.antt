@@ -1,8 +1,11 @@
--- What a whole capture of lines does, and what is printed of it.
-use Rattle.std.specs.Prelude.{ℕ, List, [], ◌∷◌, ◌++◌, if◌then◌else◌, Option, None, Result}
+-- A whole capture: its state after lines and frames, and what is printed.
+use Rattle.std.specs.Prelude.{ℕ, Bool, false, nat_eq, List, [], ◌∷◌, ◌++◌, codes, if◌then◌else◌, Option, Some, None, Result}
 use Rattle.capture.specs.declared.connections.Connection.{Connection}
+use Rattle.capture.specs.declared.file.FilePart.{FilePart}
+use Rattle.capture.specs.declared.file.FilePart.TheVariants as part
 use Rattle.capture.specs.declared.following.Remark.{Remark}
 use Rattle.capture.specs.declared.following.Totals.{Totals}
+use Rattle.capture.specs.declared.frame.Link.{Link}
 use Rattle.capture.specs.declared.line.LineFault.{LineFault}
 use Rattle.capture.specs.declared.line.LineFault.TheVariants.{Long}
 use Rattle.capture.specs.declared.line.Record.{Record}
@@ -10,21 +13,25 @@ use Rattle.capture.specs.Lines.{line_of}
 use Rattle.capture.specs.Numbers.{counted}
 use Rattle.capture_text.specs.declared.course.Asked.{Asked}
 use Rattle.capture_text.specs.declared.course.Course.{Course}
-use Rattle.capture_text.specs.FaultText.{fault_text}
+use Rattle.capture_text.specs.declared.frames.FrameFault.{FrameFault}
+use Rattle.capture_text.specs.declared.frames.Seen.{Seen}
+use Rattle.capture_text.specs.FaultText.{fault_text, frame_text, recording_text}
+use Rattle.capture_text.specs.FrameSteps.{connections_seen, damaged_seen, datagrams_seen, fault_seen, first_seen, forgotten_seen, frame_seen, gone_seen, seen_text, unreadable_seen}
 use Rattle.capture_text.specs.Lines.{is_long}
 use Rattle.capture_text.specs.Steps.{connections_behind, damaged_behind, datagrams_behind, fault_in, fault_lines, first_behind, forgotten_behind, found_in, found_text, gone_behind, heard_line, payload_in, unreadable_behind, without_end}
 
--- how far a capture was read
+-- The state of a capture that is being read.
 pub record Read : Type 0 where
-  pub lines : ℕ
-  pub first : Option ℕ
-  pub unreadable : ℕ
-  pub connections : List Connection
+  pub lines : ℕ  -- lines that were read
+  pub first : Option ℕ  -- the time of the first datagram
+  pub unreadable : ℕ  -- lines that were not a datagram
+  pub connections : List Connection  -- the last one has the latest PDU
   pub datagrams : ℕ
-  pub gone : Totals
-  pub damaged : ℕ
-  pub forgotten : ℕ
+  pub gone : Totals  -- sums over the connections that were forgotten
+  pub damaged : ℕ  -- datagrams that are not a PDU
+  pub forgotten : ℕ  -- connections that were forgotten
 
+-- The state that a course has.
 abbrev pub read_by : Course → Read
 read_by c =
     record {
@@ -38,10 +45,11 @@ read_by c =
       forgotten = c.following.forgotten;
     }
 
--- what is remarkable in the text of the next line
+-- The remark on the text of the next line.
 abbrev pub seen_in : Asked → Read → List ℕ → Result (Option (Record × Remark)) LineFault
 seen_in a r text = found_in r.connections (counted r.lines 1) (heard_line a (line_of text))
 
+-- The state after the text of a line.
 abbrev pub with_text : Asked → Read → List ℕ → Read
 with_text a r text =
     record {
@@ -55,34 +63,97 @@ with_text a r text =
       forgotten = forgotten_behind r.forgotten r.connections (heard_line a (line_of text));
     }
 
+-- The state after a line that is too long.
 abbrev pub with_long : Read → Read
 with_long r = record r { lines = counted r.lines 1; unreadable = counted r.unreadable 1 }
 
--- after a line, what is printed of it, and what is told as no datagram
+-- The state after a line.
 abbrev pub with_line : Asked → Read → List ℕ → Read
 with_line a r line = if is_long line then with_long r else with_text a r (without_end line)
 
+-- What is printed of the text of a line.
 abbrev pub text_printed : Asked → Read → List ℕ → List ℕ
 text_printed a r text = found_text a r.first (counted r.lines 1) (payload_in (line_of text)) (seen_in a r text)
 
+-- The fault that is reported of the text of a line.
 abbrev pub text_told : Asked → Read → List ℕ → List ℕ
 text_told a r text = fault_lines (counted r.lines 1) (fault_in (seen_in a r text))
 
+-- What is printed of a line.
 abbrev pub line_printed : Asked → Read → List ℕ → List ℕ
 line_printed a r line = if is_long line then [] else text_printed a r (without_end line)
 
+-- The fault that is reported of a line.
 abbrev pub line_told : Asked → Read → List ℕ → List ℕ
 line_told a r line = if is_long line then fault_text (counted r.lines 1) Long else text_told a r (without_end line)
 
--- and along all lines
+-- The state after all lines.
 abbrev pub with_lines : Asked → Read → List (List ℕ) → Read
 with_lines a r [] = r
 with_lines a r (line ∷ lines) = with_lines a (with_line a r line) lines
 
+-- What is printed of all lines.
 abbrev pub lines_printed : Asked → Read → List (List ℕ) → List ℕ
 lines_printed a r [] = []
 lines_printed a r (line ∷ lines) = line_printed a r line ++ lines_printed a (with_line a r line) lines
 
+-- The faults that are reported of all lines.
 abbrev pub lines_told : Asked → Read → List (List ℕ) → List ℕ
 lines_told a r [] = []
 lines_told a r (line ∷ lines) = line_told a r line ++ lines_told a (with_line a r line) lines
+
+-- The state after a frame with this datagram.
+abbrev pub with_seen : Asked → Read → List ℕ → Seen → Read
+with_seen a r octets seen =
+    record {
+      lines = counted r.lines 1;
+      first = first_seen r.first seen;
+      unreadable = unreadable_seen r.unreadable seen;
+      connections = connections_seen a.rule r.connections (counted r.lines 1) octets seen;
+      datagrams = datagrams_seen r.datagrams seen;
+      gone = gone_seen a.rule r.gone r.connections octets seen;
+      damaged = damaged_seen a.rule r.damaged octets seen;
+      forgotten = forgotten_seen a.rule r.forgotten r.connections octets seen;
+    }
+
+-- The state after a frame.
+abbrev pub with_frame : Asked → Read → Option Link → ℕ → List ℕ → Read
+with_frame a r link time octets = with_seen a r octets (frame_seen a.ports link time octets)
+
+-- What is printed of a frame.
+abbrev pub frame_printed : Asked → Read → Option Link → ℕ → List ℕ → List ℕ
+frame_printed a r link time octets =
+    seen_text a r.first r.connections (counted r.lines 1) octets (frame_seen a.ports link time octets)
+
+-- The line of a frame's fault, if it has one.
+abbrev pub frame_fault_text : ℕ → Option FrameFault → List ℕ
+frame_fault_text number None = []
+frame_fault_text number (Some fault) = frame_text number fault
+
+-- The fault that is reported of a frame.
+abbrev pub frame_told : Asked → Read → Option Link → ℕ → List ℕ → List ℕ
+frame_told a r link time octets = frame_fault_text (counted r.lines 1) (fault_seen (frame_seen a.ports link time octets))
+
+-- The state after a recording that cannot go on: what was read stays, and one more is unreadable.
+abbrev pub broken_off : Read → Read
+broken_off r = record r { unreadable = counted r.unreadable 1 }
+
+-- A recording is whole if of the next record or block no byte came; in any other part it breaks off.
+abbrev pub is_whole_at : FilePart → ℕ → Bool
+is_whole_at (part.Record form link) size = nat_eq size 0
+is_whole_at (part.Block big) size = nat_eq size 0
+is_whole_at part.Start size = false
+is_whole_at (part.Head form) size = false
+is_whole_at (part.Body form link time captured whole) size = false
+is_whole_at part.Section size = false
+is_whole_at (part.Order octets) size = false
+is_whole_at (part.Opening big whole) size = false
+is_whole_at (part.Rest big kind whole) size = false
+
+-- The state after the end of a recording, of whose next part this many bytes came.
+abbrev pub ended_at : FilePart → ℕ → Read → Read
+ended_at p size r = if is_whole_at p size then r else broken_off r
+
+-- What is reported at the end of a recording.
+abbrev pub end_told : FilePart → ℕ → Read → List ℕ
+end_told p size r = if is_whole_at p size then [] else recording_text r.lines (codes "it ends within a block")

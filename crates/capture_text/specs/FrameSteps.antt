@@ -1,13 +1,14 @@
--- What a frame of a recording does, and what is printed of it.
+-- The step of a recording's frame, and what is printed of it.
 use Rattle.std.specs.Prelude.{ℕ, ◌-◌, ◌≤◌, List, [], drop, take, if◌then◌else◌, Option, Some, None, Result, Ok, Err}
 use Rattle.safe_pdu.specs.declared.CodeRule.{CodeRule}
 use Rattle.capture.specs.declared.connections.Connection.{Connection}
+use Rattle.capture.specs.declared.following.Totals.{Totals}
 use Rattle.capture.specs.declared.line.Record.{Record}
 use Rattle.capture.specs.declared.ports.PortRange.{PortRange}
 use Rattle.capture.specs.Hearing.{heard_of}
 use Rattle.capture.specs.Numbers.{counted}
 use Rattle.capture.specs.Ports.{is_chosen}
-use Rattle.capture.specs.Whole.{connections_after, remark_of}
+use Rattle.capture.specs.Whole.{connections_after, damaged_after, forgotten_after, gone_after, remark_of}
 use Rattle.capture.specs.declared.frame.Found.{Found}
 use Rattle.capture.specs.declared.frame.Link.{Link}
 use Rattle.capture.specs.declared.frame.Passed.{Passed}
@@ -20,48 +21,75 @@ use Rattle.capture_text.specs.declared.frames.FrameFault.TheVariants.{Link as Un
 use Rattle.capture_text.specs.declared.frames.Seen.{Seen}
 use Rattle.capture_text.specs.declared.frames.Seen.TheVariants.{Datagram, Other, Unread}
 
+-- The record of a datagram that was found in a frame.
 abbrev pub record_found : ℕ → Found → Record
 record_found time f =
     record { time = time; source = f.source; destination = f.destination; size = f.end - f.start }
 
--- what carries no UDP over IP is passed over, the rest is told
+-- A frame that is not UDP over IP is passed over; any other reason is a fault.
 abbrev pub seen_passed : Passed → Seen
 seen_passed passed.Other = Other
 seen_passed passed.Truncated = Unread Truncated
 seen_passed passed.Fragment = Unread Fragment
 seen_passed passed.Length = Unread Length
 
--- a datagram on no port that is followed is passed over too
+-- A datagram without a chosen port is passed over, too.
 abbrev pub seen_chosen : Option (List (Option PortRange)) → Record → ℕ → ℕ → Seen
 seen_chosen ports r start end = if is_chosen ports r then Datagram r start end else Other
 
+-- The datagram that was found, or the reason for none.
 abbrev pub seen_found : Option (List (Option PortRange)) → ℕ → Result Found Passed → Seen
 seen_found ports time (Ok f) = seen_chosen ports (record_found time f) f.start f.end
 seen_found ports time (Err why) = seen_passed why
 
--- the datagram of a frame, where there is one that is followed
+-- The datagram of a frame, if there is one that is followed.
 abbrev pub frame_seen : Option (List (Option PortRange)) → Option Link → ℕ → List ℕ → Seen
 frame_seen ports None time octets = Unread UnknownLink
 frame_seen ports (Some link) time octets = seen_found ports time (found_in link octets)
 
--- a payload lies within so many octets
+-- A payload is within this many bytes.
 abbrev pub IsWithin : ℕ → Seen → Type 0
 IsWithin size (Datagram r start end) = (start ≤ end) × (end ≤ size)
 IsWithin size Other = Unit {0}
 IsWithin size (Unread fault) = Unit {0}
 
--- the octets of a payload in its frame
+-- The bytes of a payload in its frame.
 abbrev pub payload_at : ℕ → ℕ → List ℕ → List ℕ
 payload_at start end octets = take (end - start) (drop start octets)
 
--- the connections after a frame
+-- The connections after a frame.
 abbrev pub connections_seen : CodeRule → List Connection → ℕ → List ℕ → Seen → List Connection
 connections_seen rule cs number octets (Datagram r start end) =
     connections_after cs number r (heard_of rule (payload_at start end octets))
 connections_seen rule cs number octets Other = cs
 connections_seen rule cs number octets (Unread fault) = cs
 
--- what is printed of it
+-- The count of datagrams after a frame; only one that is followed is counted.
+abbrev pub datagrams_seen : ℕ → Seen → ℕ
+datagrams_seen datagrams (Datagram r start end) = counted datagrams 1
+datagrams_seen datagrams Other = datagrams
+datagrams_seen datagrams (Unread fault) = datagrams
+
+-- The count of damaged datagrams after a frame.
+abbrev pub damaged_seen : CodeRule → ℕ → List ℕ → Seen → ℕ
+damaged_seen rule damaged octets (Datagram r start end) = damaged_after damaged (heard_of rule (payload_at start end octets))
+damaged_seen rule damaged octets Other = damaged
+damaged_seen rule damaged octets (Unread fault) = damaged
+
+-- The sums of forgotten connections after a frame.
+abbrev pub gone_seen : CodeRule → Totals → List Connection → List ℕ → Seen → Totals
+gone_seen rule gone cs octets (Datagram r start end) = gone_after gone cs (heard_of rule (payload_at start end octets))
+gone_seen rule gone cs octets Other = gone
+gone_seen rule gone cs octets (Unread fault) = gone
+
+-- The count of forgotten connections after a frame.
+abbrev pub forgotten_seen : CodeRule → ℕ → List Connection → List ℕ → Seen → ℕ
+forgotten_seen rule forgotten cs octets (Datagram r start end) =
+    forgotten_after forgotten cs (heard_of rule (payload_at start end octets))
+forgotten_seen rule forgotten cs octets Other = forgotten
+forgotten_seen rule forgotten cs octets (Unread fault) = forgotten
+
+-- What is printed of a frame.
 abbrev pub seen_text : Asked → Option ℕ → List Connection → ℕ → List ℕ → Seen → List ℕ
 seen_text a first cs number octets (Datagram r start end) =
     told_text a (first_of first r.time) number r (remark_of cs number r (heard_of a.rule (payload_at start end octets)))
@@ -69,16 +97,19 @@ seen_text a first cs number octets (Datagram r start end) =
 seen_text a first cs number octets Other = []
 seen_text a first cs number octets (Unread fault) = []
 
+-- The fault of a frame that is not read.
 abbrev pub fault_seen : Seen → Option FrameFault
 fault_seen (Datagram r start end) = None
 fault_seen Other = None
 fault_seen (Unread fault) = Some fault
 
+-- The count of unreadable frames after a frame.
 abbrev pub unreadable_seen : ℕ → Seen → ℕ
 unreadable_seen unreadable (Datagram r start end) = unreadable
 unreadable_seen unreadable Other = unreadable
 unreadable_seen unreadable (Unread fault) = counted unreadable 1
 
+-- The time of the first datagram after a frame.
 abbrev pub first_seen : Option ℕ → Seen → Option ℕ
 first_seen first (Datagram r start end) = Some (first_of first r.time)
 first_seen first Other = first

@@ -1,4 +1,4 @@
--- Why an end left, in words, each behind a space; a number without a word has none.
+-- The reasons of disconnects in words, each after a space; a number without a name has no words.
 use Rattle.std.specs.Prelude.{ℕ, List, [], ◌∷◌, codes, Option, Some, None}
 use Rattle.std.specs.Fmt.{decimal}
 use Rattle.safe_pdu.specs.LeavingNumbers.{detail_numbered, reason_numbered}
@@ -9,6 +9,7 @@ use Rattle.safe_pdu.specs.declared.reasons.Detail.{Detail}
 use Rattle.safe_pdu.specs.declared.reasons.Detail.TheVariants.{Unspecified, VersionDiffers, OutOfOrder, NotWellFormed, Limit, BadUnit, ConfirmedNumber, ConfirmedTimestamp}
 use Rattle.pdu_text.specs.Lines.{joined}
 
+-- The words of a reason.
 abbrev pub reason_word : Option Reason → List ℕ
 reason_word (Some ClosedByUser) = codes " closed by user"
 reason_word (Some UnexpectedPdu) = codes " unexpected PDU"
@@ -20,6 +21,7 @@ reason_word (Some RetransmissionImpossible) = codes " retransmission impossible"
 reason_word (Some ProtocolError) = codes " protocol error"
 reason_word None = []
 
+-- The words of a detail.
 abbrev pub word_beside : Option Detail → List ℕ
 word_beside (Some VersionDiffers) = codes " version differs"
 word_beside (Some OutOfOrder) = codes " out of order"
@@ -31,11 +33,12 @@ word_beside (Some ConfirmedTimestamp) = codes " confirmed timestamp"
 word_beside (Some Unspecified) = []
 word_beside None = []
 
--- the word of a detail, by the reason that it stands beside
+-- The words of a detail, which depend on its reason.
 abbrev pub detail_word : Option Reason → ℕ → List ℕ
 detail_word (Some reason) detail = word_beside (detail_numbered reason detail)
 detail_word None detail = []
 
+-- Reason and detail, each with its number and words.
 unfoldable pub leaving_words : Leaving → List ℕ
 leaving_words l =
     joined

@@ -11,25 +11,27 @@ use Rattle.capture.specs.declared.following.Remark.TheVariants.{Pdu, NoRed, NoSa
 use Rattle.capture.specs.declared.heard.Header.{Header}
 use Rattle.capture.specs.declared.line.Record.{Record}
 use Rattle.pdu_text.specs.Lines.{joined}
+use Rattle.capture_text.specs.declared.summary.Scale.{Scale}
 use Rattle.capture_text.specs.Pieces.{address_text, channel_text, ends_text, since_text}
 use Rattle.capture_text.specs.RemarkText.{remarks_text}
 
--- when it was recorded, and its line in the capture
+-- The time of a datagram, and its line in the capture.
 unfoldable pub head_text : ℕ → ℕ → Record → List ℕ
 head_text first line r = joined (since_text first r.time ∷ codes " line " ∷ decimal line ∷ codes " " ∷ [])
 
--- number, type and header fields
+-- The redundancy number, type and header fields of a PDU.
 unfoldable pub fields_text : ℕ → Header → List ℕ
 fields_text seq h =
     joined
     (codes " red " ∷ decimal seq ∷ codes " " ∷ kind_name h.kind ∷ codes " sn " ∷ decimal h.sn ∷ codes " cs " ∷ decimal h.cs
     ∷ codes " ts " ∷ decimal h.ts ∷ codes " cts " ∷ decimal h.cts ∷ [])
 
-unfoldable pub pdu_text : ℕ → Header → Remarks → List ℕ
-pdu_text seq h m =
-    joined (ends_text h.sender h.receiver ∷ channel_text m.route ∷ fields_text seq h ∷ remarks_text m ∷ [])
+-- A PDU: ends, channel, fields, remarks.
+unfoldable pub pdu_text : ℕ → ℕ → Header → Remarks → List ℕ
+pdu_text t_max seq h m =
+    joined (ends_text h.sender h.receiver ∷ channel_text m.route ∷ fields_text seq h ∷ remarks_text t_max m ∷ [])
 
--- what is no PDU has no ends, but addresses
+-- The addresses of a datagram that is not a PDU.
 unfoldable pub way_text : Record → List ℕ
 way_text r = joined (address_text r.source ∷ codes "->" ∷ address_text r.destination ∷ [])
 
@@ -37,25 +39,32 @@ way_text r = joined (address_text r.source ∷ codes "->" ∷ address_text r.des
 unfoldable pub fault_text : List ℕ → ℕ → List ℕ → List ℕ
 fault_text layer number name = joined (codes " " ∷ layer ∷ codes " fault " ∷ decimal number ∷ codes " " ∷ name ∷ [])
 
+-- The fault of a safety PDU.
 abbrev pub safe_fault_text : SafeFault → List ℕ
 safe_fault_text fault = fault_text (codes "safe") (safe_number fault) (safe_name fault)
 
+-- The fault of a redundancy PDU.
 abbrev pub red_fault_text : RedFault → List ℕ
 red_fault_text fault = fault_text (codes "red") (red_number fault) (red_name fault)
 
+-- A redundancy number.
 unfoldable pub number_text : ℕ → List ℕ
 number_text seq = joined (codes " red " ∷ decimal seq ∷ [])
 
+-- A datagram whose part is not a safety PDU.
 unfoldable pub no_safe_text : Record → ℕ → SafeFault → List ℕ
 no_safe_text r seq fault = way_text r ++ number_text seq ++ safe_fault_text fault
 
+-- A datagram that is not a redundancy PDU.
 unfoldable pub no_red_text : Record → RedFault → List ℕ
 no_red_text r fault = way_text r ++ red_fault_text fault
 
-abbrev pub remark_text : Record → Remark → List ℕ
-remark_text r (Pdu seq h m) = pdu_text seq h m
-remark_text r (NoSafe seq fault) = no_safe_text r seq fault
-remark_text r (NoRed fault) = no_red_text r fault
+-- A datagram, by its remark.
+abbrev pub remark_text : ℕ → Record → Remark → List ℕ
+remark_text t_max r (Pdu seq h m) = pdu_text t_max seq h m
+remark_text t_max r (NoSafe seq fault) = no_safe_text r seq fault
+remark_text t_max r (NoRed fault) = no_red_text r fault
 
-unfoldable pub record_text : ℕ → ℕ → Record → Remark → List ℕ
-record_text first line r m = joined (head_text first line r ∷ remark_text r m ∷ codes "\n" ∷ [])
+-- The whole line of a datagram.
+unfoldable pub record_text : Scale → ℕ → Record → Remark → List ℕ
+record_text s line r m = joined (head_text s.first line r ∷ remark_text s.t_max r m ∷ codes "\n" ∷ [])

@@ -1,14 +1,15 @@
 -- The text of what is remarkable in a PDU.
-use Rattle.std.specs.Prelude.{ℕ, Bool, true, false, List, [], ◌∷◌, codes, Option, Some, None}
+use Rattle.std.specs.Prelude.{ℕ, Bool, true, false, List, [], ◌∷◌, ◌++◌, codes, if◌then◌else◌, Option, Some, None}
 use Rattle.std.specs.Fmt.{decimal}
 use Rattle.safe_pdu.specs.declared.Leaving.{Leaving}
 use Rattle.capture.specs.declared.direction.Remarks.{Remarks}
 use Rattle.capture.specs.declared.window.Judged.{Judged}
 use Rattle.pdu_text.specs.Lines.{joined}
+use Rattle.capture_text.specs.Choice.{is_half}
 use Rattle.capture_text.specs.Reasons.{leaving_words}
 use Rattle.capture.specs.declared.window.Judged.TheVariants.{First, Next, Ahead, Late, Repeat, Differs, Stale, Anew}
 
--- how a number followed; nothing, where it was the first or the next
+-- How a number followed; nothing for the first and the next.
 abbrev pub judged_text : List ℕ → Judged → List ℕ
 judged_text name First = []
 judged_text name Next = []
@@ -19,29 +20,49 @@ judged_text name (Differs line) = joined (codes " " ∷ name ∷ codes " differs
 judged_text name Stale = joined (codes " " ∷ name ∷ codes " stale" ∷ [])
 judged_text name Anew = joined (codes " " ∷ name ∷ codes " anew" ∷ [])
 
+-- How a number followed, if it was judged.
 abbrev pub maybe_text : List ℕ → Option Judged → List ℕ
 maybe_text name None = []
 maybe_text name (Some judged) = judged_text name judged
 
+-- The word of an opening.
 abbrev pub opens_text : Bool → List ℕ
 opens_text true = codes " opens"
 opens_text false = []
 
+-- The word of a retransmission.
 abbrev pub resent_text : Bool → List ℕ
 resent_text true = codes " resent"
 resent_text false = []
 
+-- An age in milliseconds.
 abbrev pub age_text : Option ℕ → List ℕ
 age_text None = []
 age_text (Some age) = joined (codes " age " ∷ decimal age ∷ codes " ms" ∷ [])
 
+-- How long an end has waited for a confirmation, in milliseconds.
+unfoldable pub wait_text : ℕ → List ℕ
+wait_text waits = joined (codes " waits " ∷ decimal waits ∷ codes " ms" ∷ [])
+
+-- A wait, from half of T_max on.
+abbrev pub waits_text : ℕ → Option ℕ → List ℕ
+waits_text t_max None = []
+waits_text t_max (Some waits) = if is_half t_max waits then wait_text waits else []
+
+-- The reason of a DiscReq.
 abbrev pub leaving_text : Option Leaving → List ℕ
 leaving_text None = []
 leaving_text (Some leaving) = leaving_words leaving
 
--- all that is remarkable in a PDU
-unfoldable pub remarks_text : Remarks → List ℕ
-remarks_text r =
-    joined
-    (opens_text r.opens ∷ maybe_text (codes "channel") r.channel ∷ judged_text (codes "all") r.together ∷ maybe_text (codes "sn") r.sequence
-    ∷ resent_text r.resent ∷ age_text r.age ∷ leaving_text r.leaving ∷ [])
+-- An opening, and how the numbers followed.
+unfoldable pub order_text : Remarks → List ℕ
+order_text r =
+    joined (opens_text r.opens ∷ maybe_text (codes "channel") r.channel ∷ judged_text (codes "all") r.together ∷ maybe_text (codes "sn") r.sequence ∷ [])
+
+-- A retransmission, the age, the wait and the reason.
+unfoldable pub other_text : ℕ → Remarks → List ℕ
+other_text t_max r = joined (resent_text r.resent ∷ age_text r.age ∷ waits_text t_max r.waits ∷ leaving_text r.leaving ∷ [])
+
+-- All remarks on a PDU.
+unfoldable pub remarks_text : ℕ → Remarks → List ℕ
+remarks_text t_max r = order_text r ++ other_text t_max r

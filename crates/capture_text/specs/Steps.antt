@@ -1,4 +1,4 @@
--- What a line of a capture does, and what is printed of it.
+-- The step of a capture's line, and what is printed of it.
 use Rattle.std.specs.Prelude.{ℕ, Bool, false, List, [], ◌++◌, length, if◌then◌else◌, Option, Some, None, Result, Ok, Err}
 use Rattle.capture.specs.declared.connections.Connection.{Connection}
 use Rattle.capture.specs.declared.following.Remark.{Remark}
@@ -24,117 +24,130 @@ use Rattle.capture_text.specs.declared.course.OutputForm.TheVariants.{Lines, Jso
 use Rattle.capture_text.specs.declared.summary.CaptureCounts.{CaptureCounts}
 use Rattle.capture_text.specs.declared.summary.Scale.{Scale}
 
--- a recorded datagram, apart from its octets
+-- The record of a line that was read, with the size of its payload.
 abbrev pub record_of : Line → Record
 record_of l = record { time = l.time; source = l.source; destination = l.destination; size = length l.payload }
 
--- a line that was read, and what its datagram says; nothing, where it is on no port that is followed
+-- A datagram with its decoding; nothing if it has no chosen port.
 abbrev pub heard_chosen : Asked → Record → List ℕ → Option (Record × Heard)
 heard_chosen a r octets = if is_chosen a.ports r then Some (r, heard_of a.rule octets) else None
 
+-- The decoded datagram of a line, or the fault of the line.
 abbrev pub heard_line : Asked → Result Line LineFault → Result (Option (Record × Heard)) LineFault
 heard_line a (Ok l) = Ok (heard_chosen a (record_of l) l.payload)
 heard_line a (Err fault) = Err fault
 
--- its octets; none of a line that is no datagram
+-- The payload of a line; empty if it is not a datagram.
 abbrev pub payload_in : Result Line LineFault → List ℕ
 payload_in (Ok l) = l.payload
 payload_in (Err fault) = []
 
--- what is remarkable in it
+-- The remark on the datagram of a line.
 abbrev pub found_in : List Connection → ℕ → Result (Option (Record × Heard)) LineFault → Result (Option (Record × Remark)) LineFault
 found_in cs number (Ok (Some h)) = Ok (Some (h.0, remark_of cs number h.0 h.1))
 found_in cs number (Ok None) = Ok None
 found_in cs number (Err fault) = Err fault
 
--- what is kept after it; a line that is no datagram, or is passed over, changes nothing
+-- The connections after a line; one that is not a datagram, or is passed over, changes nothing.
 abbrev pub connections_behind : List Connection → ℕ → Result (Option (Record × Heard)) LineFault → List Connection
 connections_behind cs number (Ok (Some h)) = connections_after cs number h.0 h.1
 connections_behind cs number (Ok None) = cs
 connections_behind cs number (Err fault) = cs
 
+-- The count of datagrams after a line.
 abbrev pub datagrams_behind : ℕ → Result (Option (Record × Heard)) LineFault → ℕ
 datagrams_behind datagrams (Ok (Some h)) = counted datagrams 1
 datagrams_behind datagrams (Ok None) = datagrams
 datagrams_behind datagrams (Err fault) = datagrams
 
+-- The sums of forgotten connections after a line.
 abbrev pub gone_behind : Totals → List Connection → Result (Option (Record × Heard)) LineFault → Totals
 gone_behind gone cs (Ok (Some h)) = gone_after gone cs h.1
 gone_behind gone cs (Ok None) = gone
 gone_behind gone cs (Err fault) = gone
 
+-- The count of damaged datagrams after a line.
 abbrev pub damaged_behind : ℕ → Result (Option (Record × Heard)) LineFault → ℕ
 damaged_behind damaged (Ok (Some h)) = damaged_after damaged h.1
 damaged_behind damaged (Ok None) = damaged
 damaged_behind damaged (Err fault) = damaged
 
+-- The count of forgotten connections after a line.
 abbrev pub forgotten_behind : ℕ → List Connection → Result (Option (Record × Heard)) LineFault → ℕ
 forgotten_behind forgotten cs (Ok (Some h)) = forgotten_after forgotten cs h.1
 forgotten_behind forgotten cs (Ok None) = forgotten
 forgotten_behind forgotten cs (Err fault) = forgotten
 
--- the time of the first datagram
+-- The time of the first datagram.
 abbrev pub first_of : Option ℕ → ℕ → ℕ
 first_of None time = time
 first_of (Some first) time = first
 
--- what is printed of a datagram: its line, where it is asked for, and behind it its telegrams, where these are
+-- The telegrams of a datagram, if they are asked for.
 abbrev pub asked_telegrams : Asked → List ℕ → List ℕ
 asked_telegrams a octets = if a.messages then telegram_lines a.rule octets else []
 
+-- The line of a datagram is printed in this form.
 abbrev pub is_told_in : OutputForm → Asked → Remark → Bool
 is_told_in Lines a m = is_asked a.only a.t_max m
 is_told_in Json a m = false
 
--- no line of a datagram stands beside a JSON object
+-- The line of a datagram is printed; with JSON none is.
 abbrev pub is_line_told : Asked → Remark → Bool
 is_line_told a m = is_told_in a.form a m
 
+-- What times and waits are measured by.
+abbrev pub scale_from : Asked → ℕ → Scale
+scale_from a first = record { first = first; t_max = a.t_max }
+
+-- The line of a datagram and its telegrams, as far as they are asked for.
 abbrev pub told_text : Asked → ℕ → ℕ → Record → Remark → List ℕ → List ℕ
 told_text a first number r m octets =
-    if is_line_told a m then record_text first number r m ++ asked_telegrams a octets else []
+    if is_line_told a m then record_text (scale_from a first) number r m ++ asked_telegrams a octets else []
 
+-- What is printed of a line.
 abbrev pub found_text : Asked → Option ℕ → ℕ → List ℕ → Result (Option (Record × Remark)) LineFault → List ℕ
 found_text a first number octets (Ok (Some f)) = told_text a (first_of first f.0.time) number f.0 f.1 octets
 found_text a first number octets (Ok None) = []
 found_text a first number octets (Err fault) = []
 
+-- The time of the first datagram after a line.
 abbrev pub first_behind : Option ℕ → Result (Option (Record × Remark)) LineFault → Option ℕ
 first_behind first (Ok (Some f)) = Some (first_of first f.0.time)
 first_behind first (Ok None) = first
 first_behind first (Err fault) = first
 
+-- The count of unreadable lines after a line.
 abbrev pub unreadable_behind : ℕ → Result (Option (Record × Remark)) LineFault → ℕ
 unreadable_behind unreadable (Ok (Some f)) = unreadable
 unreadable_behind unreadable (Ok None) = unreadable
 unreadable_behind unreadable (Err fault) = counted unreadable 1
 
--- the fault of a line that is no datagram
+-- The fault of a line that is not a datagram.
 abbrev pub fault_in : Result (Option (Record × Remark)) LineFault → Option LineFault
 fault_in (Ok (Some f)) = None
 fault_in (Ok None) = None
 fault_in (Err fault) = Some fault
 
+-- The counts of a course.
 abbrev pub counts_of : ℕ → ℕ → ℕ → ℕ → CaptureCounts
 counts_of datagrams damaged forgotten unreadable =
     record { datagrams = datagrams; damaged = damaged; forgotten = forgotten; unreadable = unreadable }
 
-abbrev pub scale_of : Asked → Option ℕ → Scale
-scale_of a first = record { first = first_of first 0; t_max = a.t_max }
-
+-- The sums in this form.
 abbrev pub sums_in : OutputForm → Scale → List Connection → Totals → CaptureCounts → List ℕ
 sums_in Lines s cs t counts = summary_text s cs t counts
 sums_in Json s cs t counts = sums_json s cs t counts
 
--- the sums over all lines so far
+-- The sums over all lines so far.
 abbrev pub course_text : Asked → Option ℕ → Totals → List Connection → CaptureCounts → List ℕ
-course_text a first gone cs counts = sums_in a.form (scale_of a first) cs (totals_of gone cs) counts
+course_text a first gone cs counts = sums_in a.form (scale_from a (first_of first 0)) cs (totals_of gone cs) counts
 
--- the line of a fault, where there is one
+-- The line of a fault, if there is one.
 abbrev pub fault_lines : ℕ → Option LineFault → List ℕ
 fault_lines number None = []
 fault_lines number (Some fault) = fault_text number fault
 
--- a line without its line feed, and without a carriage return before that
+-- A line without its line feed, and without a carriage return before it.
 abbrev pub without_end : List ℕ → List ℕ
 without_end line = if ends_with_byte 10 line then strip_last 13 (strip_last 10 line) else line

@@ -1,4 +1,4 @@
--- The sums at the end.
+-- The sums as lines.
 use Rattle.std.specs.Prelude.{ℕ, nat_eq, List, [], ◌∷◌, ◌++◌, codes, slice_index, slice_index_or, if◌then◌else◌, Option, Some, None}
 use Rattle.std.specs.Fmt.{decimal}
 use Rattle.std.specs.List.{flat_map}
@@ -11,6 +11,7 @@ use Rattle.capture.specs.declared.direction.SessionOpening.{SessionOpening}
 use Rattle.capture.specs.declared.direction.Tally.{Tally}
 use Rattle.capture.specs.declared.following.Totals.{Totals}
 use Rattle.capture.specs.declared.window.Window.{Window}
+use Rattle.capture.specs.Following.{silence_of}
 use Rattle.capture.specs.Numbers.{counted, open_window}
 use Rattle.capture_text.specs.declared.summary.Scale.{Scale}
 use Rattle.capture_text.specs.declared.summary.CaptureCounts.{CaptureCounts}
@@ -19,115 +20,142 @@ use Rattle.capture_text.specs.Pieces.{address_text, channel_text, duration_text,
 use Rattle.capture_text.specs.Reasons.{leaving_words}
 use Rattle.capture_text.specs.Sentence.{sentence_text}
 
--- how often an end opened, and by what
+-- How often an end opened, and by what.
 abbrev pub opening_text : Option SessionOpening → ℕ → List ℕ
 opening_text None times = codes " opening not seen"
 opening_text (Some opening) times = joined (codes " opened by " ∷ kind_name opening.kind ∷ codes " times " ∷ decimal times ∷ [])
 
+-- The repeated, late, differing and stale numbers of a window.
 unfoldable pub others_text : Window → List ℕ
 others_text w =
     joined
     (codes " repeats " ∷ decimal w.repeats ∷ codes " late " ∷ decimal w.late ∷ codes " differs " ∷ decimal w.differing ∷ codes " stale "
     ∷ decimal w.stale ∷ [])
 
+-- The counts of a window.
 unfoldable pub numbers_text : Window → List ℕ
 numbers_text w = joined (codes " PDUs " ∷ decimal w.heard ∷ codes " missing " ∷ decimal w.missing ∷ []) ++ others_text w
 
+-- The counts of types.
 unfoldable pub kinds_text : Tally → List ℕ
 kinds_text t =
     joined
-    (codes " heartbeats " ∷ decimal t.heartbeats ∷ codes " requests " ∷ decimal t.requests ∷ codes " resent " ∷ decimal t.resent ∷ [])
+    (codes " heartbeats " ∷ decimal t.heartbeats ∷ codes " requests " ∷ decimal t.requests ∷ codes " resent " ∷ decimal t.resent ∷ codes " disconnects "
+    ∷ decimal t.disconnects ∷ [])
 
+-- The longest silence.
 unfoldable pub silence_text : ℕ → List ℕ
 silence_text silence = joined (codes " silence " ∷ duration_text silence ∷ [])
 
--- the greatest age, and whether it reached T_max
+-- The greatest age, and if it reached T_max.
 unfoldable pub oldest_text : ℕ → ℕ → List ℕ
 oldest_text t_max oldest =
     joined (codes " age " ∷ decimal oldest ∷ codes " of " ∷ decimal t_max ∷ reached_text t_max oldest ∷ [])
 
--- when an end was heard last
+-- The longest wait for a confirmation, and if it reached T_max.
+unfoldable pub longest_text : ℕ → ℕ → List ℕ
+longest_text t_max longest =
+    joined (codes " waits " ∷ decimal longest ∷ codes " of " ∷ decimal t_max ∷ reached_text t_max longest ∷ [])
+
+-- The time of the last PDU.
 abbrev pub last_text : ℕ → ℕ → List ℕ
 last_text first last = if nat_eq last 0 then codes " not heard" else codes " last " ++ since_text first last
 
+-- The disconnect of a direction.
 abbrev pub ending_text : Option Leaving → List ℕ
 ending_text None = codes " no DiscReq"
 ending_text (Some leaving) = codes " DiscReq" ++ leaving_words leaving
 
-unfoldable pub tally_text : Scale → Tally → List ℕ
-tally_text s t =
-    kinds_text t ++ silence_text t.silence ++ oldest_text s.t_max t.oldest ++ last_text s.first t.last ++ ending_text t.leaving
+-- The tally of a direction; silence lasts up to this time.
+unfoldable pub tally_text : Scale → ℕ → Tally → List ℕ
+tally_text s until t =
+    kinds_text t ++ silence_text (silence_of t until) ++ oldest_text s.t_max t.oldest ++ longest_text s.t_max t.longest ++ last_text s.first t.last ++ ending_text t.leaving
 
--- all that an end sent
-unfoldable pub direction_text : Scale → ℕ → ℕ → Direction → List ℕ
-direction_text s from to d =
+-- The line of a direction.
+unfoldable pub direction_text : Scale → ℕ → ℕ → ℕ → Direction → List ℕ
+direction_text s until from to d =
     codes "sum " ++ ends_text from to ++ opening_text d.opening d.tally.openings ++ numbers_text d.together
-    ++ tally_text s d.tally ++ codes "\n"
+    ++ tally_text s until d.tally ++ codes "\n"
 
--- each datagram of a channel is one of these
+-- How many datagrams came on a channel; each is in one of these counts.
 abbrev pub datagrams_of : Window → ℕ → ℕ
 datagrams_of w damaged =
     counted (counted (counted (counted (counted w.heard w.repeats) w.late) w.differing) w.stale) damaged
 
+-- The addresses of a channel.
 unfoldable pub route_text : Route → List ℕ
 route_text route = joined (codes " " ∷ address_text route.low ∷ codes "-" ∷ address_text route.high ∷ [])
 
+-- The number of datagrams on a channel.
 unfoldable pub datagrams_text : Window → ℕ → List ℕ
 datagrams_text w damaged = joined (codes " datagrams " ∷ decimal (datagrams_of w damaged) ∷ [])
 
--- what it sent on a channel
+-- The ends and the number of a channel.
 unfoldable pub sum_text : ℕ → ℕ → ℕ → List ℕ
 sum_text from to place = codes "sum " ++ ends_text from to ++ channel_text place
 
+-- The number of damaged datagrams, and the end of the line.
 unfoldable pub damaged_text : ℕ → List ℕ
 damaged_text damaged = joined (codes " damaged " ∷ decimal damaged ∷ codes "\n" ∷ [])
 
+-- The line of a channel.
 unfoldable pub known_channel_text : ℕ → ℕ → ℕ → Route → Window → ℕ → List ℕ
 known_channel_text from to place route w damaged =
     sum_text from to place ++ route_text route ++ datagrams_text w damaged ++ numbers_text w ++ damaged_text damaged
 
+-- The line of a channel, if there is one.
 abbrev pub maybe_channel_text : ℕ → ℕ → ℕ → Option Route → Window → ℕ → List ℕ
 maybe_channel_text from to place None w damaged = []
 maybe_channel_text from to place (Some route) w damaged = known_channel_text from to place route w damaged
 
+-- The line of a direction's channel at a place.
 unfoldable pub place_text : ℕ → ℕ → List (Option Route) → Direction → ℕ → List ℕ
 place_text from to routes d place =
     maybe_channel_text from to place (slice_index_or routes place None) (slice_index_or d.channels place open_window)
     (slice_index d.damaged place)
 
+-- The lines of a direction's channels.
 unfoldable pub places_text : ℕ → ℕ → List (Option Route) → Direction → List ℕ
 places_text from to routes d =
     place_text from to routes d 0 ++ place_text from to routes d 1 ++ place_text from to routes d 2 ++ place_text from to routes d 3
 
-unfoldable pub half_text : Scale → ℕ → ℕ → List (Option Route) → Direction → List ℕ
-half_text s from to routes d = direction_text s from to d ++ places_text from to routes d
+-- The line of a direction, and those of its channels.
+unfoldable pub half_text : Scale → ℕ → ℕ → Connection → Direction → List ℕ
+half_text s from to c d = direction_text s c.last from to d ++ places_text from to c.routes d
 
+-- The lines of a connection: both directions, then its sentence.
 unfoldable pub connection_text : Scale → Connection → List ℕ
 connection_text s c =
-    half_text s c.low c.high c.routes c.from_low ++ half_text s c.high c.low c.routes c.from_high ++ sentence_text s c
+    half_text s c.low c.high c c.from_low ++ half_text s c.high c.low c c.from_high ++ sentence_text s c
 
--- connection by connection, the one that was heard last at the end
+-- The lines of all connections; the one with the latest PDU is the last.
 abbrev pub connections_text : Scale → List Connection → List ℕ
 connections_text s cs = flat_map (λ c. connection_text s c) cs
 
+-- The number of datagrams in the whole capture.
 unfoldable pub came_text : ℕ → List ℕ
 came_text datagrams = joined (codes "sum all datagrams " ∷ decimal datagrams ∷ [])
 
+-- The repeated, late, differing and stale numbers of all connections.
 unfoldable pub other_totals_text : Totals → List ℕ
 other_totals_text t =
     joined
     (codes " repeats " ∷ decimal t.repeats ∷ codes " late " ∷ decimal t.late ∷ codes " differs " ∷ decimal t.differing ∷ codes " stale "
     ∷ decimal t.stale ∷ [])
 
+-- The sums of all connections.
 unfoldable pub totals_text : Totals → List ℕ
 totals_text t = joined (codes " PDUs " ∷ decimal t.heard ∷ codes " missing " ∷ decimal t.missing ∷ []) ++ other_totals_text t
 
+-- The counts over the whole capture.
 unfoldable pub counts_text : CaptureCounts → List ℕ
 counts_text c =
     joined (codes " damaged " ∷ decimal c.damaged ∷ codes " forgotten " ∷ decimal c.forgotten ∷ codes " unreadable " ∷ decimal c.unreadable ∷ [])
 
+-- The line of all sums.
 unfoldable pub all_text : Totals → CaptureCounts → List ℕ
 all_text t c = came_text c.datagrams ++ totals_text t ++ counts_text c ++ codes "\n"
 
+-- All lines of the sums.
 abbrev pub summary_text : Scale → List Connection → Totals → CaptureCounts → List ℕ
 summary_text s cs t c = connections_text s cs ++ all_text t c

@@ -1,43 +1,45 @@
-//! Which lines are printed.
+//! The choice of printed lines by a remark (`--only`).
 
 ghost use Rattle.std.specs.Prelude.{◌≡◌, IfSome, Some};
-ghost use Rattle.capture_text.specs.Choice.{has_word, is_asked, is_maybe_named, is_meant, is_named, is_number_named, is_overdue, word_text};
+ghost use Rattle.capture_text.specs.Choice.{has_word, is_asked, is_half, is_maybe_named, is_meant, is_named, is_number_named, is_overdue, is_waiting, word_text};
 
 use capture::{Judged, Remark, Remarks};
 
-/// A remark that lines are chosen by.
+/// A remark by which lines are chosen.
 #[derive(Clone, Copy, Debug, PartialEq, Eq)]
 pub enum Remarkable {
-    /// `opens`: an opening that is no copy.
+    /// `opens`: an opening that is not a copy.
     Opens,
-    /// `repeat`: a number was heard before, with the same octets.
+    /// `repeat`: a number that came before, with the same bytes.
     Repeat,
-    /// `differs`: a number was heard before, with other octets.
+    /// `differs`: a number that came before, with other bytes.
     Differs,
-    /// `ahead`: numbers are missing before it.
+    /// `ahead`: a number with missing ones before it.
     Ahead,
     /// `late`: a number that was missing.
     Late,
     /// `stale`: a number from before all that are kept.
     Stale,
-    /// `anew`: numbers begin anew.
+    /// `anew`: a number with which the window starts again.
     Anew,
     /// `resent`: a unit that was sent before.
     Resent,
-    /// `age`: a confirmed timestamp as old as T_max, or older.
+    /// `age`: a confirmed timestamp of an age of at least T_max.
     Age,
+    /// `waits`: an end that has waited for a confirmation for at least half of T_max.
+    Waits,
     /// `reason`: a DiscReq.
     Leaving,
-    /// `fault`: a datagram that is no PDU.
+    /// `fault`: a datagram that is not a PDU.
     Fault,
 }
 
 impl Remarkable {
-    /// The word that a text is, or none.
+    /// Returns the remark with this word, or `None` if no remark has it.
     pub fn named(text: &str) -> Option<Remarkable>
-        // A word that is found is that of the text.
+        // A remark that is returned has exactly this `text` as its word.
         ensures found { IfSome result (λ word. text.now ≡ word_text word) }
-        // Each word is found by its text.
+        // Every remark is found by its word.
         ensures only { (word : Remarkable) → text.now ≡ word_text word → result ≡ Some word }
     {
         match text {
@@ -50,6 +52,7 @@ impl Remarkable {
             "anew" => Some(Remarkable::Anew),
             "resent" => Some(Remarkable::Resent),
             "age" => Some(Remarkable::Age),
+            "waits" => Some(Remarkable::Waits),
             "reason" => Some(Remarkable::Leaving),
             "fault" => Some(Remarkable::Fault),
             _ => None,
@@ -57,9 +60,10 @@ impl Remarkable {
     }
 }
 
-/// Whether a line is printed where a word is asked for, or none; `t_max` in milliseconds.
+/// Returns `true` if a line is printed: it has the remark that is asked for, or no remark is asked for. `t_max` is in
+/// milliseconds.
 pub fn is_wanted(only: Option<Remarkable>, t_max: u32, remark: &Remark) -> bool
-    // A line is printed where the remark that is asked for holds of it, and each is where none is asked for.
+    // Without `only` every line is printed; with it, exactly those that have its remark.
     ensures { result ≡ is_asked only t_max remark.now }
 {
     match only {
@@ -68,7 +72,9 @@ pub fn is_wanted(only: Option<Remarkable>, t_max: u32, remark: &Remark) -> bool
     }
 }
 
+/// Returns `true` if a datagram has this remark.
 fn is_meant_by(word: Remarkable, t_max: u32, remark: &Remark) -> bool
+    // A PDU has the remarks of `has_word`; any other datagram has only the remark for faults.
     ensures { result ≡ is_meant word t_max remark.now }
 {
     match *remark {
@@ -77,13 +83,17 @@ fn is_meant_by(word: Remarkable, t_max: u32, remark: &Remark) -> bool
     }
 }
 
+/// Returns `true` if a PDU has this remark.
 fn is_remarked(word: Remarkable, t_max: u32, remarks: &Remarks) -> bool
+    // An opening, a retransmission, an age of at least `t_max`, a wait of at least half of it and a reason have their
+    // own fields; any other word is compared with how the numbers followed.
     ensures { result ≡ has_word word t_max remarks.now }
 {
     match word {
         Remarkable::Opens => remarks.opens,
         Remarkable::Resent => remarks.resent,
         Remarkable::Age => is_over(t_max, remarks.age),
+        Remarkable::Waits => is_near(t_max, remarks.waits),
         Remarkable::Leaving => remarks.leaving.is_some(),
         Remarkable::Repeat
         | Remarkable::Differs
@@ -95,8 +105,9 @@ fn is_remarked(word: Remarkable, t_max: u32, remarks: &Remarks) -> bool
     }
 }
 
-/// Whether an age reaches T_max.
+/// Returns `true` if an age is at least T_max.
 pub(crate) fn is_over(t_max: u32, age: Option<u32>) -> bool
+    // Without an `age` the result is false.
     ensures { result ≡ is_overdue t_max age }
 {
     match age {
@@ -105,8 +116,28 @@ pub(crate) fn is_over(t_max: u32, age: Option<u32>) -> bool
     }
 }
 
-/// Whether one of a PDU's numbers followed as a word says.
+/// Returns `true` if an end has waited for at least half of T_max.
+fn is_near(t_max: u32, waits: Option<u32>) -> bool
+    // Without a wait the result is false.
+    ensures { result ≡ is_waiting t_max waits }
+{
+    match waits {
+        None => false,
+        Some(waits) => is_half_of(t_max, waits),
+    }
+}
+
+/// Returns `true` if a wait is at least half of T_max; both in milliseconds.
+pub(crate) fn is_half_of(t_max: u32, waits: u32) -> bool
+    // Twice the wait is compared with `t_max`, so an odd T_max is not rounded.
+    ensures { result ≡ is_half t_max waits }
+{
+    t_max as u64 <= waits as u64 * 2
+}
+
+/// Returns `true` if one of a PDU's numbers followed as the word says.
 fn is_number(word: Remarkable, remarks: &Remarks) -> bool
+    // The numbers of the channel, of all channels and the sequence numbers are compared; one match is enough.
     ensures { result ≡ is_number_named word remarks.now }
 {
     is_maybe(word, remarks.channel)
@@ -114,7 +145,9 @@ fn is_number(word: Remarkable, remarks: &Remarks) -> bool
         || is_maybe(word, remarks.sequence)
 }
 
+/// Returns `true` if a number was judged and followed as the word says.
 fn is_maybe(word: Remarkable, judged: Option<Judged>) -> bool
+    // Without a judgement the result is false.
     ensures { result ≡ is_maybe_named word judged }
 {
     match judged {
@@ -123,7 +156,9 @@ fn is_maybe(word: Remarkable, judged: Option<Judged>) -> bool
     }
 }
 
+/// Returns `true` if a number followed as the word says.
 fn is_so(word: Remarkable, judged: Judged) -> bool
+    // The `word` is that of the judgement; the first and the next number have no word.
     ensures { result ≡ is_named word judged }
 {
     match judged {

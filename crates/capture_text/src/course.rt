@@ -1,4 +1,4 @@
-//! A capture, line by line.
+//! A capture, read line by line or frame by frame.
 
 ghost use Rattle.std.specs.Prelude.{◌≡◌, ◌≤◌, [], None, take, OnOk, IfOk};
 ghost use Rattle.std.specs.Io.KnownBytes.{Appends};
@@ -22,63 +22,63 @@ use safe_pdu::CodeRule;
 use std::io;
 use std::io::Write;
 
-/// How a capture is told.
+/// The form of the output.
 #[derive(Clone, Copy, Debug, PartialEq, Eq)]
 pub enum OutputForm {
-    /// By a line for each datagram, and the sums in lines.
+    /// A line for each datagram, then the sums in lines.
     Lines,
-    /// By the sums alone, as one JSON object.
+    /// Only the sums, as one JSON object, so that all of standard output is one object.
     Json,
 }
 
-/// What is asked of a capture.
+/// The options of a run.
 #[derive(Clone, Copy, Debug, PartialEq, Eq)]
 pub struct Asked {
     /// The rule of the safety code.
     pub rule: CodeRule,
-    /// The remark whose lines are printed; all are, where there is none.
+    /// Only lines with this remark are printed; `None` prints all.
     pub only: Option<Remarkable>,
-    /// T_max in milliseconds, which ages are measured against.
+    /// T_max in milliseconds, with which ages and waits are compared.
     pub t_max: u32,
-    /// Whether the telegrams of a datagram are printed behind its line.
+    /// Prints the telegrams of a datagram after its line.
     pub messages: bool,
-    /// The ports whose datagrams are followed, and no others are counted; all are, where there are none.
+    /// Only datagrams with one of these ports are followed and counted; `None` follows all.
     pub ports: Option<Ports>,
-    /// How it is told.
+    /// The form of the output.
     pub form: OutputForm,
 }
 
-/// How far a capture was read.
+/// The state of a capture that is being read.
 #[derive(Drop)]
 pub struct Course {
     /// What is kept of its datagrams.
     pub following: Following,
-    /// When the first datagram was recorded, in microseconds; none before it.
+    /// The time of the first datagram, in microseconds; `None` before it.
     pub first: Option<u64>,
-    /// How many lines were read.
+    /// How many lines or frames were read.
     pub lines: u64,
-    /// How many of them were no datagram.
+    /// How many of them were not a datagram.
     pub unreadable: u64,
 }
 
 impl Course {
-    /// Nothing was read yet.
+    /// Returns the state before the first line.
     pub fn new() -> Self
-        // A course begins with no connection.
+        // A new `Course` has no connection.
         ensures connections { result.following.connections.items ≡ [] }
-        // It begins with no datagram counted.
+        // A new `Course` has counted no datagram.
         ensures datagrams { result.following.datagrams ≡ 0 }
-        // It begins with no datagram counted that is no PDU.
+        // A new `Course` has counted no damaged datagram.
         ensures damaged { result.following.damaged ≡ 0 }
-        // It begins without sums of connections that were forgotten.
+        // A new `Course` has no sums of forgotten connections.
         ensures gone { result.following.gone ≡ no_totals }
-        // It begins with no connection forgotten.
+        // A new `Course` has forgotten no connection.
         ensures forgotten { result.following.forgotten ≡ 0 }
-        // A course begins without a first time.
+        // A new `Course` has no time of a first datagram.
         ensures first { result.first ≡ None }
-        // It begins with no line read.
+        // A new `Course` has read no line.
         ensures lines { result.lines ≡ 0 }
-        // It begins with no line counted as unreadable.
+        // A new `Course` has no unreadable line.
         ensures unreadable { result.unreadable ≡ 0 }
     {
         Course {
@@ -89,12 +89,14 @@ impl Course {
         }
     }
 
-    /// Takes a line without its line feed into account, and writes what is printed of it; answers its fault where it is
-    /// no datagram. One on no port that is followed counts as a line and as nothing else. The buffer is for its payload.
+    /// Adds a line without its line feed, and writes what is printed of it. Returns the fault of a line that is not a
+    /// datagram.
+    ///
+    /// A datagram without a chosen port counts only as a line. `buffer` is for the payload.
     ///
     /// # Errors
     ///
-    /// An error is the writer's; what came before it stays written, and the line is taken into account.
+    /// The error of the writer. What was written before it stays, and the line has been added.
     pub fn take_line<W: Write>(
         &mut self,
         asked: &Asked,
@@ -102,50 +104,42 @@ impl Course {
         buffer: &mut Buffer,
         writer: &mut W,
     ) -> io::Result<Option<LineFault>>
-        // A line is counted, whatever it says.
+        // The count of lines grows by 1 for every line.
         ensures lines { self.new.lines ≡ counted self.old.lines 1 }
-        // The time from which times are counted is that of the first datagram.
-        // A line or frame on no port that is followed counts as a line and changes nothing else (`heard_line`,
-        // `frame_seen`).
+        // The first datagram that is followed sets the time; no other line changes it (`first_behind`).
         ensures first { self.new.first ≡ first_behind self.old.first
             (found_in self.old.following.connections.items (counted self.old.lines 1)
             (heard_line asked.now (line_of line.now))) }
-        // A line that is no datagram is counted as unreadable.
-        // A line or frame on no port that is followed counts as a line and changes nothing else (`heard_line`,
-        // `frame_seen`).
+        // The count of unreadable lines grows by 1 exactly if the line is not a datagram; one without a chosen port
+        // is not counted here (`heard_line`).
         ensures unreadable { self.new.unreadable ≡ unreadable_behind self.old.unreadable
             (found_in self.old.following.connections.items (counted self.old.lines 1)
             (heard_line asked.now (line_of line.now))) }
-        // A line's datagram changes the connections as it is heard; a line that is no datagram changes none.
-        // A line or frame on no port that is followed counts as a line and changes nothing else (`heard_line`,
-        // `frame_seen`).
+        // A followed datagram changes the connections as `connections_after` says; any other line changes none.
         ensures connections { self.new.following.connections.items
             ≡ connections_behind self.old.following.connections.items (counted self.old.lines 1)
             (heard_line asked.now (line_of line.now)) }
-        // A datagram of a line is counted.
+        // The count of datagrams grows by 1 exactly if the datagram of the line is followed (`datagrams_behind`).
         ensures datagrams { self.new.following.datagrams
             ≡ datagrams_behind self.old.following.datagrams (heard_line asked.now (line_of line.now)) }
-        // The sums of a connection that a line's datagram makes forgotten are kept.
+        // If a connection is forgotten for the datagram, its sums are added to those of the forgotten ones
+        // (`gone_behind`).
         ensures gone { self.new.following.gone
             ≡ gone_behind self.old.following.gone self.old.following.connections.items
             (heard_line asked.now (line_of line.now)) }
-        // A line's datagram that is no PDU is counted; a line that is no datagram is not.
+        // The count of damaged datagrams grows by 1 exactly if a followed datagram is not a PDU.
         ensures damaged { self.new.following.damaged
             ≡ damaged_behind self.old.following.damaged (heard_line asked.now (line_of line.now)) }
-        // A connection that a line's datagram makes forgotten is counted.
+        // If a connection is forgotten for the datagram, the count of forgotten ones grows by 1 (`forgotten_behind`).
         ensures forgotten { self.new.following.forgotten
             ≡ forgotten_behind self.old.following.forgotten self.old.following.connections.items
             (heard_line asked.now (line_of line.now)) }
-        // A line that is no datagram has its fault answered, and each other line none.
+        // The result is the fault of a line that is not a datagram, and `None` for any other line.
         ensures fault { IfOk result (λ fault. fault ≡ fault_in
             (found_in self.old.following.connections.items (counted self.old.lines 1)
             (heard_line asked.now (line_of line.now)))) }
-        // What is printed of a line is exactly the stated text: that of its datagram where it is asked for, and
-        // else nothing.
-        // Behind a printed line stand the telegrams of its datagram where they are asked for
-        // (`asked_telegrams`).
-        // A line or frame on no port that is followed counts as a line and changes nothing else (`heard_line`,
-        // `frame_seen`).
+        // On success the line of a followed datagram is appended, if its remark is chosen and the form is lines; then
+        // its telegrams, if they are asked for. For any other line nothing is appended.
         ensures written { OnOk result (Appends (W.contents writer.old) (W.contents writer.new)
             (found_text asked.now self.old.first (counted self.old.lines 1) (payload_in (line_of line.now))
             (found_in self.old.following.connections.items (counted self.old.lines 1)
@@ -157,15 +151,15 @@ impl Course {
         self.tell(asked, found, &buffer[..size], writer)
     }
 
-    /// Takes a line into account that is too long to be kept.
+    /// Adds a line that was too long to be kept.
     pub fn pass_long(&mut self)
-        // A line too long to be kept changes nothing that is kept of connections.
+        // A line that is too long changes nothing in the connections and their counts.
         ensures following { self.new.following ≡ self.old.following }
-        // It leaves the first time.
+        // A line that is too long does not set the time of the first datagram.
         ensures first { self.new.first ≡ self.old.first }
-        // A line too long to be kept is counted.
+        // A line that is too long is counted as a line.
         ensures lines { self.new.lines ≡ counted self.old.lines 1 }
-        // A line too long to be kept is counted as unreadable.
+        // A line that is too long is counted as unreadable.
         ensures unreadable { self.new.unreadable ≡ counted self.old.unreadable 1 }
     {
         let unreadable = self.unreadable;
@@ -181,11 +175,18 @@ impl Course {
         datagram: &[u8],
         writer: &mut W,
     ) -> io::Result<Option<LineFault>>
+        // Printing changes nothing in the connections and their counts.
         ensures following { self.new.following ≡ self.old.following }
+        // Printing does not count a line.
         ensures lines { self.new.lines ≡ self.old.lines }
+        // A datagram that was `found` sets the time of the first one, if that is not set.
         ensures first { self.new.first ≡ first_behind self.old.first found }
+        // A fault that was `found` is counted as unreadable.
         ensures unreadable { self.new.unreadable ≡ unreadable_behind self.old.unreadable found }
+        // The result is the fault that was `found`, if any.
         ensures fault { IfOk result (λ fault. fault ≡ fault_in found) }
+        // On success the text of the `datagram` that was found is appended; for a fault or a datagram that is not
+        // followed, nothing is.
         ensures written { OnOk result (Appends (W.contents writer.old) (W.contents writer.new)
             (found_text asked.now self.old.first self.old.lines datagram.now found)) }
     {
@@ -204,13 +205,14 @@ impl Course {
         }
     }
 
-    /// Writes the sums over all lines so far: as lines, or as one JSON object.
+    /// Writes the sums over all lines so far, as lines or as one JSON object.
     ///
     /// # Errors
     ///
-    /// An error is the writer's; what came before it stays written.
+    /// The error of the writer. What was written before it stays.
     pub fn sum<W: Write>(&self, asked: &Asked, writer: &mut W) -> io::Result<()>
-        // The sums of a course are those of the connections that it keeps, with its counts.
+        // On success the sums over all kept and forgotten connections are appended, with the counts of the course, in
+        // the form that was `asked` for (`course_text`).
         ensures { OnOk result (Appends (W.contents writer.old) (W.contents writer.new)
             (course_text asked.now self.now.first self.now.following.gone self.now.following.connections.items
             (counts_of self.now.following.datagrams self.now.following.damaged self.now.following.forgotten
@@ -235,8 +237,9 @@ impl Course {
     }
 }
 
-/// The time of the first datagram.
+/// Returns the time of the first datagram, or this time.
 pub(crate) fn start(first: Option<u64>, time: u64) -> u64
+    // The result is `first`, or `time` if there is none yet.
     ensures { result ≡ first_of first time }
 {
     match first {
@@ -245,14 +248,18 @@ pub(crate) fn start(first: Option<u64>, time: u64) -> u64
     }
 }
 
-/// Reads a line, and answers how many octets its datagram has, and what that says.
+/// Reads a line, and returns the size of its payload and its decoded datagram.
 fn hear_line(
     asked: &Asked,
     line: &[u8],
     buffer: &mut Buffer,
 ) -> (usize, Result<Option<(Record, Heard)>, LineFault>)
+    // The second result is the decoded datagram of the line if it is followed, or the fault of the line
+    // (`heard_line`).
     ensures heard { result.1 ≡ heard_line asked.now (line_of line.now) }
+    // The first bytes of the `buffer`, as many as the first result, are the payload of the line.
     ensures payload { take result.0 buffer.new ≡ payload_in (line_of line.now) }
+    // The size of the payload is at most `PAYLOAD_ROOM`.
     ensures fits { result.0 ≤ PAYLOAD_ROOM }
 {
     match read_line(line, buffer) {
@@ -264,8 +271,9 @@ fn hear_line(
     }
 }
 
-/// What a datagram says; nothing, where it is on no port that is followed.
+/// Decodes a datagram if one of its ports is chosen.
 fn hear_chosen(asked: &Asked, record: &Record, octets: &[u8]) -> Option<(Record, Heard)>
+    // The result is the decoded datagram if it `is_chosen`, otherwise `None`.
     ensures { result ≡ heard_chosen asked.now «record».now octets.now }
 {
     if is_followed(&asked.ports, record) {
@@ -274,19 +282,25 @@ fn hear_chosen(asked: &Asked, record: &Record, octets: &[u8]) -> Option<(Record,
     None
 }
 
-/// Follows the datagram of a line.
+/// Adds the datagram of a line to the connections.
 fn follow(
     following: &mut Following,
     number: u64,
     heard: Result<Option<(Record, Heard)>, LineFault>,
 ) -> Result<Option<(Record, Remark)>, LineFault>
+    // The result is the remark on a datagram that is followed; a fault stays a fault (`found_in`).
     ensures found { result ≡ found_in following.old.connections.items number heard }
+    // Only a datagram that is followed changes the connections.
     ensures connections { following.new.connections.items
         ≡ connections_behind following.old.connections.items number heard }
+    // Only a datagram that is followed adds to the count of datagrams.
     ensures datagrams { following.new.datagrams ≡ datagrams_behind following.old.datagrams heard }
+    // Only a followed datagram that is not a PDU adds to the count of damaged ones.
     ensures damaged { following.new.damaged ≡ damaged_behind following.old.damaged heard }
+    // If the datagram makes a connection forgotten, its sums are kept.
     ensures gone { following.new.gone
         ≡ gone_behind following.old.gone following.old.connections.items heard }
+    // If the datagram makes a connection forgotten, that is counted.
     ensures forgotten { following.new.forgotten
         ≡ forgotten_behind following.old.forgotten following.old.connections.items heard }
 {
@@ -300,6 +314,7 @@ fn follow(
     }
 }
 
+/// Writes the line and the telegrams of a datagram, if they are asked for.
 pub(crate) fn write_wanted<W: Write>(
     writer: &mut W,
     asked: &Asked,
@@ -309,18 +324,25 @@ pub(crate) fn write_wanted<W: Write>(
     remark: &Remark,
     datagram: &[u8],
 ) -> io::Result<()>
+    // On success the line and the telegrams that are asked for are appended if the remark is chosen (`is_line_told`);
+    // otherwise nothing is.
     ensures { OnOk result (Appends (W.contents writer.old) (W.contents writer.new)
         (told_text asked.now first number «record».now remark.now datagram.now)) }
 {
     if !is_told(asked, remark) {
         return Ok(());
     }
-    write_record(writer, first, number, record, remark)?;
+    let scale = Scale {
+        first,
+        t_max: asked.t_max,
+    };
+    write_record(writer, scale, number, record, remark)?;
     write_asked(writer, asked, datagram)
 }
 
-/// Whether the line of a datagram is printed.
+/// Returns `true` if the line of a datagram is printed.
 fn is_told(asked: &Asked, remark: &Remark) -> bool
+    // No line is printed with JSON; otherwise those whose `remark` is chosen.
     ensures { result ≡ is_line_told asked.now remark.now }
 {
     match asked.form {
@@ -329,8 +351,9 @@ fn is_told(asked: &Asked, remark: &Remark) -> bool
     }
 }
 
-/// Writes the telegrams of a datagram, where they are asked for.
+/// Writes the telegrams of a datagram, if they are asked for.
 fn write_asked<W: Write>(writer: &mut W, asked: &Asked, datagram: &[u8]) -> io::Result<()>
+    // On success the lines of the telegrams are appended exactly if `asked` has `messages`.
     ensures { OnOk result (Appends (W.contents writer.old) (W.contents writer.new)
         (asked_telegrams asked.now datagram.now)) }
 {
@@ -340,21 +363,23 @@ fn write_asked<W: Write>(writer: &mut W, asked: &Asked, datagram: &[u8]) -> io::
     Ok(())
 }
 
-/// Writes why a line is no datagram.
+/// Writes why a line is not a datagram.
 ///
 /// # Errors
 ///
-/// An error is the writer's; what came before it stays written.
+/// The error of the writer. What was written before it stays.
 #[tactic(auto, unfolding(crate::specs::FaultText::fault_text))]
 pub fn write_fault<W: Write>(writer: &mut W, number: u64, fault: LineFault) -> io::Result<()>
-    // The line of a fault is exactly the stated text.
+    // On success the `number` of the line and the words of its `fault` are appended, with a line feed.
     ensures { OnOk result (Appends (W.contents writer.old) (W.contents writer.new) (fault_text number fault)) }
 {
     let word = name_of_fault(fault);
     writeln!(writer, "line {number}: unreadable: {word}")
 }
 
+/// Returns the words of a fault.
 fn name_of_fault(fault: LineFault) -> &'static str
+    // Each `fault` has its words (`fault_word`).
     ensures { result.now ≡ fault_word fault }
 {
     match fault {

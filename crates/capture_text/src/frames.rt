@@ -4,10 +4,10 @@ ghost use Rattle.std.specs.Prelude.{◌≡◌, Some, ◌≤◌, ◌^◌, ◌<◌
 ghost use Rattle.std.specs.Io.KnownBytes.{Appends};
 ghost use Rattle.capture.specs.Hearing.{heard_of};
 ghost use Rattle.capture.specs.Numbers.{counted};
-ghost use Rattle.capture.specs.Whole.{connections_after, remark_of};
+ghost use Rattle.capture.specs.Whole.{connections_after, damaged_after, forgotten_after, gone_after, remark_of};
 ghost use Rattle.capture.specs.Frames.{found_in};
 ghost use Rattle.capture_text.specs.FaultText.{frame_text, frame_word};
-ghost use Rattle.capture_text.specs.FrameSteps.{connections_seen, fault_seen, first_seen, frame_seen, payload_at, record_found, seen_found, seen_passed, seen_text, unreadable_seen, IsWithin};
+ghost use Rattle.capture_text.specs.FrameSteps.{connections_seen, damaged_seen, datagrams_seen, fault_seen, first_seen, forgotten_seen, frame_seen, gone_seen, payload_at, record_found, seen_found, seen_passed, seen_text, unreadable_seen, IsWithin};
 ghost use Rattle.capture_text.specs.Steps.{first_of, told_text};
 
 use crate::course::{Asked, Course, start, write_wanted};
@@ -18,9 +18,9 @@ use std::io::Write;
 /// Why the datagram of a frame is not read.
 #[derive(Clone, Copy, Debug, PartialEq, Eq)]
 pub enum FrameFault {
-    /// Its link is not known here.
+    /// Its link header is not known here.
     Link,
-    /// It ends before what its headers say: the recorder cut it off.
+    /// The frame ends before its headers do: the recorder cut it off.
     Truncated,
     /// It is a fragment of a datagram. Fragments are not joined.
     Fragment,
@@ -28,24 +28,25 @@ pub enum FrameFault {
     Length,
 }
 
-/// What a frame carries.
+/// The datagram of a frame.
 #[derive(Clone, Copy, Debug, PartialEq, Eq)]
 pub(crate) enum Seen {
-    /// A datagram, with where its payload begins and ends in the frame.
+    /// A datagram, with the places of its payload in the frame.
     Datagram(Record, usize, usize),
-    /// Something else than UDP over IP, or a datagram on no port that is followed.
+    /// Something other than UDP over IP, or a datagram without a chosen port.
     Other,
     /// A datagram that is not read.
     Unread(FrameFault),
 }
 
 impl Course {
-    /// Takes a frame of a recording into account, and writes what is printed of its datagram; answers why it is not read,
-    /// where it is none. Frames count as lines do, those that carry something else too.
+    /// Adds a frame of a recording, and writes what is printed of its datagram. Returns why a datagram is not read.
+    ///
+    /// Each frame counts as a line, even if it carries something else.
     ///
     /// # Errors
     ///
-    /// An error is the writer's; what came before it stays written, and the frame is taken into account.
+    /// The error of the writer. What was written before it stays, and the frame has been added.
     pub fn take_frame<W: Write>(
         &mut self,
         asked: &Asked,
@@ -55,24 +56,37 @@ impl Course {
         writer: &mut W,
     ) -> io::Result<Option<FrameFault>>
         requires { length octets.now < 2 ^ 32 }
-        // A frame is counted as a line is.
+        // The count of lines grows by 1 for every frame.
         ensures lines { self.new.lines ≡ counted self.old.lines 1 }
-        // The first time is that of the first datagram; a frame on no port that is followed leaves it
-        // (`frame_seen`).
+        // The first frame with a followed datagram sets the time; no other frame changes it (`frame_seen`).
         ensures first { self.new.first ≡ first_seen self.old.first (frame_seen asked.now.ports link time octets.now) }
-        // A frame whose datagram cannot be read is counted as unreadable; one on no port that is followed is
-        // not (`frame_seen`).
+        // The count of unreadable frames grows by 1 exactly if the datagram is not read; one without a chosen port is
+        // not counted here.
         ensures unreadable { self.new.unreadable
             ≡ unreadable_seen self.old.unreadable (frame_seen asked.now.ports link time octets.now) }
-        // A frame's datagram changes the connections as it is heard; a frame on no port that is followed
-        // changes none (`frame_seen`).
+        // A followed datagram changes the connections as `connections_after` says; any other frame changes none.
         ensures connections { self.new.following.connections.items
             ≡ connections_seen asked.now.rule self.old.following.connections.items (counted self.old.lines 1) octets.now
             (frame_seen asked.now.ports link time octets.now) }
-        // A frame whose datagram cannot be read has its fault answered, and each other frame none.
+        // The count of datagrams grows by 1 exactly if the datagram of the frame is followed.
+        ensures datagrams { self.new.following.datagrams
+            ≡ datagrams_seen self.old.following.datagrams (frame_seen asked.now.ports link time octets.now) }
+        // The count of damaged datagrams grows by 1 exactly if the frame has a followed datagram that is not a PDU.
+        ensures damaged { self.new.following.damaged
+            ≡ damaged_seen asked.now.rule self.old.following.damaged octets.now
+            (frame_seen asked.now.ports link time octets.now) }
+        // If a connection is forgotten for the datagram, its sums are added to those of the forgotten ones.
+        ensures gone { self.new.following.gone
+            ≡ gone_seen asked.now.rule self.old.following.gone self.old.following.connections.items octets.now
+            (frame_seen asked.now.ports link time octets.now) }
+        // If a connection is forgotten for the datagram, the count of forgotten ones grows by 1.
+        ensures forgotten { self.new.following.forgotten
+            ≡ forgotten_seen asked.now.rule self.old.following.forgotten self.old.following.connections.items octets.now
+            (frame_seen asked.now.ports link time octets.now) }
+        // The result is the fault of a frame that is not read, and `None` for any other frame.
         ensures fault { IfOk result (λ fault. fault ≡ fault_seen (frame_seen asked.now.ports link time octets.now)) }
-        // What is printed of a frame is exactly the stated text, and nothing of one on no port that is followed
-        // (`frame_seen`).
+        // On success the line and telegrams of a followed datagram are appended, as far as they are asked for; for
+        // any other frame, nothing is (`seen_text`).
         ensures written { OnOk result (Appends (W.contents writer.old) (W.contents writer.new)
             (seen_text asked.now self.old.first self.old.following.connections.items (counted self.old.lines 1) octets.now
             (frame_seen asked.now.ports link time octets.now))) }
@@ -91,7 +105,7 @@ impl Course {
         }
     }
 
-    /// Takes a datagram into account, whose frame was counted.
+    /// Adds the datagram of a frame that was counted.
     fn take_datagram<W: Write>(
         &mut self,
         asked: &Asked,
@@ -99,12 +113,30 @@ impl Course {
         payload: &[u8],
         writer: &mut W,
     ) -> io::Result<()>
+        // The datagram itself is not counted as a line.
         ensures lines { self.new.lines ≡ self.old.lines }
+        // The datagram is not counted as unreadable.
         ensures unreadable { self.new.unreadable ≡ self.old.unreadable }
+        // The time of the first datagram is set if there was none.
         ensures first { self.new.first ≡ Some (first_of self.old.first «record».now.time) }
+        // The connections are those after this datagram, decoded with the rule that was `asked`.
         ensures connections { self.new.following.connections.items
             ≡ connections_after self.old.following.connections.items self.old.lines «record».now
             (heard_of asked.now.rule payload.now) }
+        // The datagram is counted.
+        ensures datagrams { self.new.following.datagrams ≡ counted self.old.following.datagrams 1 }
+        // The datagram is counted as damaged exactly if it is not a PDU.
+        ensures damaged { self.new.following.damaged
+            ≡ damaged_after self.old.following.damaged (heard_of asked.now.rule payload.now) }
+        // The sums of a connection that is forgotten for the datagram are kept.
+        ensures gone { self.new.following.gone
+            ≡ gone_after self.old.following.gone self.old.following.connections.items
+            (heard_of asked.now.rule payload.now) }
+        // A connection that is forgotten for the datagram is counted.
+        ensures forgotten { self.new.following.forgotten
+            ≡ forgotten_after self.old.following.forgotten self.old.following.connections.items
+            (heard_of asked.now.rule payload.now) }
+        // On success the line and the telegrams of the datagram are appended, as far as they are asked for.
         ensures written { OnOk result (Appends (W.contents writer.old) (W.contents writer.new)
             (told_text asked.now (first_of self.old.first «record».now.time) self.old.lines «record».now
             (remark_of self.old.following.connections.items self.old.lines «record».now
@@ -119,10 +151,13 @@ impl Course {
     }
 }
 
-/// What a frame carries.
+/// Finds the datagram of a frame.
 fn look(ports: &Option<Ports>, link: Option<Link>, time: u64, octets: &[u8]) -> Seen
     requires { length octets.now < 2 ^ 32 }
+    // An unknown link header is a fault. A datagram that is found is kept if one of its ports is chosen, and is
+    // otherwise passed over (`frame_seen`).
     ensures seen { result ≡ frame_seen ports.now link time octets.now }
+    // The places of a payload are within the frame.
     ensures within { IsWithin (length octets.now) result }
 {
     match link {
@@ -140,8 +175,10 @@ fn look(ports: &Option<Ports>, link: Option<Link>, time: u64, octets: &[u8]) -> 
     }
 }
 
+/// Returns the record of a datagram that was found.
 fn record_of(time: u64, found: &Found) -> Record
     requires { found.now.start ≤ found.now.end }
+    // The record has the `time` of the frame, both addresses, and the size of the payload.
     ensures { result ≡ record_found time found.now }
 {
     Record {
@@ -152,8 +189,11 @@ fn record_of(time: u64, found: &Found) -> Record
     }
 }
 
+/// Returns what a frame without a readable datagram is.
 fn pass(why: Passed) -> Seen
+    // What is not UDP over IP is passed over; any other reason is a fault (`seen_passed`).
     ensures seen { result ≡ seen_passed why }
+    // A frame that is passed over has no payload outside of it.
     ensures within { IsWithin 0 result }
 {
     match why {
@@ -168,17 +208,19 @@ fn pass(why: Passed) -> Seen
 ///
 /// # Errors
 ///
-/// An error is the writer's; what came before it stays written.
+/// The error of the writer. What was written before it stays.
 #[tactic(auto, unfolding(crate::specs::FaultText::frame_text))]
 pub fn write_frame_fault<W: Write>(writer: &mut W, number: u64, fault: FrameFault) -> io::Result<()>
-    // What is printed of a frame that is not read is its number and the word of its fault.
+    // On success the `number` of the frame and the word of its `fault` are appended, with a line feed.
     ensures { OnOk result (Appends (W.contents writer.old) (W.contents writer.new) (frame_text number fault)) }
 {
     let word = word_of(fault);
     writeln!(writer, "frame {number}: unreadable: {word}")
 }
 
+/// Returns the word of a frame's fault.
 fn word_of(fault: FrameFault) -> &'static str
+    // Each `fault` of a frame has its word (`frame_word`).
     ensures { result.now ≡ frame_word fault }
 {
     match fault {

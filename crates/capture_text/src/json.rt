@@ -3,25 +3,28 @@
 ghost use Rattle.std.specs.Prelude.{◌≡◌, ◌<◌, OnOk, None, Some};
 ghost use Rattle.std.specs.Io.KnownBytes.{Appends};
 ghost use Rattle.capture.specs.Whole.{totals_of};
-ghost use Rattle.capture_text.specs.Json.{came_json, channel_json, channels_json, coming_json, comma, connection_json, connections_json, counts_json, damaged_json, direction_json, ends_json, high_json, kinds_json, known_channel_json, leaving_json, listed_channel_json, listed_json, lost_json, low_json, more_json, name_json, near_json, numbers_json, opened_at_json, opened_json, opening_json, openings_json, others_json, parting_json, place_json, place_number_json, reasons_json, route_json, scale_json, sums_json, time_json, times_json, totals_in, up_json, window_json};
+ghost use Rattle.capture_text.specs.Json.{ages_json, came_json, channel_json, channels_json, coming_json, comma, connection_json, connections_json, counts_json, damaged_json, direction_json, ends_json, high_json, kinds_json, known_channel_json, leaving_json, listed_channel_json, listed_json, lost_json, low_json, more_json, name_json, near_json, numbers_json, opened_at_json, opened_json, opening_json, openings_json, others_json, parting_json, place_json, place_number_json, reasons_json, route_json, scale_json, sums_json, time_json, times_json, totals_in, up_json, window_json};
 
 use crate::pieces::write_address;
-use crate::sentence::{oldest, on_all, on_channels, up};
+use crate::sentence::{longest, oldest, on_all, on_channels, up};
 use crate::summary::{CaptureCounts, Scale, datagrams};
 use capture::{
-    Address, CHANNELS, Connection, Direction, Route, SessionOpening, Tally, Totals, Window, sum_up,
+    Address, CHANNELS, Connection, Direction, Route, SessionOpening, Tally, Totals, Window,
+    silence, sum_up,
 };
 use pdu_text::write_text;
 use safe_pdu::Leaving;
 use std::io;
 use std::io::Write;
 
-/// Writes the sums as one JSON object in one line: those of all and of each connection, with both its directions and their
-/// channels. Times are microseconds since 1970, ages milliseconds; `null` stands for what was not heard.
+/// Writes the sums as one JSON object in one line: those of all connections, then of each connection, with both
+/// directions and their channels.
+///
+/// Times are microseconds since 1970, ages and waits milliseconds. A value that was not recorded is `null`.
 ///
 /// # Errors
 ///
-/// An error is the writer's; what came before it stays written.
+/// The error of the writer. What was written before it stays.
 #[tactic(auto, unfolding(crate::specs::Json::sums_json))]
 pub fn write_json<W: Write>(
     writer: &mut W,
@@ -30,7 +33,8 @@ pub fn write_json<W: Write>(
     connections: &[Connection],
     counts: CaptureCounts,
 ) -> io::Result<()>
-    // The sums as one JSON object are exactly the stated text.
+    // On success one object is appended: first time and T_max, the sums of all with the `counts`, and a list of the
+    // connections (`sums_json`).
     ensures { OnOk result (Appends (W.contents writer.old) (W.contents writer.new)
         (sums_json scale connections.now (totals_of gone connections.now) counts)) }
 {
@@ -44,8 +48,10 @@ pub fn write_json<W: Write>(
     Ok(())
 }
 
+/// Writes the first time and T_max, and opens the object of all sums.
 #[tactic(auto, unfolding(crate::specs::Json::scale_json))]
 fn write_scale<W: Write>(writer: &mut W, scale: Scale) -> io::Result<()>
+    // On success the members of `scale` and the start of the sums are appended.
     ensures { OnOk result (Appends (W.contents writer.old) (W.contents writer.new) (scale_json scale)) }
 {
     let t_max = scale.t_max;
@@ -54,8 +60,9 @@ fn write_scale<W: Write>(writer: &mut W, scale: Scale) -> io::Result<()>
     write!(writer, ",\"t_max\":{t_max},\"all\":{{\"datagrams\":")
 }
 
-/// Writes a time in microseconds; 0 is one that is not known.
+/// Writes a time in microseconds; 0 is an unknown time.
 fn write_time<W: Write>(writer: &mut W, time: u64) -> io::Result<()>
+    // On success the `time` is appended, or null if it is 0.
     ensures { OnOk result (Appends (W.contents writer.old) (W.contents writer.new) (time_json time)) }
 {
     if time == 0 {
@@ -64,8 +71,10 @@ fn write_time<W: Write>(writer: &mut W, time: u64) -> io::Result<()>
     write!(writer, "{time}")
 }
 
+/// Writes the sums of redundancy numbers.
 #[tactic(auto, unfolding(crate::specs::Json::numbers_json))]
 fn write_numbers<W: Write>(writer: &mut W, totals: Totals) -> io::Result<()>
+    // On success PDUs, missing numbers and repeats are appended, then the rest of `totals`.
     ensures { OnOk result (Appends (W.contents writer.old) (W.contents writer.new) (numbers_json totals)) }
 {
     let heard = totals.heard;
@@ -78,8 +87,10 @@ fn write_numbers<W: Write>(writer: &mut W, totals: Totals) -> io::Result<()>
     write_others(writer, totals)
 }
 
+/// Writes the rarer sums of redundancy numbers.
 #[tactic(auto, unfolding(crate::specs::Json::others_json))]
 fn write_others<W: Write>(writer: &mut W, totals: Totals) -> io::Result<()>
+    // On success late, differing and stale ones of `totals` are appended.
     ensures { OnOk result (Appends (W.contents writer.old) (W.contents writer.new) (others_json totals)) }
 {
     let late = totals.late;
@@ -91,8 +102,10 @@ fn write_others<W: Write>(writer: &mut W, totals: Totals) -> io::Result<()>
     )
 }
 
+/// Writes the counts, ends the sums and opens the list of connections.
 #[tactic(auto, unfolding(crate::specs::Json::counts_json))]
 fn write_counts<W: Write>(writer: &mut W, counts: CaptureCounts) -> io::Result<()>
+    // On success damaged, forgotten and unreadable ones of `counts` are appended.
     ensures { OnOk result (Appends (W.contents writer.old) (W.contents writer.new) (counts_json counts)) }
 {
     let damaged = counts.damaged;
@@ -104,8 +117,9 @@ fn write_counts<W: Write>(writer: &mut W, counts: CaptureCounts) -> io::Result<(
     )
 }
 
-/// Writes connections, with a comma between two.
+/// Writes connections with a comma between two.
 fn write_connections<W: Write>(writer: &mut W, connections: &[Connection]) -> io::Result<()>
+    // On success the objects of all `connections` are appended in order, separated by commas.
     ensures { OnOk result (Appends (W.contents writer.old) (W.contents writer.new)
         (connections_json connections.now)) }
 {
@@ -119,8 +133,9 @@ fn write_connections<W: Write>(writer: &mut W, connections: &[Connection]) -> io
     }
 }
 
-/// Writes connections, each behind a comma.
+/// Writes connections, each after a comma.
 fn write_more<W: Write>(writer: &mut W, connections: &[Connection]) -> io::Result<()>
+    // On success a comma and the object of each of the `connections` are appended.
     ensures { OnOk result (Appends (W.contents writer.old) (W.contents writer.new) (more_json connections.now)) }
 {
     for connection in connections {
@@ -129,16 +144,21 @@ fn write_more<W: Write>(writer: &mut W, connections: &[Connection]) -> io::Resul
     Ok(())
 }
 
+/// Writes a connection after a comma.
 #[tactic(auto, unfolding(crate::specs::Json::listed_json))]
 fn write_listed<W: Write>(writer: &mut W, connection: &Connection) -> io::Result<()>
+    // On success a comma and the object of this `connection` are appended.
     ensures { OnOk result (Appends (W.contents writer.old) (W.contents writer.new) (listed_json connection.now)) }
 {
     write_text(writer, ",")?;
     write_connection(writer, connection)
 }
 
+/// Writes the object of a connection.
 #[tactic(auto, unfolding(crate::specs::Json::connection_json))]
 fn write_connection<W: Write>(writer: &mut W, connection: &Connection) -> io::Result<()>
+    // On success its name, time of coming up, losses and two directions are appended, the one of the lower end first
+    // (`connection_json`).
     ensures { OnOk result (Appends (W.contents writer.old) (W.contents writer.new)
         (connection_json connection.now)) }
 {
@@ -147,15 +167,17 @@ fn write_connection<W: Write>(writer: &mut W, connection: &Connection) -> io::Re
     write_name(writer, connection)?;
     write_coming(writer, connection)?;
     write_lost(writer, connection)?;
-    write_direction(writer, ends, &connection.routes, &connection.from_low)?;
+    write_direction(writer, ends, connection, &connection.from_low)?;
     write_text(writer, ",")?;
-    write_direction(writer, back, &connection.routes, &connection.from_high)?;
+    write_direction(writer, back, connection, &connection.from_high)?;
     write_text(writer, "]}")?;
     Ok(())
 }
 
+/// Writes the identifiers of a connection.
 #[tactic(auto, unfolding(crate::specs::Json::name_json))]
 fn write_name<W: Write>(writer: &mut W, connection: &Connection) -> io::Result<()>
+    // On success both identifiers are appended, and the name of the member for coming up.
     ensures { OnOk result (Appends (W.contents writer.old) (W.contents writer.new) (name_json connection.now)) }
 {
     let low = connection.low;
@@ -163,14 +185,18 @@ fn write_name<W: Write>(writer: &mut W, connection: &Connection) -> io::Result<(
     write!(writer, "{{\"low\":{low},\"high\":{high},\"up\":")
 }
 
+/// Writes when a connection came up.
 fn write_coming<W: Write>(writer: &mut W, connection: &Connection) -> io::Result<()>
+    // On success the time at which this `connection` came up is appended, or null (`up_of`).
     ensures { OnOk result (Appends (W.contents writer.old) (W.contents writer.new)
         (coming_json connection.now)) }
 {
     write_up(writer, up(&connection.from_low, &connection.from_high))
 }
 
+/// Writes a time of coming up.
 fn write_up<W: Write>(writer: &mut W, up: Option<u64>) -> io::Result<()>
+    // On success the time `up` is appended; null without one.
     ensures { OnOk result (Appends (W.contents writer.old) (W.contents writer.new) (up_json up)) }
 {
     match up {
@@ -179,17 +205,20 @@ fn write_up<W: Write>(writer: &mut W, up: Option<u64>) -> io::Result<()>
     }
 }
 
+/// Writes the losses of a connection.
 #[tactic(auto, unfolding(crate::specs::Json::lost_json))]
 fn write_lost<W: Write>(writer: &mut W, connection: &Connection) -> io::Result<()>
+    // On success the time of the last PDU, both losses, the greatest age and the longest wait are appended.
     ensures { OnOk result (Appends (W.contents writer.old) (W.contents writer.new) (lost_json connection.now)) }
 {
     let last = connection.last;
     let channels = on_channels(connection);
     let all = on_all(connection);
     let oldest = oldest(connection);
+    let longest = longest(connection);
     write!(
         writer,
-        ",\"last\":{last},\"lost_on_channels\":{channels},\"lost_on_all\":{all},\"age\":{oldest},\"directions\":["
+        ",\"last\":{last},\"lost_on_channels\":{channels},\"lost_on_all\":{all},\"age\":{oldest},\"waits\":{longest},\"directions\":["
     )
 }
 
@@ -198,35 +227,41 @@ fn write_lost<W: Write>(writer: &mut W, connection: &Connection) -> io::Result<(
 fn write_direction<W: Write>(
     writer: &mut W,
     ends: (u32, u32),
-    routes: &[Option<Route>; CHANNELS],
+    connection: &Connection,
     direction: &Direction,
 ) -> io::Result<()>
+    // On success the object of this `direction` is appended: ends, openings, numbers, types, silence, age and wait,
+    // disconnect, channels (`direction_json`).
     ensures { OnOk result (Appends (W.contents writer.old) (W.contents writer.new)
-        (direction_json ends.0 ends.1 routes.now direction.now)) }
+        (direction_json ends.0 ends.1 connection.now direction.now)) }
 {
     write_ends(writer, ends.0, ends.1)?;
     write_openings(writer, direction.opening, &direction.tally)?;
     write_window(writer, &direction.together)?;
     write_kinds(writer, &direction.tally)?;
-    write_near(writer, &direction.tally)?;
+    write_near(writer, connection.last, &direction.tally)?;
     write_parting(writer, &direction.tally)?;
-    write_channels(writer, routes, direction)?;
+    write_channels(writer, &connection.routes, direction)?;
     Ok(())
 }
 
+/// Writes the sender and the receiver.
 #[tactic(auto, unfolding(crate::specs::Json::ends_json))]
 fn write_ends<W: Write>(writer: &mut W, sender: u32, receiver: u32) -> io::Result<()>
+    // On success the identifiers of `sender` and `receiver` are appended.
     ensures { OnOk result (Appends (W.contents writer.old) (W.contents writer.new) (ends_json sender receiver)) }
 {
     write!(writer, "{{\"from\":{sender},\"to\":{receiver}")
 }
 
+/// Writes the openings of an end.
 #[tactic(auto, unfolding(crate::specs::Json::openings_json))]
 fn write_openings<W: Write>(
     writer: &mut W,
     opening: Option<SessionOpening>,
     tally: &Tally,
 ) -> io::Result<()>
+    // On success the type of the last opening, the number of openings, and the time of the last one are appended.
     ensures { OnOk result (Appends (W.contents writer.old) (W.contents writer.new)
         (openings_json opening tally.now)) }
 {
@@ -236,8 +271,10 @@ fn write_openings<W: Write>(
     Ok(())
 }
 
+/// Writes the type of the last opening.
 #[tactic(auto, unfolding(crate::specs::Json::opened_json))]
 fn write_opened<W: Write>(writer: &mut W, opening: Option<SessionOpening>) -> io::Result<()>
+    // On success the member with the type of `opening` is appended.
     ensures { OnOk result (Appends (W.contents writer.old) (W.contents writer.new) (opened_json opening)) }
 {
     write_text(writer, ",\"opening\":")?;
@@ -245,15 +282,19 @@ fn write_opened<W: Write>(writer: &mut W, opening: Option<SessionOpening>) -> io
     Ok(())
 }
 
+/// Writes how often an end opened.
 #[tactic(auto, unfolding(crate::specs::Json::times_json))]
 fn write_times<W: Write>(writer: &mut W, times: u64) -> io::Result<()>
+    // On success the number of `times` is appended.
     ensures { OnOk result (Appends (W.contents writer.old) (W.contents writer.new) (times_json times)) }
 {
     write!(writer, ",\"openings\":{times}")
 }
 
+/// Writes the time of the last opening.
 #[tactic(auto, unfolding(crate::specs::Json::opened_at_json))]
 fn write_opened_at<W: Write>(writer: &mut W, time: u64) -> io::Result<()>
+    // On success the `time` of the opening is appended, or null if it is 0.
     ensures { OnOk result (Appends (W.contents writer.old) (W.contents writer.new) (opened_at_json time)) }
 {
     write_text(writer, ",\"opened\":")?;
@@ -261,7 +302,9 @@ fn write_opened_at<W: Write>(writer: &mut W, time: u64) -> io::Result<()>
     Ok(())
 }
 
+/// Writes the type of an opening, or null.
 fn write_opening<W: Write>(writer: &mut W, opening: Option<SessionOpening>) -> io::Result<()>
+    // On success the name of the type is appended in quotes; null without an `opening`.
     ensures { OnOk result (Appends (W.contents writer.old) (W.contents writer.new) (opening_json opening)) }
 {
     match opening {
@@ -273,14 +316,17 @@ fn write_opening<W: Write>(writer: &mut W, opening: Option<SessionOpening>) -> i
     }
 }
 
+/// Writes the sums of a window.
 fn write_window<W: Write>(writer: &mut W, window: &Window) -> io::Result<()>
+    // On success the counts of this `window` are appended as sums.
     ensures { OnOk result (Appends (W.contents writer.old) (W.contents writer.new) (window_json window.now)) }
 {
     write_numbers(writer, totals(window))
 }
 
-/// The counts of numbers.
+/// Returns the counts of a window as sums.
 fn totals(window: &Window) -> Totals
+    // Each sum has the count of the `window` with the same name.
     ensures { result ≡ totals_in window.now }
 {
     Totals {
@@ -293,30 +339,46 @@ fn totals(window: &Window) -> Totals
     }
 }
 
+/// Writes the counts of types.
 #[tactic(auto, unfolding(crate::specs::Json::kinds_json))]
 fn write_kinds<W: Write>(writer: &mut W, tally: &Tally) -> io::Result<()>
+    // On success heartbeats, retransmission requests, units sent again and disconnects are appended.
     ensures { OnOk result (Appends (W.contents writer.old) (W.contents writer.new) (kinds_json tally.now)) }
 {
     let heartbeats = tally.heartbeats;
     let requests = tally.requests;
     let resent = tally.resent;
+    let disconnects = tally.disconnects;
     write!(
         writer,
-        ",\"heartbeats\":{heartbeats},\"requests\":{requests},\"resent\":{resent}"
+        ",\"heartbeats\":{heartbeats},\"requests\":{requests},\"resent\":{resent},\"disconnects\":{disconnects}"
     )
 }
 
-#[tactic(auto, unfolding(crate::specs::Json::near_json))]
-fn write_near<W: Write>(writer: &mut W, tally: &Tally) -> io::Result<()>
-    ensures { OnOk result (Appends (W.contents writer.old) (W.contents writer.new) (near_json tally.now)) }
+/// Writes the longest silence, the greatest age and the longest wait.
+fn write_near<W: Write>(writer: &mut W, until: u64, tally: &Tally) -> io::Result<()>
+    // On success the silence up to `until`, and the greatest age and longest wait of this `tally`, are appended.
+    ensures { OnOk result (Appends (W.contents writer.old) (W.contents writer.new) (near_json until tally.now)) }
 {
-    let silence = tally.silence;
-    let oldest = tally.oldest;
-    write!(writer, ",\"silence\":{silence},\"age\":{oldest}")
+    write_ages(writer, silence(tally, until), tally.oldest, tally.longest)
 }
 
+/// Writes a silence in microseconds, an age and a wait in milliseconds.
+#[tactic(auto, unfolding(crate::specs::Json::ages_json))]
+fn write_ages<W: Write>(writer: &mut W, silence: u64, age: u32, waits: u32) -> io::Result<()>
+    // On success the members `silence`, `age` and `waits` are appended with these numbers.
+    ensures { OnOk result (Appends (W.contents writer.old) (W.contents writer.new) (ages_json silence age waits)) }
+{
+    write!(
+        writer,
+        ",\"silence\":{silence},\"age\":{age},\"waits\":{waits}"
+    )
+}
+
+/// Writes the time of the last PDU, and the disconnect.
 #[tactic(auto, unfolding(crate::specs::Json::parting_json))]
 fn write_parting<W: Write>(writer: &mut W, tally: &Tally) -> io::Result<()>
+    // On success the time of the last PDU, or null, and the disconnect, or null, are appended.
     ensures { OnOk result (Appends (W.contents writer.old) (W.contents writer.new) (parting_json tally.now)) }
 {
     write_text(writer, ",\"last\":")?;
@@ -326,7 +388,9 @@ fn write_parting<W: Write>(writer: &mut W, tally: &Tally) -> io::Result<()>
     Ok(())
 }
 
+/// Writes a disconnect, or null.
 fn write_leaving<W: Write>(writer: &mut W, left: u64, leaving: Option<Leaving>) -> io::Result<()>
+    // On success the disconnect with its time `left` is appended; null without a reason.
     ensures { OnOk result (Appends (W.contents writer.old) (W.contents writer.new) (leaving_json left leaving)) }
 {
     match leaving {
@@ -335,8 +399,10 @@ fn write_leaving<W: Write>(writer: &mut W, left: u64, leaving: Option<Leaving>) 
     }
 }
 
+/// Writes the object of a disconnect.
 #[tactic(auto, unfolding(crate::specs::Json::reasons_json))]
 fn write_reasons<W: Write>(writer: &mut W, left: u64, leaving: Leaving) -> io::Result<()>
+    // On success its time, and the numbers of reason and detail, are appended.
     ensures { OnOk result (Appends (W.contents writer.old) (W.contents writer.new) (reasons_json left leaving)) }
 {
     let Leaving { detail, reason } = leaving;
@@ -353,6 +419,7 @@ fn write_channels<W: Write>(
     routes: &[Option<Route>; CHANNELS],
     direction: &Direction,
 ) -> io::Result<()>
+    // On success the list of the channels in use is appended, in order of their numbers, and the object is closed.
     ensures { OnOk result (Appends (W.contents writer.old) (W.contents writer.new)
         (channels_json routes.now direction.now)) }
 {
@@ -365,6 +432,7 @@ fn write_channels<W: Write>(
     Ok(())
 }
 
+/// Writes the channel at a place.
 #[tactic(auto, unfolding(crate::specs::Json::place_json))]
 fn write_place<W: Write>(
     writer: &mut W,
@@ -373,6 +441,7 @@ fn write_place<W: Write>(
     place: usize,
 ) -> io::Result<()>
     requires { place < CHANNELS }
+    // On success the channel at this `place` is appended, if it is in use.
     ensures { OnOk result (Appends (W.contents writer.old) (W.contents writer.new)
         (place_json routes.now direction.now place)) }
 {
@@ -385,6 +454,7 @@ fn write_place<W: Write>(
     )
 }
 
+/// Writes a channel, if there is one.
 fn write_maybe_channel<W: Write>(
     writer: &mut W,
     place: usize,
@@ -393,6 +463,7 @@ fn write_maybe_channel<W: Write>(
     damaged: u64,
 ) -> io::Result<()>
     requires { place < CHANNELS }
+    // On success the object of the channel is appended if there is a `route`.
     ensures { OnOk result (Appends (W.contents writer.old) (W.contents writer.new)
         (channel_json place route window.now damaged)) }
 {
@@ -402,6 +473,7 @@ fn write_maybe_channel<W: Write>(
     }
 }
 
+/// Writes a channel, after a comma if it is not the first.
 #[tactic(auto, unfolding(crate::specs::Json::listed_channel_json))]
 fn write_listed_channel<W: Write>(
     writer: &mut W,
@@ -411,6 +483,7 @@ fn write_listed_channel<W: Write>(
     damaged: u64,
 ) -> io::Result<()>
     requires { place < CHANNELS }
+    // On success a comma, except at place 0, and the object of this channel are appended.
     ensures { OnOk result (Appends (W.contents writer.old) (W.contents writer.new)
         (listed_channel_json place route window.now damaged)) }
 {
@@ -418,12 +491,15 @@ fn write_listed_channel<W: Write>(
     write_channel(writer, place, route, window, damaged)
 }
 
+/// Returns the comma before a channel.
 fn comma_before(place: usize) -> &'static str
+    // The result is empty for place 0 and a comma for any other.
     ensures { result.now ≡ comma place }
 {
     if place == 0 { "" } else { "," }
 }
 
+/// Writes the object of a channel.
 #[tactic(auto, unfolding(crate::specs::Json::known_channel_json))]
 fn write_channel<W: Write>(
     writer: &mut W,
@@ -433,6 +509,7 @@ fn write_channel<W: Write>(
     damaged: u64,
 ) -> io::Result<()>
     requires { place < CHANNELS }
+    // On success its number and addresses, its datagrams, its numbers, and the `damaged` ones are appended.
     ensures { OnOk result (Appends (W.contents writer.old) (W.contents writer.new)
         (known_channel_json place route window.now damaged)) }
 {
@@ -442,9 +519,11 @@ fn write_channel<W: Write>(
     write_damaged(writer, damaged)
 }
 
+/// Writes the number and the addresses of a channel.
 #[tactic(auto, unfolding(crate::specs::Json::route_json))]
 fn write_route<W: Write>(writer: &mut W, place: usize, route: Route) -> io::Result<()>
     requires { place < CHANNELS }
+    // On success the number, the lower end's address and the other end's address are appended.
     ensures { OnOk result (Appends (W.contents writer.old) (W.contents writer.new) (route_json place route)) }
 {
     write_place_number(writer, place)?;
@@ -453,17 +532,21 @@ fn write_route<W: Write>(writer: &mut W, place: usize, route: Route) -> io::Resu
     Ok(())
 }
 
+/// Writes the number of a channel.
 #[tactic(auto, unfolding(crate::specs::Json::place_number_json))]
 fn write_place_number<W: Write>(writer: &mut W, place: usize) -> io::Result<()>
     requires { place < CHANNELS }
+    // On success the `place` plus 1 is appended.
     ensures { OnOk result (Appends (W.contents writer.old) (W.contents writer.new) (place_number_json place)) }
 {
     let number = place + 1;
     write!(writer, "{{\"channel\":{number}")
 }
 
+/// Writes the address of the end with the lower identifier.
 #[tactic(auto, unfolding(crate::specs::Json::low_json))]
 fn write_low<W: Write>(writer: &mut W, address: Address) -> io::Result<()>
+    // On success this `address` is appended as the member of the lower end.
     ensures { OnOk result (Appends (W.contents writer.old) (W.contents writer.new) (low_json address)) }
 {
     write_text(writer, ",\"low\":\"")?;
@@ -471,8 +554,10 @@ fn write_low<W: Write>(writer: &mut W, address: Address) -> io::Result<()>
     write_text(writer, "\"")
 }
 
+/// Writes the address of the end with the higher identifier.
 #[tactic(auto, unfolding(crate::specs::Json::high_json))]
 fn write_high<W: Write>(writer: &mut W, address: Address) -> io::Result<()>
+    // On success this `address` is appended as the member of the higher end.
     ensures { OnOk result (Appends (W.contents writer.old) (W.contents writer.new) (high_json address)) }
 {
     write_text(writer, ",\"high\":\"")?;
@@ -480,15 +565,19 @@ fn write_high<W: Write>(writer: &mut W, address: Address) -> io::Result<()>
     write_text(writer, "\"")
 }
 
+/// Writes how many datagrams came on a channel.
 #[tactic(auto, unfolding(crate::specs::Json::came_json))]
 fn write_came<W: Write>(writer: &mut W, datagrams: u64) -> io::Result<()>
+    // On success the number of `datagrams` is appended.
     ensures { OnOk result (Appends (W.contents writer.old) (W.contents writer.new) (came_json datagrams)) }
 {
     write!(writer, ",\"datagrams\":{datagrams}")
 }
 
+/// Writes the damaged datagrams of a channel, and ends its object.
 #[tactic(auto, unfolding(crate::specs::Json::damaged_json))]
 fn write_damaged<W: Write>(writer: &mut W, damaged: u64) -> io::Result<()>
+    // On success the number of `damaged` ones is appended, and the object is closed.
     ensures { OnOk result (Appends (W.contents writer.old) (W.contents writer.new) (damaged_json damaged)) }
 {
     write!(writer, ",\"damaged\":{damaged}}}")

@@ -1,9 +1,8 @@
-//! The text of a recorded connection: a line for each datagram, and the sums at its end.
+//! The text that `rasta follow` prints of a recorded connection: a line for each datagram, then the sums.
 //!
-//! Contracts: what is said of a text that is written holds where the writing is answered with Ok;
-//! what is said of counts and connections holds always. That `run` hands all octets on to
-//! `follow_lines` and prints the sums behind them, and what it makes of the blocks of a recording,
-//! is only tested.
+//! Contracts about a text hold if the writing succeeds; contracts about counts and connections always hold. Only
+//! tested are: that `run` hands all bytes to `follow_lines` and prints the sums after them, and how it reads the
+//! blocks of a recording. std does not say what the reader under a `Take` holds afterwards.
 #![tactic(auto)]
 
 mod choice;

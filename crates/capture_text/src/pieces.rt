@@ -1,4 +1,4 @@
-//! Times, addresses and channels, as lines have them.
+//! The times, addresses and channels in lines.
 
 ghost use Rattle.std.specs.Prelude.{◌≡◌, OnOk};
 ghost use Rattle.std.specs.Io.KnownBytes.{Appends};
@@ -12,6 +12,7 @@ use std::net::Ipv6Addr;
 /// Writes a time as seconds since the first one.
 #[tactic(auto, unfolding(crate::specs::Pieces::since_text))]
 pub(crate) fn write_since<W: Write>(writer: &mut W, first: u64, time: u64) -> io::Result<()>
+    // On success the difference of `time` and `first` is appended, after a minus sign if `time` is earlier.
     ensures { OnOk result (Appends (W.contents writer.old) (W.contents writer.new) (since_text first time)) }
 {
     if time < first {
@@ -21,9 +22,10 @@ pub(crate) fn write_since<W: Write>(writer: &mut W, first: u64, time: u64) -> io
     write_duration(writer, time - first)
 }
 
-/// Writes microseconds as seconds with six digits behind the point.
+/// Writes microseconds as seconds with six digits after the point.
 #[tactic(auto, unfolding(crate::specs::Pieces::duration_text))]
 pub(crate) fn write_duration<W: Write>(writer: &mut W, micros: u64) -> io::Result<()>
+    // On success the whole seconds, a point, and six digits are appended.
     ensures { OnOk result (Appends (W.contents writer.old) (W.contents writer.new) (duration_text micros)) }
 {
     let seconds = micros / 1_000_000;
@@ -32,8 +34,9 @@ pub(crate) fn write_duration<W: Write>(writer: &mut W, micros: u64) -> io::Resul
     writer.write_all(&digits)
 }
 
-/// The last six digits of a number.
+/// Returns the last six decimal digits of a number.
 fn spell(number: u64) -> [u8; 6]
+    // The result is the six digits in ASCII, with leading zeros.
     ensures { result ≡ six_digits number }
 {
     [
@@ -46,7 +49,9 @@ fn spell(number: u64) -> [u8; 6]
     ]
 }
 
+/// Writes an address.
 pub(crate) fn write_address<W: Write>(writer: &mut W, address: Address) -> io::Result<()>
+    // On success the host of `address`, IPv4 or IPv6, and its port are appended.
     ensures { OnOk result (Appends (W.contents writer.old) (W.contents writer.new) (address_text address)) }
 {
     match address.host {
@@ -55,8 +60,10 @@ pub(crate) fn write_address<W: Write>(writer: &mut W, address: Address) -> io::R
     }
 }
 
+/// Writes an IPv4 address.
 #[tactic(auto, unfolding(crate::specs::Pieces::v4_text))]
 fn write_v4<W: Write>(writer: &mut W, host: [u8; 4], port: u16) -> io::Result<()>
+    // On success the four numbers of `host`, separated by points, a colon and the `port` are appended.
     ensures { OnOk result (Appends (W.contents writer.old) (W.contents writer.new) (v4_text host port)) }
 {
     let a = host[0];
@@ -66,8 +73,10 @@ fn write_v4<W: Write>(writer: &mut W, host: [u8; 4], port: u16) -> io::Result<()
     write!(writer, "{a}.{b}.{c}.{d}:{port}")
 }
 
+/// Writes an IPv6 address in brackets (RFC 5952).
 #[tactic(auto, unfolding(crate::specs::Pieces::v6_text))]
 fn write_v6<W: Write>(writer: &mut W, host: [u8; 16], port: u16) -> io::Result<()>
+    // On success the text of the eight groups of `host` in brackets, a colon and the `port` are appended.
     ensures { OnOk result (Appends (W.contents writer.old) (W.contents writer.new) (v6_text host port)) }
 {
     let address = Ipv6Addr::from_octets(host);
@@ -77,13 +86,15 @@ fn write_v6<W: Write>(writer: &mut W, host: [u8; 16], port: u16) -> io::Result<(
 /// Writes which end sends to which.
 #[tactic(auto, unfolding(crate::specs::Pieces::ends_text))]
 pub(crate) fn write_ends<W: Write>(writer: &mut W, sender: u32, receiver: u32) -> io::Result<()>
+    // On success both identifiers are appended, with an arrow from `sender` to `receiver`.
     ensures { OnOk result (Appends (W.contents writer.old) (W.contents writer.new) (ends_text sender receiver)) }
 {
     write!(writer, "{sender}->{receiver}")
 }
 
-/// The words of a channel, which count from 1; those that are not told apart have no number.
+/// Returns the words of a channel, counted from 1; further channels have no number.
 pub(crate) fn channel_name(route: usize) -> &'static str
+    // Places 0 to 3 have the words of channels 1 to 4, any other the word "other".
     ensures { result.now ≡ channel_text route }
 {
     match route {
@@ -95,9 +106,10 @@ pub(crate) fn channel_name(route: usize) -> &'static str
     }
 }
 
-/// What is said of an age, where it reached T_max; both in milliseconds.
-pub(crate) fn reached(t_max: u32, oldest: u32) -> &'static str
-    ensures { result.now ≡ reached_text t_max oldest }
+/// Returns a remark if an age or a wait reached T_max; all in milliseconds.
+pub(crate) fn reached(t_max: u32, most: u32) -> &'static str
+    // The word "reached" is returned if `most` is at least `t_max`, otherwise an empty text.
+    ensures { result.now ≡ reached_text t_max most }
 {
-    if t_max <= oldest { " reached" } else { "" }
+    if t_max <= most { " reached" } else { "" }
 }

@@ -6,6 +6,7 @@ ghost use Rattle.capture_text.specs.RecordText.{fault_text, fields_text, head_te
 
 use crate::pieces::{channel_name, write_address, write_ends, write_since};
 use crate::remarks::write_remarks;
+use crate::summary::Scale;
 use capture::{Header, Record, Remark, Remarks};
 use pdu_text::write_text;
 use red_layer::pdu::RedFault;
@@ -13,35 +14,36 @@ use safe_pdu::SafeFault;
 use std::io;
 use std::io::Write;
 
-/// Writes the line of a datagram: when it was recorded, as seconds since `first`, its line in the capture, and what it
-/// says and what is remarkable in it, or its fault.
+/// Writes the line of a datagram: its time as seconds since the first one, its line in the capture, and its header
+/// fields with remarks by this T_max, or its fault.
 ///
 /// # Errors
 ///
-/// An error is the writer's; what came before it stays written.
+/// The error of the writer. What was written before it stays.
 #[tactic(auto, unfolding(crate::specs::RecordText::record_text))]
 pub fn write_record<W: Write>(
     writer: &mut W,
-    first: u64,
+    scale: Scale,
     line: u64,
     record: &Record,
     remark: &Remark,
 ) -> io::Result<()>
-    // The line of a PDU is exactly: time since the first datagram to the microsecond, line, ends, channel,
-    // number, type, header fields, remarks.
-    // The line of what is no PDU is exactly: time since the first datagram, line, addresses, the redundancy
-    // number if any, and the fault.
+    // On success one line is appended. For a PDU: time, line, ends, channel, redundancy number, type, header fields,
+    // remarks. For any other datagram: time, line, addresses, the redundancy number if there is one, and the fault
+    // (`record_text`).
     ensures { OnOk result (Appends (W.contents writer.old) (W.contents writer.new)
-        (record_text first line «record».now remark.now)) }
+        (record_text scale line «record».now remark.now)) }
 {
-    write_head(writer, first, line, record)?;
-    write_remark(writer, record, remark)?;
+    write_head(writer, scale.first, line, record)?;
+    write_remark(writer, scale.t_max, record, remark)?;
     write_text(writer, "\n")?;
     Ok(())
 }
 
+/// Writes the head of a line: time and number.
 #[tactic(auto, unfolding(crate::specs::RecordText::head_text))]
 fn write_head<W: Write>(writer: &mut W, first: u64, line: u64, record: &Record) -> io::Result<()>
+    // On success the time since `first` and the number of the `line` are appended.
     ensures { OnOk result (Appends (W.contents writer.old) (W.contents writer.new)
         (head_text first line «record».now)) }
 {
@@ -49,17 +51,26 @@ fn write_head<W: Write>(writer: &mut W, first: u64, line: u64, record: &Record) 
     write!(writer, " line {line} ")
 }
 
-fn write_remark<W: Write>(writer: &mut W, record: &Record, remark: &Remark) -> io::Result<()>
+/// Writes the part of a line that depends on what was decoded.
+fn write_remark<W: Write>(
+    writer: &mut W,
+    t_max: u32,
+    record: &Record,
+    remark: &Remark,
+) -> io::Result<()>
+    // On success the text of a PDU, of a faulty safety PDU, or of a faulty redundancy PDU is appended, as the
+    // `remark` is.
     ensures { OnOk result (Appends (W.contents writer.old) (W.contents writer.new)
-        (remark_text «record».now remark.now)) }
+        (remark_text t_max «record».now remark.now)) }
 {
     match *remark {
-        Remark::Pdu(seq, header, remarks) => write_pdu(writer, seq, &header, &remarks),
+        Remark::Pdu(seq, header, remarks) => write_pdu(writer, t_max, seq, &header, &remarks),
         Remark::NoSafe(seq, fault) => write_no_safe(writer, record, seq, fault),
         Remark::NoRed(fault) => write_no_red(writer, record, fault),
     }
 }
 
+/// Writes a datagram whose part is not a safety PDU.
 #[tactic(auto, unfolding(crate::specs::RecordText::no_safe_text))]
 fn write_no_safe<W: Write>(
     writer: &mut W,
@@ -67,6 +78,7 @@ fn write_no_safe<W: Write>(
     seq: u32,
     fault: SafeFault,
 ) -> io::Result<()>
+    // On success the addresses, the redundancy number `seq`, and the `fault` of the safety PDU are appended.
     ensures { OnOk result (Appends (W.contents writer.old) (W.contents writer.new)
         (no_safe_text «record».now seq fault)) }
 {
@@ -76,15 +88,19 @@ fn write_no_safe<W: Write>(
     Ok(())
 }
 
+/// Writes a redundancy number.
 #[tactic(auto, unfolding(crate::specs::RecordText::number_text))]
 fn write_number<W: Write>(writer: &mut W, seq: u32) -> io::Result<()>
+    // On success the word "red" and the number `seq` are appended.
     ensures { OnOk result (Appends (W.contents writer.old) (W.contents writer.new) (number_text seq)) }
 {
     write!(writer, " red {seq}")
 }
 
+/// Writes a datagram that is not a redundancy PDU.
 #[tactic(auto, unfolding(crate::specs::RecordText::no_red_text))]
 fn write_no_red<W: Write>(writer: &mut W, record: &Record, fault: RedFault) -> io::Result<()>
+    // On success the addresses and the `fault` of the redundancy PDU are appended.
     ensures { OnOk result (Appends (W.contents writer.old) (W.contents writer.new) (no_red_text «record».now fault)) }
 {
     write_way(writer, record)?;
@@ -92,24 +108,29 @@ fn write_no_red<W: Write>(writer: &mut W, record: &Record, fault: RedFault) -> i
     Ok(())
 }
 
+/// Writes a PDU.
 #[tactic(auto, unfolding(crate::specs::RecordText::pdu_text))]
 fn write_pdu<W: Write>(
     writer: &mut W,
+    t_max: u32,
     seq: u32,
     header: &Header,
     remarks: &Remarks,
 ) -> io::Result<()>
+    // On success both ends, the channel, the fields of `header` and the remarks are appended, in this order.
     ensures { OnOk result (Appends (W.contents writer.old) (W.contents writer.new)
-        (pdu_text seq header.now remarks.now)) }
+        (pdu_text t_max seq header.now remarks.now)) }
 {
     write_ends(writer, header.sender, header.receiver)?;
     write_text(writer, channel_name(remarks.route))?;
     write_fields(writer, seq, header)?;
-    write_remarks(writer, remarks)
+    write_remarks(writer, t_max, remarks)
 }
 
+/// Writes the redundancy number, type, numbers and timestamps of a PDU.
 #[tactic(auto, unfolding(crate::specs::RecordText::fields_text))]
 fn write_fields<W: Write>(writer: &mut W, seq: u32, header: &Header) -> io::Result<()>
+    // On success the number `seq`, the type, and SN, CS, TS and CTS of the `header` are appended.
     ensures { OnOk result (Appends (W.contents writer.old) (W.contents writer.new) (fields_text seq header.now)) }
 {
     let name = header.kind.name();
@@ -130,9 +151,10 @@ fn write_fields<W: Write>(writer: &mut W, seq: u32, header: &Header) -> io::Resu
     )
 }
 
-/// Writes where a datagram that is no PDU comes from and goes to.
+/// Writes the addresses of a datagram that is not a PDU.
 #[tactic(auto, unfolding(crate::specs::RecordText::way_text))]
 fn write_way<W: Write>(writer: &mut W, record: &Record) -> io::Result<()>
+    // On success the source and the destination are appended, with an arrow between them.
     ensures { OnOk result (Appends (W.contents writer.old) (W.contents writer.new) (way_text «record».now)) }
 {
     write_address(writer, record.source)?;
@@ -140,7 +162,9 @@ fn write_way<W: Write>(writer: &mut W, record: &Record) -> io::Result<()>
     write_address(writer, record.destination)
 }
 
+/// Writes the fault of a safety PDU.
 fn write_safe_fault<W: Write>(writer: &mut W, fault: SafeFault) -> io::Result<()>
+    // On success the layer "safe", the number and the name of the `fault` are appended.
     ensures { OnOk result (Appends (W.contents writer.old) (W.contents writer.new) (safe_fault_text fault)) }
 {
     let number = fault.number();
@@ -148,7 +172,9 @@ fn write_safe_fault<W: Write>(writer: &mut W, fault: SafeFault) -> io::Result<()
     write_fault(writer, "safe", number, name)
 }
 
+/// Writes the fault of a redundancy PDU.
 fn write_red_fault<W: Write>(writer: &mut W, fault: RedFault) -> io::Result<()>
+    // On success the layer "red", the number and the name of the `fault` are appended.
     ensures { OnOk result (Appends (W.contents writer.old) (W.contents writer.new) (red_fault_text fault)) }
 {
     let number = fault.number();
@@ -156,10 +182,10 @@ fn write_red_fault<W: Write>(writer: &mut W, fault: RedFault) -> io::Result<()>
     write_fault(writer, "red", number, name)
 }
 
-/// Writes a layer's fault.
+/// Writes the fault of a layer.
 #[tactic(auto, unfolding(crate::specs::RecordText::fault_text))]
 fn write_fault<W: Write>(writer: &mut W, layer: &str, number: u8, name: &str) -> io::Result<()>
-    // The line of a fault is exactly the stated text.
+    // On success the `layer`, the word "fault", the `number` and the `name` are appended.
     ensures { OnOk result (Appends (W.contents writer.old) (W.contents writer.new)
         (fault_text layer.now number name.now)) }
 {

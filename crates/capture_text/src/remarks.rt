@@ -2,35 +2,65 @@
 
 ghost use Rattle.std.specs.Prelude.{◌≡◌, OnOk, codes};
 ghost use Rattle.std.specs.Io.KnownBytes.{Appends};
-ghost use Rattle.capture_text.specs.RemarkText.{age_text, judged_text, leaving_text, maybe_text, opens_text, remarks_text, resent_text};
+ghost use Rattle.capture_text.specs.RemarkText.{age_text, judged_text, leaving_text, maybe_text, opens_text, order_text, other_text, remarks_text, resent_text, wait_text, waits_text};
 
+use crate::choice::is_half_of;
 use crate::reasons::write_reasons;
 use capture::{Judged, Remarks};
 use safe_pdu::Leaving;
 use std::io;
 use std::io::Write;
 
-/// Writes what is remarkable in a PDU, each word behind a space, and nothing where nothing is. `channel` stands before
-/// what is said of the redundancy numbers of its channel, `all` of those of all channels, `sn` of the sequence numbers.
+/// Writes what is remarkable in a PDU, each word after a space, and nothing if nothing is.
+///
+/// A wait for a confirmation is written from half of `t_max` milliseconds on.
+///
+/// `channel` is before a remark on the redundancy numbers of its channel, `all` before one on those of all channels,
+/// `sn` before one on sequence numbers.
 ///
 /// # Errors
 ///
-/// An error is the writer's; what came before it stays written.
+/// The error of the writer. What was written before it stays.
 #[tactic(auto, unfolding(crate::specs::RemarkText::remarks_text))]
-pub fn write_remarks<W: Write>(writer: &mut W, remarks: &Remarks) -> io::Result<()>
-    // The remarks on a PDU are written exactly as stated, and nothing where nothing is remarkable.
-    ensures { OnOk result (Appends (W.contents writer.old) (W.contents writer.new) (remarks_text remarks.now)) }
+pub fn write_remarks<W: Write>(writer: &mut W, t_max: u32, remarks: &Remarks) -> io::Result<()>
+    // On success the opening, the numbers on the channel, on all channels and the sequence numbers, the
+    // retransmission, the age, the wait and the reason are appended. Each is left out if it is not remarkable
+    // (`remarks_text`).
+    ensures { OnOk result (Appends (W.contents writer.old) (W.contents writer.new) (remarks_text t_max remarks.now)) }
+{
+    write_order(writer, remarks)?;
+    write_others(writer, t_max, remarks)
+}
+
+/// Writes an opening, and how the numbers followed.
+#[tactic(auto, unfolding(crate::specs::RemarkText::order_text))]
+fn write_order<W: Write>(writer: &mut W, remarks: &Remarks) -> io::Result<()>
+    // On success the opening, and the judgements of the channel, of all channels and of the sequence number, are
+    // appended, as far as they are remarkable.
+    ensures { OnOk result (Appends (W.contents writer.old) (W.contents writer.new) (order_text remarks.now)) }
 {
     write_opens(writer, remarks.opens)?;
     write_maybe(writer, "channel", remarks.channel)?;
     write_judged(writer, "all", remarks.together)?;
-    write_maybe(writer, "sn", remarks.sequence)?;
+    write_maybe(writer, "sn", remarks.sequence)
+}
+
+/// Writes a retransmission, the age, the wait and the reason.
+#[tactic(auto, unfolding(crate::specs::RemarkText::other_text))]
+fn write_others<W: Write>(writer: &mut W, t_max: u32, remarks: &Remarks) -> io::Result<()>
+    // On success the word of a retransmission, the age, the wait from half of `t_max` on, and the reason are appended,
+    // as far as there are any.
+    ensures { OnOk result (Appends (W.contents writer.old) (W.contents writer.new) (other_text t_max remarks.now)) }
+{
     write_resent(writer, remarks.resent)?;
     write_age(writer, remarks.age)?;
+    write_waits(writer, t_max, remarks.waits)?;
     write_leaving(writer, remarks.leaving)
 }
 
+/// Writes how a number followed, if it was judged.
 fn write_maybe<W: Write>(writer: &mut W, name: &str, judged: Option<Judged>) -> io::Result<()>
+    // On success the text of `judged` is appended; without it, nothing is.
     ensures { OnOk result (Appends (W.contents writer.old) (W.contents writer.new) (maybe_text name.now judged)) }
 {
     match judged {
@@ -39,8 +69,10 @@ fn write_maybe<W: Write>(writer: &mut W, name: &str, judged: Option<Judged>) -> 
     }
 }
 
-/// Writes how a number followed; nothing, where it was the first or the next.
+/// Writes how a number followed; nothing if it was the first or the next.
 fn write_judged<W: Write>(writer: &mut W, name: &str, judged: Judged) -> io::Result<()>
+    // On success the `name` of the numbers and the judgement are appended, with the gap or the earlier line; for the
+    // first and the next, nothing is.
     ensures { OnOk result (Appends (W.contents writer.old) (W.contents writer.new) (judged_text name.now judged)) }
 {
     match judged {
@@ -54,7 +86,9 @@ fn write_judged<W: Write>(writer: &mut W, name: &str, judged: Judged) -> io::Res
     }
 }
 
+/// Writes the word of an opening.
 fn write_opens<W: Write>(writer: &mut W, opens: bool) -> io::Result<()>
+    // On success the word is appended exactly if the PDU `opens` a session.
     ensures { OnOk result (Appends (W.contents writer.old) (W.contents writer.new) (opens_text opens)) }
 {
     if opens {
@@ -63,7 +97,9 @@ fn write_opens<W: Write>(writer: &mut W, opens: bool) -> io::Result<()>
     Ok(())
 }
 
+/// Writes the word of a retransmission.
 fn write_resent<W: Write>(writer: &mut W, resent: bool) -> io::Result<()>
+    // On success the word is appended exactly if the unit is `resent`.
     ensures { OnOk result (Appends (W.contents writer.old) (W.contents writer.new) (resent_text resent)) }
 {
     if resent {
@@ -72,7 +108,9 @@ fn write_resent<W: Write>(writer: &mut W, resent: bool) -> io::Result<()>
     Ok(())
 }
 
+/// Writes an age in milliseconds.
 fn write_age<W: Write>(writer: &mut W, age: Option<u32>) -> io::Result<()>
+    // On success the `age` is appended if there is one.
     ensures { OnOk result (Appends (W.contents writer.old) (W.contents writer.new) (age_text age)) }
 {
     match age {
@@ -81,7 +119,29 @@ fn write_age<W: Write>(writer: &mut W, age: Option<u32>) -> io::Result<()>
     }
 }
 
+/// Writes how long an end has waited, if that is remarkable.
+fn write_waits<W: Write>(writer: &mut W, t_max: u32, waits: Option<u32>) -> io::Result<()>
+    // On success the wait is appended if there is one of at least half of `t_max`; otherwise nothing is.
+    ensures { OnOk result (Appends (W.contents writer.old) (W.contents writer.new) (waits_text t_max waits)) }
+{
+    match waits {
+        Some(waits) if is_half_of(t_max, waits) => write_wait(writer, waits),
+        _ => Ok(()),
+    }
+}
+
+/// Writes a wait in milliseconds.
+#[tactic(auto, unfolding(crate::specs::RemarkText::wait_text))]
+fn write_wait<W: Write>(writer: &mut W, waits: u32) -> io::Result<()>
+    // On success the word "waits", the milliseconds and their unit are appended.
+    ensures { OnOk result (Appends (W.contents writer.old) (W.contents writer.new) (wait_text waits)) }
+{
+    write!(writer, " waits {waits} ms")
+}
+
+/// Writes the reason of a DiscReq.
 fn write_leaving<W: Write>(writer: &mut W, leaving: Option<Leaving>) -> io::Result<()>
+    // On success reason and detail of `leaving` are appended if there are any.
     ensures { OnOk result (Appends (W.contents writer.old) (W.contents writer.new) (leaving_text leaving)) }
 {
     match leaving {

@@ -1,12 +1,17 @@
-//! Following a capture from a reader to its end.
+//! A run over a capture, from a reader to its end.
+//!
+//! The lines of a text are followed to their end by contract; a whole run is only tested, since std does not say what
+//! the reader under a `Take` holds afterwards. No clause says when a run stops with a fault. `tests/compare_follow`
+//! has a capture of 200,000 lines.
 
 ghost use Rattle.std.specs.Prelude.{◌≡◌, ◌≤◌, ◌<◌, ◌^◌, [], length, OnOk, IfOk, IfSome};
 ghost use Rattle.std.specs.Io.Buffered.{reader_remaining};
 ghost use Rattle.std.specs.Io.BufRead.{DropsThrough, take_through};
 ghost use Rattle.std.specs.Io.KnownBytes.{Appends};
 ghost use Rattle.capture.specs.Numbers.{counted};
-ghost use Rattle.capture_text.specs.Capture.{line_printed, line_told, lines_printed, lines_told, read_by, text_printed, text_told, with_line, with_lines, with_long, with_text};
-ghost use Rattle.capture_text.specs.FaultText.{fault_text, frame_text};
+ghost use Rattle.capture_text.specs.Capture.{broken_off, end_told, ended_at, frame_printed, frame_told, is_whole_at, line_printed, line_told, lines_printed, lines_told, read_by, text_printed, text_told, with_frame, with_line, with_lines, with_long, with_text};
+ghost use Rattle.capture_text.specs.FaultText.{fault_text, file_fault_word, frame_text, recording_text};
+ghost use Rattle.capture_text.specs.FrameSteps.{payload_at};
 ghost use Rattle.capture_text.specs.Lines.{cut, lines_of};
 ghost use Rattle.capture_text.specs.Steps.{without_end};
 
@@ -23,11 +28,11 @@ use std::io::{BufRead, BufReader, BufWriter, ErrorKind, Read, Write};
 /// How a run ended.
 #[derive(Clone, Copy, Debug, PartialEq, Eq)]
 pub enum FollowStatus {
-    /// All lines were datagrams.
+    /// Every line was a datagram.
     Done,
-    /// A line was no datagram, or a recording does not go on as one; each is told.
+    /// A line was not a datagram, or a recording could not go on; each was reported.
     Unreadable,
-    /// Memory was refused.
+    /// An allocation failed.
     Memory,
     /// The reader failed.
     File,
@@ -35,9 +40,9 @@ pub enum FollowStatus {
     Output,
 }
 
-/// What stops a run.
+/// Why a run stops early.
 enum Stop {
-    /// Memory was refused.
+    /// An allocation failed.
     Memory,
     /// The reader failed.
     File,
@@ -45,9 +50,11 @@ enum Stop {
     Output,
 }
 
-/// Follows the capture that a reader holds: a recording (pcap or pcapng) where its first octets are those of one, and else
-/// lines of text. The lines of its datagrams and the sums go to `out`, what is no datagram to `err`. What was read is
-/// written before more is waited for. What stops a run before the end of its capture is its caller's to tell.
+/// Follows the capture in a reader: a recording (pcap or pcapng) if its first bytes are those of one, otherwise lines
+/// of text.
+///
+/// The lines of datagrams and the sums go to `out`, faults of lines and frames to `err`. Everything is written before
+/// the reader waits for more. If the run stops early, the caller reports why.
 pub fn run<R: Read + Drop, O: Write, E: Write, A: Allocator + Copy>(
     alloc: A,
     reader: R,
@@ -64,7 +71,7 @@ pub fn run<R: Read + Drop, O: Write, E: Write, A: Allocator + Copy>(
     }
 }
 
-/// Follows the capture, and answers how many lines were no datagrams.
+/// Follows the capture and returns how many lines were not a datagram.
 fn follow_input<R: Read + Drop, O: Write, E: Write, A: Allocator + Copy>(
     alloc: A,
     reader: R,
@@ -105,7 +112,7 @@ fn follow_input<R: Read + Drop, O: Write, E: Write, A: Allocator + Copy>(
     Ok(course.unreadable)
 }
 
-/// Follows lines of text to their end.
+/// Follows the lines of a text to their end.
 fn follow_lines<R: Read + Drop, W: Write, E: Write, A: Allocator + Copy>(
     alloc: A,
     reader: &mut BufReader<R, A>,
@@ -114,8 +121,8 @@ fn follow_lines<R: Read + Drop, W: Write, E: Write, A: Allocator + Copy>(
     writer: &mut W,
     err: &mut E,
 ) -> Result<(), Stop>
-    // Of all octets that a reader holds: what is kept at their end, and what was printed and told of their
-    // lines, where no fault stopped it.
+    // If no fault stops it, the state after the call is that after all lines of the reader. Their text is appended to
+    // `writer`, and their faults to `err`, in order.
     ensures { OnOk result (IfSome (reader_remaining R.remaining reader.old) (λ octets.
         (read_by course.new ≡ with_lines asked.now (read_by course.old) (lines_of octets))
         × Appends (W.contents writer.old) (W.contents writer.new)
@@ -136,11 +143,12 @@ fn follow_lines<R: Read + Drop, W: Write, E: Write, A: Allocator + Copy>(
     Err(Stop::File)
 }
 
-/// Flushes what was written, where nothing more of the reader is there yet.
+/// Flushes the output if the reader has nothing more buffered.
 fn show<R: Read, W: Write, A: Allocator>(
     reader: &BufReader<R, A>,
     writer: &mut W,
 ) -> Result<(), Stop>
+    // Flushing appends nothing to the output.
     ensures { OnOk result (Appends (W.contents writer.old) (W.contents writer.new) []) }
 {
     if reader.buffer().is_empty() {
@@ -149,10 +157,12 @@ fn show<R: Read, W: Write, A: Allocator>(
     Ok(())
 }
 
-/// Takes the next line out of a reader.
+/// Takes the next line from a reader.
 fn next_line<R: BufRead, A: Allocator>(reader: &mut R, line: &mut Vec<u8, A>) -> Result<(), Stop>
+    // The kept `line` is the text up to and with the next line feed, cut to its limit.
     ensures kept { OnOk result (IfSome (R.remaining reader.old)
         (λ octets. line.new.items ≡ cut (take_through 10 octets))) }
+    // The reader has lost that line and nothing else.
     ensures rest { OnOk result (DropsThrough (R.remaining reader.old) (R.remaining reader.new) 10) }
 {
     match take_line(reader, line) {
@@ -161,8 +171,7 @@ fn next_line<R: BufRead, A: Allocator>(reader: &mut R, line: &mut Vec<u8, A>) ->
     }
 }
 
-/// Takes a line into account, or what was kept of one that is too long. What is printed of it goes to `writer`, and why it
-/// is no datagram to `err`.
+/// Adds a line, or the prefix of one that is too long. Its text goes to `writer`, its fault to `err`.
 fn follow_line<W: Write, E: Write>(
     course: &mut Course,
     asked: &Asked,
@@ -171,10 +180,13 @@ fn follow_line<W: Write, E: Write>(
     writer: &mut W,
     err: &mut E,
 ) -> Result<(), Stop>
-    // A line without its line feed is taken into account, printed and told, exactly as stated.
+    // The state is that after this line: a long one counts as unreadable, any other is added without its line end
+    // (`with_line`).
     ensures read { read_by course.new ≡ with_line asked.now (read_by course.old) line.now }
+    // On success the text of the line is appended to `writer`; for a long one, nothing is.
     ensures printed { OnOk result (Appends (W.contents writer.old) (W.contents writer.new)
         (line_printed asked.now (read_by course.old) line.now)) }
+    // On success the fault of the line, if any, is appended to `err`; a long line has one.
     ensures told { OnOk result (Appends (E.contents err.old) (E.contents err.new)
         (line_told asked.now (read_by course.old) line.now)) }
 {
@@ -184,7 +196,7 @@ fn follow_line<W: Write, E: Write>(
     take_text(course, asked, without_feed(line), buffer, writer, err)
 }
 
-/// Follows the frames of a recording to its end, or to its first fault.
+/// Follows the frames of a recording to its end or its first fault.
 fn follow_frames<R: Read + Drop, W: Write, E: Write, A: Allocator + Copy>(
     alloc: A,
     reader: &mut BufReader<R, A>,
@@ -217,8 +229,7 @@ fn follow_frames<R: Read + Drop, W: Write, E: Write, A: Allocator + Copy>(
     Ok(())
 }
 
-/// Takes a line without its line feed into account. What is printed of it goes to `writer`, and why it is no datagram to
-/// `err`.
+/// Adds a line without its line feed. Its text goes to `writer`, its fault to `err`.
 fn take_text<W: Write, E: Write>(
     course: &mut Course,
     asked: &Asked,
@@ -227,10 +238,12 @@ fn take_text<W: Write, E: Write>(
     writer: &mut W,
     err: &mut E,
 ) -> Result<(), Stop>
-    // A line without its line feed is taken into account, printed and told, exactly as stated.
+    // The state is that after this line, with every count of `with_text`.
     ensures read { read_by course.new ≡ with_text asked.now (read_by course.old) line.now }
+    // On success the text of this line's datagram is appended to `writer`.
     ensures printed { OnOk result (Appends (W.contents writer.old) (W.contents writer.new)
         (text_printed asked.now (read_by course.old) line.now)) }
+    // On success the fault of this line, if it is not a datagram, is appended to `err`.
     ensures told { OnOk result (Appends (E.contents err.old) (E.contents err.new)
         (text_told asked.now (read_by course.old) line.now)) }
 {
@@ -241,10 +254,11 @@ fn take_text<W: Write, E: Write>(
     }
 }
 
-/// Takes a line into account that is too long to be kept.
+/// Adds a line that is too long to be kept.
 fn take_long<E: Write>(course: &mut Course, err: &mut E) -> Result<(), Stop>
-    // A line without its line feed is taken into account, printed and told, exactly as stated.
+    // Both the lines and the unreadable lines grow by 1; nothing else changes (`with_long`).
     ensures read { read_by course.new ≡ with_long (read_by course.old) }
+    // On success the fault for a long line is appended to `err`, with the number of the line.
     ensures told { OnOk result (Appends (E.contents err.old) (E.contents err.new)
         (fault_text (counted course.old.lines 1) LineFault.Long)) }
 {
@@ -252,6 +266,7 @@ fn take_long<E: Write>(course: &mut Course, err: &mut E) -> Result<(), Stop>
     tell(err, course.lines, LineFault::Long)
 }
 
+/// Returns why a failed reading stops a run.
 fn stop_of(error: io::Error) -> Stop {
     match error.kind() {
         ErrorKind::OutOfMemory => Stop::Memory,
@@ -259,8 +274,10 @@ fn stop_of(error: io::Error) -> Stop {
     }
 }
 
-/// A line without its line feed, and without a carriage return before that.
+/// Removes the line feed of a line, and a carriage return before it.
 fn without_feed(line: &[u8]) -> &[u8]
+    // A final line feed is removed, then a final carriage return; a line without a line feed does not change
+    // (`without_end`).
     ensures { result.now ≡ without_end line.now }
 {
     match line {
@@ -270,7 +287,9 @@ fn without_feed(line: &[u8]) -> &[u8]
     }
 }
 
+/// Writes the fault of a line.
 fn tell<E: Write>(err: &mut E, number: u64, fault: LineFault) -> Result<(), Stop>
+    // On success the line for the `fault`, with the `number` of its line, is appended to `err`.
     ensures { OnOk result (Appends (E.contents err.old) (E.contents err.new) (fault_text number fault)) }
 {
     match write_fault(err, number, fault) {
@@ -279,8 +298,9 @@ fn tell<E: Write>(err: &mut E, number: u64, fault: LineFault) -> Result<(), Stop
     }
 }
 
-/// Reads until a buffer is full or nothing more comes, and answers how many octets came.
+/// Reads until the buffer is full or the reader ends, and returns how many bytes came.
 fn read_whole<R: Read>(reader: &mut R, buffer: &mut [u8]) -> Result<usize, Stop>
+    // The number of bytes is at most the length of the `buffer`.
     ensures { IfOk result (λ size. size ≤ length buffer.new) }
 {
     let mut size = 0;
@@ -297,7 +317,7 @@ fn read_whole<R: Read>(reader: &mut R, buffer: &mut [u8]) -> Result<usize, Stop>
     Ok(size)
 }
 
-/// A reading that was interrupted goes on; any other error stops it.
+/// Returns `Ok` for an interrupted reading, which is tried again; any other error stops the run.
 fn go_on(error: io::Error) -> Result<(), Stop> {
     match error.kind() {
         ErrorKind::Interrupted => Ok(()),
@@ -305,7 +325,9 @@ fn go_on(error: io::Error) -> Result<(), Stop> {
     }
 }
 
+/// Flushes an output.
 fn flush<W: Write>(writer: &mut W) -> Result<(), Stop>
+    // A successful flush appends nothing.
     ensures { OnOk result (Appends (W.contents writer.old) (W.contents writer.new) []) }
 {
     match writer.flush() {
@@ -314,7 +336,7 @@ fn flush<W: Write>(writer: &mut W) -> Result<(), Stop>
     }
 }
 
-/// Takes the frame of a block into account, and tells why its datagram is not read.
+/// Adds the frame of a block, and reports why its datagram is not read.
 fn take_framed<W: Write, E: Write>(
     course: &mut Course,
     asked: &Asked,
@@ -326,6 +348,18 @@ fn take_framed<W: Write, E: Write>(
     requires order { framed.now.start ≤ framed.now.end }
     requires within { framed.now.end ≤ length block.now }
     requires size { length block.now < 2 ^ 32 }
+    // The state is that after this frame, with every count of `with_frame`.
+    ensures read { read_by course.new
+        ≡ with_frame asked.now (read_by course.old) framed.now.link framed.now.time
+        (payload_at framed.now.start framed.now.end block.now) }
+    // On success the text of the frame's datagram is appended to `writer`.
+    ensures printed { OnOk result (Appends (W.contents writer.old) (W.contents writer.new)
+        (frame_printed asked.now (read_by course.old) framed.now.link framed.now.time
+        (payload_at framed.now.start framed.now.end block.now))) }
+    // On success the fault of the frame, if its datagram is not read, is appended to `err`.
+    ensures told { OnOk result (Appends (E.contents err.old) (E.contents err.new)
+        (frame_told asked.now (read_by course.old) framed.now.link framed.now.time
+        (payload_at framed.now.start framed.now.end block.now))) }
 {
     let octets = &block[framed.start..framed.end];
     match course.take_frame(asked, framed.link, framed.time, octets, writer) {
@@ -335,7 +369,9 @@ fn take_framed<W: Write, E: Write>(
     }
 }
 
+/// Writes the fault of a frame.
 fn tell_frame<E: Write>(err: &mut E, number: u64, fault: FrameFault) -> Result<(), Stop>
+    // On success the line for the `fault`, with the `number` of its frame, is appended to `err`.
     ensures { OnOk result (Appends (E.contents err.old) (E.contents err.new) (frame_text number fault)) }
 {
     match write_frame_fault(err, number, fault) {
@@ -344,21 +380,47 @@ fn tell_frame<E: Write>(err: &mut E, number: u64, fault: FrameFault) -> Result<(
     }
 }
 
-/// Ends a recording of which no more octets than these came for the next block; within a block that is told.
-fn end<E: Write>(
-    course: &mut Course,
-    part: FilePart,
-    size: usize,
-    err: &mut E,
-) -> Result<(), Stop> {
-    if size == 0 && matches!(part, FilePart::Record(_, _) | FilePart::Block(_)) {
+/// Ends a recording when too few bytes came for the next block. Within a block that is reported.
+fn end<E: Write>(course: &mut Course, part: FilePart, size: usize, err: &mut E) -> Result<(), Stop>
+    // Before a record or block of which no byte came nothing changes; anywhere else the recording counts as
+    // unreadable (`ended_at`).
+    ensures read { read_by course.new ≡ ended_at part size (read_by course.old) }
+    // On success the line of a recording that ends within a block is appended to `err`; for a whole one, nothing is.
+    ensures told { OnOk result (Appends (E.contents err.old) (E.contents err.new)
+        (end_told part size (read_by course.old))) }
+{
+    if is_whole(part, size) {
         return Ok(());
     }
     give_up(course, "it ends within a block", err)
 }
 
-/// Tells why a recording does not go on; what was read of it stays.
-fn give_up<E: Write>(course: &mut Course, why: &str, err: &mut E) -> Result<(), Stop> {
+/// Returns `true` if a recording is whole that ends after so many bytes of this part.
+fn is_whole(part: FilePart, size: usize) -> bool
+    // Only before a record or a block, of which no byte came, a recording is whole (`is_whole_at`).
+    ensures { result ≡ is_whole_at part size }
+{
+    match part {
+        FilePart::Record(_, _) | FilePart::Block(_) => size == 0,
+        FilePart::Start
+        | FilePart::Head(_)
+        | FilePart::Body(_, _, _, _, _)
+        | FilePart::Section
+        | FilePart::Order(_)
+        | FilePart::Opening(_, _)
+        | FilePart::Rest(_, _, _) => false,
+    }
+}
+
+/// Reports why a recording cannot go on. What was read of it stays.
+#[tactic(auto, unfolding(crate::specs::FaultText::recording_text))]
+fn give_up<E: Write>(course: &mut Course, why: &str, err: &mut E) -> Result<(), Stop>
+    // The recording counts as unreadable; what was read of it stays (`broken_off`).
+    ensures read { read_by course.new ≡ broken_off (read_by course.old) }
+    // On success one line is appended to `err`, with the number of the last frame and the reason `why`.
+    ensures told { OnOk result (Appends (E.contents err.old) (E.contents err.new)
+        (recording_text course.old.lines why.now)) }
+{
     course.unreadable = course.unreadable.saturating_add(1);
     let frames = course.lines;
     match writeln!(err, "recording: unreadable behind frame {frames}: {why}") {
@@ -367,7 +429,11 @@ fn give_up<E: Write>(course: &mut Course, why: &str, err: &mut E) -> Result<(), 
     }
 }
 
-fn name_of_file_fault(fault: FileFault) -> &'static str {
+/// Returns the words of a recording's fault.
+fn name_of_file_fault(fault: FileFault) -> &'static str
+    // Each `fault` has its words (`file_fault_word`).
+    ensures { result.now ≡ file_fault_word fault }
+{
     match fault {
         FileFault::Version => "version",
         FileFault::Length => "length",

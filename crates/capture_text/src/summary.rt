@@ -1,9 +1,9 @@
-//! The sums at the end.
+//! The sums as lines.
 
 ghost use Rattle.std.specs.Prelude.{◌≡◌, ◌<◌, OnOk};
 ghost use Rattle.std.specs.Io.KnownBytes.{Appends};
 ghost use Rattle.capture.specs.Whole.{totals_of};
-ghost use Rattle.capture_text.specs.SummaryText.{all_text, came_text, connection_text, connections_text, counts_text, damaged_text, datagrams_of, datagrams_text, direction_text, ending_text, half_text, kinds_text, known_channel_text, last_text, maybe_channel_text, numbers_text, oldest_text, opening_text, other_totals_text, others_text, place_text, places_text, route_text, silence_text, sum_text, summary_text, tally_text, totals_text};
+ghost use Rattle.capture_text.specs.SummaryText.{all_text, came_text, connection_text, connections_text, counts_text, damaged_text, datagrams_of, datagrams_text, direction_text, ending_text, half_text, kinds_text, known_channel_text, last_text, longest_text, maybe_channel_text, numbers_text, oldest_text, opening_text, other_totals_text, others_text, place_text, places_text, route_text, silence_text, sum_text, summary_text, tally_text, totals_text};
 
 use crate::pieces::{
     channel_name, reached, write_address, write_duration, write_ends, write_since,
@@ -11,41 +11,41 @@ use crate::pieces::{
 use crate::reasons::write_reasons;
 use crate::sentence::write_sentence;
 use capture::{
-    CHANNELS, Connection, Direction, Route, SessionOpening, Tally, Totals, Window, sum_up,
+    CHANNELS, Connection, Direction, Route, SessionOpening, Tally, Totals, Window, silence, sum_up,
 };
 use pdu_text::write_text;
 use safe_pdu::Leaving;
 use std::io;
 use std::io::Write;
 
-/// What times and ages are measured by.
+/// The values that times and ages are measured by.
 #[derive(Clone, Copy, Debug, PartialEq, Eq)]
 pub struct Scale {
-    /// When the first datagram was recorded, in microseconds.
+    /// The time of the first datagram, in microseconds.
     pub first: u64,
     /// T_max in milliseconds.
     pub t_max: u32,
 }
 
-/// What is counted beside the connections.
+/// The counts over the whole capture.
 #[derive(Clone, Copy, Debug, PartialEq, Eq)]
 pub struct CaptureCounts {
-    /// Datagrams, of whatever connection.
+    /// Datagrams of all connections.
     pub datagrams: u64,
-    /// Those that were no PDU.
+    /// Datagrams that were not a PDU.
     pub damaged: u64,
-    /// Connections that were forgotten for want of room.
+    /// Connections that were forgotten for lack of room.
     pub forgotten: u64,
-    /// Lines that were no datagram.
+    /// Lines or frames that were not a datagram.
     pub unreadable: u64,
 }
 
-/// Writes the sums: of each connection a line for each direction, with one for each of its channels, and a sentence; and
-/// a line for all, those that were forgotten (`gone`) among them.
+/// Writes the sums: for each connection a line for each direction, with one for each of its channels, and a sentence;
+/// then a line for all, with the forgotten ones (`gone`).
 ///
 /// # Errors
 ///
-/// An error is the writer's; what came before it stays written.
+/// The error of the writer. What was written before it stays.
 pub fn write_summary<W: Write>(
     writer: &mut W,
     scale: Scale,
@@ -53,9 +53,8 @@ pub fn write_summary<W: Write>(
     connections: &[Connection],
     counts: CaptureCounts,
 ) -> io::Result<()>
-    // The sums are exactly the stated text: of each connection both directions, of each direction its channels,
-    // and one line for all.
-    // The sentence on a connection is exactly the stated text.
+    // On success the lines of each connection, with its directions, channels and sentence, are appended, then one
+    // line for all (`summary_text`).
     ensures { OnOk result (Appends (W.contents writer.old) (W.contents writer.new)
         (summary_text scale connections.now (totals_of gone connections.now) counts)) }
 {
@@ -64,11 +63,13 @@ pub fn write_summary<W: Write>(
     Ok(())
 }
 
+/// Writes the lines of all connections.
 fn write_connections<W: Write>(
     writer: &mut W,
     scale: Scale,
     connections: &[Connection],
 ) -> io::Result<()>
+    // On success the lines of each of the `connections` are appended, in order.
     ensures { OnOk result (Appends (W.contents writer.old) (W.contents writer.new)
         (connections_text scale connections.now)) }
 {
@@ -78,49 +79,40 @@ fn write_connections<W: Write>(
     Ok(())
 }
 
+/// Writes the lines of a connection.
 #[tactic(auto, unfolding(crate::specs::SummaryText::connection_text))]
 fn write_connection<W: Write>(
     writer: &mut W,
     scale: Scale,
     connection: &Connection,
 ) -> io::Result<()>
+    // On success the lines of the lower end, of the other end, and the sentence are appended.
     ensures { OnOk result (Appends (W.contents writer.old) (W.contents writer.new)
         (connection_text scale connection.now)) }
 {
     let ends = (connection.low, connection.high);
     let back = (connection.high, connection.low);
-    write_half(
-        writer,
-        scale,
-        ends,
-        &connection.routes,
-        &connection.from_low,
-    )?;
-    write_half(
-        writer,
-        scale,
-        back,
-        &connection.routes,
-        &connection.from_high,
-    )?;
+    write_half(writer, scale, ends, connection, &connection.from_low)?;
+    write_half(writer, scale, back, connection, &connection.from_high)?;
     write_sentence(writer, scale, connection)?;
     Ok(())
 }
 
-/// Writes what one end sent, and what of it on each channel; `ends` are the sender and the receiver.
+/// Writes what one end sent, and its channels; `ends` are the sender and the receiver.
 #[tactic(auto, unfolding(crate::specs::SummaryText::half_text))]
 fn write_half<W: Write>(
     writer: &mut W,
     scale: Scale,
     ends: (u32, u32),
-    routes: &[Option<Route>; CHANNELS],
+    connection: &Connection,
     direction: &Direction,
 ) -> io::Result<()>
+    // On success the line of this `direction` is appended, then the lines of its channels (`half_text`).
     ensures { OnOk result (Appends (W.contents writer.old) (W.contents writer.new)
-        (half_text scale ends.0 ends.1 routes.now direction.now)) }
+        (half_text scale ends.0 ends.1 connection.now direction.now)) }
 {
-    write_direction(writer, scale, ends, direction)?;
-    write_places(writer, ends, routes, direction)?;
+    write_direction(writer, scale, connection.last, ends, direction)?;
+    write_places(writer, ends, &connection.routes, direction)?;
     Ok(())
 }
 
@@ -132,6 +124,7 @@ fn write_places<W: Write>(
     routes: &[Option<Route>; CHANNELS],
     direction: &Direction,
 ) -> io::Result<()>
+    // On success a line for each channel in use is appended, in order of their numbers (`places_text`).
     ensures { OnOk result (Appends (W.contents writer.old) (W.contents writer.new)
         (places_text ends.0 ends.1 routes.now direction.now)) }
 {
@@ -142,30 +135,36 @@ fn write_places<W: Write>(
     Ok(())
 }
 
+/// Writes the line of a direction; `until` is the time up to which silence lasts.
 #[tactic(auto, unfolding(crate::specs::SummaryText::direction_text))]
 fn write_direction<W: Write>(
     writer: &mut W,
     scale: Scale,
+    until: u64,
     ends: (u32, u32),
     direction: &Direction,
 ) -> io::Result<()>
+    // On success the line is appended: ends, openings, numbers, then the tally with times and ages by this `scale`
+    // (`direction_text`).
     ensures { OnOk result (Appends (W.contents writer.old) (W.contents writer.new)
-        (direction_text scale ends.0 ends.1 direction.now)) }
+        (direction_text scale until ends.0 ends.1 direction.now)) }
 {
     write_text(writer, "sum ")?;
     write_ends(writer, ends.0, ends.1)?;
     write_opening(writer, direction.opening, direction.tally.openings)?;
     write_numbers(writer, &direction.together)?;
-    write_tally(writer, scale, &direction.tally)?;
+    write_tally(writer, scale, until, &direction.tally)?;
     write_text(writer, "\n")?;
     Ok(())
 }
 
+/// Writes how often an end opened, and by what.
 fn write_opening<W: Write>(
     writer: &mut W,
     opening: Option<SessionOpening>,
     times: u64,
 ) -> io::Result<()>
+    // On success the type of the last `opening` and the number of `times` are appended, or that none was seen.
     ensures { OnOk result (Appends (W.contents writer.old) (W.contents writer.new) (opening_text opening times)) }
 {
     match opening {
@@ -177,8 +176,10 @@ fn write_opening<W: Write>(
     }
 }
 
+/// Writes the counts of a window.
 #[tactic(auto, unfolding(crate::specs::SummaryText::numbers_text))]
 fn write_numbers<W: Write>(writer: &mut W, window: &Window) -> io::Result<()>
+    // On success PDUs and missing numbers are appended, then the rest of the `window`.
     ensures { OnOk result (Appends (W.contents writer.old) (W.contents writer.new) (numbers_text window.now)) }
 {
     let heard = window.heard;
@@ -187,9 +188,10 @@ fn write_numbers<W: Write>(writer: &mut W, window: &Window) -> io::Result<()>
     write_others(writer, window)
 }
 
-/// Writes how many were heard again, late, or stale.
+/// Writes how many numbers were repeated, late, differing or stale.
 #[tactic(auto, unfolding(crate::specs::SummaryText::others_text))]
 fn write_others<W: Write>(writer: &mut W, window: &Window) -> io::Result<()>
+    // On success repeats, late, differing and stale ones of this `window` are appended.
     ensures { OnOk result (Appends (W.contents writer.old) (W.contents writer.new) (others_text window.now)) }
 {
     let repeats = window.repeats;
@@ -202,48 +204,70 @@ fn write_others<W: Write>(writer: &mut W, window: &Window) -> io::Result<()>
     )
 }
 
+/// Writes the tally of a direction.
 #[tactic(auto, unfolding(crate::specs::SummaryText::tally_text))]
-fn write_tally<W: Write>(writer: &mut W, scale: Scale, tally: &Tally) -> io::Result<()>
-    ensures { OnOk result (Appends (W.contents writer.old) (W.contents writer.new) (tally_text scale tally.now)) }
+fn write_tally<W: Write>(writer: &mut W, scale: Scale, until: u64, tally: &Tally) -> io::Result<()>
+    // On success types, silence, age, wait, last PDU and disconnect are appended, in this order (`tally_text`).
+    ensures { OnOk result (Appends (W.contents writer.old) (W.contents writer.new) (tally_text scale until tally.now)) }
 {
     write_kinds(writer, tally)?;
-    write_silence(writer, tally.silence)?;
+    write_silence(writer, silence(tally, until))?;
     write_oldest(writer, scale.t_max, tally.oldest)?;
+    write_longest(writer, scale.t_max, tally.longest)?;
     write_last(writer, scale.first, tally.last)?;
     write_ending(writer, tally.leaving)?;
     Ok(())
 }
 
+/// Writes the counts of types.
 #[tactic(auto, unfolding(crate::specs::SummaryText::kinds_text))]
 fn write_kinds<W: Write>(writer: &mut W, tally: &Tally) -> io::Result<()>
+    // On success the heartbeats, requests, resent units and disconnects of this `tally` are appended.
     ensures { OnOk result (Appends (W.contents writer.old) (W.contents writer.new) (kinds_text tally.now)) }
 {
     let heartbeats = tally.heartbeats;
     let requests = tally.requests;
     let resent = tally.resent;
+    let disconnects = tally.disconnects;
     write!(
         writer,
-        " heartbeats {heartbeats} requests {requests} resent {resent}"
+        " heartbeats {heartbeats} requests {requests} resent {resent} disconnects {disconnects}"
     )
 }
 
+/// Writes the longest silence.
 #[tactic(auto, unfolding(crate::specs::SummaryText::silence_text))]
 fn write_silence<W: Write>(writer: &mut W, silence: u64) -> io::Result<()>
+    // On success the `silence` is appended in seconds with six digits.
     ensures { OnOk result (Appends (W.contents writer.old) (W.contents writer.new) (silence_text silence)) }
 {
     write_text(writer, " silence ")?;
     write_duration(writer, silence)
 }
 
+/// Writes the greatest age beside T_max.
 #[tactic(auto, unfolding(crate::specs::SummaryText::oldest_text))]
 fn write_oldest<W: Write>(writer: &mut W, t_max: u32, oldest: u32) -> io::Result<()>
+    // On success the age, `t_max`, and the word "reached" if the age is at least that are appended.
     ensures { OnOk result (Appends (W.contents writer.old) (W.contents writer.new) (oldest_text t_max oldest)) }
 {
     let reached = reached(t_max, oldest);
     write!(writer, " age {oldest} of {t_max}{reached}")
 }
 
+/// Writes the longest wait beside T_max.
+#[tactic(auto, unfolding(crate::specs::SummaryText::longest_text))]
+fn write_longest<W: Write>(writer: &mut W, t_max: u32, longest: u32) -> io::Result<()>
+    // On success the wait, `t_max`, and the word "reached" if the wait is at least that are appended.
+    ensures { OnOk result (Appends (W.contents writer.old) (W.contents writer.new) (longest_text t_max longest)) }
+{
+    let reached = reached(t_max, longest);
+    write!(writer, " waits {longest} of {t_max}{reached}")
+}
+
+/// Writes the time of the last PDU.
 fn write_last<W: Write>(writer: &mut W, first: u64, last: u64) -> io::Result<()>
+    // On success the time of the `last` PDU since `first` is appended, or that none came since the opening.
     ensures { OnOk result (Appends (W.contents writer.old) (W.contents writer.new) (last_text first last)) }
 {
     if last == 0 {
@@ -253,7 +277,9 @@ fn write_last<W: Write>(writer: &mut W, first: u64, last: u64) -> io::Result<()>
     write_since(writer, first, last)
 }
 
+/// Writes the disconnect of a direction.
 fn write_ending<W: Write>(writer: &mut W, leaving: Option<Leaving>) -> io::Result<()>
+    // On success the reason of the last DiscReq is appended, or that there was none.
     ensures { OnOk result (Appends (W.contents writer.old) (W.contents writer.new) (ending_text leaving)) }
 {
     match leaving {
@@ -265,7 +291,7 @@ fn write_ending<W: Write>(writer: &mut W, leaving: Option<Leaving>) -> io::Resul
     }
 }
 
-/// Writes what one end sent on a channel, where there is one at this place.
+/// Writes what one end sent on the channel at a place.
 #[tactic(auto, unfolding(crate::specs::SummaryText::place_text))]
 fn write_place<W: Write>(
     writer: &mut W,
@@ -275,6 +301,7 @@ fn write_place<W: Write>(
     place: usize,
 ) -> io::Result<()>
     requires { place < CHANNELS }
+    // On success the line of the channel at this `place` is appended, if it is in use.
     ensures { OnOk result (Appends (W.contents writer.old) (W.contents writer.new)
         (place_text ends.0 ends.1 routes.now direction.now place)) }
 {
@@ -288,6 +315,7 @@ fn write_place<W: Write>(
     )
 }
 
+/// Writes the line of a channel, if there is one.
 fn write_maybe_channel<W: Write>(
     writer: &mut W,
     ends: (u32, u32),
@@ -296,6 +324,7 @@ fn write_maybe_channel<W: Write>(
     window: &Window,
     damaged: u64,
 ) -> io::Result<()>
+    // On success the line of the channel is appended if it has a `route`.
     ensures { OnOk result (Appends (W.contents writer.old) (W.contents writer.new)
         (maybe_channel_text ends.0 ends.1 place route window.now damaged)) }
 {
@@ -305,6 +334,7 @@ fn write_maybe_channel<W: Write>(
     }
 }
 
+/// Writes the line of a channel.
 #[tactic(auto, unfolding(crate::specs::SummaryText::known_channel_text))]
 fn write_channel<W: Write>(
     writer: &mut W,
@@ -314,6 +344,7 @@ fn write_channel<W: Write>(
     window: &Window,
     damaged: u64,
 ) -> io::Result<()>
+    // On success the ends and number, the addresses, the datagrams, the numbers and the `damaged` ones are appended.
     ensures { OnOk result (Appends (W.contents writer.old) (W.contents writer.new)
         (known_channel_text ends.0 ends.1 place route window.now damaged)) }
 {
@@ -324,16 +355,19 @@ fn write_channel<W: Write>(
     write_damaged(writer, damaged)
 }
 
-/// Writes how many datagrams on a channel were no PDU, and ends the line.
+/// Writes how many datagrams on a channel were not a PDU, and ends the line.
 #[tactic(auto, unfolding(crate::specs::SummaryText::damaged_text))]
 fn write_damaged<W: Write>(writer: &mut W, damaged: u64) -> io::Result<()>
+    // On success the number of `damaged` datagrams and a line feed are appended.
     ensures { OnOk result (Appends (W.contents writer.old) (W.contents writer.new) (damaged_text damaged)) }
 {
     writeln!(writer, " damaged {damaged}")
 }
 
+/// Writes the addresses of a channel.
 #[tactic(auto, unfolding(crate::specs::SummaryText::route_text))]
 fn write_route<W: Write>(writer: &mut W, route: Route) -> io::Result<()>
+    // On success the lower end's and the other end's address are appended, with a hyphen between them.
     ensures { OnOk result (Appends (W.contents writer.old) (W.contents writer.new) (route_text route)) }
 {
     write_text(writer, " ")?;
@@ -342,8 +376,10 @@ fn write_route<W: Write>(writer: &mut W, route: Route) -> io::Result<()>
     write_address(writer, route.high)
 }
 
+/// Writes the ends and the number of a channel.
 #[tactic(auto, unfolding(crate::specs::SummaryText::sum_text))]
 fn write_sum<W: Write>(writer: &mut W, ends: (u32, u32), place: usize) -> io::Result<()>
+    // On success the sender, the receiver, and the words of the channel at `place` are appended.
     ensures { OnOk result (Appends (W.contents writer.old) (W.contents writer.new) (sum_text ends.0 ends.1 place)) }
 {
     write_text(writer, "sum ")?;
@@ -351,8 +387,10 @@ fn write_sum<W: Write>(writer: &mut W, ends: (u32, u32), place: usize) -> io::Re
     write_text(writer, channel_name(place))
 }
 
+/// Writes how many datagrams came on a channel.
 #[tactic(auto, unfolding(crate::specs::SummaryText::datagrams_text))]
 fn write_datagrams<W: Write>(writer: &mut W, window: &Window, damaged: u64) -> io::Result<()>
+    // On success the number of all datagrams on the channel, the `damaged` ones included, is appended.
     ensures { OnOk result (Appends (W.contents writer.old) (W.contents writer.new)
         (datagrams_text window.now damaged)) }
 {
@@ -360,9 +398,10 @@ fn write_datagrams<W: Write>(writer: &mut W, window: &Window, damaged: u64) -> i
     write!(writer, " datagrams {count}")
 }
 
-/// How many datagrams came: those with a number that is new, late, was heard before, or is stale, and those that were no
-/// PDU.
+/// Returns how many datagrams came on a channel: in order, late, repeated, differing, stale or damaged.
 pub(crate) fn datagrams(window: &Window, damaged: u64) -> u64
+    // The result is the sum of all counts of the `window` except missing numbers, and of the `damaged` ones, limited
+    // to 2^64 - 1.
     ensures { result ≡ datagrams_of window.now damaged }
 {
     window
@@ -374,8 +413,10 @@ pub(crate) fn datagrams(window: &Window, damaged: u64) -> u64
         .saturating_add(damaged)
 }
 
+/// Writes the line of sums over all connections.
 #[tactic(auto, unfolding(crate::specs::SummaryText::all_text))]
 fn write_all<W: Write>(writer: &mut W, totals: Totals, counts: CaptureCounts) -> io::Result<()>
+    // On success the datagrams, the `totals` and the `counts` are appended as one line.
     ensures { OnOk result (Appends (W.contents writer.old) (W.contents writer.new) (all_text totals counts)) }
 {
     write_came(writer, counts.datagrams)?;
@@ -385,15 +426,19 @@ fn write_all<W: Write>(writer: &mut W, totals: Totals, counts: CaptureCounts) ->
     Ok(())
 }
 
+/// Writes how many datagrams came.
 #[tactic(auto, unfolding(crate::specs::SummaryText::came_text))]
 fn write_came<W: Write>(writer: &mut W, datagrams: u64) -> io::Result<()>
+    // On success the number of all `datagrams` of the capture is appended.
     ensures { OnOk result (Appends (W.contents writer.old) (W.contents writer.new) (came_text datagrams)) }
 {
     write!(writer, "sum all datagrams {datagrams}")
 }
 
+/// Writes the sums over all connections.
 #[tactic(auto, unfolding(crate::specs::SummaryText::totals_text))]
 fn write_totals<W: Write>(writer: &mut W, totals: Totals) -> io::Result<()>
+    // On success PDUs and missing numbers of all are appended, then the rest of these `totals`.
     ensures { OnOk result (Appends (W.contents writer.old) (W.contents writer.new) (totals_text totals)) }
 {
     let heard = totals.heard;
@@ -402,9 +447,10 @@ fn write_totals<W: Write>(writer: &mut W, totals: Totals) -> io::Result<()>
     write_other_totals(writer, totals)
 }
 
-/// Writes how many were heard again, late, or stale.
+/// Writes how many numbers of all connections were repeated, late, differing or stale.
 #[tactic(auto, unfolding(crate::specs::SummaryText::other_totals_text))]
 fn write_other_totals<W: Write>(writer: &mut W, totals: Totals) -> io::Result<()>
+    // On success repeats, late, differing and stale ones of these `totals` are appended.
     ensures { OnOk result (Appends (W.contents writer.old) (W.contents writer.new) (other_totals_text totals)) }
 {
     let repeats = totals.repeats;
@@ -417,8 +463,10 @@ fn write_other_totals<W: Write>(writer: &mut W, totals: Totals) -> io::Result<()
     )
 }
 
+/// Writes the counts over the whole capture.
 #[tactic(auto, unfolding(crate::specs::SummaryText::counts_text))]
 fn write_counts<W: Write>(writer: &mut W, counts: CaptureCounts) -> io::Result<()>
+    // On success the damaged, forgotten and unreadable ones of these `counts` are appended.
     ensures { OnOk result (Appends (W.contents writer.old) (W.contents writer.new) (counts_text counts)) }
 {
     let damaged = counts.damaged;

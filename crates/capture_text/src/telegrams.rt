@@ -10,13 +10,15 @@ use safe_pdu::CodeRule;
 use std::io;
 use std::io::Write;
 
-/// Writes the lines of the telegrams of a datagram, as `show` has them, and nothing where it is no PDU with telegrams.
+/// Writes the lines of a datagram's telegrams, as `rasta show` prints them; nothing if it is not a PDU with
+/// telegrams.
 ///
 /// # Errors
 ///
-/// An error is the writer's; what came before it stays written.
+/// The error of the writer. What was written before it stays.
 pub fn write_telegrams<W: Write>(writer: &mut W, rule: &CodeRule, datagram: &[u8]) -> io::Result<()>
-    // The telegrams of a datagram are written exactly as `show` has them.
+    // On success the lines of the telegrams in the PDU of `datagram` are appended; nothing if either layer rejects it
+    // (`telegram_lines`).
     ensures { OnOk result (Appends (W.contents writer.old) (W.contents writer.new)
         (telegram_lines rule.now datagram.now)) }
 {
@@ -26,8 +28,9 @@ pub fn write_telegrams<W: Write>(writer: &mut W, rule: &CodeRule, datagram: &[u8
     }
 }
 
-/// Writes the lines of the telegrams of an upper part.
+/// Writes the lines of the telegrams in the part of a redundancy PDU.
 fn write_body<W: Write>(writer: &mut W, rule: &CodeRule, upper: &[u8]) -> io::Result<()>
+    // On success the lines of the telegrams in the safety PDU of `upper` are appended; nothing if it is rejected.
     ensures { OnOk result (Appends (W.contents writer.old) (W.contents writer.new)
         (body_lines (safe_seen rule.now upper.now))) }
 {

@@ -1,19 +1,28 @@
--- Channels in memory: what they keep, and what a sending and a reception do to it.
+-- Channels in memory: their state, and how a send and a reception change it.
 use Rattle.std.specs.Prelude.{ℕ, ◌+◌, ◌-◌, Bool, false, ◌&&◌, nat_lt, nat_le, Some, None, List, [], ◌∷◌, ◌++◌, length, take, if◌then◌else◌}
 use Rattle.octets.specs.declared.limits.TheConstants.{RED_PDU_MAX}
 use Rattle.channels.specs.Told.{Sending, Answer, Told, counted}
 
+-- the state of channels in memory
 pub record Kept : Type 0 where
-  pub sent : List Sending  -- in order
-  pub waiting : List Sending  -- put in and not yet answered, in order
-  pub answers : List Answer  -- in order
-  pub asked : ℕ  -- how many octets the last reception could bring, 0 before any
-  pub sends_left : ℕ  -- how many more can be kept
+  -- the datagrams sent, in order
+  pub sent : List Sending
+  -- the datagrams added and not received yet, in order
+  pub waiting : List Sending
+  -- the results of the receptions, in order
+  pub answers : List Answer
+  -- the buffer length of the last reception, 0 before the first
+  pub asked : ℕ
+  -- how many more sends there is room for
+  pub sends_left : ℕ
+  -- how many more results there is room for
   pub answers_left : ℕ
+  -- how many sends failed, modulo 2^64
   pub failed_sends : ℕ
+  -- how many receptions failed, modulo 2^64
   pub failed_receives : ℕ
 
--- both lists are told; no sending is told to be sure on a channel, since all channels share the room
+-- the state as contracts of `Channels` see it: both lists are known; no send is sure on a channel, since all channels share the room
 abbrev pub told_of : Kept → Told
 told_of k =
     record {
@@ -25,7 +34,7 @@ told_of k =
       room = λ _. 0;
     }
 
--- with room for `room` sendings and as many answers, and nothing kept
+-- the state with room for `room` sends and as many results, and nothing sent or waiting
 abbrev pub new_kept : ℕ → Kept
 new_kept room =
     record {
@@ -39,34 +48,36 @@ new_kept room =
       failed_receives = 0;
     }
 
--- with room for `more` sendings and answers beyond those that it had
+-- the state with room for `more` sends and results in addition
 abbrev pub with_more_room : ℕ → Kept → Kept
 with_more_room more k = record k { sends_left = k.sends_left + more; answers_left = k.answers_left + more }
 
--- a datagram that is put in on a channel waits behind all others
+-- the state with a datagram added after all that wait
 abbrev pub with_waiting : Sending → Kept → Kept
 with_waiting x k = record k { waiting = k.waiting ++ x ∷ [] }
 
--- there is room for it, and it is no longer than a redundancy PDU may be
+-- a send of this datagram succeeds: there is room, and it is not longer than a redundancy PDU
 abbrev pub goes_out : List ℕ → Kept → Bool
 goes_out datagram k = nat_lt 0 k.sends_left && nat_le (length datagram) RED_PDU_MAX
 
+-- the state after a send: the datagram is kept, or the failure counted
 abbrev pub with_sending : Sending → Kept → Kept
 with_sending x k =
     if goes_out x.1 k
     then record k { sent = k.sent ++ x ∷ []; sends_left = k.sends_left - 1 }
     else record k { failed_sends = counted false k.failed_sends }
 
--- the first that waits, cut to the buffer's length; or nothing
+-- the first waiting datagram cut to the buffer's length, or None if nothing waits
 abbrev pub first_answer : ℕ → List Sending → Answer
 first_answer size [] = None
 first_answer size (x ∷ xs) = Some (x.0, take size x.1)
 
+-- the waiting datagrams after the first
 abbrev pub behind_first : List Sending → List Sending
 behind_first [] = []
 behind_first (x ∷ xs) = xs
 
--- what a reception into a buffer of this length does
+-- the state after a reception into a buffer of this length
 abbrev pub with_reception : ℕ → Kept → Kept
 with_reception size k =
     if nat_lt 0 k.answers_left

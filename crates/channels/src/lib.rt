@@ -1,4 +1,4 @@
-//! The channels of an end: what datagrams are sent on and come from. They know of octets alone.
+//! The channels of an end: the transport that datagrams are sent on and received from. Channels see only bytes.
 //!
 //! Channels are not trusted: they may lose, repeat, delay, reorder and damage datagrams (EN 50159).
 #![tactic(auto)]
@@ -13,33 +13,46 @@ pub use memory::{MemChannels, MemoryFault};
 /// Why a datagram was not sent, or nothing could be received.
 #[derive(Clone, Copy, Debug, PartialEq, Eq)]
 pub enum ChannelFault {
-    /// There is no room for it, or no such channel.
+    /// There is no room for the datagram, or there is no such channel.
     Room,
-    /// The operating system refused it.
+    /// The operating system refused the call.
     System,
 }
 
-/// The channels of an end, numbered from 1. What is sent goes out or fails; what comes is asked for and not waited for.
+/// The channels of an end, numbered from 1.
 ///
-/// An implementation that keeps its datagrams tells their lists; one over sockets tells none. Both count what failed,
-/// modulo 2^64, and answer a fault exactly where the count went on.
+/// A send either succeeds or fails at once; a reception never waits. An implementation that keeps its datagrams
+/// states their lists in `told`; one over sockets does not. Both count failures, modulo 2^64, and return a
+/// fault if and only if they have counted it.
 pub trait Channels {
-    /// What is told of the channels: the datagrams sent, what `receive` answered, and how often either failed.
+    /// What contracts know of the channels: the datagrams sent, the results of `receive`, and how often each of
+    /// the two calls failed.
     ghost told: { Self → Told };
 
-    /// Sends a datagram of at most 1,258 octets on a channel. A fault says that it did not go out; nothing else has changed.
+    /// Sends a datagram of at most 1,258 bytes on a channel.
+    ///
+    /// # Errors
+    ///
+    /// - `Room` if there is no room for the datagram, or no such channel;
+    /// - `System` if the operating system refuses it.
+    ///
+    /// In both cases the datagram was not sent, and only the count of failed sends has changed.
     fn send(&mut self, channel: usize, datagram: &[u8]) -> Result<(), ChannelFault>
-        // A `Keeper` keeps what is sent on channel 1 where it has room, and fails on every other channel.
+        // A successful send appends the datagram and its channel to those sent; a failed one only adds 1 to the
+        // failed sends. A send on a channel with room for it succeeds, and uses one place of that channel only.
+        // Receptions are not affected.
         ensures { Sends (is_ok result) (told self.old) (channel, datagram.now) (told self.new) };
 
-    /// Writes the next datagram that came in front of the buffer, cut to its length, and answers its channel and its size in
-    /// octets; `None` where nothing has come. It never waits.
+    /// Copies the next received datagram to the start of the buffer, cut to the buffer's length, and returns
+    /// its channel and its size in bytes. Returns `None` if nothing has come. It never waits.
+    ///
+    /// # Errors
+    ///
+    /// - `Room` or `System` if the reception failed; it is counted.
     fn receive(&mut self, buffer: &mut [u8]) -> Result<Option<(usize, usize)>, ChannelFault>
-        // A datagram that `Channels` answer is no longer than the buffer.
-        // What is sent over channels that are listened to, received from them and failed is that of the
-        // channels themselves.
+        // The returned size is at most the length of the buffer.
         ensures fits { IfOk result (λ came. IfSome came (λ p. p.1 ≤ length buffer.new)) }
-        // Whatever implements `Channels` tells the answer of a reception, or counts it as failed, and answers a
-        // fault exactly where it is counted.
+        // A successful reception appends its result to those received, `None` included; a failed one adds 1 to
+        // the failed receptions. Nothing sent is affected.
         ensures told { told self.new ≡ after_receive result buffer.new (told self.old) };
 }

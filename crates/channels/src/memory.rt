@@ -1,4 +1,5 @@
-//! Channels in memory, for tests and simulations: what is sent is kept, and what is to be received is put in before.
+//! Channels in memory, for tests and simulations: they keep the datagrams sent, and deliver the datagrams
+//! that were added.
 
 ghost use Rattle.std.specs.Prelude.{◌≡◌, ◌≤◌, length, option_map, is_ok, if◌then◌else◌, nat_lt, IfErr, IfOk, IfSome, slice_get};
 ghost use Rattle.channels.specs.declared.ChannelFault.TheVariants.{Room};
@@ -14,13 +15,13 @@ use std::alloc::{AllocError, Allocator, Global};
 use std::collections::VecDeque;
 use std::marker::Model;
 
-/// A datagram of at most 1,258 octets, the length of the longest redundancy PDU.
+/// A datagram of at most 1,258 bytes, the length of the longest redundancy PDU.
 type Datagram = ArrayVec<u8, RED_PDU_MAX>;
 
-/// What was not made, or not made larger.
+/// Why channels were not made, or room or a datagram not added.
 #[derive(Clone, Copy, Debug, PartialEq, Eq)]
 pub enum MemoryFault {
-    /// There was no memory for it.
+    /// There is no memory for it.
     Memory,
 }
 
@@ -34,26 +35,27 @@ impl From<AllocError> for MemoryFault {
     }
 }
 
-/// Channels in memory, with every channel number. What is sent is kept to be looked at, and `receive` answers
-/// what `add` put in, in the same order.
+/// Channels in memory, with every channel number. They keep the datagrams sent, and `receive` delivers the
+/// datagrams that `add` has queued, in order.
 ///
-/// Room for sendings and for answers of `receive` is made by `new` and `reserve`, and each of them uses some up, an
-/// answer that nothing has come too. Without room they fail. `send` and `receive` take no memory.
+/// `new` and `reserve` make room for sends and for results of `receive`. Each call of either uses one
+/// place, and `None` as a result uses one too. Without room the call fails. `send` and `receive` do not
+/// allocate.
 #[derive(Drop)]
 pub struct MemChannels<A: Allocator = Global> {
-    /// Each datagram that was sent, with its channel, the first one first.
+    /// Each datagram sent with its channel, in order.
     sent: Vec<(usize, Datagram), A>,
-    /// What `receive` hands out next, with its channel.
+    /// The datagrams that `receive` delivers next, with their channels.
     waiting: VecDeque<(usize, Vec<u8, A>), A>,
-    /// What each `receive` has answered, in order.
+    /// The results of `receive`, in order.
     answers: Vec<Option<(usize, Vec<u8, A>)>, A>,
-    /// How many octets the last `receive` could bring, 0 before any.
+    /// The buffer length of the last `receive`, 0 before the first.
     asked: usize,
-    /// How many more sendings there is room for.
+    /// How many more sends there is room for.
     sends_left: usize,
-    /// How many more answers there is room for.
+    /// How many more results of `receive` there is room for.
     answers_left: usize,
-    /// How many sendings have failed, modulo 2^64.
+    /// How many sends have failed, modulo 2^64.
     failed_sends: u64,
     /// How many receptions have failed, modulo 2^64.
     failed_receives: u64,
@@ -81,13 +83,14 @@ impl<A: Allocator> Model for MemChannels<A> {
 }
 
 impl<A: Allocator + Copy> MemChannels<A> {
-    /// Channels with room for `room` sendings and as many answers of `receive`.
+    /// Makes channels with room for `room` sends and as many results of `receive`.
     ///
     /// # Errors
     ///
-    /// Refused as Memory where there is none.
+    /// - `Memory` if there is no memory for them.
     pub fn new(alloc: A, room: usize) -> Result<Self, MemoryFault>
-        // New `MemChannels` keep nothing and have room for as many sendings and answers as were asked for.
+        // New channels have sent nothing, nothing waits, and there is room for `room` sends and as many
+        // results of receptions.
         ensures { IfOk result (λ made. made ≡ new_kept room) }
     {
         Ok(MemChannels {
@@ -102,14 +105,13 @@ impl<A: Allocator + Copy> MemChannels<A> {
         })
     }
 
-    /// Makes room for `more` sendings and answers beyond those that it has.
+    /// Makes room for `more` sends and results of `receive` in addition.
     ///
     /// # Errors
     ///
-    /// Refused as Memory where there is none, and then nothing
-    /// has changed.
+    /// - `Memory` if there is no memory for them; then nothing has changed.
     pub fn reserve(&mut self, more: usize) -> Result<(), MemoryFault>
-        // More room for sendings and answers is added to `MemChannels`, or, where it is refused, nothing
+        // If `reserve` succeeds, there is room for `more` sends and results in addition; otherwise nothing
         // changes.
         ensures { self.new ≡ (if is_ok result then with_more_room more self.old else self.old) }
     {
@@ -126,14 +128,13 @@ impl<A: Allocator + Copy> MemChannels<A> {
         Ok(())
     }
 
-    /// Puts in a datagram, of any octets, that comes on a channel.
+    /// Queues a datagram for reception on a channel. It may contain any bytes.
     ///
     /// # Errors
     ///
-    /// Refused as Memory where there is none, and then it does not come.
+    /// - `Memory` if there is no memory for it; then nothing has changed.
     pub fn add(&mut self, channel: usize, datagram: &[u8]) -> Result<(), MemoryFault>
-        // A datagram that is put in to `MemChannels` waits behind the others, or, where it is refused, nothing
-        // changes.
+        // If `add` succeeds, the datagram waits after all others; otherwise nothing changes.
         ensures { self.new ≡ (if is_ok result then with_waiting (channel, datagram.now) self.old else self.old) }
     {
         let octets = Vec::from_slice(*self.sent.allocator(), datagram)?;
@@ -145,9 +146,11 @@ impl<A: Allocator + Copy> MemChannels<A> {
 }
 
 impl<A: Allocator> MemChannels<A> {
-    /// Channel and octets of a datagram that was sent, the first with number 0.
+    /// Returns the channel and the bytes of the datagram sent at a place, from 0, or `None` if fewer were
+    /// sent.
     pub fn sent(&self, number: usize) -> Option<(usize, &[u8])>
-        // `sent` answers what `MemChannels` have sent at a place.
+        // The result is the channel and the bytes of the datagram sent at place `number`, or `None` past
+        // the last one.
         ensures { option_map (λ s. (s.0, s.1.now)) result ≡ slice_get self.now.sent number }
     {
         match self.sent.get(number) {
@@ -160,15 +163,23 @@ impl<A: Allocator> MemChannels<A> {
 impl<A: Allocator> Channels for MemChannels<A> {
     ghost told = { told_of };
 
-    /// Keeps the datagram. It fails where there is no room, or the datagram is longer than 1,258 octets.
+    /// Keeps the datagram.
+    ///
+    /// # Errors
+    ///
+    /// - `Room` if there is no room for another send, or the datagram is longer than 1,258 bytes; nothing
+    ///   is kept.
     fn send(&mut self, channel: usize, datagram: &[u8]) -> Result<(), ChannelFault>
-        // A sending on `MemChannels` goes out exactly where there is room and it has at most 1,258 octets.
+        // `send` succeeds if and only if there is room for another send and the datagram has at most 1,258
+        // bytes.
         ensures ok { is_ok result ≡ goes_out datagram.now self.old }
-        // What goes out on `MemChannels` is kept behind what was sent before; what does not is counted alone.
+        // A datagram sent is kept after those sent before and uses one place; a failed send only adds 1 to
+        // the failed sends.
         ensures kept { self.new ≡ with_sending (channel, datagram.now) self.old }
-        // What `MemChannels` tell of sendings and receptions is what the contract of `Channels` asks.
+        // As seen by the contract of `Channels`, `send` appends to the datagrams sent or counts a failure,
+        // and changes nothing else.
         ensures told { Sends (is_ok result) (told_of self.old) (channel, datagram.now) (told_of self.new) }
-        // `MemChannels` refuse as Room alone.
+        // The only fault of `send` is `Room`.
         ensures fault { IfErr result (λ why. why ≡ Room) }
     {
         if self.sends_left == 0 || datagram.len() > RED_PDU_MAX {
@@ -180,20 +191,23 @@ impl<A: Allocator> Channels for MemChannels<A> {
         Ok(())
     }
 
-    /// Answers the datagram that was put in first of those that it has not answered yet. It fails where there is no room for an answer.
+    /// Delivers the datagram that was added first of those still waiting, or `None`.
+    ///
+    /// # Errors
+    ///
+    /// - `Room` if there is no room for another result.
     fn receive(&mut self, buffer: &mut [u8]) -> Result<Option<(usize, usize)>, ChannelFault>
-        // A reception on `MemChannels` fails exactly where there is no room for its answer.
+        // `receive` succeeds if and only if there is room for another result.
         ensures ok { is_ok result ≡ nat_lt 0 self.old.answers_left }
-        // `MemChannels` answer the datagram put in first, cut to the buffer, or that nothing waits; a failed
-        // reception is counted alone.
+        // `receive` takes out the first waiting datagram and keeps it as a result, cut to the buffer's
+        // length, or keeps `None`; a failed reception is counted.
         ensures kept { self.new ≡ with_reception (length buffer.old) self.old }
-        // What `MemChannels` tell of sendings and receptions is what the contract of `Channels` asks.
+        // The size that `receive` returns is at most the length of the buffer.
         ensures fits { IfOk result (λ came. IfSome came (λ p. p.1 ≤ length buffer.new)) }
-        // `MemChannels` answer the datagram put in first, cut to the buffer, or that nothing waits; a failed
-        // reception is counted alone.
-        // What `MemChannels` tell of sendings and receptions is what the contract of `Channels` asks.
+        // As seen by the contract of `Channels`, `receive` appends its result or counts a failure, and
+        // changes nothing sent.
         ensures told { told_of self.new ≡ after_receive result buffer.new (told_of self.old) }
-        // `MemChannels` refuse as Room alone.
+        // The only fault of `receive` is `Room`.
         ensures fault { IfErr result (λ why. why ≡ Room) }
     {
         self.asked = buffer.len();

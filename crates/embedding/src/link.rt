@@ -1,4 +1,4 @@
-//! The end that the application stands on: opened from a settings file, asked turn by turn, and opened anew where its
+//! The end of the application: it is opened from a settings file, polled in turns, and opened again if its
 //! connection is lost.
 
 ghost use Rattle.std.specs.Prelude.{◌≡◌, ◌≤◌, ◌^◌, IfOk, OnOk};
@@ -18,38 +18,38 @@ use std::{env, fs};
 use thiserror::Error;
 use udp_channels::{UdpChannels, UdpFault, Watch, open_udp};
 
-/// The greatest time that an end may be handed, in milliseconds.
+/// The greatest time that an end accepts, in milliseconds.
 const TIME_MAX: u64 = 1 << 62;
 
-/// The longest time between two turns, in milliseconds, so that the application can change its mind.
+/// The longest wait between two turns, in milliseconds, so that the application can change its wish.
 const REST_MAX: u64 = 100;
 
-/// How many turns there are at most, and how many connections.
+/// The limit of turns, and of connections; never reached.
 const MOST: u32 = u32::MAX;
 
-/// Why the application ends before its time.
+/// Why the application stops before its time.
 #[derive(Debug, Drop, Error)]
 pub enum Stop {
-    /// The words are not a file and a number of seconds.
     #[error("usage: embedding SETTINGS SECONDS")]
+    /// The arguments are not a file and a number of seconds.
     Words,
-    /// The system gives no such file, or it is no text.
     #[error("the file of settings cannot be read")]
+    /// The settings file cannot be read, or it is not text.
     File,
-    /// The text is no settings of an interlocking.
     #[error("settings: {0}")]
+    /// The text is not a valid settings file of an interlocking.
     Settings(SettingsFault),
-    /// The system gives no sockets at the addresses.
     #[error("no sockets at the addresses of the settings")]
+    /// The sockets cannot be opened at the addresses.
     Sockets,
-    /// There was no memory.
     #[error("no memory")]
+    /// An allocation failed.
     Memory,
-    /// The system gives no time, or no octets that nobody foretells.
     #[error("no clock or no random number from the system")]
+    /// The system has no clock or no random numbers.
     System,
-    /// The output failed.
     #[error("the output failed")]
+    /// The output failed.
     Output,
 }
 
@@ -62,11 +62,12 @@ impl From<UdpFault> for Stop {
     }
 }
 
-/// Switches for the seconds that its words ask for, over the channels of a settings file.
+/// Switches for as many seconds as the arguments say, over the channels of a settings file. A lost connection is
+/// opened again.
 ///
 /// # Errors
 ///
-/// Refused where its words, the file, the sockets or the system give no reason to go on. A lost connection is none.
+/// Returns the fault of the arguments, the settings file, the sockets, the system or the output.
 pub fn run<R: AllocGlobal + Env + Files + Net + Clock, O: Write>(
     rt: &R,
     out: &mut O,
@@ -92,8 +93,9 @@ pub fn run<R: AllocGlobal + Env + Files + Net + Clock, O: Write>(
     Ok(())
 }
 
-/// The file and the seconds.
+/// Returns the path and the number of seconds.
 fn words<R: AllocGlobal + Env>(rt: &R) -> Result<(String, u64), Stop>
+    // The number of seconds is at most 2^32.
     ensures { IfOk result (λ words. words.1 ≤ 2 ^ 32) }
 {
     let Ok(mut words) = env::args(rt) else {
@@ -109,6 +111,7 @@ fn words<R: AllocGlobal + Env>(rt: &R) -> Result<(String, u64), Stop>
     }
 }
 
+/// Reads the settings of an interlocking.
 fn read_settings<R: AllocGlobal + Files>(rt: &R, path: &str) -> Result<Settings, Stop> {
     let Ok(text) = fs::read_to_string(rt, path) else {
         return Err(Stop::File);
@@ -120,7 +123,7 @@ fn read_settings<R: AllocGlobal + Files>(rt: &R, path: &str) -> Result<Settings,
     }
 }
 
-/// One connection, until it is lost or the time is over; answers the time then.
+/// Runs one connection until it is lost or the time is over. Returns the time of its last turn.
 fn connect<R: AllocGlobal + Files + Net + Clock, O: Write>(
     rt: &R,
     settings: &Settings,
@@ -131,6 +134,7 @@ fn connect<R: AllocGlobal + Files + Net + Clock, O: Write>(
     out: &mut O,
 ) -> Result<u64, Stop>
     requires { from ≤ 2 ^ 62 }
+    // The time returned is one that an end accepts, at most 2^62.
     ensures { IfOk result (λ now. now ≤ 2 ^ 62) }
 {
     let mut watch = Watch::open(rt.alloc(), rt)?;
@@ -142,7 +146,7 @@ fn connect<R: AllocGlobal + Files + Net + Clock, O: Write>(
         switch.want(now);
         let before = end.channels_seen().received();
         let told = switch.is_on;
-        // A channel that fails is asked again in the next turn: the others go on.
+        // A channel that failed is polled again in the next turn; the others continue.
         let _ = turn(&mut end, now, switch);
         tell(switch, told, out)?;
         if now >= until {
@@ -150,7 +154,7 @@ fn connect<R: AllocGlobal + Files + Net + Clock, O: Write>(
             return Ok(now);
         }
         if end.state() == ConnectionState::Closed {
-            // The peer finds out too, before it is asked again.
+            // The peer must notice the loss, too, before the connection is requested again.
             watch.wait(Duration::from_millis(settings.config.t_max / 4));
             return Ok(now);
         }
@@ -161,7 +165,7 @@ fn connect<R: AllocGlobal + Files + Net + Clock, O: Write>(
     Ok(now)
 }
 
-/// An end on its channels, which the wait watches.
+/// Opens an end on its channels, and adds them to the watch.
 fn open<R: AllocGlobal + Files + Net>(
     rt: &R,
     settings: &Settings,
@@ -169,6 +173,7 @@ fn open<R: AllocGlobal + Files + Net>(
     now: u64,
 ) -> Result<End<UdpChannels>, Stop>
     requires { now ≤ 2 ^ 62 }
+    // After `open`, the time of the end is at most `now`.
     ensures { IfOk result (λ end. end.time ≤ now) }
 {
     let (local, remote) = (settings.local.as_slice(), settings.remote.as_slice());
@@ -192,7 +197,8 @@ fn open<R: AllocGlobal + Files + Net>(
     }
 }
 
-/// The first sequence number that the settings state, or one that nobody foretells: two connections must not make the same octets.
+/// Returns the first sequence number of the settings, or a random one, so that two connections never make the same
+/// bytes.
 fn first_number<R: Files>(rt: &R, stated: Option<u32>) -> Result<u32, Stop> {
     if let Some(number) = stated {
         return Ok(number);
@@ -207,9 +213,10 @@ fn first_number<R: Files>(rt: &R, stated: Option<u32>) -> Result<u32, Stop> {
     }
 }
 
-/// Milliseconds since the beginning, which never fall: what an end asks of its caller.
+/// Returns the milliseconds since the start, never less than the last reading.
 fn read<K: Clock>(system: &K, began: Instant, last: u64) -> Result<u64, Stop>
     requires { last ≤ 2 ^ 62 }
+    // The reading is at least the last one, and at most 2^62.
     ensures { IfOk result (λ now. (last ≤ now) × (now ≤ 2 ^ 62)) }
 {
     let Ok(seen) = Instant::now(system) else {
@@ -221,7 +228,7 @@ fn read<K: Clock>(system: &K, began: Instant, last: u64) -> Result<u64, Stop>
     }
 }
 
-/// How long to rest, in milliseconds: until the end has something to do.
+/// Returns how many milliseconds to wait until the end has something to do.
 fn rest(deadline: Option<u64>, now: u64) -> u64 {
     match deadline {
         Some(at) => at.saturating_sub(now).min(REST_MAX),
@@ -229,7 +236,7 @@ fn rest(deadline: Option<u64>, now: u64) -> u64 {
     }
 }
 
-/// Prints how the output is, where a status has told otherwise than before.
+/// Prints the reported state of the output, if it has changed.
 fn tell<O: Write>(switch: &Switch, before: Option<bool>, out: &mut O) -> Result<(), Stop> {
     if switch.is_on == before {
         return Ok(());

@@ -1,9 +1,9 @@
-//! An application to begin with: an interlocking that switches one output of a field element on and off in turn, a second
-//! each, over UDP.
+//! An example application: an interlocking that switches an output of a field element on and off, each for one
+//! second, over UDP.
 //!
 //!     embedding SETTINGS SECONDS
 //!
-//! docs/END.md goes through it, from an empty folder on.
+//! docs/rattle.md explains it.
 #![tactic(auto)]
 
 mod link;

@@ -1,21 +1,21 @@
-//! What the application wants, and what it hears: the part that another application has in its own way.
+//! The wish of the application, its telegrams, and its turn. Another application replaces this file.
 
 ghost use Rattle.std.specs.Prelude.{◌≡◌, ◌≤◌, ◌^◌, ◌/◌, ◌%◌, ◌==◌};
 
 use pdi_session::{Phase, Taker};
 use stack_end::{End, Listener, PollFault};
 
-/// The kind of the command: one octet of payload, 1 to switch on and 0 to switch off.
+/// The message type of the command. Its payload is one byte: 1 switches on, 0 switches off.
 pub const SWITCH: u16 = 0x0100;
 
-/// An output of the field element, as it is wanted and as it is told to be.
+/// An output of the field element: the state that is wanted, and the state that was reported.
 #[derive(Drop)]
 pub struct Switch {
-    /// Whether it is to be on.
+    /// Whether the output should be on.
     pub is_wanted: bool,
-    /// Whether the command for that was put in.
+    /// Whether the command for that was put.
     pub is_put: bool,
-    /// Whether the last status says that it is on; none where no status came yet.
+    /// Whether the last status says that it is on; `None` before the first status.
     pub is_on: Option<bool>,
 }
 
@@ -28,11 +28,11 @@ impl Taker for Switch {
 }
 
 impl Switch {
-    /// It is to be on in every other second, by a clock in milliseconds.
+    /// Decides by the clock, in milliseconds, whether the output should be on.
     pub fn want(&mut self, now: u64)
-        // The output is wanted on in each second with an even number.
+        // The output should be on in every second with an even number.
         ensures wanted { self.new.is_wanted ≡ (now / 1_000 % 2 == 0) }
-        // What was told of it stays.
+        // The reported state stays the same.
         ensures told { self.new.is_on ≡ self.old.is_on }
     {
         let is_wanted = now / 1_000 % 2 == 0;
@@ -43,21 +43,22 @@ impl Switch {
     }
 }
 
-/// One turn: hears what has come, and puts in what is wanted where that is not done yet. The next turn comes with a datagram, or
-/// at `end.next_deadline()`.
+/// Takes one turn: processes what has come, and puts the command if that is not done yet. The next turn is due when
+/// a datagram comes, or at `end.next_deadline()`.
 ///
 /// # Errors
 ///
-/// As of `End::poll`, where a channel failed: what came before stays taken, and the next turn asks again.
+/// Returns the fault of `End::poll` if a channel fails. Everything received before it stays taken; the next turn
+/// tries again.
 pub fn turn<C: Listener>(end: &mut End<C>, now: u64, switch: &mut Switch) -> Result<(), PollFault>
     requires later { end.old.time ≤ now }
     requires now { now ≤ 2 ^ 62 }
-    // No turn leaves an end with a later time than that of the turn.
+    // After a `turn`, the time of the end is at most the time of this turn.
     ensures time { end.new.time ≤ now }
 {
     end.poll(now, switch)?;
     if !switch.is_put && end.phase() == Phase::Established {
-        // A refused put has changed nothing: the next turn asks again.
+        // A refused put has changed nothing: the next turn tries again.
         switch.is_put = end.put(SWITCH, &[u8::from(switch.is_wanted)], now).is_ok();
     }
     Ok(())

@@ -1,4 +1,4 @@
--- A piece behind others, and the oldest in front of them.
+-- A piece after others, and the oldest before them.
 use Rattle.std.proofs.Common.{◌≡◌, ℕ, ◌+◌, ◌-◌, ◌<◌, ◌≤◌, List, [], ◌∷◌, ◌++◌, length, take, drop, refl, ap, ◌∙◌, append-nil, arith}
 use Rattle.std.proofs.lemmas.List.{length-append, length-drop, length-take, take-append-le, drop-append-le, drop_all}
 use Rattle.std.proofs.Math.Seq.{take-length}
@@ -6,7 +6,7 @@ use Rattle.end_for_callers.specs.declared.queue.Head.{Head}
 use Rattle.circular_buffer.specs.Buffer.{Buffer, buffer}
 use Rattle.std.specs.Prelude.{Some, None, slice_get}
 use Rattle.end_for_callers.specs.Pieces.{AreKept, pieces_in, size_of}
-use Rattle.end_for_callers.specs.Queues.{IsTooLong, Queued, TookOldest, with_piece}
+use Rattle.end_for_callers.specs.Queues.{bytes_of, emptied, IsTooLong, Queued, TookOldest, with_piece}
 
 pub size-add : {T : Type 0} (hs : List (Head T)) (h : Head T) → size_of (hs ++ h ∷ []) ≡ size_of hs + h.size
 size-add [] h = omega arith
@@ -26,14 +26,14 @@ pub pieces-length : {T : Type 0} (hs : List (Head T)) (o : List ℕ) → length 
 pieces-length [] o = refl
 pieces-length (h ∷ hs) o = omega (arith, pieces-length hs (drop h.size o))
 
--- what two rings stand for
+-- the value of two rings
 abbrev pub queued : {T : Type 0} → Buffer (Head T) → Buffer ℕ → Queued T
 queued heads octets = record { waiting = pieces_in heads.items octets.items; places = heads.capacity - length heads.items; room = octets.capacity - length octets.items }
 
 whole : (n : ℕ) (o more : List ℕ) → n ≡ length more → o ++ take n more ≡ o ++ more
 whole n o more is = ap (λ xs. o ++ xs) (ap (λ k. take k more) is ∙ take-length more)
 
--- a piece was put into both
+-- a piece was added to both
 pub record Pushed {T : Type 0} (heads : Buffer (Head T)) (octets : Buffer ℕ) (h : Head T) (n : ℕ) (more : List ℕ) (heads' : Buffer (Head T)) (octets' : Buffer ℕ) : Type 0 where
   pub kept : AreKept heads octets
   pub head : heads' ≡ buffer (heads.items ++ h ∷ []) heads.capacity
@@ -83,7 +83,7 @@ pub none-first : {T : Type 0} (hs : List (Head T)) (o : List ℕ) → None ≡ s
 none-first [] o e = refl
 none-first (k ∷ hs) o e = absurd (cc)
 
--- it was taken out of both
+-- it was removed from both
 pub record Taken {T : Type 0} (heads : Buffer (Head T)) (octets : Buffer ℕ) (h : Head T) (n : ℕ) (heads' : Buffer (Head T)) (octets' : Buffer ℕ) : Type 0 where
   pub kept : AreKept heads octets
   pub first : Some h ≡ slice_get heads.items 0
@@ -140,9 +140,26 @@ first-within heads octets h kept first =
     let f = is-first heads.items octets.items h first in
     omega (arith, f.sizes, kept.sizes)
 
--- as many octets were read as the front of the buffer has
+-- the bytes read fill the start of the buffer
 pub read-whole : (n size : ℕ) (o old dst : List ℕ) → n ≡ size → dst ≡ take n o ++ drop n (take size old) → dst ++ drop size old ≡ take size o ++ drop size old
 read-whole n size o old dst all read =
     let none : drop size (take size old) ≡ [] = drop_all size (take size old) (omega (arith, length-take size old)) in
     let dst-is : dst ≡ take size o = read ∙ (ap (λ k. take k o ++ drop k (take size old)) all ∙ (ap (λ xs. take size o ++ xs) none ∙ append-nil (take size o))) in
     ap (λ xs. xs ++ drop size old) dst-is
+
+-- the bytes of the pieces are those that the heads say
+bytes-are : {T : Type 0} (hs : List (Head T)) (o : List ℕ) → size_of hs ≤ length o → bytes_of (pieces_in hs o) ≡ size_of hs
+bytes-are [] o h = refl
+bytes-are (x ∷ hs) o h =
+    omega (arith, length-take x.size o, h, bytes-are hs (drop x.size o) (omega (arith, h, length-drop x.size o)))
+
+-- rings without items are the queue without its pieces
+pub emptied-is : {T : Type 0} (heads heads' : Buffer (Head T)) (octets octets' : Buffer ℕ) → AreKept heads octets → heads' ≡ buffer [] heads.capacity
+    → octets' ≡ buffer [] octets.capacity
+    → queued heads' octets' ≡ emptied (queued heads octets)
+emptied-is heads heads' octets octets' kept h o =
+    let places : heads.capacity - 0 ≡ heads.capacity - length heads.items + length (pieces_in heads.items octets.items) =
+    omega (arith, pieces-length heads.items octets.items, kept.places) in
+    let room : octets.capacity - 0 ≡ octets.capacity - length octets.items + bytes_of (pieces_in heads.items octets.items) =
+    omega (arith, bytes-are heads.items octets.items (omega (arith, kept.sizes)), kept.sizes, kept.room) in
+    rw (h, o) (λ i. record { waiting = []; places = places i; room = room i })

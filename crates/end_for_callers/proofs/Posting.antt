@@ -1,4 +1,4 @@
--- What is posted and what comes, by the lists that are told.
+-- Datagrams posted and telegrams taken, by the lists that contracts name.
 use Rattle.std.proofs.Common.{◌≡◌, ℕ, ◌+◌, ◌≤◌, ◌^◌, ◌%◌, Bool, true, false, not, ◌&&◌, Option, Some, None, List, [], ◌∷◌, ◌++◌, length, cond, refl, sym, ap, ◌∙◌, subst, append_assoc, append-nil, arith}
 use Rattle.std.specs.Prelude.{option_map}
 use Rattle.std.proofs.lemmas.Bool.{false≢true}
@@ -12,7 +12,7 @@ use Rattle.stack_end.specs.Ends.{Call, time_of}
 use Rattle.stack_end.specs.EndValue.{EndTurns, EndTurnsAlone, inside}
 use Rattle.stack_end.specs.Turns.{turn}
 
--- Sendings of which so many failed: the count has moved by so many, and where none failed all are told.
+-- Sends of which some failed: the count has grown by their number, and if none failed all are recorded.
 record Counted (a : Told) (xs : List Sending) (b : Told) : Type 0 where
   failed : ℕ
   few : failed ≤ length xs
@@ -66,7 +66,7 @@ posted o xs p h =
           some-is p.queue.waiting (o.queue.waiting ++ xs) (k.sent none);
     }
 
--- once one found no room none is added
+-- after one without room none is added
 lost-adds : (n : Incoming) (items : List Item) (m : Incoming) → n.lost ≡ true → FoldsTo takes_of n items m → (m.lost ≡ true) × (m.queue.waiting ≡ n.queue.waiting)
 lost-adds n [] m lost e = (ap (λ k. k.lost) (sym e) ∙ lost, ap (λ k. k.queue.waiting) (sym e))
 lost-adds n (i ∷ items) m lost (mid, one, rest) =
@@ -77,6 +77,7 @@ lost-adds n (i ∷ items) m lost (mid, one, rest) =
 came-one : (n mid m : Incoming) (i : Item) (items : List Item) (room : Bool) → mid ≡ cond room (record n { queue = with_piece i n.queue }) (record n { lost = true }) → FoldsTo takes_of mid items m → Came mid items m → Came n (i ∷ items) m
 came-one n mid m i items true is rest k =
     record {
+      stays = λ was. k.stays (ap (λ x. x.lost) is ∙ was);
       added = i ∷ k.added;
       waiting = k.waiting ∙ (ap (λ x. x.queue.waiting ++ k.added) is ∙ append_assoc n.queue.waiting (i ∷ []) k.added);
       beginning = (k.beginning.0, ap (λ xs. i ∷ xs) k.beginning.1);
@@ -85,6 +86,7 @@ came-one n mid m i items true is rest k =
 came-one n mid m i items false is rest k =
     let later = lost-adds mid items m (ap (λ x. x.lost) is) rest in
     record {
+      stays = λ _. later.0;
       added = [];
       waiting = later.1 ∙ (ap (λ x. x.queue.waiting) is ∙ sym (append-nil n.queue.waiting));
       beginning = (i ∷ items, refl);
@@ -94,6 +96,7 @@ came-one n mid m i items false is rest k =
 pub came : (n : Incoming) (items : List Item) (m : Incoming) → FoldsTo takes_of n items m → Came n items m
 came n [] m e =
     record {
+      stays = λ was. ap (λ k. k.lost) (sym e) ∙ was;
       added = [];
       waiting = ap (λ k. k.queue.waiting) (sym e) ∙ sym (append-nil n.queue.waiting);
       beginning = ([], refl);
@@ -105,18 +108,22 @@ pub came-none : (n : Incoming) → Came n [] n
 came-none n = came n [] n refl
 
 -- a call by its end
-pub does-all : (c : Call) (s t : StationValue) → EndTurns told_of takes_of (turn c) s.end s.inbox t.end t.inbox → t.end.time ≡ time_of c → Does c s t
-does-all c s t h time =
+pub does-all : (c : Call) (s t : StationValue) → EndTurns told_of takes_of (turn c) s.end s.inbox t.end t.inbox → t.end.time ≡ time_of c → t.reserve ≡ s.reserve
+    → Does c s t
+does-all c s t h time reserve =
     record {
+      reserve = reserve;
       left = h.left;
       time = time;
       datagrams = posted (outbox_of s) (turn c (inside s.end)).sent (outbox_of t) h.sent;
       telegrams = came s.inbox (turn c (inside s.end)).taken t.inbox h.taken;
     }
 
-pub does-alone : (c : Call) (s t : StationValue) → EndTurnsAlone told_of (turn c) s.end t.end → t.end.time ≡ time_of c → t.inbox ≡ s.inbox → Does c s t
-does-alone c s t h time same =
+pub does-alone : (c : Call) (s t : StationValue) → EndTurnsAlone told_of (turn c) s.end t.end → t.end.time ≡ time_of c → t.inbox ≡ s.inbox → t.reserve ≡ s.reserve
+    → Does c s t
+does-alone c s t h time same reserve =
     record {
+      reserve = reserve;
       left = h.left;
       time = time;
       datagrams = posted (outbox_of s) (turn c (inside s.end)).sent (outbox_of t) h.sent;

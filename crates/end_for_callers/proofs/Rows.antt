@@ -18,7 +18,7 @@ use Rattle.end_settings.specs.declared.Side.{Side}
 use Rattle.end_for_callers.specs.Plain.{ListsSeen, config_with, front_of, lists_in, name_in, opening_of, side_in, text_size, words_of}
 use Rattle.end_for_callers.specs.declared.plain.PlainSettings.{PlainSettings}
 
--- what is no text is no name
+-- bytes that are not text are not a name
 pub no_text : (row : List ℕ) → ¬ IsUtf8 (take (text_size row) row) → None ≡ name_in row
 no_text row none =
     elim (cases_Bool (nat_lt (text_size row) (length row))) [
@@ -29,11 +29,11 @@ no_text row none =
       ]
     ]
 
--- no character is a zero
+-- a character is not zero
 character_some : (c : ℕ) → is_character c ≡ true → (c == 0) ≡ false
 character_some c h = grind (arith, nat_tests)
 
--- the characters of a name end where its zeros begin
+-- the characters of a name end at its first zero
 text_size-append : (cs zeros : List ℕ) → HasCharacters cs → text_size zeros ≡ 0 → text_size (cs ++ zeros) ≡ length cs
 text_size-append [] zeros h none = none
 text_size-append (c ∷ cs) zeros h none =
@@ -45,7 +45,7 @@ text_size-append (c ∷ cs) zeros h none =
 zeros_first : (n : ℕ) → n ≡ suc (n - 1) → text_size (replicate n 0) ≡ 0
 zeros_first n some = rw some refl
 
--- a name in front of zeros is read as that name
+-- a name followed by zeros is read as that name
 pub named_row : (name row : List ℕ) → IsName name → row ≡ name ++ drop (length name) (replicate 24 0) → name_in row ≡ Some name
 named_row name row is e =
     let zeros : List ℕ = replicate (24 - length name) 0 in
@@ -77,7 +77,7 @@ words_back (a ∷ b ∷ c ∷ d ∷ []) octets long fits e =
     refl
 words_back (a ∷ b ∷ c ∷ d ∷ f ∷ ws) octets long fits e = absurd (omega (arith, long))
 
--- a list in front of its row is read as that list
+-- a list at the start of its row is read as that list
 pub front_row : (count : ℕ) (list written behind row : List ℕ) → row ≡ written ++ behind → written ≡ list → count ≡ length list → front_of count row ≡ Some list
 front_row count list written behind row e same long =
     let whole : row ≡ list ++ behind = e ∙ ap (λ (front : List ℕ). front ++ behind) same in
@@ -100,7 +100,7 @@ config_said s lists protocol words =
       addressing = record config.addressing { protocol = protocol };
     }
 
--- an end is opened with what is read
+-- an end is opened with the settings read
 pub opening_row : (s : PlainSettings) (side : Side) (lists : ListsSeen) (protocol : ℕ) (words : List ℕ) → side_in s.side ≡ Some side
     → s.protocol ≡ protocol → s.protocol ≤ 255 → lists_in s ≡ Some lists → words_of s.initial_value ≡ words
     → opening_of s ≡ Some (record {

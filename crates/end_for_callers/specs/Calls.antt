@@ -1,9 +1,11 @@
--- What a call of an end for callers is refused for, and what it does to the end and to what its caller takes.
-use Rattle.std.specs.Prelude.{◌≡◌, ◌==◌, ℕ, ◌+◌, ◌*◌, ◌^◌, Bool, not, ◌&&◌, nat_le, Option, Some, None, option_map, List, if◌then◌else◌}
-use Rattle.octets.specs.declared.limits.TheConstants.{PAYLOAD_MAX, RED_PDU_MAX}
+-- Why a call of a station is refused, and what it does to the end and to the queues.
+use Rattle.std.specs.Prelude.{◌≡◌, ◌==◌, ℕ, ◌+◌, ◌*◌, ◌^◌, ◌≤◌, Bool, true, false, not, ◌&&◌, nat_le, Option, Some, None, option_map, List, length, if◌then◌else◌}
+use Rattle.octets.specs.declared.limits.TheConstants.{PAYLOAD_MAX, RED_PDU_MAX, WINDOW_MAX}
 use Rattle.stack_end.specs.Ends.{Call, time_of}
 use Rattle.stack_end.specs.EndValue.{EndValue, channels_of, inside}
-use Rattle.stack_end.specs.Turns.{init_answer, put_answer, turn}
+use Rattle.stack_end.specs.Turns.{Inside, init_answer, is_over, put_answer, turn}
+use Rattle.stack_end.specs.Deadlines.{HasFallen, IsQuiet}
+use Rattle.safe_machine.specs.Deadlines.{IsBefore, IsReachedAt}
 use Rattle.std.specs.Global.{Global}
 use Rattle.end_for_callers.specs.declared.CallFault.{CallFault}
 use Rattle.end_for_callers.specs.declared.CallFault.TheVariants as fault
@@ -16,27 +18,35 @@ use Rattle.end_for_callers.specs.declared.TheConstants.{CALL_TELEGRAMS, PART_PDU
 use Rattle.end_settings.specs.EndSettings.{EndSettings, are_fit}
 use Rattle.end_settings.specs.Configured.{side_of}
 use Rattle.end_settings.specs.declared.Side.{Side}
-use Rattle.end_for_callers.specs.Boxes.{Came, Incoming, Outgoing, Posted}
+use Rattle.stack_end.specs.Reopening.{reopens}
+use Rattle.end_for_callers.specs.Boxes.{Came, Incoming, Outgoing, Posted, cleared}
 use Rattle.end_for_callers.specs.Queues.{Queued}
 
+-- a station
 pub record StationValue : Type 0 where
+  -- the end
   pub end : EndValue Outgoing Global
+  -- the telegrams that wait
   pub inbox : Incoming
-  pub time : ℕ  -- of the last accepted call
-  pub reserve : ℕ  -- for so many datagrams there must be room before a call
+  -- the time of the last accepted call
+  pub time : ℕ
+  -- how many datagrams must have room before a call
+  pub reserve : ℕ
 
+-- the datagrams that wait
 abbrev pub outbox_of : StationValue → Outgoing
 outbox_of s = channels_of s.end
 
--- Refusals. The time is before that of the last accepted call, or above 2^62.
+-- a time in range: not before the last accepted call, and at most 2^62
 abbrev pub is_time : ℕ → StationValue → Bool
 is_time now s = nat_le s.time now && nat_le now (2 ^ 62)
 
--- before a call there must be room for so many datagrams: on each channel what one part makes, and a retransmission of a full window
+-- how many datagrams must have room before a call: on each channel the PDUs of one part and a retransmission. The peer sets how many of this end's PDUs can
+-- wait for confirmation, so the window counted is the greatest that a peer may have.
 abbrev pub reserve_of : EndSettings → ℕ
-reserve_of s = (s.connection.n_sendmax + PART_PDUS) * s.channels
+reserve_of s = (WINDOW_MAX + PART_PDUS) * s.channels
 
--- why no end is opened, but for want of memory
+-- the first reason to refuse an opening, if any, except a failed allocation
 abbrev pub refusal_to_open : Side → EndSettings → Rooms → ℕ → Option StationFault
 refusal_to_open side settings rooms now =
     if not (nat_le now (2 ^ 62)) then Some opening.Time
@@ -44,11 +54,11 @@ refusal_to_open side settings rooms now =
     else if not (nat_le CALL_TELEGRAMS rooms.telegrams && nat_le (reserve_of settings) rooms.datagrams) then Some opening.Rooms
     else None
 
--- for so many pieces of this size
+-- the queue has room for this number of pieces of this size
 abbrev pub has_room : {T : Type 0} → (count size : ℕ) → Queued T → Bool
 has_room count size q = nat_le count q.places && nat_le (count * size) q.room
 
--- why a call that sends is refused before it comes to the end
+-- the first reason to refuse a call that only sends
 abbrev pub refusal_to_send : ℕ → StationValue → Option CallFault
 refusal_to_send now s =
     if not (is_time now s) then Some fault.Time
@@ -56,7 +66,7 @@ refusal_to_send now s =
     else if not (has_room s.reserve RED_PDU_MAX (outbox_of s).queue) then Some fault.SendFirst
     else None
 
--- and one in which telegrams may come too
+-- the first reason to refuse a call that may deliver telegrams, too
 abbrev pub refusal : ℕ → StationValue → Option CallFault
 refusal now s =
     if not (is_time now s) then Some fault.Time
@@ -65,42 +75,96 @@ refusal now s =
     else if not (has_room s.reserve RED_PDU_MAX (outbox_of s).queue) then Some fault.SendFirst
     else None
 
+-- the only reason to refuse a closing: its time
+abbrev pub refusal_to_close : ℕ → StationValue → Option CallFault
+refusal_to_close now s = if is_time now s then None else Some fault.Time
+
+-- the first reason to refuse that an end opens again: its time, or a telegram of the old connection that waits
+abbrev pub refusal_to_reopen : ℕ → StationValue → Option CallFault
+refusal_to_reopen now s =
+    if not (is_time now s) then Some fault.Time
+    else if not (length s.inbox.queue.waiting == 0) then Some fault.TakeFirst
+    else None
+
+-- the first of two reasons
 abbrev pub or_else : {X : Type 0} → Option X → Option X → Option X
 or_else (Some x) y = Some x
 or_else None y = y
 
+-- the first reason to refuse a put: the station's, then the session's
 abbrev pub refusal_to_put : (now kind : ℕ) → List ℕ → StationValue → Option CallFault
 refusal_to_put now kind payload s = or_else (refusal_to_send now s) (option_map fault.Put (put_answer kind payload (inside s.end).upper))
 
+-- the first reason to refuse the end of the initialisation: the station's, then the session's
 abbrev pub refusal_to_init : ℕ → StationValue → Option CallFault
 refusal_to_init now s = or_else (refusal_to_send now s) (option_map fault.Init (init_answer (inside s.end).upper))
 
--- The end takes the turn of a call: it keeps what that leaves, and what that sends and hands out came into the two boxes.
+-- the end processes a call: it has the new state, and what it sends and delivers goes to the two queues
 pub record Does (c : Call) (s t : StationValue) : Type 0 where
+  -- the state is that of the call's turn
   pub left : inside t.end ≡ (turn c (inside s.end)).left
+  -- the end's time is that of the call
   pub time : t.end.time ≡ time_of c
+  -- the datagrams sent are appended or counted
   pub datagrams : Posted (outbox_of s) (turn c (inside s.end)).sent (outbox_of t)
+  -- a prefix of the telegrams delivered is appended
   pub telegrams : Came s.inbox (turn c (inside s.end)).taken t.inbox
+  -- the reserve stays
+  pub reserve : t.reserve ≡ s.reserve
 
--- nothing was lost, or what was is told
+-- the end opens again with the settings that it has, and both queues are empty
+pub record Reopens (first now : ℕ) (s t : StationValue) : Type 0 where
+  -- each layer is as newly opened
+  pub left : inside t.end ≡ (reopens first now (inside s.end)).left
+  -- the end's time is that of the call
+  pub called : t.end.time ≡ now
+  -- the old datagrams are gone, and those that the end sends at once are appended or counted
+  pub datagrams : Posted (cleared (outbox_of s)) (reopens first now (inside s.end)).sent (outbox_of t)
+  -- no telegram waits, and none is lost
+  pub inbox : t.inbox ≡ record s.inbox { lost = false }
+  -- the station's time is that of the call
+  pub time : t.time ≡ now
+  -- the reserve stays
+  pub reserve : t.reserve ≡ s.reserve
+
+-- the outcome: a telegram was lost, or everything has room, or a datagram was counted
 abbrev pub outcome_of : StationValue → StationValue → Outcome
 outcome_of s t =
     if t.inbox.lost then outcome.Lost
     else if (outbox_of t).unsent == (outbox_of s).unsent then outcome.Whole
     else outcome.Unsent
 
--- the caller takes a datagram: the end keeps what it kept, and all else is as it was
+-- only the queue of datagrams may differ
 pub record SameButDatagrams (s t : StationValue) : Type 0 where
+  -- the end's state
   pub kept : inside t.end ≡ inside s.end
+  -- the end's time
   pub called : t.end.time ≡ s.end.time
+  -- the count of unsent datagrams
   pub unsent : (outbox_of t).unsent ≡ (outbox_of s).unsent
+  -- the telegrams
   pub inbox : t.inbox ≡ s.inbox
+  -- the station's time
   pub time : t.time ≡ s.time
+  -- the reserve
   pub reserve : t.reserve ≡ s.reserve
 
--- and a telegram
+-- only the queue of telegrams may differ
 pub record SameButTelegrams (s t : StationValue) : Type 0 where
+  -- the end and its datagrams
   pub end : t.end ≡ s.end
+  -- the loss flag
   pub lost : t.inbox.lost ≡ s.inbox.lost
+  -- the station's time
   pub time : t.time ≡ s.time
+  -- the reserve
   pub reserve : t.reserve ≡ s.reserve
+
+-- the deadline of an end: before it a tick does nothing; from it on, up to 2^62, a tick does something
+pub record IsDeadline (next : Option ℕ) (v : Inside) : Type 0 where
+  -- an open end stays as it is at a tick before the deadline
+  pub before : is_over v ≡ false → (now : ℕ) → IsBefore now next → IsQuiet now v
+  -- from the deadline on a tick has an effect
+  pub after : (now : ℕ) → now ≤ 2 ^ 62 → IsReachedAt now next → HasFallen now v
+  -- a closed end has no deadline
+  pub closed : is_over v ≡ true → next ≡ None

@@ -1,4 +1,4 @@
-//! The telegrams that an end's application is handed, until its caller takes them.
+//! The telegrams that the application has taken, until the caller fetches them.
 
 ghost use Rattle.std.specs.Prelude.{◌≡◌, ◌*◌, IfOk, false};
 ghost use Rattle.octets.specs.declared.limits.TheConstants.{PAYLOAD_MAX};
@@ -11,12 +11,12 @@ use pdi_session::Taker;
 use std::alloc::{AllocError, Global};
 use std::marker::Model;
 
-/// The telegrams that wait for the caller, each with its kind.
+/// The telegrams that wait for the caller, each with its message type.
 #[derive(Drop)]
 pub struct Inbox {
     /// The payloads.
     queue: Queue<u16>,
-    /// Whether one found no room. None is added behind it.
+    /// A telegram found no room. None is added after it, so what is fetched stays a prefix of what was taken.
     lost: bool,
 }
 
@@ -39,12 +39,13 @@ impl Taker for Inbox {
 }
 
 impl Inbox {
-    /// Room for so many telegrams of the greatest size.
+    /// Creates an empty inbox with room for this number of telegrams of 357 bytes.
     ///
     /// # Errors
     ///
-    /// The error is that memory was refused.
+    /// Returns an error if the allocation fails.
     pub(crate) fn new(alloc: Global, telegrams: u32) -> Result<Inbox, AllocError>
+        // A new inbox is empty, has room for `telegrams` payloads of the greatest size, and has lost nothing.
         ensures { IfOk result (λ i. i ≡ record { queue = new_queue telegrams (telegrams * PAYLOAD_MAX); lost = false }) }
     {
         let places = telegrams as usize;
@@ -54,27 +55,40 @@ impl Inbox {
         })
     }
 
-    /// Takes the oldest telegram that waits, as [`Queue::pop`] does.
+    /// Removes the oldest telegram, as [`Queue::pop`] does.
     ///
     /// # Errors
     ///
-    /// Refused where the buffer is shorter than it.
+    /// - `TooSmall` if the buffer is shorter than the payload; the telegram then stays.
     pub(crate) fn pop(&mut self, buffer: &mut [u8]) -> Result<Option<(u16, usize)>, TooSmall>
+        // The oldest telegram leaves the queue and its payload is copied to the start of the buffer. If there is
+        // none, or the buffer is too short, nothing changes.
         ensures popped { Popped result self.old.queue buffer.old self.new.queue buffer.new }
+        // Fetching a telegram does not change whether one was lost.
         ensures lost { self.new.lost ≡ self.old.lost }
     {
         self.queue.pop(buffer)
     }
 
-    /// The telegrams, to be asked how many wait and how many there is room for.
+    /// Begins with a new connection, of which no telegram is lost. The queue stays.
+    pub(crate) fn forget_loss(&mut self)
+        // The queue of telegrams is unchanged, and none is lost.
+        ensures { self.new ≡ record self.old { lost = false } }
+    {
+        self.lost = false;
+    }
+
+    /// Returns the queue of telegrams, to read its length and free room.
     pub(crate) fn queue(&self) -> &Queue<u16>
+        // The queue returned is that of the telegrams.
         ensures { result.now ≡ self.now.queue }
     {
         &self.queue
     }
 
-    /// Whether one found no room.
+    /// Returns true if a telegram found no room.
     pub(crate) fn lost(&self) -> bool
+        // The result is true if and only if a telegram was lost.
         ensures { result ≡ self.now.lost }
     {
         self.lost

@@ -1,11 +1,11 @@
-//! An end for callers that pull: datagrams, times and telegrams go in, and what the end sends and takes waits in two queues until its caller
-//! takes it.
+//! An end for callers that poll: datagrams, times and telegrams go in, and what the end sends and takes waits in
+//! two queues until the caller fetches it.
 //!
-//! The queues have room that is taken at opening. Before a call could overflow them it is refused, and what finds no room all the same is told.
+//! `open` allocates both queues; no other call allocates. A call is refused before it could overflow a queue. If
+//! something finds no room all the same, the outcome of the call says so.
 //!
-//! Contracts: a `Queue` is a list of pieces of octets, each under a tag; a `Station` is an end with
-//! two of them: the datagrams that it sent and the telegrams that its application took, until its
-//! caller takes them.
+//! In contracts a `Queue` is a list of byte strings, each with a tag. A `Station` is an end with two of them: the
+//! datagrams sent and the telegrams taken that the caller has not fetched yet.
 #![tactic(auto)]
 
 mod inbox;
@@ -16,14 +16,14 @@ mod station;
 mod writing;
 
 use pdi_session::{InitFault, PutFault};
-pub use plain::{EndOpening, PLAIN_SETTINGS_SIZE, PlainSettings, numbers_law};
+pub use plain::{EndOpening, PLAIN_SETTINGS_SIZE, PlainSettings, is_name, numbers_law, text_size};
 pub use queue::{Queue, QueueFull, TooSmall};
-pub use station::{Rooms, Station};
+pub use station::{Rooms, Station, refusal_to_open};
 
-/// How many telegrams one call lets through at most: three of each of nine parts.
+/// The most telegrams that one call can deliver: three from each of nine parts.
 pub const CALL_TELEGRAMS: usize = 27;
 
-/// How many PDUs one part makes at most beside those of a retransmission.
+/// The most PDUs that one part causes, in addition to those of a retransmission.
 pub const PART_PDUS: usize = 5;
 
 /// Why a call was refused. Nothing has changed then.
@@ -31,38 +31,38 @@ pub const PART_PDUS: usize = 5;
 pub enum CallFault {
     /// The time is before that of the last accepted call, or above 2^62.
     Time,
-    /// A telegram found no room in an earlier call: the end is to be given up, since its application has a gap.
+    /// A telegram found no room in an earlier call. Close the end: its application misses a telegram.
     Lost,
-    /// There is room for fewer telegrams than one call may let through: take those that wait first.
+    /// There is room for fewer telegrams than one call may deliver. Take the waiting ones first.
     TakeFirst,
-    /// There is room for fewer datagrams than a call may send: take those that wait first.
+    /// There is room for fewer datagrams than a call may send. Send the waiting ones first.
     SendFirst,
-    /// The telegram is refused.
+    /// The session refuses the telegram.
     Put(PutFault),
-    /// The end of the initialisation is refused.
+    /// The session refuses the end of the initialisation.
     Init(InitFault),
 }
 
-/// How an accepted call ended.
+/// The result of an accepted call.
 #[derive(Clone, Copy, Debug, PartialEq, Eq)]
 pub enum Outcome {
-    /// All that the end sent and took waits.
+    /// Everything that the end sent and took is in the queues.
     Whole,
-    /// A datagram found no room: it is lost as on the wire, and counted.
+    /// A datagram found no room. It is lost, as on a channel, and counted.
     Unsent,
-    /// A telegram found no room. From now on every call but closing is refused.
+    /// A telegram found no room. From now on every call except `close` is refused.
     Lost,
 }
 
-/// Why no end was opened. Where several hold the first is named.
+/// Why an end was not opened. If several apply, it is the first in this order.
 #[derive(Clone, Copy, Debug, PartialEq, Eq)]
 pub enum StationFault {
     /// The time is above 2^62.
     Time,
-    /// The settings are none of an end.
+    /// The settings are invalid for this side.
     BadConfig,
-    /// There is room for fewer telegrams than one call may let through, or for fewer datagrams than it may send.
+    /// There is room for fewer telegrams than one call may deliver, or for fewer datagrams than it may send.
     Rooms,
-    /// There was no memory.
+    /// An allocation failed.
     Memory,
 }

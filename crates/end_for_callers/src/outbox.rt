@@ -1,9 +1,10 @@
-//! The channels of an end for callers: what it sends waits until the caller takes it. What comes is handed in by the caller.
+//! The channels of a station's end: datagrams sent wait until the caller fetches them; the caller passes in those
+//! received.
 
 ghost use Rattle.octets.specs.declared.limits.TheConstants.{RED_PDU_MAX};
 ghost use Rattle.std.specs.Prelude.{◌≡◌, ◌*◌, ◌≤◌, false, is_ok, IfOk, IfSome, length};
 ghost use Rattle.channels.specs.Told.{Sends, after_receive};
-ghost use Rattle.end_for_callers.specs.Boxes.{told_of, with_sending};
+ghost use Rattle.end_for_callers.specs.Boxes.{cleared, told_of, with_sending};
 ghost use Rattle.end_for_callers.specs.Queues.{Popped, fits, new_queue};
 
 use crate::queue::{Queue, TooSmall};
@@ -13,12 +14,12 @@ use stack_end::Listener;
 use std::alloc::{AllocError, Global};
 use std::marker::Model;
 
-/// The datagrams that wait to be taken by the caller, each with its channel.
+/// The datagrams that wait for the caller, each with its channel.
 #[derive(Drop)]
 pub struct Outbox {
     /// The datagrams.
     queue: Queue<usize>,
-    /// How many found no room, modulo 2^64.
+    /// The number of datagrams that found no room, modulo 2^64.
     unsent: u64,
 }
 
@@ -31,12 +32,14 @@ impl Model for Outbox {
 }
 
 impl Outbox {
-    /// Room for so many datagrams of the greatest size.
+    /// Creates an empty outbox with room for this number of datagrams of 1,258 bytes.
     ///
     /// # Errors
     ///
-    /// The error is that memory was refused.
+    /// Returns an error if the allocation fails.
     pub(crate) fn new(alloc: Global, datagrams: u32) -> Result<Outbox, AllocError>
+        // A new outbox is empty, has room for `datagrams` redundancy PDUs of the greatest size, and has counted
+        // none as unsent.
         ensures { IfOk result (λ o. o ≡ record { queue = new_queue datagrams (datagrams * RED_PDU_MAX); unsent = 0 }) }
     {
         let places = datagrams as usize;
@@ -46,27 +49,41 @@ impl Outbox {
         })
     }
 
-    /// Takes the oldest datagram that waits, as [`Queue::pop`] does.
+    /// Removes the oldest datagram, as [`Queue::pop`] does.
     ///
     /// # Errors
     ///
-    /// Refused where the buffer is shorter than it.
+    /// - `TooSmall` if the buffer is shorter than the datagram, which then stays.
     pub(crate) fn pop(&mut self, buffer: &mut [u8]) -> Result<Option<(usize, usize)>, TooSmall>
+        // The oldest datagram leaves the queue and is copied to the start of the buffer. If there is none, or the
+        // buffer is too short, nothing changes.
         ensures popped { Popped result self.old.queue buffer.old self.new.queue buffer.new }
+        // Fetching a datagram does not change the count of unsent ones.
         ensures unsent { self.new.unsent ≡ self.old.unsent }
     {
         self.queue.pop(buffer)
     }
 
-    /// The datagrams, to be asked how many wait and how many there is room for.
+    /// Drops the datagrams that wait, and counts unsent ones from 0 on.
+    pub(crate) fn clear(&mut self)
+        // No datagram waits, all places and room are free, and none is counted as unsent.
+        ensures { self.new ≡ cleared self.old }
+    {
+        self.queue.clear();
+        self.unsent = 0;
+    }
+
+    /// Returns the queue of datagrams, to read its length and free room.
     pub(crate) fn queue(&self) -> &Queue<usize>
+        // The queue returned is that of the datagrams.
         ensures { result.now ≡ self.now.queue }
     {
         &self.queue
     }
 
-    /// How many found no room, modulo 2^64.
+    /// Returns the number of datagrams that found no room, modulo 2^64.
     pub(crate) fn unsent(&self) -> u64
+        // The result is the count of datagrams that found no room in this outbox.
         ensures { result ≡ self.now.unsent }
     {
         self.unsent
@@ -76,10 +93,18 @@ impl Outbox {
 impl Channels for Outbox {
     ghost told = { told_of };
 
-    /// Puts the datagram behind those that wait. It fails exactly where there is no room for it.
+    /// Appends the datagram to the waiting ones.
+    ///
+    /// # Errors
+    ///
+    /// - `Room` if it does not fit; it is counted then.
     fn send(&mut self, channel: usize, datagram: &[u8]) -> Result<(), ChannelFault>
+        // A send succeeds if and only if a place is free and the datagram fits the room left.
         ensures ok { is_ok result ≡ fits (length datagram.now) self.old.queue }
+        // A datagram that fits becomes the last one of the queue; any other adds 1 to the unsent ones.
         ensures kept { self.new ≡ with_sending (channel, datagram.now) self.old }
+        // To the end's contracts this is a send like that of any channels: sent and recorded last, or failed and
+        // counted (`Sends`).
         ensures told { Sends (is_ok result) (told_of self.old) (channel, datagram.now) (told_of self.new) }
     {
         if self.queue.push(channel, datagram).is_ok() {
@@ -89,10 +114,13 @@ impl Channels for Outbox {
         Err(ChannelFault::Room)
     }
 
-    /// Nothing comes by itself.
+    /// Returns `None`: the caller passes received datagrams to the station.
     fn receive(&mut self, buffer: &mut [u8]) -> Result<Option<(usize, usize)>, ChannelFault>
+        // A reception changes nothing in the outbox.
         ensures same { self.new ≡ self.old }
+        // A size received would fit the buffer; there is none.
         ensures fits { IfOk result (λ came. IfSome came (λ p. p.1 ≤ length buffer.new)) }
+        // To the end's contracts this is a reception that finds nothing (`after_receive`).
         ensures told { told_of self.new ≡ after_receive result buffer.new (told_of self.old) }
     {
         let _none = buffer;
@@ -101,8 +129,9 @@ impl Channels for Outbox {
 }
 
 impl Listener for Outbox {
-    /// Callers ask for what waits, and for nothing else.
+    /// Returns false: nobody reads notes of this end.
     fn hears_notes(&self) -> bool
+        // The end of a station makes no notes.
         ensures { result ≡ false }
     {
         false

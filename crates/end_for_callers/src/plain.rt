@@ -1,6 +1,6 @@
-//! Settings as plain numbers and rows of octets, as a caller in C fills them in.
+//! Settings as plain numbers and byte rows, as a caller in C fills them in.
 
-ghost use Rattle.std.specs.Prelude.{◌≡◌, ◌≤◌, option_map};
+ghost use Rattle.std.specs.Prelude.{◌≡◌, ◌≤◌, is_some, option_map};
 ghost use Rattle.end_settings.specs.Configured.{settings_of};
 ghost use Rattle.end_settings.specs.Lists.{checksum_in, versions_in};
 ghost use Rattle.pdi_session.specs.telegram.Tele.{owned_characters};
@@ -13,84 +13,84 @@ use octets::Milliseconds;
 use octets::places::u32_at;
 use pdi_session::telegram::{Name, OwnedName};
 
-/// How many octets plain settings of this version have.
+/// The size of plain settings in this version, in bytes.
 pub const PLAIN_SETTINGS_SIZE: u32 = 164;
 
-/// The settings of an end as numbers and rows of octets, in the order of `capi/bekwidas.h`, which says the ranges.
+/// The settings of an end as numbers and byte rows, in the order of `capi/bekwidas.h`, which states the ranges.
 #[repr(C)]
 #[derive(Drop)]
 pub struct PlainSettings {
-    /// How many octets they have, this number among them.
+    /// The size of these settings in bytes, this field included.
     pub size: u32,
-    /// 1: an interlocking, 2: a field element.
+    /// The side: 1 for an interlocking, 2 for a field element.
     pub side: u32,
     /// The own identifier.
     pub id: u32,
-    /// The identifier of the peer.
+    /// The peer's identifier.
     pub peer_id: u32,
     /// The first sequence number.
     pub first_sn: u32,
     /// The protocol type of the session.
     pub protocol: u32,
-    /// The octets of the safety code.
+    /// The size of the safety code, in bytes.
     pub code: u32,
-    /// The channels.
+    /// The number of channels.
     pub channels: u32,
-    /// How many units the peer may have unconfirmed.
+    /// How many units the peer may leave unconfirmed.
     pub n_sendmax: u32,
-    /// How many messages are packed into one unit.
+    /// The most messages in one unit.
     pub n_maxpacket: u32,
-    /// How many early parts may wait.
+    /// How many parts may be deferred.
     pub q: u32,
-    /// How old what was last confirmed may get, in milliseconds.
+    /// T_max, the greatest age of the last confirmation, in milliseconds.
     pub t_max: u32,
-    /// When a heartbeat is due, in milliseconds.
+    /// T_h, the time between heartbeats, in milliseconds.
     pub t_h: u32,
-    /// How long early parts wait, in milliseconds.
+    /// T_seq, the longest time that a part is deferred, in milliseconds.
     pub t_seq: u32,
-    /// After how many units taken a heartbeat is sent.
+    /// How many units are taken without sending before a heartbeat confirms them.
     pub mwa: u32,
-    /// How many PDUs one connection may have.
+    /// The most PDUs of one connection.
     pub pdu_limit: u32,
-    /// How many telegrams may wait.
+    /// How many telegrams can wait.
     pub telegram_room: u32,
-    /// How many datagrams may wait.
+    /// How many datagrams can wait.
     pub datagram_room: u32,
-    /// How many versions there are.
+    /// The number of versions.
     pub version_count: u32,
-    /// How many octets of checksum there are.
+    /// The size of the checksum, in bytes.
     pub checksum_length: u32,
     /// The versions.
     pub versions: [u8; 4],
     /// The checksum.
     pub checksum: [u8; 16],
-    /// The initial value, as 16 octets.
+    /// The initial value, 16 bytes.
     pub initial_value: [u8; 16],
-    /// The own name, with a zero behind it.
+    /// The own name, followed by at least one zero.
     pub name: [u8; 24],
-    /// The name of the peer, with a zero behind it.
+    /// The peer's name, followed by at least one zero.
     pub peer_name: [u8; 24],
 }
 
-/// What an end is opened with.
+/// The arguments for opening an end.
 #[derive(Clone, Copy, Debug)]
 pub struct EndOpening {
-    /// Its settings. Whether an end is opened with them is not said yet.
+    /// The settings; they may still be invalid for the side.
     pub config: EndConfig,
-    /// Its side.
+    /// The side.
     pub side: Side,
-    /// Its first sequence number.
+    /// The first sequence number.
     pub first_sn: u32,
-    /// For how much there is room.
+    /// The room of the two queues.
     pub rooms: Rooms,
 }
 
-/// Names and lists of an end.
+/// The names and lists of an end.
 #[derive(Clone, Copy)]
 struct Lists {
     /// The own name.
     own: OwnedName,
-    /// The name of the peer.
+    /// The peer's name.
     peer: OwnedName,
     /// The versions.
     versions: Versions,
@@ -99,11 +99,11 @@ struct Lists {
 }
 
 impl PlainSettings {
-    /// What an end is opened with by these settings; `None` where the side is neither 1 nor 2, the protocol type is above 255, a name is none
-    /// or has no zero behind it, or a list is longer than its row.
+    /// Reads plain settings. Returns `None` if the side is neither 1 nor 2, the protocol type is above 255, a name
+    /// is invalid or has no zero after it, or a list is longer than its row.
     pub fn opening(&self) -> Option<EndOpening>
-        // Plain settings are read as exactly what an end is opened with by them, or as nothing where side,
-        // protocol type, a name or a list cannot be read.
+        // `opening` returns exactly the settings, side, first sequence number and rooms of these fields; `None` if
+        // side, protocol type, a name or a list cannot be read.
         ensures { option_map opening_seen result ≡ opening_of self.now }
     {
         let side = side(self.side)?;
@@ -122,7 +122,9 @@ impl PlainSettings {
         })
     }
 
+    /// Reads names and lists from their rows.
     fn lists(&self) -> Option<Lists>
+        // All four are read, or the result is `None` if one cannot be (`lists_in`).
         ensures { option_map lists_seen result ≡ lists_in self.now }
     {
         let own = name(&self.name)?;
@@ -137,8 +139,11 @@ impl PlainSettings {
         })
     }
 
+    /// Returns the settings with these names and lists.
     fn config(&self, lists: &Lists) -> EndConfig
         requires { self.now.protocol ≤ 255 }
+        // The settings have the numbers of their fields, the initial value's four words, and these names and
+        // lists.
         ensures { settings_of result ≡ config_with self.now (lists_seen lists.now) }
     {
         let iv = &self.initial_value;
@@ -165,7 +170,9 @@ impl PlainSettings {
     }
 }
 
+/// Returns the side with this number.
 fn side(number: u32) -> Option<Side>
+    // The number 1 is an interlocking, 2 a field element, and any other `None`.
     ensures { result ≡ side_in number }
 {
     match number {
@@ -175,8 +182,9 @@ fn side(number: u32) -> Option<Side>
     }
 }
 
-/// So many octets in front of a row; `None` where it is shorter.
+/// Returns the first `count` bytes of a row, or `None` if it is shorter.
 fn front(row: &[u8], count: u32) -> Option<&[u8]>
+    // `front` returns the first `count` bytes if the row has as many, and `None` otherwise.
     ensures { option_map (λ s. s.now) result ≡ front_of count row.now }
 {
     if count as usize > row.len() {
@@ -185,8 +193,10 @@ fn front(row: &[u8], count: u32) -> Option<&[u8]>
     Some(&row[..count as usize])
 }
 
-/// The name in front of the first zero.
+/// Reads the name before the first zero.
 fn name(row: &[u8]) -> Option<OwnedName>
+    // The bytes before the first zero are the name. The result is `None` if there is no zero, or they are not a
+    // valid name.
     ensures { option_map owned_characters result ≡ name_in row.now }
 {
     let size = text_size(row);
@@ -199,16 +209,24 @@ fn name(row: &[u8]) -> Option<OwnedName>
     Some(OwnedName::new(Name::new(text).ok()?))
 }
 
-/// How many octets stand before the first zero.
-fn text_size(row: &[u8]) -> usize
+/// Returns true if a row has a valid name and a zero after it.
+pub fn is_name(row: &[u8]) -> bool
+    // The result is true if and only if a name can be read from the row (`name_in`).
+    ensures { result ≡ is_some (name_in row.now) }
+{
+    name(row).is_some()
+}
+
+/// Returns the number of bytes before the first zero.
+pub fn text_size(row: &[u8]) -> usize
+    // The result is the place of the first zero, or the size of the row if it has none.
     ensures { result ≡ text_size row.now }
 {
     row.iter().take_while(|octet| **octet != 0).count()
 }
 
-/// A law, which does nothing when it is called: the constants are these numbers.
+/// The values of the constants. The function does nothing when it is called.
 pub fn numbers_law()
-    // The most telegrams of a call, the most PDUs of a part and the size of plain settings are the stated
-    // numbers.
+    // A call delivers at most 27 telegrams, a part causes at most 5 PDUs, and plain settings have 164 bytes.
     ensures { NumbersAre }
 {}

@@ -1,37 +1,41 @@
-//! A queue of pieces of octets, in room that is taken when it is made.
+//! A queue of byte strings in memory that is allocated once.
 
 ghost use Rattle.std.specs.Prelude.{◌≡◌, [], is_ok, IfOk, length, ◌&&◌, ◌==◌, nat_le, if◌then◌else◌};
-ghost use Rattle.end_for_callers.specs.Queues.{Popped, fits, new_queue, with_piece};
+ghost use Rattle.end_for_callers.specs.Queues.{Popped, emptied, fits, new_queue, with_piece};
 
 use circular_buffer::HeapCircularBuffer;
 use std::alloc::{AllocError, Allocator, Global};
 use std::marker::Model;
 
-/// There was no place for a piece, or not enough room.
+/// There was no free place for a piece, or not enough room.
 #[derive(Clone, Copy, Debug, PartialEq, Eq)]
 pub struct QueueFull;
 
 /// The buffer is shorter than the oldest piece.
 #[derive(Clone, Copy, Debug, PartialEq, Eq)]
 pub struct TooSmall {
-    /// How many octets the oldest piece has.
+    /// The size of the oldest piece, in bytes.
     pub needed: usize,
 }
 
-/// What a piece is kept under, and how many octets it has.
+/// The tag and the size of a piece.
 #[derive(Clone, Copy)]
 pub(crate) struct Head<T> {
+    /// The tag.
     pub(crate) tag: T,
+    /// The size, in bytes.
     pub(crate) size: usize,
 }
 
-/// A queue of pieces of octets, each under a tag: the oldest comes out first. It has places for a number of pieces, and room for a number of
-/// octets, which are taken when it is made and come free again piece by piece.
+/// A queue of pieces, each a tag and a byte string; the oldest comes out first.
+///
+/// It has places for a number of pieces and room for a number of bytes. `new` allocates both, and `pop` frees
+/// those of one piece.
 #[derive(Drop)]
 pub struct Queue<T, A: Allocator = Global> {
-    /// The head of each piece, the oldest first.
+    /// The tag and size of each piece, oldest first.
     heads: HeapCircularBuffer<Head<T>, A>,
-    /// The octets of all of them, one after the other.
+    /// The bytes of all pieces, one after the other.
     octets: HeapCircularBuffer<u8, A>,
 }
 
@@ -52,13 +56,13 @@ impl<T, A: Allocator> Model for Queue<T, A> {
 }
 
 impl<T: Copy + Drop, A: Allocator + Copy> Queue<T, A> {
-    /// A queue with places for so many pieces, and room for so many octets.
+    /// Creates an empty queue with this number of places and bytes of room.
     ///
     /// # Errors
     ///
-    /// The error is that memory was refused.
+    /// Returns an error if the allocation fails.
     pub fn new(alloc: A, places: usize, room: usize) -> Result<Self, AllocError>
-        // In a new `Queue` nothing waits, and it has the places and the room that were asked for.
+        // In a new queue nothing waits, and all its places and room are free.
         ensures { IfOk result (λ q. q ≡ new_queue places room) }
     {
         Ok(Queue {
@@ -68,49 +72,61 @@ impl<T: Copy + Drop, A: Allocator + Copy> Queue<T, A> {
     }
 }
 
+impl<T: Copy + Drop, A: Allocator> Queue<T, A> {
+    /// Drops every piece. Their places and their room are free again.
+    pub fn clear(&mut self)
+        // After `clear` nothing waits, and all places and all room are free (`emptied`).
+        ensures { self.new ≡ emptied self.old }
+    {
+        self.heads.clear();
+        self.octets.clear();
+    }
+}
+
 impl<T: Copy, A: Allocator> Queue<T, A> {
-    /// How many more pieces there is a place for.
+    /// Returns the number of free places.
     pub fn places(&self) -> usize
-        // `places` answers how many more pieces a queue takes.
+        // `places` is the number of pieces that still have a place.
         ensures { result ≡ self.now.places }
     {
         self.heads.capacity() - self.heads.len()
     }
 
-    /// How many octets these may have together.
+    /// Returns the free room in bytes.
     pub fn room(&self) -> usize
-        // `room` answers how many octets these may have together.
+        // `room` is the number of bytes that are free.
         ensures { result ≡ self.now.room }
     {
         self.octets.capacity() - self.octets.len()
     }
 
-    /// How many pieces wait.
+    /// Returns the number of pieces that wait.
     pub fn len(&self) -> usize
-        // `len` answers how many pieces wait.
+        // `len` counts the pieces that wait.
         ensures { result ≡ length self.now.waiting }
     {
         let waiting = self.heads.len();
         waiting
     }
 
-    /// Whether none waits.
+    /// Returns true if no piece waits.
     pub fn is_empty(&self) -> bool
-        // `is_empty` tells whether none waits.
+        // `is_empty` is true if and only if the number of waiting pieces is 0.
         ensures { result ≡ (length self.now.waiting == 0) }
     {
         self.heads.is_empty()
     }
 
-    /// Puts a piece behind all that wait.
+    /// Appends a piece.
     ///
     /// # Errors
     ///
-    /// Refused exactly where there is no place for it or too little room, and then nothing changes.
+    /// - `QueueFull` if no place is free, or less room than the piece needs; nothing changes then.
     pub fn push(&mut self, tag: T, piece: &[u8]) -> Result<(), QueueFull>
-        // `push` is refused exactly where there is no place or too little room.
+        // `push` succeeds if and only if a place is free and the piece fits the free room.
         ensures room { is_ok result ≡ fits (length piece.now) self.old }
-        // An accepted `push` puts its piece behind all others, and a refused one changes nothing.
+        // An accepted piece becomes the last one, and takes one place and its size of room. A refused `push`
+        // changes nothing.
         ensures pushed { self.new ≡ (if is_ok result then with_piece (tag, piece.now) self.old else self.old) }
     {
         let size = piece.len();
@@ -122,16 +138,16 @@ impl<T: Copy, A: Allocator> Queue<T, A> {
         Ok(())
     }
 
-    /// Takes the oldest piece: its octets come in front of the buffer. Answers its tag and how many octets it has; `None` where none waits.
+    /// Removes the oldest piece, copies its bytes to the start of the buffer, and returns its tag and size.
+    /// Returns `None` if no piece waits.
     ///
     /// # Errors
     ///
-    /// Refused where the buffer is shorter than the piece, which then stays.
+    /// - `TooSmall` if the buffer is shorter than the piece, which then stays.
     pub fn pop(&mut self, buffer: &mut [u8]) -> Result<Option<(T, usize)>, TooSmall>
-        // `pop` takes the oldest piece whole in front of the buffer, with its tag and size, leaves the rest of
-        // the buffer, and gives its place and room back (`TookOldest`).
-        // Where nothing waits, or the buffer is shorter than the oldest piece, `pop` says so and changes
-        // nothing (`IsTooLong`).
+        // `pop` copies the complete oldest piece to the start of the buffer, leaves the rest of the buffer, and
+        // frees the piece's place and room (`TookOldest`). If nothing waits, or the buffer is too short
+        // (`IsTooLong`), nothing changes.
         ensures { Popped result self.old buffer.old self.new buffer.new }
     {
         let Some(Head { tag, size }) = self.heads.front() else {

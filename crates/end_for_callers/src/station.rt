@@ -1,4 +1,4 @@
-//! An end with the datagrams and telegrams that its caller takes.
+//! An end with the queues of datagrams and telegrams that its caller fetches.
 
 ghost use Rattle.std.specs.Prelude.{◌≡◌, ◌==◌, ◌≤◌, ◌<◌, ◌^◌, ◌*◌, ◌-◌, ◌⊎◌, ℕ, min, length, if◌then◌else◌, true, false, Some, None, Ok, Err, IfOk, OnOk, OnErr, IsErrAnd, MatchResult};
 ghost use Rattle.std.specs.List.{FoldsTo};
@@ -8,9 +8,9 @@ ghost use Rattle.stack_end.specs.Datagrams.{sent_at_opening};
 ghost use Rattle.stack_end.specs.Ends.{Call, Close, Deliver, InitDone, Put, opened_end};
 ghost use Rattle.stack_end.specs.EndValue.{EndStands};
 ghost use Rattle.end_for_callers.specs.Boxes.{Posted, told_of};
-ghost use Rattle.octets.specs.declared.limits.TheConstants.{PAYLOAD_MAX, RED_PDU_MAX};
+ghost use Rattle.octets.specs.declared.limits.TheConstants.{PAYLOAD_MAX, RED_PDU_MAX, WINDOW_MAX};
 ghost use Rattle.end_for_callers.specs.declared.Outcome.TheVariants as ended;
-ghost use Rattle.end_for_callers.specs.Calls.{Does, SameButDatagrams, SameButTelegrams, is_time, outbox_of, outcome_of, refusal, refusal_to_init, refusal_to_open, refusal_to_put, refusal_to_send, has_room, reserve_of};
+ghost use Rattle.end_for_callers.specs.Calls.{Does, Reopens, SameButDatagrams, SameButTelegrams, is_time, outbox_of, outcome_of, refusal, refusal_to_init, refusal_to_open, refusal_to_reopen, refusal_to_put, refusal_to_send, has_room, reserve_of};
 ghost use Rattle.end_for_callers.specs.Queues.{Popped, new_queue};
 ghost use Rattle.end_for_callers.specs.declared.StationFault.TheVariants as fault;
 ghost use Rattle.end_for_callers.specs.declared.CallFault.TheVariants as refused;
@@ -21,37 +21,38 @@ use crate::queue::{Queue, TooSmall};
 use crate::{CALL_TELEGRAMS, CallFault, Outcome, PART_PDUS, StationFault};
 use end_settings::{EndConfig, Side};
 use octets::Milliseconds;
-use octets::limits::{PAYLOAD_MAX, RED_PDU_MAX};
+use octets::limits::{PAYLOAD_MAX, RED_PDU_MAX, WINDOW_MAX};
 use pdi_session::Phase;
 use safe_machine::ConnectionState;
-use stack_end::{End, OpenFault};
+use stack_end::{Departure, End, OpenFault, Statistics};
 use std::alloc::Global;
 use std::marker::Model;
 
 /// The latest time, in milliseconds.
 const TIME_MAX: u64 = 1 << 62;
 
-/// For how much there is room until the caller takes it.
+/// The room of the two queues.
 #[derive(Clone, Copy, Debug, PartialEq, Eq)]
 pub struct Rooms {
-    /// Telegrams, of the greatest size: 27 at least.
+    /// The number of telegrams of the greatest size, at least 27.
     pub telegrams: u32,
-    /// Datagrams, of the greatest size: at least `n_sendmax` and 5 more for each channel.
+    /// The number of datagrams of the greatest size, at least 37 for each channel.
     pub datagrams: u32,
 }
 
-/// An end with the datagrams that it has sent and the telegrams that its application was handed, until its caller takes them.
+/// An end with the datagrams sent and the telegrams taken that its caller has not fetched yet.
 ///
-/// All its memory is taken when it is opened. A caller that takes all that waits after each call is never refused for want of room.
+/// `open` allocates all its memory. If the caller empties both queues after each call, no call is refused for want
+/// of room.
 #[derive(Drop)]
 pub struct Station {
-    /// The end, whose channels are the datagrams that wait.
+    /// The end. Its channels are the queue of datagrams.
     end: End<Outbox>,
     /// The telegrams that wait.
     inbox: Inbox,
     /// The time of the last accepted call, in milliseconds.
     time: u64,
-    /// For so many datagrams there must be room before a call.
+    /// How many datagrams must have room before a call.
     reserve: usize,
 }
 
@@ -67,11 +68,16 @@ impl Model for Station {
 }
 
 impl Station {
-    /// Opens an end on one side of a connection, as `End::open` does. It is the only call that takes memory.
+    /// Opens an end on one side of a connection, as `End::open` does. It is the only call that allocates.
     ///
     /// # Errors
     ///
-    /// Refused, and the first that holds is named: `Time`, `BadConfig`, `Rooms`, `Memory`.
+    /// Returns the first that applies:
+    ///
+    /// - `Time` if the time is above 2^62;
+    /// - `BadConfig` if the settings are invalid for this side;
+    /// - `Rooms` if there is room for fewer than 27 telegrams, or fewer than 37 datagrams for each channel;
+    /// - `Memory` if an allocation fails.
     pub fn open(
         alloc: Global,
         config: &EndConfig,
@@ -80,21 +86,25 @@ impl Station {
         rooms: Rooms,
         now: Milliseconds,
     ) -> Result<Station, StationFault>
-        // An end is opened exactly where its time, its settings and its rooms are fit and there is memory, else
-        // the first that holds is named.
+        // `open` fails with the first of Time, BadConfig and Rooms that applies (`refusal_to_open`). If none
+        // applies, it succeeds or fails with `Memory`.
         ensures answer { MatchResult result (λ _. refusal_to_open side (settings_of config.now) rooms now ≡ None)
             (λ f. (refusal_to_open side (settings_of config.now) rooms now ≡ Some f)
             ⊎ ((refusal_to_open side (settings_of config.now) rooms now ≡ None) × (f ≡ fault.Memory))) }
-        // An opened station stands for the new end of its settings.
+        // The end of a new station is in the initial state for its settings, side, first sequence number and time.
         ensures stands { IfOk result (λ s. EndStands told_of s.end (opened_end side config.now first_sn now)) }
-        // What was sent at the opening waits among its datagrams.
+        // The datagrams that the end sends at its opening wait in order; one without room would be counted as
+        // unsent.
         ensures sent { IfOk result (λ s. Posted (record { queue = new_queue rooms.datagrams (rooms.datagrams * RED_PDU_MAX); unsent = 0 })
             (sent_at_opening (opened_end side config.now first_sn now)) (outbox_of s)) }
-        // At the opening no telegram waits, and none is lost.
+        // A new station has no telegram waiting, none lost, and room for the given number of telegrams of the
+        // greatest size.
         ensures inbox { IfOk result (λ s. s.inbox
             ≡ record { queue = new_queue rooms.telegrams (rooms.telegrams * PAYLOAD_MAX); lost = false }) }
-        // The time of an opened station is that of its opening.
+        // The time of a new station is that of its opening.
         ensures time { IfOk result (λ s. s.time ≡ now) }
+        // A new station reserves room for 37 datagrams for each channel before each call (`reserve_of`).
+        ensures reserve { IfOk result (λ s. s.reserve ≡ reserve_of (settings_of config.now)) }
     {
         if now > TIME_MAX {
             return Err(StationFault::Time);
@@ -124,29 +134,31 @@ impl Station {
         }
     }
 
-    /// Takes a datagram of any octets that came on a channel.
+    /// Processes a received datagram, which may contain any bytes.
     ///
     /// # Errors
     ///
-    /// Refused, and the first that holds is named: `Time`, `Lost`, `TakeFirst`, `SendFirst`.
+    /// Returns the first that applies, and changes nothing:
+    ///
+    /// - `Time` if the time is before that of the last accepted call, or above 2^62;
+    /// - `Lost` if a telegram was lost before;
+    /// - `TakeFirst` if there is room for fewer than 27 telegrams;
+    /// - `SendFirst` if there is room for fewer datagrams than the reserve.
     pub fn arrive(
         &mut self,
         channel: usize,
         octets: &[u8],
         now: Milliseconds,
     ) -> Result<Outcome, CallFault>
-        // An accepted call leaves the end what the turn of the call leaves (`Does` (left)).
-        // What the end sent in it waits behind what waited, each in order or counted, and all of it where the
-        // count stands (of fewer than 2^64) (`Posted`).
-        // A beginning of what the application takes in it waits behind what waited, and all of it where no
-        // telegram was lost (`Came`).
+        // An accepted `arrive` leaves the end as receiving this datagram does. Datagrams sent are appended in
+        // order, or counted as unsent. Of the telegrams taken a prefix is appended, and all unless one is lost
+        // (`Does`).
         ensures does { OnOk result (Does (Deliver channel octets.now now) self.old self.new) }
-        // An accepted call tells whether all waits, a datagram found no room, or a telegram did.
-        // A call is refused, by the first name that holds, for its time, a telegram lost before, or where there
-        // is less room than it is to have, and nothing changes then.
+        // `arrive` is refused if and only if `refusal` gives a reason; it returns that one and changes nothing.
+        // Otherwise the outcome says if a telegram, or else a datagram, found no room (`outcome_of`).
         ensures answer { MatchResult result (λ o. (refusal now self.old ≡ None) × (o ≡ outcome_of self.old self.new))
             (λ f. (refusal now self.old ≡ Some f) × (self.new ≡ self.old)) }
-        // An accepted call makes its time that of the station.
+        // An accepted `arrive` sets the station's time to `now`.
         ensures time { OnOk result (self.new.time ≡ now) }
     {
         self.may_hear(now)?;
@@ -156,24 +168,25 @@ impl Station {
         Ok(self.outcome(before))
     }
 
-    /// Lets time pass.
+    /// Lets time pass, as `End::tick` does.
     ///
     /// # Errors
     ///
-    /// Refused, and the first that holds is named: `Time`, `Lost`, `TakeFirst`, `SendFirst`.
+    /// Returns the first that applies, and changes nothing:
+    ///
+    /// - `Time` if the time is before that of the last accepted call, or above 2^62;
+    /// - `Lost` if a telegram was lost before;
+    /// - `TakeFirst` if there is room for fewer than 27 telegrams;
+    /// - `SendFirst` if there is room for fewer datagrams than the reserve.
     pub fn tick(&mut self, now: Milliseconds) -> Result<Outcome, CallFault>
-        // An accepted call leaves the end what the turn of the call leaves (`Does` (left)).
-        // What the end sent in it waits behind what waited, each in order or counted, and all of it where the
-        // count stands (of fewer than 2^64) (`Posted`).
-        // A beginning of what the application takes in it waits behind what waited, and all of it where no
-        // telegram was lost (`Came`).
+        // An accepted `tick` leaves the end as the passing of time does. Datagrams sent and telegrams of released
+        // parts are appended to the queues, as far as there is room (`Does`).
         ensures does { OnOk result (Does (Call.Tick now) self.old self.new) }
-        // An accepted call tells whether all waits, a datagram found no room, or a telegram did.
-        // A call is refused, by the first name that holds, for its time, a telegram lost before, or where there
-        // is less room than it is to have, and nothing changes then.
+        // `tick` is refused if and only if `refusal` gives a reason, and changes nothing then. The outcome of an
+        // accepted tick says what found no room (`outcome_of`).
         ensures answer { MatchResult result (λ o. (refusal now self.old ≡ None) × (o ≡ outcome_of self.old self.new))
             (λ f. (refusal now self.old ≡ Some f) × (self.new ≡ self.old)) }
-        // An accepted call makes its time that of the station.
+        // An accepted `tick` sets the station's time to `now`.
         ensures time { OnOk result (self.new.time ≡ now) }
     {
         self.may_hear(now)?;
@@ -183,34 +196,35 @@ impl Station {
         Ok(self.outcome(before))
     }
 
-    /// Puts in a command or status of this kind and payload (0 to 357 octets), behind all that waits to be sent.
+    /// Puts a command or status with a payload of 0 to 357 bytes, as `End::put` does. It is sent after everything
+    /// that waits to be sent.
     ///
     /// # Errors
     ///
-    /// Refused, and the first that holds is named: `Time`, `Lost`, `SendFirst`, and what `End::put` refuses.
+    /// Returns the first that applies, and changes nothing:
+    ///
+    /// - `Time` if the time is before that of the last accepted call, or above 2^62;
+    /// - `Lost` if a telegram was lost before;
+    /// - `SendFirst` if there is room for fewer datagrams than the reserve;
+    /// - `Put` if the session refuses the telegram, with its reason.
     pub fn put(
         &mut self,
         kind: u16,
         payload: &[u8],
         now: Milliseconds,
     ) -> Result<Outcome, CallFault>
-        // An accepted call leaves the end what the turn of the call leaves (`Does` (left)).
-        // What the end sent in it waits behind what waited, each in order or counted, and all of it where the
-        // count stands (of fewer than 2^64) (`Posted`).
-        // A beginning of what the application takes in it waits behind what waited, and all of it where no
-        // telegram was lost (`Came`).
+        // An accepted `put` leaves the end as putting this telegram does. Datagrams sent in the call are appended,
+        // or counted as unsent (`Does`).
         ensures does { OnOk result (Does (Put kind payload.now now) self.old self.new) }
-        // An accepted call tells whether all waits, a datagram found no room, or a telegram did.
+        // The outcome of an accepted `put` says if a telegram or a datagram found no room (`outcome_of`).
         ensures outcome { IfOk result (λ o. o ≡ outcome_of self.old self.new) }
-        // An accepted call tells whether all waits, a datagram found no room, or a telegram did.
-        // A call is refused, by the first name that holds, for its time, a telegram lost before, or where there
-        // is less room than it is to have, and nothing changes then.
+        // `put` is refused if and only if `refusal_to_put` gives a reason: the station's first, then the
+        // session's.
         ensures answer { MatchResult result (λ _. refusal_to_put now kind payload.now self.old ≡ None)
             (λ f. refusal_to_put now kind payload.now self.old ≡ Some f) }
-        // A call is refused, by the first name that holds, for its time, a telegram lost before, or where there
-        // is less room than it is to have, and nothing changes then.
+        // A refused `put` leaves the station unchanged.
         ensures refused { OnErr result (self.new ≡ self.old) }
-        // An accepted call makes its time that of the station.
+        // An accepted `put` sets the station's time to `now`.
         ensures time { OnOk result (self.new.time ≡ now) }
     {
         self.may_send(now)?;
@@ -224,29 +238,30 @@ impl Station {
         }
     }
 
-    /// The application of a field element has put in its initial status: its end is sent behind it.
+    /// Completes the initialisation of a field element, as `End::init_done` does: its end is sent after the
+    /// initial status.
     ///
     /// # Errors
     ///
-    /// Refused, and the first that holds is named: `Time`, `Lost`, `SendFirst`, and what `End::init_done` refuses.
+    /// Returns the first that applies, and changes nothing:
+    ///
+    /// - `Time` if the time is before that of the last accepted call, or above 2^62;
+    /// - `Lost` if a telegram was lost before;
+    /// - `SendFirst` if there is room for fewer datagrams than the reserve;
+    /// - `Init` if the session refuses, with its reason.
     pub fn init_done(&mut self, now: Milliseconds) -> Result<Outcome, CallFault>
-        // An accepted call leaves the end what the turn of the call leaves (`Does` (left)).
-        // What the end sent in it waits behind what waited, each in order or counted, and all of it where the
-        // count stands (of fewer than 2^64) (`Posted`).
-        // A beginning of what the application takes in it waits behind what waited, and all of it where no
-        // telegram was lost (`Came`).
+        // An accepted `init_done` leaves the end as the end of its initialisation does, and the datagrams sent in
+        // the call are appended or counted (`Does`).
         ensures does { OnOk result (Does (InitDone now) self.old self.new) }
-        // An accepted call tells whether all waits, a datagram found no room, or a telegram did.
+        // The outcome of an accepted `init_done` says if a telegram or a datagram found no room (`outcome_of`).
         ensures outcome { IfOk result (λ o. o ≡ outcome_of self.old self.new) }
-        // An accepted call tells whether all waits, a datagram found no room, or a telegram did.
-        // A call is refused, by the first name that holds, for its time, a telegram lost before, or where there
-        // is less room than it is to have, and nothing changes then.
+        // `init_done` is refused if and only if `refusal_to_init` gives a reason: the station's first, then the
+        // session's.
         ensures answer { MatchResult result (λ _. refusal_to_init now self.old ≡ None)
             (λ f. refusal_to_init now self.old ≡ Some f) }
-        // A call is refused, by the first name that holds, for its time, a telegram lost before, or where there
-        // is less room than it is to have, and nothing changes then.
+        // A refused `init_done` leaves the station unchanged.
         ensures refused { OnErr result (self.new ≡ self.old) }
-        // An accepted call makes its time that of the station.
+        // An accepted `init_done` sets the station's time to `now`.
         ensures time { OnOk result (self.new.time ≡ now) }
     {
         self.may_send(now)?;
@@ -260,24 +275,20 @@ impl Station {
         }
     }
 
-    /// Leaves the connection, with reason 0 (closed by the user), where there is one. It is refused for its time alone.
+    /// Closes the connection, if there is one, with reason 0 (closed by the user). It needs no free room.
     ///
     /// # Errors
     ///
-    /// Refused as `Time`.
+    /// - `Time` if the time is before that of the last accepted call, or above 2^62; nothing changes then.
     pub fn close(&mut self, now: Milliseconds) -> Result<Outcome, CallFault>
-        // An accepted call leaves the end what the turn of the call leaves (`Does` (left)).
-        // What the end sent in it waits behind what waited, each in order or counted, and all of it where the
-        // count stands (of fewer than 2^64) (`Posted`).
-        // A beginning of what the application takes in it waits behind what waited, and all of it where no
-        // telegram was lost (`Came`).
+        // An accepted `close` leaves the end closed, and the DiscReq sent is appended or counted as unsent
+        // (`Does`).
         ensures does { OnOk result (Does (Close now) self.old self.new) }
-        // An accepted call tells whether all waits, a datagram found no room, or a telegram did.
-        // A call is refused, by the first name that holds, for its time, a telegram lost before, or where there
-        // is less room than it is to have, and nothing changes then.
+        // `close` is refused if and only if its time is not in range, with `Time` and without a change. Otherwise
+        // the outcome says if a telegram or a datagram found no room.
         ensures answer { MatchResult result (λ o. (is_time now self.old ≡ true) × (o ≡ outcome_of self.old self.new))
             (λ f. (is_time now self.old ≡ false) × (f ≡ refused.Time) × (self.new ≡ self.old)) }
-        // An accepted call makes its time that of the station.
+        // An accepted `close` sets the station's time to `now`.
         ensures time { OnOk result (self.new.time ≡ now) }
     {
         if !self.is_time(now) {
@@ -289,29 +300,67 @@ impl Station {
         Ok(self.outcome(before))
     }
 
-    /// Takes the oldest telegram that waits: its payload comes in front of the buffer. Answers its kind and how many octets it has.
+    /// Opens the end again after its connection is lost, with the settings, side and rooms that it has, as `open` does.
+    /// It does not allocate. Datagrams of the old connection that wait are dropped, so that no call sends them.
     ///
     /// # Errors
     ///
-    /// Refused where the buffer is shorter than it, and then it stays.
+    /// Returns the first that applies, and changes nothing:
+    ///
+    /// - `Time` if the time is before that of the last accepted call, or above 2^62;
+    /// - `TakeFirst` if a telegram of the old connection waits, so that none is lost.
+    pub fn reopen(&mut self, first_sn: u32, now: Milliseconds) -> Result<(), CallFault>
+        // `reopen` is refused if and only if `refusal_to_reopen` gives a reason; it returns that one and changes
+        // nothing.
+        ensures answer { MatchResult result (λ _. refusal_to_reopen now self.old ≡ None)
+            (λ f. (refusal_to_reopen now self.old ≡ Some f) × (self.new ≡ self.old)) }
+        // An accepted `reopen` leaves every layer as newly opened with the settings that it has, and both queues empty
+        // but for the ConnReq of an interlocking. No loss is left, and time and reserve are as `open` leaves them
+        // (`Reopens`).
+        ensures does { OnOk result (Reopens first_sn now self.old self.new) }
+    {
+        if !self.is_time(now) {
+            return Err(CallFault::Time);
+        }
+        if !self.inbox.queue().is_empty() {
+            return Err(CallFault::TakeFirst);
+        }
+        self.end.channels().clear();
+        self.end.reopen(first_sn, now);
+        self.inbox.forget_loss();
+        self.time = now;
+        Ok(())
+    }
+
+    /// Removes the oldest waiting telegram, copies its payload to the start of the buffer, and returns its message
+    /// type and size. Returns `None` if no telegram waits.
+    ///
+    /// # Errors
+    ///
+    /// - `TooSmall` if the buffer is shorter than the payload; the telegram then stays.
     pub fn take(&mut self, buffer: &mut [u8]) -> Result<Option<(u16, usize)>, TooSmall>
-        // `take` is `pop` of the queue of telegrams.
+        // `take` removes the oldest telegram and copies its payload to the buffer. If none waits, or the buffer is
+        // too short, nothing changes (`Popped`).
         ensures popped { Popped result self.old.inbox.queue buffer.old self.new.inbox.queue buffer.new }
-        // `take` leaves all else of a station as it was.
+        // `take` changes only the queue of telegrams: the end, its datagrams, the loss flag, the time and the
+        // reserve stay.
         ensures same { SameButTelegrams self.old self.new }
     {
         self.inbox.pop(buffer)
     }
 
-    /// Takes the oldest datagram that waits: its octets come in front of the buffer. Answers its channel and how many octets it has.
+    /// Removes the oldest waiting datagram, copies it to the start of the buffer, and returns its channel and
+    /// size. Returns `None` if no datagram waits.
     ///
     /// # Errors
     ///
-    /// Refused where the buffer is shorter than it, and then it stays.
+    /// - `TooSmall` if the buffer is shorter than the datagram, which then stays.
     pub fn next_datagram(&mut self, buffer: &mut [u8]) -> Result<Option<(usize, usize)>, TooSmall>
-        // `next_datagram` is `pop` of the queue of datagrams.
+        // `next_datagram` removes the oldest datagram and copies it to the buffer. If none waits, or the buffer is
+        // too short, nothing changes (`Popped`).
         ensures popped { Popped result (outbox_of self.old).queue buffer.old (outbox_of self.new).queue buffer.new }
-        // `next_datagram` leaves all else of a station as it was.
+        // `next_datagram` changes only the queue of datagrams: the end's state, the count of unsent ones, the
+        // telegrams, the time and the reserve stay.
         ensures same { SameButDatagrams self.old self.new }
     {
         self.end.channels().pop(buffer)
@@ -321,90 +370,133 @@ impl Station {
 impl Station {
     ghost use Rattle.std.specs.Prelude.{Option};
     ghost use Rattle.pdi_session.specs.declared.Phase.{Phase};
-    ghost use Rattle.safe_machine.specs.Deadlines.{IsBefore, IsReachedAt};
-    ghost use Rattle.stack_end.specs.Deadlines.{HasFallen, IsQuiet};
-    ghost use Rattle.stack_end.specs.EndValue.{inside};
-    ghost use Rattle.stack_end.specs.Turns.{is_over, is_settled};
+    ghost use Rattle.end_for_callers.specs.Calls.{IsDeadline};
+    ghost use Rattle.stack_end.specs.EndValue.{inside, statistics_of};
+    ghost use Rattle.stack_end.specs.Certain.{confirmed_in};
+    ghost use Rattle.stack_end.specs.Stale.{is_stale};
+    ghost use Rattle.stack_end.specs.Turns.{is_settled};
 
-    /// The earliest time at which `tick` does something, if nothing arrives and nothing is put in, as `End::next_deadline` tells it.
+    /// Returns the earliest time at which `tick` has something to do if nothing arrives and nothing is put. A
+    /// closed end has none.
     pub fn next_deadline(&self) -> Option<Milliseconds>
-        // Before the deadline a tick does nothing, where the end is not closed.
-        ensures before { is_over (inside self.now.end) ≡ false → (now : ℕ) → IsBefore now result
-            → IsQuiet now (inside self.now.end) }
-        // From the deadline on, up to 2^62 ms, a tick does something.
-        ensures after { (now : ℕ) → now ≤ 2 ^ 62 → IsReachedAt now result → HasFallen now (inside self.now.end) }
-        // A closed end has no deadline.
-        ensures closed { is_over (inside self.now.end) ≡ true → result ≡ None }
+        // If the end is open, a tick before the deadline does nothing, and one from it on, up to 2^62 ms, does
+        // something. If it is closed, the result is `None`.
+        ensures { IsDeadline result (inside self.now.end) }
     {
         self.end.next_deadline()
     }
 
-    /// The state of the connection.
+    /// Returns the state of the connection.
     pub fn state(&self) -> ConnectionState
-        // The state of the connection is that of the end.
+        // `state` returns the connection state of the station's end.
         ensures { result ≡ (inside self.now.end).upper.machine.connection }
     {
         self.end.state()
     }
 
-    /// The phase of the session.
+    /// Returns the phase of the session.
     pub fn phase(&self) -> Phase
-        // The phase of the session is that of the end.
+        // `phase` returns the session phase of the station's end.
         ensures { result ≡ (inside self.now.end).upper.session.phase }
     {
         self.end.phase()
     }
 
-    /// Whether all that was put in is done with: the end is not closed, no message waits, and no unit is unconfirmed.
+    /// Returns true if the end is not closed, no message waits, and no unit is unconfirmed.
     pub fn settled(&self) -> bool
-        // All is settled exactly where it is at the end.
+        // `settled` is true if and only if the end is settled (`is_settled`).
         ensures { result ≡ is_settled (inside self.now.end) }
     {
         self.end.settled()
     }
 
-    /// How many datagrams found no room since it was opened, modulo 2^64.
+    /// Returns true if the end must be opened again before it can take part in a new connection.
+    pub fn is_stale(&self) -> bool
+        // `is_stale` is true if and only if the station's end is closed, or waits in Down and can miss the next request.
+        ensures { result ≡ is_stale (inside self.now.end) }
+    {
+        self.end.is_stale()
+    }
+
+    /// Returns how many of the telegrams put since the opening are certain: the peer has taken the first so many. The
+    /// number stays readable after the end has closed.
+    pub fn confirmed(&self) -> u64
+        // `confirmed` is the number of telegrams put into the station's end, less those that wait and those in
+        // unconfirmed units.
+        ensures { result ≡ confirmed_in (inside self.now.end).upper }
+    {
+        self.end.confirmed()
+    }
+
+    /// Returns the own time that the peer last confirmed, in milliseconds.
+    pub fn confirmed_time(&self) -> Milliseconds
+        // `confirmed_time` is the confirmed timestamp that the station's end keeps.
+        ensures { result ≡ (inside self.now.end).upper.machine.confirmed_at }
+    {
+        self.end.confirmed_time()
+    }
+
+    /// Returns who ended the connection, why and when, or `None` while the end is open.
+    pub fn departure(&self) -> Option<Departure>
+        // `departure` is the one that the calls of the station's end have recorded.
+        ensures { result ≡ (inside self.now.end).upper.departed }
+    {
+        self.end.departure()
+    }
+
+    /// Returns all that the end has counted since its opening.
+    pub fn statistics(&self) -> Statistics
+        // `statistics` are those of the station's end.
+        ensures { result ≡ statistics_of self.now.end }
+    {
+        self.end.statistics()
+    }
+
+    /// Returns how many datagrams found no room since the opening, modulo 2^64.
     pub fn unsent(&self) -> u64
-        // A station answers how many pieces wait in its queues, and how many datagrams found no room.
+        // `unsent` is the station's count of datagrams without room.
         ensures { result ≡ (outbox_of self.now).unsent }
     {
         self.end.channels_seen().unsent()
     }
 
-    /// Whether a telegram found no room.
+    /// Returns true if a telegram found no room.
     pub fn lost(&self) -> bool
-        // A station answers how many pieces wait in its queues, and how many datagrams found no room.
+        // `lost` is true if and only if a telegram of this station was lost.
         ensures { result ≡ self.now.inbox.lost }
     {
         self.inbox.lost()
     }
 
-    /// How many telegrams wait.
+    /// Returns how many telegrams wait.
     pub fn telegrams(&self) -> usize
-        // A station answers how many pieces wait in its queues, and how many datagrams found no room.
+        // `telegrams` is the number of telegrams that the caller has not fetched.
         ensures { result ≡ length self.now.inbox.queue.waiting }
     {
         self.inbox.queue().len()
     }
 
-    /// How many datagrams wait.
+    /// Returns how many datagrams wait.
     pub fn datagrams(&self) -> usize
-        // A station answers how many pieces wait in its queues, and how many datagrams found no room.
+        // `datagrams` is the number of datagrams that the caller has not fetched.
         ensures { result ≡ length (outbox_of self.now).queue.waiting }
     {
         self.end.channels_seen().queue().len()
     }
 
-    /// Whether it may be called at this time.
+    /// Returns true if a call may have this time.
     fn is_time(&self, now: Milliseconds) -> bool
+        // The result is true if and only if `now` is not before the last accepted call and at most 2^62.
         ensures { result ≡ is_time now self.now }
     {
         self.time <= now && now <= TIME_MAX
     }
 
-    /// Whether a call that sends may come to the end.
+    /// Checks the conditions of a call that only sends.
     fn may_send(&self, now: Milliseconds) -> Result<(), CallFault>
+        // The result is the first of Time, Lost and SendFirst that applies, if any (`refusal_to_send`).
         ensures answer { MatchResult result (λ _. refusal_to_send now self.now ≡ None) (λ f. refusal_to_send now self.now ≡ Some f) }
+        // If a sending call may go on, its time is in range.
         ensures time { OnOk result (is_time now self.now ≡ true) }
     {
         if !self.is_time(now) {
@@ -419,9 +511,11 @@ impl Station {
         Ok(())
     }
 
-    /// Whether a call in which telegrams may come may come to the end.
+    /// Checks the conditions of a call that may deliver telegrams, too.
     fn may_hear(&self, now: Milliseconds) -> Result<(), CallFault>
+        // The result is the first of Time, Lost, TakeFirst and SendFirst that applies, if any (`refusal`).
         ensures answer { MatchResult result (λ _. refusal now self.now ≡ None) (λ f. refusal now self.now ≡ Some f) }
+        // If a delivering call may go on, its time is in range.
         ensures time { OnOk result (is_time now self.now ≡ true) }
     {
         if !self.is_time(now) {
@@ -439,8 +533,10 @@ impl Station {
         Ok(())
     }
 
-    /// How a call ended before which so many datagrams had found no room.
+    /// Returns the outcome of a call; `unsent` is the count before it.
     fn outcome(&self, unsent: u64) -> Outcome
+        // The outcome is Lost if a telegram was lost, otherwise Whole if the count of unsent datagrams is
+        // unchanged, and Unsent if it is not.
         ensures { result ≡ (if self.now.inbox.lost then ended.Lost else if (outbox_of self.now).unsent == unsent then ended.Whole else ended.Unsent) }
     {
         if self.lost() {
@@ -453,21 +549,48 @@ impl Station {
     }
 }
 
-/// Whether there is room for so many pieces of this size.
+/// Returns the first reason to refuse an opening, if there is one. A failed allocation is not tested.
+pub fn refusal_to_open(
+    config: &EndConfig,
+    side: Side,
+    rooms: Rooms,
+    now: Milliseconds,
+) -> Option<StationFault>
+    // The result is `Time` for a time above 2^62, then `BadConfig` for settings that do not fit the side, then `Rooms`
+    // for too little room; `None` if no reason applies.
+    ensures { result ≡ refusal_to_open side (settings_of config.now) rooms now }
+{
+    if now > TIME_MAX {
+        return Some(StationFault::Time);
+    }
+    if !config.is_fit(side) {
+        return Some(StationFault::BadConfig);
+    }
+    let has_rooms = CALL_TELEGRAMS <= rooms.telegrams as usize
+        && reserve_of(config) <= rooms.datagrams as u64;
+    if !has_rooms {
+        return Some(StationFault::Rooms);
+    }
+    None
+}
+
+/// Returns true if the queue has room for this number of pieces of this size.
 fn has_room<T: Copy>(queue: &Queue<T>, count: usize, size: usize) -> bool
     requires size { size < 2 ^ 31 }
     requires count { count < 2 ^ 32 }
+    // The result is true if and only if `count` places are free, and `count` times `size` bytes of room.
     ensures { result ≡ has_room count size queue.now }
 {
     queue.places() >= count && queue.room() >= count * size
 }
 
-/// For how many datagrams there must be room before a call: on each channel what one part makes, and a retransmission of a full window.
+/// Returns how many datagrams must have room before a call: on each channel the PDUs of one part, and a
+/// retransmission of the greatest window that a peer may have.
 fn reserve_of(config: &EndConfig) -> u64
+    // The reserve is 37 datagrams for each channel; beyond 64 bits it is the greatest number.
     ensures { result ≡ min (reserve_of (settings_of config.now)) (2 ^ 64 - 1) }
 {
     config
-        .n_sendmax
-        .saturating_add(PART_PDUS as u64)
-        .saturating_mul(config.channels)
+        .channels
+        .saturating_mul((WINDOW_MAX + PART_PDUS) as u64)
 }

@@ -1,4 +1,4 @@
-//! Plain settings that say what other settings say.
+//! Writing settings as plain settings.
 
 ghost use Rattle.std.specs.Prelude.{◌≡◌, ◌≤◌, ◌++◌, drop, is_some, length, Some, IfSome};
 ghost use Rattle.end_settings.specs.Configured.{settings_of};
@@ -11,21 +11,22 @@ use byteorder::{ByteOrder, LittleEndian};
 use end_settings::{EndConfig, Side};
 use pdi_session::telegram::OwnedName;
 
-/// How many octets a name has in plain settings, with the zeros behind it.
+/// The size of a name in plain settings, in bytes, with the zeros after it.
 const NAME_ROW: usize = 24;
 
-/// The greatest number.
+/// The greatest number that fits a field.
 const NUMBER_MAX: u64 = 4_294_967_295;
 
 impl PlainSettings {
-    /// Plain settings by which an end is opened on this side with these settings; `None` where a number of them is above 2^32 - 1.
+    /// Returns the plain settings with this content, or `None` if a number is above 2^32 - 1.
     pub fn of(side: Side, config: &EndConfig, first_sn: u32, rooms: Rooms) -> Option<Self>
-        // Plain settings are written exactly where each number has a place.
+        // Plain settings are returned if and only if each number fits a field (`are_plain`).
         ensures some { is_some result ≡ are_plain config.now }
-        // Plain settings that are written are read as those of which they were made.
+        // Reading the plain settings returned gives exactly this side, configuration, first sequence number and
+        // rooms.
         ensures says { IfSome result (λ s. opening_of s
             ≡ Some (record { config = settings_of config.now; side = side; first_sn = first_sn; rooms = rooms })) }
-        // Plain settings bear their own size.
+        // Plain settings that are written contain their own size.
         ensures size { IfSome result (λ s. s.size ≡ PLAIN_SETTINGS_SIZE) }
     {
         if !are_plain(config) {
@@ -65,8 +66,9 @@ impl PlainSettings {
     }
 }
 
-/// Whether each number has a place in plain settings.
+/// Returns true if each number fits a field.
 fn are_plain(config: &EndConfig) -> bool
+    // `are_plain` is true if and only if none of the ten numbers that may be wider is above 2^32 - 1.
     ensures { result ≡ are_plain config.now }
 {
     config.code <= NUMBER_MAX
@@ -81,7 +83,9 @@ fn are_plain(config: &EndConfig) -> bool
         && config.pdu_limit <= NUMBER_MAX
 }
 
+/// Returns the number of a side.
 fn number_of(side: Side) -> u32
+    // The number is read back as the same side (`side_in`).
     ensures { side_in result ≡ Some side }
 {
     match side {
@@ -90,23 +94,28 @@ fn number_of(side: Side) -> u32
     }
 }
 
+/// Returns a byte as a number.
 fn widen(octet: u8) -> u32
+    // The value of the byte stays.
     ensures value { result ≡ octet }
+    // The value of a byte is at most 255.
     ensures small { result ≤ 255 }
 {
     u32::from(octet)
 }
 
-/// Writes octets into the front of a row.
+/// Writes bytes at the start of a row.
 fn fill(row: &mut [u8], octets: &[u8])
     requires { length octets.now ≤ length row.old }
+    // The row starts with the bytes, and is unchanged after them.
     ensures { row.new ≡ octets.now ++ drop (length octets.now) row.old }
 {
     row[..octets.len()].copy_from_slice(octets);
 }
 
-/// The octets of four words, the least significant of each first.
+/// Returns the bytes of four words, least significant byte first.
 fn octets_of(words: &[u32; 4]) -> [u8; 16]
+    // Reading the 16 bytes as words gives the same four words (`words_of`).
     ensures { words_of result ≡ words.now }
 {
     let mut octets = [0; 16];
@@ -114,8 +123,9 @@ fn octets_of(words: &[u32; 4]) -> [u8; 16]
     octets
 }
 
-/// A name with zeros behind it.
+/// Returns a name followed by zeros.
 fn spell_name(name: &OwnedName) -> [u8; NAME_ROW]
+    // Reading the row up to its first zero gives the name (`name_in`).
     ensures { name_in result ≡ Some (owned_characters name.now) }
 {
     let mut row = [0; NAME_ROW];

@@ -1,4 +1,4 @@
--- Settings whose numbers are in their ranges are fit exactly where the versions are: names and checksum always are.
+-- Settings whose numbers are in their ranges are fit if and only if the versions are: names and checksum always are.
 use Rattle.std.proofs.Common.{◌≡◌, ◌<◌, suc, Bool, true, ◌&&◌, ℕ, List, length, refl, arith}
 use Rattle.std.specs.Prelude.{nat_le}
 use Rattle.std.proofs.lemmas.Bool.{le-leb}
@@ -11,7 +11,7 @@ use Rattle.end_settings.specs.declared.lists.Checksum.{Checksum}
 use Rattle.end_settings.specs.Lists.{checksum_in}
 use Rattle.end_settings.specs.EndSettings.{is_addressing, is_name}
 
--- a conjunction whose first parts hold
+-- a conjunction whose first four parts are true is its last part
 pub last-decides : (a b c d e : Bool) → a ≡ true → b ≡ true → c ≡ true → d ≡ true → e ≡ (a && (b && (c && (d && e))))
 last-decides a b c d e p q r s = rw (p, q, r, s) refl
 

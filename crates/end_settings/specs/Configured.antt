@@ -1,4 +1,4 @@
--- What the settings that an end is handed say, without how they are kept.
+-- The meaning of an `EndConfig`, without its place in memory.
 use Rattle.std.specs.Prelude.{ℕ, ◌==◌, true, if◌then◌else◌}
 use Rattle.safe_pdu.specs.declared.CodeLength.{CodeLength}
 use Rattle.safe_pdu.specs.declared.CodeLength.TheVariants.{Zero, Eight, Sixteen}
@@ -13,19 +13,21 @@ use Rattle.end_settings.specs.Lists.{versions_in, checksum_in}
 use Rattle.end_settings.specs.declared.EndConfig.{EndConfig}
 use Rattle.end_settings.specs.EndSettings.{EndSettings}
 
+-- the side of the specs for a side of the code
 abbrev pub side_of : Side → WorldSide
 side_of Interlocking = Il
 side_of FieldElement = Fe
 
--- the role of its safety machine
+-- the role of a side's safety machine
 abbrev pub role_of : Side → Role
 role_of Interlocking = Client
 role_of FieldElement = Server
 
--- the length of code that a number of octets names: an end has 8 or 16, and any other number is none
+-- the length of the safety code for a number of bytes: 8 and 16 are lengths of an end's code, all other numbers mean Zero
 abbrev pub code_of : ℕ → CodeLength
 code_of octets = if octets == 8 then Eight else (if octets == 16 then Sixteen else Zero)
 
+-- the settings that an `EndConfig` holds; the role of the connection is set later
 abbrev pub settings_of : EndConfig → EndSettings
 settings_of c =
     record {

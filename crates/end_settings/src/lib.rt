@@ -1,5 +1,5 @@
-//! What an end is opened with: the settings of all its layers in one value, and the test that refuses
-//! those with which no end is opened.
+//! The settings that an end is opened with: those of all its layers in one value, and the test that rejects
+//! unusable ones.
 #![tactic(auto)]
 
 ghost use Rattle.std.specs.Prelude.{◌≡◌, ◌≤◌};
@@ -22,14 +22,14 @@ use safe_pdu::{CodeLength, CodeRule};
 /// The two ends of a connection.
 #[derive(Clone, Copy, Debug, PartialEq, Eq)]
 pub enum Side {
-    /// The interlocking, which asks for connection and session: the client.
+    /// The interlocking, the client: it requests the connection and the session.
     Interlocking,
-    /// The field element, which grants them: the server.
+    /// The field element, the server: it accepts them.
     FieldElement,
 }
 
 impl Side {
-    /// The role of this end's safety machine.
+    /// Returns the role of this end's safety machine.
     pub fn role(self) -> Role
         // The interlocking is the client, the field element the server.
         ensures { result ≡ role_of self }
@@ -41,55 +41,60 @@ impl Side {
     }
 }
 
-/// What an end is opened with. Each number may be any; `is_fit` tells those with which an end is opened.
+/// The settings that an end is opened with. The numbers can have any value, so that a script or a file is
+/// rejected for a number only when an end is opened; `is_fit` tests them. Names, versions and checksum have
+/// types that hold no more than the profile allows.
 #[derive(Clone, Copy, Debug, PartialEq, Eq)]
 pub struct EndConfig {
-    /// The own identifier.
+    /// This end's identifier.
     pub id: u32,
-    /// The identifier of the peer, another one.
+    /// The peer's identifier, a different one.
     pub peer_id: u32,
-    /// The own name.
+    /// This end's name.
     pub name: OwnedName,
-    /// The name of the peer.
+    /// The peer's name.
     pub peer_name: OwnedName,
     /// The protocol type of the session.
     pub protocol: u8,
     /// The PDI versions: one at an interlocking, one to four different ones at a field element.
     pub versions: Versions,
-    /// What a field element answers a version check with; nobody compares it.
+    /// The checksum that a field element sends when it is asked for its version. Nothing compares it.
     pub checksum: Checksum,
-    /// The octets of the safety code, 8 or 16.
+    /// The length of the safety code in bytes, 8 or 16.
     pub code: u64,
-    /// The initial value of the digest that the safety code is the beginning of.
+    /// The initial value of the digest of which the safety code is a prefix.
     pub initial_value: [u32; 4],
-    /// The channels, 1 to 4.
+    /// The number of channels, 1 to 4.
     pub channels: u64,
     /// How many units the peer may have unconfirmed (N_sendmax), 1 to 32.
     pub n_sendmax: u64,
     /// How many messages are packed into one unit, 1 to 3.
     pub n_maxpacket: u64,
-    /// How many early parts the redundancy layer lets wait (deferral queue), 1 to 8.
+    /// How many early parts the redundancy layer defers, 1 to 8.
     pub q: u64,
-    /// How old what was last confirmed may get (T_max), 100 to 60,000 milliseconds.
+    /// The greatest age of the last confirmation (T_max), 100 to 60,000 milliseconds.
     pub t_max: Milliseconds,
-    /// How long after its last sending a connected end sends a heartbeat (T_h), 10 to t_max minus 1 milliseconds.
+    /// The time after the last sending at which a connected end sends a heartbeat (T_h), 10 to t_max minus
+    /// 1 milliseconds.
     pub t_h: Milliseconds,
-    /// How long early parts wait (T_seq), 10 to 1,000 milliseconds.
+    /// How long early parts are deferred (T_seq), 10 to 1,000 milliseconds.
     pub t_seq: Milliseconds,
-    /// After how many units taken without a sending a heartbeat is sent (MWA), 1 to 16.
+    /// The number of units taken without sending after which a heartbeat is sent (MWA), 1 to 16.
     pub mwa: u64,
-    /// How many PDUs one connection may have, 100 to 4,294,901,760.
+    /// The number of PDUs that one connection may have, 100 to 4,294,901,760.
     pub pdu_limit: u64,
 }
 
 impl EndConfig {
-    /// Whether an end may be opened on this side with these settings. All others are refused as BadConfig.
+    /// Returns whether an end can be opened on this side with these settings. Opening refuses all others as
+    /// BadConfig.
     pub fn is_fit(&self, side: Side) -> bool
-        // `is_fit` tells exactly whether settings are fit for a side: numbers in their ranges, names and
-        // checksum well formed, versions as the side needs them.
+        // The result is true if and only if all numbers are in their ranges, the identifiers differ, names
+        // and checksum are well formed, and the versions are as the side needs them.
         ensures { result ≡ are_fit (side_of side) (settings_of self.now) }
     {
-        // Names and checksum are fit by their types; so is the protocol type, whose range is known once it is read.
+        // The types make names and checksum fit. So does the type of the protocol type, whose range is
+        // known after it is read.
         let _protocol = self.protocol;
         if !self.is_connection() {
             return false;
@@ -100,9 +105,10 @@ impl EndConfig {
         self.has_versions(side)
     }
 
-    /// The safety code, where it is one of an end; none otherwise, which no machine takes.
+    /// Returns the length of the safety code if it is 8 or 16, else `Zero`, which the safety machine
+    /// rejects.
     pub fn code_length(&self) -> CodeLength
-        // 8 and 16 name the lengths of the safety code; any other number names no code.
+        // The result is `Eight` for 8, `Sixteen` for 16, and `Zero` for any other number.
         ensures { result ≡ code_of self.now.code }
     {
         match self.code {
@@ -112,11 +118,11 @@ impl EndConfig {
         }
     }
 
-    /// The settings of the safety machine. The caller has seen that they are fit.
+    /// Returns the settings of the safety machine. The caller must have checked that `n_sendmax` is at most 32.
     pub fn machine(&self) -> MachineConfig
         requires { self.now.n_sendmax ≤ WINDOW_MAX }
-        // With `n_sendmax` at most 32 the safety machine's settings are those of the end, in the role of its
-        // side.
+        // For either `side`, the result in the role of that side is the end's connection settings in that
+        // role.
         ensures { (side : Side) → machine_settings (role_of side) result
             ≡ connection_of (side_of side) (settings_of self.now) }
     {
@@ -135,7 +141,10 @@ impl EndConfig {
         }
     }
 
+    /// Returns whether the settings of the safety machine are in their ranges.
     fn is_connection(&self) -> bool
+        // The result is true if and only if the connection settings are in their ranges, with two different
+        // identifiers and a safety code of 8 or 16 bytes.
         ensures { result ≡ is_legal (settings_of self.now).connection }
     {
         if self.n_sendmax > WINDOW_MAX as u64 {
@@ -144,7 +153,10 @@ impl EndConfig {
         self.machine().is_legal(Role::Client)
     }
 
+    /// Returns whether the settings of the other layers are in their ranges.
     fn in_limits(&self) -> bool
+        // The result is true if and only if `channels` (1 to 4), `n_maxpacket` (1 to 3), `q` (1 to 8) and
+        // `t_seq` (10 to 1,000) are in range.
         ensures { result ≡ in_limits (settings_of self.now) }
     {
         1 <= self.channels
@@ -157,7 +169,10 @@ impl EndConfig {
             && self.t_seq <= T_SEQ_MAX
     }
 
+    /// Returns whether the versions are as the side needs them.
     fn has_versions(&self, side: Side) -> bool
+        // The result is true if and only if an interlocking has exactly one version, or a field element one
+        // to four different ones.
         ensures { result ≡ has_versions (side_of side) (settings_of self.now) }
     {
         match side {

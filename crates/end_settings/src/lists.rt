@@ -1,4 +1,4 @@
-//! Lists of settings that are copied with them.
+//! The lists among the settings, which are copied with them.
 
 ghost use Rattle.std.specs.Prelude.{◌≡◌, ◌≤◌, ◌↔◌, length, IsSome, IfSome};
 ghost use Rattle.pdi_session.specs.declared.TheConstants.{CHECKSUM_MAX, VERSIONS_MAX};
@@ -8,9 +8,9 @@ use pdi_session::{CHECKSUM_MAX, VERSIONS_MAX};
 /// The PDI versions of an end, at most four.
 #[derive(Clone, Copy, Debug, PartialEq, Eq)]
 pub struct Versions {
-    /// The versions, and zeros behind them.
+    /// The versions, followed by zeros.
     octets: [u8; VERSIONS_MAX],
-    /// How many of them are versions: 1 to 4.
+    /// How many of the bytes are versions, 0 to 4.
     count: usize,
     ghost in_range: { count ≤ VERSIONS_MAX },
 }
@@ -18,11 +18,11 @@ pub struct Versions {
 impl Versions {
     ghost use Rattle.end_settings.specs.Lists.{versions_in};
 
-    /// These versions; `None` where they are more than four.
+    /// Returns a copy of these versions, or `None` if there are more than four.
     pub fn new(versions: &[u8]) -> Option<Self>
-        // A list of versions is refused exactly where it has more than four.
+        // The result is `None` if and only if there are more than four versions.
         ensures some { IsSome result ↔ (length versions.now ≤ VERSIONS_MAX) }
-        // Versions are kept as they were given, in order.
+        // A copy has the given versions, in order.
         ensures found { IfSome result (λ kept. versions_in kept ≡ versions.now) }
     {
         let mut octets = [0; VERSIONS_MAX];
@@ -36,21 +36,21 @@ impl Versions {
         })
     }
 
-    /// The versions, in order.
+    /// Returns the versions, in order.
     pub fn as_slice(&self) -> &[u8]
-        // Versions are kept as they were given, in order.
+        // The result is the versions in order, without the zeros after them.
         ensures { result.now ≡ versions_in self.now }
     {
         &self.octets[..self.count]
     }
 }
 
-/// The checksum that a field element answers with, at most 16 octets.
+/// The checksum that a field element sends, at most 16 bytes.
 #[derive(Clone, Copy, Debug, PartialEq, Eq)]
 pub struct Checksum {
-    /// The checksum, and zeros behind it.
+    /// The checksum, followed by zeros.
     octets: [u8; CHECKSUM_MAX],
-    /// How many of them are its octets: 0 to 16.
+    /// How many of the bytes are the checksum, 0 to 16.
     count: usize,
     ghost in_range: { count ≤ CHECKSUM_MAX },
 }
@@ -58,11 +58,11 @@ pub struct Checksum {
 impl Checksum {
     ghost use Rattle.end_settings.specs.Lists.{checksum_in};
 
-    /// This checksum; `None` where it has more than 16 octets.
+    /// Returns a copy of this checksum, or `None` if it has more than 16 bytes.
     pub fn new(checksum: &[u8]) -> Option<Self>
-        // A checksum is refused exactly where it has more than 16 octets.
+        // The result is `None` if and only if the checksum has more than 16 bytes.
         ensures some { IsSome result ↔ (length checksum.now ≤ CHECKSUM_MAX) }
-        // The octets of a checksum are kept as they were given, in order.
+        // A copy has the bytes of the given checksum, in order.
         ensures found { IfSome result (λ kept. checksum_in kept ≡ checksum.now) }
     {
         let mut octets = [0; CHECKSUM_MAX];
@@ -76,9 +76,9 @@ impl Checksum {
         })
     }
 
-    /// The octets, in order.
+    /// Returns the bytes, in order.
     pub fn as_slice(&self) -> &[u8]
-        // The octets of a checksum are kept as they were given, in order.
+        // The result is the bytes of the checksum, without the zeros after them.
         ensures { result.now ≡ checksum_in self.now }
     {
         &self.octets[..self.count]

@@ -1,4 +1,4 @@
--- The words of a block and the steps over them, as the code goes through them.
+-- The words of a block and the steps over them, in the order of the code.
 use Rattle.std.proofs.Common.{◌≡◌, ℕ, zero, suc, ◌+◌, ◌*◌, ◌%◌, ◌^◌, ◌<◌, List, [], ◌∷◌, ◌++◌, length, take, drop, slice_index, get_or, refl, sym, ap, ◌∙◌, arith}
 use Rattle.std.proofs.Math.Nat.{mul-suc}
 use Rattle.std.proofs.lemmas.List.{same_lists, get_or_default, get_or-map, drop-drop}
@@ -9,7 +9,7 @@ use Rattle.byteorder.specs.Numbers.{little_from-take}
 use Rattle.md4.specs.Rows.{HasAdded}
 use Rattle.md4.specs.Digest.{Round, stepped, four_steps, words_of, spelled}
 
--- four steps, from what each step read
+-- four steps, from the words that each step read
 pub four_steps_are : (round : Round) (v row : List ℕ) {fa a fd d fc c fb b : ℕ}
     → fa ≡ round.mixed (slice_index v 1) (slice_index v 2) (slice_index v 3)
     → a ≡ stepped (slice_index v 0) fa (slice_index row 0) round.added (slice_index round.shifts 0)
@@ -23,13 +23,13 @@ pub four_steps_are : (round : Round) (v row : List ℕ) {fa a fd d fc c fb b : �
 unfolding four_steps
 four_steps_are round v row efa ea efd ed efc ec efb eb = rw (eb, efb, ec, efc, ed, efd, ea, efa) refl
 
--- a step with the constant added to the word beforehand
+-- a step with the constant added to the word before
 stepped-added : (a mixed word added sum shift : ℕ) → sum ≡ (word + added) % 2 ^ 32 → stepped a mixed sum 0 shift ≡ stepped a mixed word added shift
 stepped-added a mixed word added sum shift e =
     let same : (a + mixed + sum + 0) % 2 ^ 32 ≡ (a + mixed + word + added) % 2 ^ 32 = omega arith in
     ap (λ (n : ℕ). rotate_left w32 n shift) same
 
--- four steps on words to which the constant was added beforehand
+-- four steps on words with the constant added before
 pub added_steps_are : (round : Round) (v words row : List ℕ) {fa a fd d fc c fb b : ℕ} → HasAdded round words row
     → fa ≡ round.mixed (slice_index v 1) (slice_index v 2) (slice_index v 3)
     → a ≡ stepped (slice_index v 0) fa (slice_index row 0) 0 (slice_index round.shifts 0)
@@ -47,7 +47,7 @@ added_steps_are round v words row {fa} {a} {fd} {d} {fc} {c} {fb} {b} sums efa e
     efc (ec ∙ stepped-added (slice_index v 2) fc (slice_index words 2) round.added (slice_index row 2) (slice_index round.shifts 2) sums.third)
     efb (eb ∙ stepped-added (slice_index v 1) fb (slice_index words 3) round.added (slice_index row 3) (slice_index round.shifts 3) sums.fourth)
 
--- four of the words with the constant added
+-- a row of four words with the constant added
 pub row_of : (round : Round) (words sums : List ℕ) → ((k : ℕ) → k < 16 → slice_index sums k ≡ (slice_index words k + round.added) % 2 ^ 32)
     → (i j k l : ℕ) → i < 16 → j < 16 → k < 16 → l < 16
     → HasAdded round (slice_index words i ∷ slice_index words j ∷ slice_index words k ∷ slice_index words l ∷ [])
@@ -58,7 +58,7 @@ length-first_chunks : {X : Type 0} (n k : ℕ) (xs : List X) → length (first_c
 length-first_chunks n zero xs = refl
 length-first_chunks n (suc k) xs = let rest = length-first_chunks n k (drop n xs) in omega (arith, rest)
 
--- a part, by its place
+-- a chunk of a list, by its place
 get_or-first_chunks : {X : Type 0} (n k i : ℕ) (xs : List X) (d : List X) → i < k → get_or (first_chunks n k xs) i d ≡ take n (drop (n * i) xs)
 get_or-first_chunks n zero i xs d low = absurd (omega arith)
 get_or-first_chunks n (suc k) zero xs d low = let none : n * zero ≡ 0 = omega arith in rw none refl
@@ -74,13 +74,13 @@ get_or-words_of block i d low =
     ∙ ap (little_number 4) (get_or-first_chunks 4 16 i block [] low)
     ∙ little_from-take 0 4 4 (drop (4 * i) block) (omega arith)
 
--- sixteen words that were read from a block are its words
+-- sixteen words read from a block are its words
 pub words_are : (block words : List ℕ) → length words ≡ 16 → IsRead little_number 4 block words → words ≡ words_of block
 words_are block words size read =
     same_lists words (words_of block) size (λ k d low.
     get_or_default words k d 0 low ∙ read k low ∙ sym (get_or-words_of block k d (omega arith)))
 
--- the octets of a digest, written word by word
+-- the bytes of a digest, written word by word
 pub spelled_are : (words one two three four : List ℕ) → take 4 one ≡ little_bytes 4 (slice_index words 0)
     → take 8 two ≡ take 4 one ++ little_bytes 4 (slice_index words 1)
     → take 12 three ≡ take 8 two ++ little_bytes 4 (slice_index words 2)

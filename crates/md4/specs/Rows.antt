@@ -2,6 +2,7 @@
 use Rattle.std.specs.Prelude.{◌≡◌, ℕ, ◌+◌, ◌%◌, ◌^◌, List, slice_index}
 use Rattle.md4.specs.Digest.{Round}
 
+-- each of the four words of `row` is that of `words` plus the round's constant, modulo 2 ^ 32
 pub record HasAdded (round : Round) (words row : List ℕ) : Type 0 where
   pub first : slice_index row 0 ≡ (slice_index words 0 + round.added) % 2 ^ 32
   pub second : slice_index row 1 ≡ (slice_index words 1 + round.added) % 2 ^ 32

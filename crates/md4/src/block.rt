@@ -1,5 +1,7 @@
-// The three rounds over a block of 64 octets, and the octets of a digest (RFC 1320, sections 3.4
-// and 3.5).
+//! The three rounds over a block of 64 bytes, and the bytes of a digest (RFC 1320, sections 3.4 and 3.5).
+//!
+//! The rounds are twelve rows of four inlined steps, not a loop over tables, so that the four words stay in
+//! registers.
 
 ghost use Rattle.std.specs.Prelude.{◌≡◌, ℕ, ◌+◌, ◌%◌, ◌^◌, ◌<◌, List, [], ◌∷◌, length, slice_index};
 ghost use Rattle.md4.specs.Digest.{conditional, majority, parity, stepped, first_round, second_round, third_round, four_steps, after_round, after_block, spelled};
@@ -8,42 +10,54 @@ ghost use Rattle.md4.specs.Rows.{HasAdded};
 use byteorder::{ByteOrder, LittleEndian};
 use octets::places::put_u32;
 
+/// The constant of the second round.
 const SECOND_ADDED: u32 = 0x5a82_7999;
 
+/// The constant of the third round.
 const THIRD_ADDED: u32 = 0x6ed9_eba1;
 
+/// Returns F of three words (RFC 1320, section 3.4).
 #[inline(always)]
 fn conditional(x: u32, y: u32, z: u32) -> u32
+    // Each bit of the result of `conditional` is that of `y` if the bit of `x` is 1, else that of `z`.
     ensures { result ≡ conditional x y z }
 {
     (x & y) | (!x & z)
 }
 
+/// Returns G of three words (RFC 1320, section 3.4).
 #[inline(always)]
 fn majority(x: u32, y: u32, z: u32) -> u32
+    // Each bit of the result of `majority` is the one that at least two of the three words have.
     ensures { result ≡ majority x y z }
 {
-    // Only the second part waits for `x`, which the step before makes.
+    // A sum, because only its second part waits for `x`, which the previous step makes.
     (y & z).wrapping_add(x & (y ^ z))
 }
 
+/// Returns H of three words (RFC 1320, section 3.4).
 #[inline(always)]
 fn parity(x: u32, y: u32, z: u32) -> u32
+    // Each bit of the result of `parity` is the exclusive or of the three bits.
     ensures { result ≡ parity x y z }
 {
     x ^ y ^ z
 }
 
+/// Returns the new word of a step, whose constant is already in `word`.
 #[inline(always)]
 fn stepped(a: u32, mixed: u32, word: u32, shift: u32) -> u32
+    // The result of `stepped` is the sum of `a`, `mixed` and `word` modulo 2^32, rotated left by `shift`.
     ensures { result ≡ stepped a mixed word 0 shift }
 {
-    // `mixed` hangs on the step before, so it is added last.
+    // `mixed` waits for the previous step, so it is added last.
     a.wrapping_add(word).wrapping_add(mixed).rotate_left(shift)
 }
 
+/// Takes four steps of the first round.
 #[inline(always)]
 fn first_four(v: [u32; 4], row: [u32; 4]) -> [u32; 4]
+    // The result of `first_four` is the four words after four steps of `first_round` with the words `row`.
     ensures { result ≡ four_steps first_round v row }
 {
     let [a, b, c, d] = v;
@@ -54,8 +68,11 @@ fn first_four(v: [u32; 4], row: [u32; 4]) -> [u32; 4]
     [a, b, c, d]
 }
 
+/// Takes four steps of the second round.
 #[inline(always)]
 fn second_four(v: [u32; 4], row: [u32; 4]) -> [u32; 4]
+    // If `row` has `words` with the second round's constant added, the result is the four words after four
+    // steps of `second_round` with `words`.
     ensures { (words : List ℕ) → HasAdded second_round words row → result ≡ four_steps second_round v words }
 {
     let [a, b, c, d] = v;
@@ -66,8 +83,11 @@ fn second_four(v: [u32; 4], row: [u32; 4]) -> [u32; 4]
     [a, b, c, d]
 }
 
+/// Takes four steps of the third round.
 #[inline(always)]
 fn third_four(v: [u32; 4], row: [u32; 4]) -> [u32; 4]
+    // If `row` has `words` with the third round's constant added, the result is the four words after four
+    // steps of `third_round` with `words`.
     ensures { (words : List ℕ) → HasAdded third_round words row → result ≡ four_steps third_round v words }
 {
     let [a, b, c, d] = v;
@@ -78,10 +98,12 @@ fn third_four(v: [u32; 4], row: [u32; 4]) -> [u32; 4]
     [a, b, c, d]
 }
 
-// The words of a block with the constant of a round added. Were it inlined, the compiler would add
-// the constant last in each step, where the next step waits for it.
+/// Returns the words of a block with a round's constant added. It is not inlined: otherwise the compiler
+/// adds the constant last in each step, and the next step waits for it (about a sixth more time for a long
+/// message).
 #[inline(never)]
 fn with_added(w: &[u32; 16], added: u32) -> [u32; 16]
+    // Each of the sixteen words is that of the block plus `added`, modulo 2^32.
     ensures { (k : ℕ) → k < 16 → slice_index result k ≡ (slice_index w.now k + added) % 2 ^ 32 }
 {
     let mut sums = [0u32; 16];
@@ -91,8 +113,10 @@ fn with_added(w: &[u32; 16], added: u32) -> [u32; 16]
     sums
 }
 
+/// Takes the sixteen steps of the first round.
 #[inline(always)]
 fn after_first(w: &[u32; 16], v: [u32; 4]) -> [u32; 4]
+    // The result of `after_first` is the four words after all of `first_round` over the block's words.
     ensures { result ≡ after_round first_round w.now v }
 {
     let v = first_four(v, [w[0], w[1], w[2], w[3]]);
@@ -101,8 +125,10 @@ fn after_first(w: &[u32; 16], v: [u32; 4]) -> [u32; 4]
     first_four(v, [w[12], w[13], w[14], w[15]])
 }
 
+/// Takes the sixteen steps of the second round.
 #[inline(always)]
 fn after_second(w: &[u32; 16], v: [u32; 4]) -> [u32; 4]
+    // The result of `after_second` is the four words after all of `second_round` over the block's words.
     ensures { result ≡ after_round second_round w.now v }
 {
     let w = with_added(w, SECOND_ADDED);
@@ -112,8 +138,10 @@ fn after_second(w: &[u32; 16], v: [u32; 4]) -> [u32; 4]
     second_four(v, [w[3], w[7], w[11], w[15]])
 }
 
+/// Takes the sixteen steps of the third round.
 #[inline(always)]
 fn after_third(w: &[u32; 16], v: [u32; 4]) -> [u32; 4]
+    // The result of `after_third` is the four words after all of `third_round` over the block's words.
     ensures { result ≡ after_round third_round w.now v }
 {
     let w = with_added(w, THIRD_ADDED);
@@ -123,9 +151,10 @@ fn after_third(w: &[u32; 16], v: [u32; 4]) -> [u32; 4]
     third_four(v, [w[3], w[11], w[7], w[15]])
 }
 
-/// Takes a block of 64 octets into the four words.
+/// Updates the four words with a block of 64 bytes.
 pub fn take_in(words: &mut [u32; 4], block: &[u8])
     requires { length block.now ≡ 64 }
+    // The new words are the sums of the old ones and the words after the three rounds over the block.
     ensures { words.new ≡ after_block words.old block.now }
 {
     let mut w = [0u32; 16];
@@ -139,8 +168,9 @@ pub fn take_in(words: &mut [u32; 4], block: &[u8])
     ];
 }
 
-/// The four words as octets.
+/// Returns the four words as bytes.
 pub fn spelled(words: [u32; 4]) -> [u8; 16]
+    // The result is the four words in order, each least significant byte first.
     ensures { result ≡ spelled words }
 {
     let mut octets = [0; 16];

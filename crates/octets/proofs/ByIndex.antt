@@ -1,4 +1,4 @@
--- Octets in the form in which the check states it of a slice, which the lemmas on fields ask for.
+-- Lists of bytes in the form that the checker uses for slices, as the lemmas on fields need it.
 use Rattle.std.proofs.Common.{◌<◌, ℕ, zero, suc, List, [], ◌∷◌, arith}
 use Rattle.octets.specs.Octets.{AreOctets}
 use Rattle.octets.proofs.Fields.{FitOctets}

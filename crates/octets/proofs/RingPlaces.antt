@@ -1,9 +1,9 @@
--- Places in a ring: the next one, and how far one stands behind another.
+-- Places in a ring: the next place, and the distance between two.
 use Rattle.std.proofs.Common.{◌≡◌, ◌≢◌, ◌<◌, ℕ, suc, ◌+◌, ◌-◌, ◌⊎◌, true, false, eqb, refl, inl, inr, ⊎_elim, arith}
 use Rattle.std.proofs.lemmas.Bool.Decides.{eqb_tells}
 use Rattle.octets.specs.RingPlaces.{IsFar, place_behind}
 
--- the place behind one is the next, or the first of all
+-- the next place is the place plus one, or 0 after the last
 record Behind (n p q : ℕ) : Type 0 where
   pub inside : q < n
   pub far : (q ≡ p + 1) ⊎ ((q ≡ 0) × (p + 1 ≡ n))
@@ -16,7 +16,7 @@ behind n p lt =
 pub behind-inside : (n p : ℕ) → p < n → place_behind n p < n
 behind-inside n p lt = (behind n p lt).inside
 
--- from there on it is one nearer
+-- from the next place, the distance is one less
 pub far_next : (n p far q : ℕ) → p < n → IsFar n p (suc far) q → IsFar n (place_behind n p) far q
 far_next n p far q lt h = (
   h.0,
@@ -28,7 +28,7 @@ far_next n p far q lt h = (
       (behind n p lt).far,
 )
 
--- a place is as far behind the next one as there are others
+-- the distance from the next place back to a place is the number of the other places
 pub far_back : (n p : ℕ) → p < n → IsFar n (place_behind n p) (n - 1) p
 far_back n p lt = (
   lt,
@@ -36,7 +36,7 @@ far_back n p lt = (
       (λ (first : (place_behind n p ≡ 0) × (p + 1 ≡ n)). inl (omega (arith, first.0, first.1))) (behind n p lt).far,
 )
 
--- the place at no distance is the place itself, and no other is
+-- the place at distance 0 is the place itself, and no other is
 pub far_none : (n p q : ℕ) → p < n → IsFar n p 0 q → q ≡ p
 far_none n p q lt h = ⊎_elim (λ (up : q ≡ p + 0). omega arith) (λ (round : q + n ≡ p + 0). absurd (omega arith)) h.1
 

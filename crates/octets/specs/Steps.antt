@@ -1,7 +1,7 @@
--- What comes out of steps along a list, where each item makes some and moves a state.
+-- The output of a chain of steps along a list. Each item moves a state and makes a list.
 use Rattle.std.specs.Prelude.{List, [], ◌∷◌, ◌++◌}
 
--- the items that all of them make, in order
+-- the lists that all items make, concatenated in order; each is made in the state that the items before it leave
 abbrev pub outs : {V X Y : Type 0} → (V → X → V) → (V → X → List Y) → V → List X → List Y
 outs next out v [] = []
 outs next out v (x ∷ xs) = out v x ++ outs next out (next v x) xs

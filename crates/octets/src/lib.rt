@@ -1,5 +1,5 @@
-//! What every layer of the stack shares: numbers at places in octets, and the limits of messages,
-//! units and PDUs.
+//! The base of every layer: numbers at places in bytes, places in a ring, and the limits of messages, units
+//! and PDUs.
 #![tactic(auto)]
 
 pub mod limits;
@@ -9,5 +9,5 @@ mod storage;
 
 pub use storage::{Unit, copy_of};
 
-/// A time of an end's clock, or a span of one, in milliseconds.
+/// A time of an end's clock, or a duration, in milliseconds.
 pub type Milliseconds = u64;

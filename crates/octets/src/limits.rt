@@ -1,26 +1,26 @@
-//! The sizes and counts that the profile fixes, in octets unless a line says otherwise. Code and
-//! definitions both read them here. As numbers they stand once more, in the law at the end.
+//! The sizes and counts that the profile fixes, in bytes unless a comment says otherwise. Code and
+//! definitions use these constants; `limits_law` states each of them as a number.
 
 ghost use Rattle.octets.specs.Profile.{CountsAre, HeadersAre, RangesAre, TelegramsAre};
 
 /// The header of a redundancy PDU: length (2), reserve (2), sequence number (4).
 pub const RED_HEADER: usize = 8;
 
-/// The header of a safety PDU: length (2), type (2), receiver, sender, sequence number, confirmed
+/// The header of a safety PDU: length (2), PDU type (2), then receiver, sender, sequence number, confirmed
 /// sequence number, timestamp and confirmed timestamp (4 each).
 pub const SAFE_HEADER: usize = 28;
 
-/// The longest safety code, all of an MD4 digest.
+/// The longest safety code: a whole MD4 digest.
 pub const CODE_MAX: usize = 16;
 
-/// The protocol type (1), the message type (2) and the two names (20 each) of a telegram, so the
-/// shortest message: a telegram with no payload.
+/// The shortest message, a telegram with an empty payload: protocol type (1), message type (2) and two
+/// names (20 each).
 pub const MESSAGE_MIN: usize = 43;
 
-/// How many octets a name has in a telegram, its filling included.
+/// The size of a name in a telegram, with its filling.
 pub const NAME_LENGTH: usize = 20;
 
-/// The octet that a name is filled up with. No name contains it.
+/// The byte that fills names up, an underscore. No name contains it.
 pub const FILLING: u8 = 0x5f;
 
 /// The longest payload of a telegram.
@@ -29,16 +29,16 @@ pub const PAYLOAD_MAX: usize = 357;
 /// The longest message: a telegram with the longest payload.
 pub const MESSAGE_MAX: usize = MESSAGE_MIN + PAYLOAD_MAX;
 
-/// The length that stands in front of each message of a unit.
+/// The size of the length field before each message of a unit.
 pub const MESSAGE_LENGTH: usize = 2;
 
-/// How many messages a unit carries at most.
+/// The greatest number of messages in a unit.
 pub const UNIT_MESSAGES: usize = 3;
 
-/// The shortest unit: one shortest message.
+/// The shortest unit: one shortest message with its length field.
 pub const UNIT_MIN: usize = MESSAGE_LENGTH + MESSAGE_MIN;
 
-/// The longest unit: as many longest messages as it may carry.
+/// The longest unit: three longest messages with their length fields.
 pub const UNIT_MAX: usize = UNIT_MESSAGES * (MESSAGE_LENGTH + MESSAGE_MAX);
 
 /// The body of a ConnReq or ConnResp: version (4), N_sendmax (2), reserve (8).
@@ -47,47 +47,47 @@ pub const OPENING_BODY: usize = 14;
 /// The body of a DiscReq: detail (2), reason (2).
 pub const LEAVING_BODY: usize = 4;
 
-/// The greatest N_sendmax: how many units may be unconfirmed at most.
+/// The greatest N_sendmax: the greatest number of unconfirmed units.
 pub const WINDOW_MAX: usize = 32;
 
-/// How far ahead of the expected number one may lie that is judged, as a multiple of the window, or of q.
+/// How far ahead of the expected number a number is still judged, as a multiple of the window or of q.
 pub const REACH: u64 = 10;
 
-/// The shortest and the longest T_max, after which nothing recent was confirmed, in milliseconds.
+/// The least T_max, in milliseconds. T_max is the greatest age of the last confirmation.
 pub const T_MAX_LOWEST: u64 = 100;
-/// See `T_MAX_LOWEST`.
+/// The greatest T_max, in milliseconds.
 pub const T_MAX_HIGHEST: u64 = 60_000;
 
-/// The shortest T_h, after which a heartbeat is due, in milliseconds; it is below T_max.
+/// The least T_h, the time after which a heartbeat is due, in milliseconds. T_h is less than T_max.
 pub const T_H_LOWEST: u64 = 10;
 
-/// The greatest number of units that are taken without a sending before a heartbeat is made.
+/// The greatest mwa: the number of units that an end takes without sending before it makes a heartbeat.
 pub const MWA_MAX: u32 = 16;
 
-/// The fewest and the most PDUs that one connection may be limited to. The most leaves room below 2^32
-/// for what a step that began below the limit, an open window and a leaving may still make.
+/// The least PDU limit of a connection.
 pub const PDU_LIMIT_LOWEST: u64 = 100;
-/// See `PDU_LIMIT_LOWEST`.
+/// The greatest PDU limit of a connection. It leaves room below 2^32 for the PDUs that a step begun below
+/// the limit, an open window and a DiscReq can still make.
 pub const PDU_LIMIT_HIGHEST: u64 = 4_294_901_760;
 
-/// How many messages wait to be sent at most.
+/// The greatest number of messages that wait to be sent.
 pub const WAITING_MAX: usize = 64;
 
-/// How many channels an end may have at most.
+/// The greatest number of channels of an end.
 pub const CHANNELS_MAX: usize = 4;
 
-/// How many early parts a deferral queue may hold at most.
+/// The greatest q: the number of parts in a deferral queue.
 pub const Q_MAX: usize = 8;
 
-/// The shortest and the longest time (T_seq) for which an early part may wait, in milliseconds.
+/// The least T_seq, the time for which an early part waits, in milliseconds.
 pub const T_SEQ_LOWEST: u64 = 10;
-/// See `T_SEQ_LOWEST`.
+/// The greatest T_seq, in milliseconds.
 pub const T_SEQ_MAX: u64 = 1_000;
 
-/// The longest safety PDU without its code: the header and a longest unit.
+/// The longest safety PDU without its safety code: the header and a longest unit.
 pub const SAFE_FRONT_MAX: usize = SAFE_HEADER + UNIT_MAX;
 
-/// The longest safety PDU, with the longest code. It is the longest upper part of a redundancy PDU.
+/// The longest safety PDU, with the longest safety code. It is the longest part of a redundancy PDU.
 pub const SAFE_PDU_MAX: usize = SAFE_FRONT_MAX + CODE_MAX;
 
 /// The longest redundancy PDU.
@@ -101,14 +101,19 @@ const _: () = prove!(SAFE_PDU_MAX == 1_250);
 
 const _: () = prove!(RED_PDU_MAX == 1_258);
 
-/// A law, which does nothing when it is called: the limits are these numbers.
+/// States the limits as numbers. The function does nothing when it is called.
 pub fn limits_law()
-    // The sizes of headers, codes and PDUs are the stated numbers.
+    // The headers have 8 (redundancy) and 28 (safety) bytes, the bodies of ConnReq and DiscReq 14 and 4,
+    // and the longest safety code 16.
     ensures headers { HeadersAre }
-    // The sizes of telegrams, messages, names and units are the stated numbers.
+    // A name has 20 bytes, filled up with 95, a payload up to 357, a message 43 to 400, and a unit 45 to
+    // 1,206: up to three messages with lengths of 2. A safety PDU has up to 1,234 bytes before its safety
+    // code and 1,250 in all, a redundancy PDU up to 1,258.
     ensures telegrams { TelegramsAre }
-    // The counts of channels, of units in a window and of parts that wait are the stated numbers.
+    // At most 32 units are unconfirmed, 16 taken without sending, 64 messages waiting, 4 channels open and
+    // 8 parts deferred; the reach is 10 times the window or q.
     ensures counts { CountsAre }
-    // The ranges of settings are the stated numbers.
+    // T_max is 100 to 60,000 ms, T_h at least 10 ms, T_seq 10 to 1,000 ms, and the PDU limit 100 to
+    // 4,294,901,760.
     ensures ranges { RangesAre }
 {}

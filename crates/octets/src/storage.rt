@@ -1,17 +1,17 @@
-//! Octets in storage of their own.
+//! Bytes in storage of their own.
 
 ghost use Rattle.std.specs.Prelude.{◌≡◌, ◌≤◌, length};
 
 use crate::limits::UNIT_MAX;
 use arrayvec::ArrayVec;
 
-/// The octets of a unit, in storage of the longest one (1,206 octets).
+/// The bytes of a unit, in storage for the longest one (1,206 bytes).
 pub type Unit = ArrayVec<u8, UNIT_MAX>;
 
-/// A copy of octets, in storage for at most `MAX` of them. The caller keeps them within it.
+/// Returns a copy of at most `MAX` bytes, in storage for `MAX`.
 pub fn copy_of<const MAX: usize>(octets: &[u8]) -> ArrayVec<u8, MAX>
     requires { length octets.now ≤ MAX }
-    // A copy holds the octets that were copied, whatever the size of its storage.
+    // The copy has exactly the copied bytes.
     ensures { result.items ≡ octets.now }
 {
     let mut copy = ArrayVec::new();

@@ -1,4 +1,4 @@
--- A name's place, told by how many of its octets are no filling.
+-- A name's place, by the number of its bytes that are not filling.
 use Rattle.std.proofs.Common.{◌≡◌, ◌==◌, ℕ, zero, suc, ◌-◌, not, true, List, [], ◌∷◌, length, take, drop, Option, Some, None, Err, cond, refl, ap, ◌∙◌, inl, inr, arith}
 use Rattle.std.proofs.Math.ListN.{replicate}
 use Rattle.std.proofs.Math.Seq.{take-append_seam}
@@ -19,7 +19,7 @@ counts octet = cond (not (octet == FILLING)) 1 0
 abbrev pub count : List ℕ → ℕ
 count field = count_by (λ octet. not (octet == FILLING)) field
 
--- each character counts, and no filling
+-- each character is counted, and filling is not
 count-characters : (cs : List ℕ) → HasCharacters cs → count cs ≡ length cs
 count-characters [] h = refl
 count-characters (c ∷ cs) h =
@@ -37,7 +37,7 @@ count-filled name h =
     let filling : List ℕ = replicate (NAME_LENGTH - length name) FILLING in
     omega (arith, sum_by-append counts name filling, count-characters name h, count-filling (NAME_LENGTH - length name))
 
--- where nothing counts, all is filling
+-- if the count is 0, all is filling
 none_counts : (xs : List ℕ) → count xs ≡ 0 → list_all (λ octet. octet == FILLING) xs ≡ true
 none_counts [] h = refl
 none_counts (x ∷ xs) h =
@@ -46,7 +46,7 @@ none_counts (x ∷ xs) h =
       | inr other ↦ let one : counts x ≡ 1 = rw other refl in absurd (omega (arith, h, sum_by-cons counts x xs, one))
     ]
 
--- where so many characters stand in front, they are a name with its filling
+-- if as many characters as counted come first, they are a name with its filling
 front_named : (field : List ℕ) → length field ≡ NAME_LENGTH → IsName (take (count field) field) → field ≡ filled (take (count field) field)
 front_named field long is =
     let front : List ℕ = take (count field) field in
@@ -56,7 +56,7 @@ front_named field long is =
     in
     (spelled_at (count field) field long is (none_counts (drop (count field) field) back)).spelled
 
--- a name that is seen is what stands in front
+-- a name that is read is at the start
 seen_front : (field name : List ℕ) → length field ≡ NAME_LENGTH → Some name ≡ name_seen field → (take (count field) field ≡ name) × IsName name
 seen_front field name long seen =
     let found = seen_spelled field name long seen in
@@ -72,7 +72,7 @@ none_seen (Some name) field fault is long reads =
     let again = name_read-ok name front.1 in
     absurd cc
 
--- what stands in front is read as the name that is seen
+-- the characters at the start are read as the name
 pub front_seen : (field : List ℕ) → length field ≡ NAME_LENGTH → result_ok (name_read (take (count field) field)) ≡ name_seen field
 front_seen field long =
     elim (read_cases (take (count field) field)) [

@@ -1,4 +1,4 @@
--- Names: what stands in a name's place is a name with its filling, and is read as that name.
+-- Names: the place of a name has the name with its filling, and is read as that name.
 use Rattle.std.proofs.Common.{◌≡◌, ◌≢◌, ◌==◌, nat_lt, ◌<◌, ℕ, zero, suc, ◌-◌, true, false, ◌⊎◌, List, [], ◌∷◌, ◌++◌, length, take, drop, Some, None, Ok, Err, refl, sym, ap, ◌∙◌, inl, inr, arith}
 use Rattle.std.proofs.Math.ListN.{replicate}
 use Rattle.std.proofs.Math.Seq.{take-append_seam, drop-append_seam}
@@ -14,7 +14,7 @@ use Rattle.octets.specs.declared.limits.TheConstants.{NAME_LENGTH, FILLING}
 use Rattle.pdi_session.specs.telegram.Names.{HasCharacters, IsName, filled, is_character, name_read}
 use Rattle.pdi_session.specs.telegram.Places.{HoldsNoName, name_at, name_seen, name_size}
 
--- a character is no filling, and ASCII
+-- a character is not filling, and is ASCII
 pub character_plain : (c : ℕ) → is_character c ≡ true → (c == FILLING) ≡ false
 character_plain c h = grind (arith, nat_tests)
 
@@ -27,7 +27,7 @@ HasCharacters-ascii (c ∷ cs) h =
     let parts = and_parts (is_character c) (list_all is_character cs) h in
     IsAscii-cons c cs (character_ascii c parts.0) (HasCharacters-ascii cs parts.1)
 
--- octets that are all filling
+-- bytes that are all filling
 filling_is : (xs : List ℕ) → list_all (λ octet. octet == FILLING) xs ≡ true → xs ≡ replicate (length xs) FILLING
 filling_is [] h = refl
 filling_is (x ∷ xs) h =
@@ -44,7 +44,7 @@ name_size-replicate : (n : ℕ) → name_size (replicate n FILLING) ≡ 0
 name_size-replicate zero = refl
 name_size-replicate (suc n) = refl
 
--- the characters of a name end where its filling begins
+-- the characters of a name end at its first filling
 name_size-append : (cs rest : List ℕ) → HasCharacters cs → name_size rest ≡ 0 → name_size (cs ++ rest) ≡ length cs
 name_size-append [] rest h none = none
 name_size-append (c ∷ cs) rest h none =
@@ -86,11 +86,11 @@ filled_seen name field is e =
     let back : drop (name_size field) field ≡ filling = rw (size, e) (drop-append_seam name filling) in
     name_at-some (name_size field) field name front (rw back (replicate_filling (NAME_LENGTH - length name))) (name_read-ok name is)
 
--- where nothing is read, no name stands
+-- if nothing is read, there is no name
 pub holds_none : (field : List ℕ) → None ≡ name_seen field → HoldsNoName field
 holds_none field none name is e = let some = filled_seen name field is e in cc
 
--- a place that is read as a name holds it with its filling
+-- a place that is read as a name has it with its filling
 pub record Spelled (field name : List ℕ) : Type 0 where
   pub is : IsName name
   pub spelled : field ≡ filled name

@@ -1,5 +1,5 @@
--- Messages in a ring of places: which wait from a place on, and what writing the place behind them adds.
-use Rattle.std.proofs.Common.{◌≡◌, ◌≢◌, ◌<◌, ℕ, zero, suc, ◌+◌, ◌-◌, List, [], ◌∷◌, ◌++◌, drop, length, refl, ap, sym, subst, ◌∙◌, arith}
+-- Messages in a ring of places: those that wait from a place on, and the effect of writing the place after them.
+use Rattle.std.proofs.Common.{Bool, if◌then◌else◌, ◌≡◌, ◌≢◌, ◌<◌, ℕ, zero, suc, ◌+◌, ◌-◌, List, [], ◌∷◌, ◌++◌, drop, length, refl, ap, sym, subst, ◌∙◌, arith}
 use Rattle.std.specs.List.{slice_set, slice_index_or}
 use Rattle.std.proofs.lemmas.List.{get_or-set_same, get_or-set_other}
 use Rattle.std.proofs.lemmas.List.Elements.{All-append, All-cons, All-nil}
@@ -9,12 +9,14 @@ use Rattle.pdi_session.specs.packing.UnitText.{AreMessages, IsMessage, piece}
 use Rattle.octets.proofs.RingPlaces.{behind-inside, far_next, far_none, far_other}
 use Rattle.octets.specs.RingPlaces.{IsFar, place_behind}
 use Rattle.pdi_session.specs.packing.Ring.{IsMoved, IsRing, messages_from, no_message}
+use Rattle.pdi_session.specs.Counted.{is_item, items_in}
+use Rattle.pdi_session.specs.telegram.Places.{tele_seen}
 
 pub length-messages_from : (ps : List (ArrayVec ℕ)) (p k : ℕ) → length (messages_from ps p k) ≡ k
 length-messages_from ps p zero = refl
 length-messages_from ps p (suc k) = ap suc (length-messages_from ps (place_behind WAITING_MAX p) k)
 
--- writing the place behind them adds one
+-- writing the place after them adds one
 pub messages_from-more : (ps : List (ArrayVec ℕ)) (p q : ℕ) (w : ArrayVec ℕ) (k : ℕ) → length ps ≡ WAITING_MAX → p < WAITING_MAX → k < WAITING_MAX
     → IsFar WAITING_MAX p k q → messages_from (slice_set ps q w) p (suc k) ≡ messages_from ps p k ++ w.items ∷ []
 messages_from-more ps p q w zero long lt near h =
@@ -27,13 +29,13 @@ messages_from-more ps p q w (suc k) long lt near h =
 pub ring_more : (p k : ℕ) → k ≢ WAITING_MAX → IsRing p k → IsRing p (k + 1)
 ring_more p k near ring = (ring.0, omega (arith, near, ring.1))
 
--- the first one, and those behind it
+-- the first one, and those after it
 pub messages_from-front : (ps : List (ArrayVec ℕ)) (p k : ℕ) → 0 < k
     → messages_from ps p k ≡ (slice_index_or ps p no_message).items ∷ messages_from ps (place_behind WAITING_MAX p) (k - 1)
 messages_from-front ps p zero some = absurd (omega arith)
 messages_from-front ps p (suc k) some = let less : suc k - 1 ≡ k = omega arith in rw less refl
 
--- what was read at a place is what stands there
+-- the value read at a place is the one in it
 pub same_at : (ps : List (ArrayVec ℕ)) (q : ℕ) (u : ArrayVec ℕ) → q < length ps → u ≡ slice_index_or ps q u → slice_index_or ps q no_message ≡ u
 same_at [] q u lt e = absurd (omega arith)
 same_at (p ∷ ps) zero u lt e = sym e
@@ -42,7 +44,7 @@ same_at (p ∷ ps) (suc q) u lt e = same_at ps q u (omega arith) e
 pub drop-messages_from : (ps : List (ArrayVec ℕ)) (p k : ℕ) → 0 < k → drop 1 (messages_from ps p k) ≡ messages_from ps (place_behind WAITING_MAX p) (k - 1)
 drop-messages_from ps p k some = rw (messages_from-front ps p k some) refl
 
--- what a message that is written behind the others adds
+-- the effect of a message written after the others
 pub message_more : (ps : List (ArrayVec ℕ)) (p q k : ℕ) (w : ArrayVec ℕ) (message : List ℕ) (old : List (List ℕ)) → length ps ≡ WAITING_MAX
     → k ≢ WAITING_MAX → IsRing p k → IsFar WAITING_MAX p k q → w.items ≡ message → messages_from ps p k ≡ old
     → messages_from (slice_set ps q w) p (k + 1) ≡ old ++ message ∷ []
@@ -62,7 +64,7 @@ all_more ps p q k w message long near ring far is all one =
 head_is : (xs : List (List ℕ)) (x : List ℕ) (rest : List (List ℕ)) → xs ≡ x ∷ rest → AreMessages xs → IsMessage x
 head_is xs x rest e all = subst (λ (ys : List (List ℕ)). AreMessages ys) e all 0 [] (omega arith)
 
--- the first message, moved behind a unit
+-- the first message, moved to the end of a unit
 pub moved : (ps : List (ArrayVec ℕ)) (p k q : ℕ) (u : ArrayVec ℕ) (message unit more : List ℕ) (old : List (List ℕ)) → length ps ≡ WAITING_MAX
     → IsRing p k → 0 < k → u ≡ slice_index_or ps p u → message ≡ u.items → q ≡ place_behind WAITING_MAX p → AreMessages (messages_from ps p k)
     → messages_from ps p k ≡ old → more ≡ unit ++ piece message → IsMoved old unit (messages_from ps q (k - 1)) more
@@ -72,3 +74,14 @@ moved ps p k q u message unit more old long ring some at is next all before put 
     in
     let front : messages_from ps p k ≡ message ∷ messages_from ps q (k - 1) = rw (next, ← stands) (messages_from-front ps p k some) in
     record { message = message; first = sym before ∙ front; sized = head_is (messages_from ps p k) message (messages_from ps q (k - 1)) front all; put = put }
+
+-- the first message is counted, and then those after it
+pub items_next : (ps : List (ArrayVec ℕ)) (p q k : ℕ) (u : ArrayVec ℕ) (message : List ℕ) (is : Bool) → p < length ps → 0 < k → u ≡ slice_index_or ps p u
+    → message ≡ u.items → q ≡ place_behind WAITING_MAX p → is ≡ is_item (tele_seen message)
+    → items_in (messages_from ps p k) ≡ (if is then 1 else 0) + items_in (messages_from ps q (k - 1))
+items_next ps p q k u message is lt some e m next test =
+    ap items_in (messages_from-front ps p k some)
+    ∙ ap (λ (w : ArrayVec ℕ). items_in (w.items ∷ messages_from ps (place_behind WAITING_MAX p) (k - 1))) (same_at ps p u lt e)
+    ∙ ap (λ (ms : List ℕ). items_in (ms ∷ messages_from ps (place_behind WAITING_MAX p) (k - 1))) (sym m)
+    ∙ ap (λ (r : ℕ). items_in (message ∷ messages_from ps r (k - 1))) (sym next)
+    ∙ ap (λ (b : Bool). (if b then 1 else 0) + items_in (messages_from ps q (k - 1))) (sym test)

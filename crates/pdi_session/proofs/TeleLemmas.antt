@@ -1,4 +1,4 @@
--- Telegrams: what is read by places is spelled so, and what is spelled so is read.
+-- Telegrams: reading by places is correct and complete.
 use Rattle.std.proofs.Common.{◌≡◌, ◌≤◌, ◌<◌, ℕ, ◌+◌, ◌-◌, List, [], ◌∷◌, ◌++◌, length, take, drop, slice_index, Some, Ok, refl, sym, ap, ◌∙◌, arith, append_assoc}
 use Rattle.std.proofs.Math.ListN.{replicate}
 use Rattle.std.proofs.Math.Seq.{take-append_seam, drop-append_seam}
@@ -14,7 +14,7 @@ use Rattle.pdi_session.specs.telegram.Tele.{Tele}
 use Rattle.pdi_session.specs.telegram.TeleText.{TeleText}
 use Rattle.pdi_session.proofs.NameLemmas.{filled_seen}
 
--- the fields stand at their places
+-- the fields are at their places
 pub record Reads (t : Tele) (octets : List ℕ) : Type 0 where
   pub protocol : t.protocol ≡ slice_index octets 0
   pub kind : t.kind ≡ little_number 2 (drop KIND octets)
@@ -32,7 +32,7 @@ first_octet (x ∷ xs) some = record { parts = refl }
 cut_at : (place n : ℕ) (xs : List ℕ) → Splits (drop place xs) (take n (drop place xs)) (drop (place + n) xs)
 cut_at place n xs = record { parts = rw (← drop-drop n place xs) (sym (take-append-drop n (drop place xs))) }
 
--- what was read by places is spelled so
+-- bytes read by places are the encoding of what was read
 pub tele_spelled : (t : Tele) (octets : List ℕ) → FitOctets octets → IsSized octets → Reads t octets → IsName t.sender → IsName t.receiver
     → TeleText t octets
 tele_spelled t octets fits sized reads sender receiver =
@@ -56,7 +56,7 @@ front_of n a b xs e long = rw (e, ← long) (take-append_seam a b)
 pub rest_of : (n : ℕ) (a b xs : List ℕ) → xs ≡ a ++ b → length a ≡ n → drop n xs ≡ b
 rest_of n a b xs e long = rw (e, ← long) (drop-append_seam a b)
 
--- what is spelled so stands at its places
+-- in an encoding the fields are at their places
 pub text_reads : (t : Tele) (octets : List ℕ) → TeleText t octets → Reads t octets
 text_reads t octets text =
     let s : List ℕ = filled t.sender in
@@ -90,11 +90,11 @@ pub same_tele : (p q : Tele) → p.protocol ≡ q.protocol → p.kind ≡ q.kind
 unfolding made_of
 same_tele p q protocol kind sender receiver payload = same_made p q protocol kind sender receiver payload
 
--- a name read in a place is the name that is spelled there
+-- a name read at a place is the name encoded there
 same_name : (field read name : List ℕ) → Some read ≡ name_seen field → IsName name → field ≡ filled name → read ≡ name
 same_name field read name seen is spelled = let again = filled_seen name field is spelled in cc
 
--- what is spelled so is what is read
+-- an encoding is read as its telegram
 pub tele_only : (p q : Tele) (octets : List ℕ) → TeleText q octets → p.protocol ≡ slice_index octets 0 → p.kind ≡ little_number 2 (drop KIND octets)
     → Some p.sender ≡ name_seen (sender_field octets) → Some p.receiver ≡ name_seen (receiver_field octets) → p.payload ≡ drop MESSAGE_MIN octets → p ≡ q
 tele_only p q octets text protocol kind sender receiver payload =
@@ -104,14 +104,14 @@ tele_only p q octets text protocol kind sender receiver payload =
     (same_name (receiver_field octets) p.receiver q.receiver receiver text.receiver reads.receiver)
     (payload ∙ sym reads.payload)
 
--- an accepted text has one value
+-- an accepted encoding has one telegram
 pub one_value : (p q : Tele) (octets : List ℕ) → TeleText p octets → TeleText q octets → p ≡ q
 one_value p q octets a b =
     let reads = text_reads p octets a in
     tele_only p q octets b reads.protocol reads.kind (sym (filled_seen p.sender (sender_field octets) a.sender reads.sender))
     (sym (filled_seen p.receiver (receiver_field octets) a.receiver reads.receiver)) reads.payload
 
--- what is spelled so is seen by places
+-- an encoding is read by its places
 pub tele_read : (t : Tele) (octets : List ℕ) → TeleText t octets → tele_seen octets ≡ Ok t
 unfolding tele_seen
 tele_read t octets text =

@@ -1,4 +1,4 @@
--- Units: what is read from the left is spelled so, what is spelled so is read, and which fault it is.
+-- Units: reading from the left is correct and complete, and the fault is the first one.
 use Rattle.std.proofs.Common.{◌≡◌, ◌==◌, ◌≤◌, ◌<◌, ℕ, zero, suc, ◌+◌, ◌-◌, true, false, ◌&&◌, nat_le, List, [], ◌∷◌, ◌++◌, length, drop, Result, Ok, Err, IfOk, IfErr, IsOkAnd, Bor, refl, sym, ap, ◌∙◌, inl, inr, arith, append_assoc}
 use Rattle.std.proofs.lemmas.Bool.{and_parts, cases_Bool, eqb-true, eqb-false, leb-true, le-leb, ne_eqb}
 use Rattle.std.proofs.lemmas.List.{append-nil, nil_from_length, length-append, length-take, length-drop, take-append-drop, drop-drop}
@@ -13,7 +13,7 @@ use Rattle.pdi_session.specs.declared.packing.PackFault.TheVariants.{Empty, Leng
 use Rattle.pdi_session.specs.packing.UnitText.{AreMessages, IsMessage, UnitText, messages_of, piece, unit_text}
 use Rattle.pdi_session.specs.packing.Places.{FirstFault, Goes, HoldsNoPiece, after, behind_first, first_message, is_piece, length_field, pieces_seen, seen_of, unit_seen}
 
--- what the test of a piece says
+-- the meaning of the test for a piece
 record Stands (octets : List ℕ) : Type 0 where
   pub header : MESSAGE_LENGTH ≤ length octets
   pub least : MESSAGE_MIN ≤ length_field octets
@@ -43,7 +43,7 @@ first_sized octets test =
     let long = length-first octets s in
     (omega (arith, s.least), omega (arith, s.most))
 
--- octets that begin with a whole piece are that piece and what follows it
+-- bytes that start with a complete piece are that piece and the bytes after it
 first_cut : (octets : List ℕ) → FitOctets octets → is_piece octets ≡ true → octets ≡ piece (first_message octets) ++ behind_first octets
 first_cut octets fits test =
     let s = stands octets test in
@@ -55,7 +55,7 @@ first_cut octets fits test =
     (Splits-then front body).parts
     ∙ ap (λ (n : ℕ). little_bytes 2 n ++ first_message octets ++ behind_first octets) (sym (length-first octets s))
 
--- a piece in front is what is read there
+-- a piece at the start is read as that piece
 record Seen (message behind octets : List ℕ) : Type 0 where
   pub test : is_piece octets ≡ true
   pub message_is : first_message octets ≡ message
@@ -84,11 +84,11 @@ seen_piece message behind octets sized e =
     (ap (drop 2) e)
     (ap length e ∙ omega (arith, length-append message behind))
 
--- no piece stands where the test says so
+-- there is no piece if the test is false
 no_piece : (octets : List ℕ) → is_piece octets ≡ false → HoldsNoPiece octets
 no_piece octets test message behind sized e = let seen = seen_piece message behind octets sized e in let yes = seen.test in cc
 
--- what was read in front of an answer
+-- messages read before a result
 record Ends (read : List (List ℕ)) (r : Result (List (List ℕ)) PackFault) (messages : List (List ℕ)) : Type 0 where
   pub rest : List (List ℕ)
   pub answer : r ≡ Ok rest
@@ -129,7 +129,7 @@ one_more : (room : ℕ) (octets : List ℕ) → (length octets == 0) ≡ false �
 unfolding pieces_seen
 one_more room octets some test = rw (some, test) refl
 
--- what is read is spelled so
+-- the bytes of what is read are its encoding
 record Found (room : ℕ) (messages : List (List ℕ)) (octets : List ℕ) : Type 0 where
   pub most : length messages ≤ room
   pub sized : AreMessages messages
@@ -168,7 +168,7 @@ pieces_found (suc room) octets messages fits seen =
       ]
     ]
 
--- what is spelled so is read
+-- an encoding is read as what it encodes
 pieces_only : (room : ℕ) (messages : List (List ℕ)) (octets : List ℕ) → length messages ≤ room → AreMessages messages → octets ≡ unit_text messages
     → pieces_seen room octets ≡ Ok messages
 pieces_only room [] octets most sized e = at_end room octets (ap (λ (xs : List ℕ). length xs == 0) e)
@@ -181,7 +181,7 @@ pieces_only (suc room) (message ∷ messages) octets most sized e =
     in
     one_more room octets some seen.test ∙ ap (after (first_message octets ∷ [])) inner ∙ ap (λ (m : List ℕ). Ok (m ∷ messages)) seen.message_is
 
--- which fault it is
+-- the fault is the first one
 abbrev FaultAt : ℕ → List ℕ → PackFault → Type 0
 FaultAt room octets Empty = ⊥
 FaultAt room octets Length =
@@ -278,7 +278,7 @@ unit_fault f octets fits seen =
           first_fault f octets (pieces_fault UNIT_MESSAGES octets f fits (sym is ∙ sym seen))
     ]
 
--- an answer that is what is seen is right in all ways
+-- a result that is the value read meets every clause
 pub answer_found : (r : Result (ArrayVec (Bor (List ℕ))) PackFault) (octets : List ℕ) → FitOctets octets → seen_of r ≡ unit_seen octets
     → IfOk r (λ messages. UnitText (messages_of messages) octets)
 answer_found (Ok messages) octets fits seen = unit_found (messages_of messages) octets fits seen
@@ -294,7 +294,7 @@ pub answer_fault : (r : Result (ArrayVec (Bor (List ℕ))) PackFault) (octets : 
 answer_fault (Ok messages) octets fits seen = tt
 answer_fault (Err f) octets fits seen = unit_fault f octets fits seen
 
--- reading on: one more message is read, there is no room, none stands there, or all is read
+-- the next step: one more message is read, there is no room, there is no message, or all is read
 pub read_more : (room : ℕ) (read : List (List ℕ)) (octets : List ℕ) → 0 < room → (length octets == 0) ≡ false → is_piece octets ≡ true
     → after read (pieces_seen room octets) ≡ after (read ++ first_message octets ∷ []) (pieces_seen (room - 1) (behind_first octets))
 read_more zero read octets left some test = absurd (omega arith)

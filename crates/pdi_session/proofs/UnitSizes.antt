@@ -1,4 +1,4 @@
--- How long the text of messages is.
+-- The length of the unit of messages.
 use Rattle.std.proofs.Common.{ℕ, ◌*◌, ◌≤◌, List, [], ◌∷◌, length, ap, arith}
 use Rattle.std.specs.List.{AllByRecursion}
 use Rattle.std.proofs.lemmas.List.{length-append}
@@ -7,7 +7,7 @@ use Rattle.byteorder.specs.Endian.{little_bytes}
 use Rattle.octets.specs.declared.limits.TheConstants.{UNIT_MIN, UNIT_MAX}
 use Rattle.pdi_session.specs.packing.UnitText.{IsMessage, UnitText, unit_text, piece}
 
--- by how many they are
+-- by the number of messages
 unit-size : (ms : List (List ℕ)) → AllByRecursion IsMessage ms → (45 * length ms ≤ length (unit_text ms)) × (length (unit_text ms) ≤ 402 * length ms)
 unit-size [] h = (omega arith, omega arith)
 unit-size (m ∷ ms) h =

@@ -7,7 +7,7 @@ use Rattle.octets.specs.declared.limits.TheConstants.{NAME_LENGTH, FILLING}
 use Rattle.pdi_session.specs.telegram.Names.{IsName, filled}
 use Rattle.pdi_session.proofs.TeleLemmas.{front_of, rest_of}
 
--- what stands where filling was written
+-- the place after filling was written
 pub record Blank (place : ℕ) (old mid : List ℕ) : Type 0 where
   pub front : take place mid ≡ take place old
   pub filling : take NAME_LENGTH (drop place mid) ≡ replicate NAME_LENGTH FILLING
@@ -28,7 +28,7 @@ blank place old mid room written =
       filling = sym (drop-take place NAME_LENGTH mid) ∙ rest_of place (take place old) filling whole written long-old;
     }
 
--- behind the characters filling is left
+-- filling follows the characters
 left_blank : (place n : ℕ) (mid : List ℕ) → n ≤ NAME_LENGTH → take NAME_LENGTH (drop place mid) ≡ replicate NAME_LENGTH FILLING
     → take (NAME_LENGTH - n) (drop (place + n) mid) ≡ replicate (NAME_LENGTH - n) FILLING
 left_blank place n mid short blank =

@@ -1,4 +1,4 @@
--- What one session does, row by row of its tables and over every list of events.
+-- One session, row by row of its tables and over every list of events.
 pub mod TableLemmas
 pub mod Growing
 pub mod Rows

@@ -1,4 +1,4 @@
--- What holds of two sessions that are handed one another's queues: the phase law.
+-- Facts of two sessions that receive each other's queues: the phase law.
 pub mod SessionRow
 pub mod PhaseLemma
 pub mod PhaseFails

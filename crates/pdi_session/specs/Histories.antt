@@ -1,4 +1,4 @@
--- What a session has gone through: its state, and the lists that its events make longer.
+-- The history of a session: its state, and the lists that its events extend.
 use Rattle.std.specs.Prelude.{◌≡◌, ℕ, Bool, true, false, not, ◌&&◌, if◌then◌else◌, List, [], ◌∷◌, ◌++◌, Option, Some, None, is_none}
 use Rattle.pdi_session.specs.telegram.Tele.{Tele}
 use Rattle.pdi_session.specs.declared.Phase.{Phase}
@@ -6,40 +6,49 @@ use Rattle.pdi_session.specs.declared.Phase.TheVariants.{Idle, Ended}
 use Rattle.pdi_session.specs.Settings.{Addressing, Role}
 use Rattle.pdi_session.specs.SessionStep.{Event, Arrives, Puts, Item, SessionState, added_by, after, end_of, judged, opened, phase_after, put_refusal, taken_by, texts}
 
+-- what a session has done, from its creation on
 pub record History : Type 0 where
+  -- the present state
   pub state : SessionState
-  pub phases : List Phase  -- those that it was in, the first first
-  pub queue : List Tele  -- all telegrams that it added, sent or not
-  pub judged : List Tele  -- those that it was handed
-  pub put : List Item  -- the commands or status that were put in
-  pub taken : List Item  -- those that the application took
-  pub ended_in : Option Phase  -- the phase in which a telegram ended it, if one did
+  -- the phases it was in, the first one first
+  pub phases : List Phase
+  -- all telegrams that it added, sent or not
+  pub queue : List Tele
+  -- the telegrams that arrived
+  pub judged : List Tele
+  -- the commands or status whose put was accepted
+  pub put : List Item
+  -- the commands or status that the application took
+  pub taken : List Item
+  -- the phase in which a telegram ended it, if one did
+  pub ended_in : Option Phase
 
--- a new session
+-- the history of a new session
 abbrev pub begun : Addressing → Role → History
 begun addressing role =
     record { state = opened addressing role; phases = Idle ∷ []; queue = []; judged = []; put = []; taken = []; ended_in = None }
 
--- the telegram that an event hands it
+-- the telegram that arrives with an event, if any
 abbrev pub handed_by : Event → List Tele
 handed_by (Arrives t) = t ∷ []
 handed_by e = []
 
--- the command or status that an event puts in
+-- the command or status of an accepted put
 abbrev pub put_by : Event → SessionState → List Item
 put_by (Puts kind payload waits) s = if is_none (put_refusal s kind payload waits) then (kind, payload) ∷ [] else []
 put_by e s = []
 
+-- the phase is Ended
 abbrev pub is_ended : Phase → Bool
 is_ended Ended = true
 is_ended phase = false
 
--- a telegram ends a session that is not over
+-- an arriving telegram ends a session that is not over
 abbrev pub ends_by : Event → SessionState → Bool
 ends_by (Arrives t) s = not (is_ended s.phase) && not (is_none (end_of (judged s t)))
 ends_by e s = false
 
--- the history made longer by an event
+-- the history after one more event
 abbrev pub grown : Event → History → History
 grown e h =
     record {
@@ -57,8 +66,11 @@ abbrev pub grown_along : List Event → History → History
 grown_along [] h = h
 grown_along (e ∷ es) h = grown_along es (grown e h)
 
--- a session and the messages that wait stand for a history: the state is its, and what waits is the end of its queue
+-- a session and its waiting messages fit a history: it has this state, and the waiting messages are the last ones of its queue
 pub record StandsFor (s : SessionState) (waiting : List (List ℕ)) (h : History) : Type 0 where
+  -- the state of the history is that of the session
   pub state : h.state ≡ s
+  -- the messages that no longer wait
   pub gone : List (List ℕ)
+  -- the queue's messages are those and then the waiting ones
   pub queue : texts h.queue ≡ gone ++ waiting

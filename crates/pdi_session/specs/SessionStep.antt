@@ -1,4 +1,4 @@
--- SessionStep: what a session does, in words of the state that its calls change and of the lists that they make longer.
+-- The rules of a session: what each event does to its state, and what it adds to its lists.
 use Rattle.std.specs.Prelude.{◌≡◌, ◌<◌, ◌≤◌, ℕ, true, is_none, not, nat_le, nat_lt, if◌then◌else◌, List, [], ◌∷◌, length, map, Option, Some, None}
 use Rattle.octets.specs.declared.limits.TheConstants.{PAYLOAD_MAX}
 use Rattle.octets.specs.declared.limits.TheConstants.{WAITING_MAX}
@@ -22,22 +22,26 @@ use Rattle.pdi_session.specs.Tables.{at_up, is_early, is_initialising, may_put, 
 
 -- a session: its settings and its phase
 pub record SessionState : Type 0 where
+  -- protocol type and names
   pub addressing : Addressing
+  -- which end it is, with its versions
   pub role : Role
+  -- the phase
   pub phase : Phase
 
 -- a new session
 abbrev pub opened : Addressing → Role → SessionState
 opened addressing role = record { addressing = addressing; role = role; phase = Idle }
 
--- a command or status: kind and payload
+-- a command or status: message type and payload
 abbrev pub Item : Type 0
 Item = ℕ × List ℕ
 
+-- the message type and payload of a telegram
 abbrev pub item_of : Tele → Item
 item_of t = (t.kind, t.payload)
 
--- what comes to a session; a put and the end of the initialisation say how many messages wait when they come
+-- an event of a session; `waits` is the number of waiting messages, since a refusal depends on it and histories do not know it
 pub data Event : Type 0 where
   Up : Event
   Arrives : (telegram : Tele) → Event
@@ -45,11 +49,11 @@ pub data Event : Type 0 where
   InitDone : (waits : ℕ) → Event
   Closes : Event
 
--- what is decided on a telegram: who it is from and for comes before the phase
+-- the decision on a telegram: protocol type and names are compared before the phase
 abbrev pub judged : SessionState → Tele → Verdict
 judged s t = if is_addressed s.addressing t then table s.role s.phase (form_of t.kind t.payload) else Ends detail.NotOfThisPair
 
--- the lowest refusal of a put that holds
+-- the first reason to refuse a put, if any
 abbrev pub put_refusal : SessionState → ℕ → List ℕ → ℕ → Option PutFault
 put_refusal s kind payload waits =
     if not (may_put s.role s.phase) then Some put_fault.NotEstablished
@@ -58,14 +62,14 @@ put_refusal s kind payload waits =
     else if nat_lt PAYLOAD_MAX (length payload) then Some put_fault.TooLong
     else None
 
--- the lowest refusal of the end of the initialisation that holds
+-- the first reason to refuse the end of the initialisation, if any
 abbrev pub init_refusal : SessionState → ℕ → Option InitFault
 init_refusal s waits =
     if not (is_initialising s.role s.phase) then Some init_fault.NotInitialising
     else if nat_le WAITING_MAX waits then Some init_fault.Full
     else None
 
--- what a verdict does to the phase
+-- the phase after a verdict
 abbrev pub phase_by : Phase → Verdict → Phase
 phase_by phase Takes = phase
 phase_by phase (Goes next) = next
@@ -76,26 +80,26 @@ phase_by phase (Ends why) = Ended
 abbrev pub notice_tele : SessionState → Notice → Tele
 notice_tele s n = telegram s.addressing (kind_of n) (payload_of (checksum_of s.role) n)
 
--- what it sends
+-- the telegram that a verdict sends, if any
 abbrev pub sent_by : SessionState → Verdict → List Tele
 sent_by s (Answers next n) = notice_tele s n ∷ []
 sent_by s verdict = []
 
--- what the application takes
+-- the command or status that the application takes by a verdict, if any
 abbrev pub taken_as : Tele → Verdict → List Item
 taken_as t Takes = item_of t ∷ []
 taken_as t verdict = []
 
--- what the call answers
+-- the detail with which a verdict ends the session, if it does
 abbrev pub end_of : Verdict → Option SessionDetail
 end_of (Ends why) = Some why
 end_of verdict = None
 
--- what the accepted end of the initialisation decides
+-- the verdict of an accepted end of the initialisation
 abbrev pub at_init_done : Verdict
 at_init_done = Answers Established notice.InitialisationCompleted
 
--- the phase that an event leaves
+-- the phase after an event
 abbrev pub phase_after : Event → SessionState → Phase
 phase_after Up s = phase_by s.phase (at_up s.role s.phase)
 phase_after (Arrives t) s = phase_by s.phase (judged s t)
@@ -103,15 +107,15 @@ phase_after (Puts kind payload waits) s = s.phase
 phase_after (InitDone waits) s = if is_none (init_refusal s waits) then phase_by s.phase at_init_done else s.phase
 phase_after Closes s = Ended
 
--- a session in this phase: the settings stay
+-- the session with another phase and the same settings
 abbrev pub with_phase : Phase → SessionState → SessionState
 with_phase phase s = record { addressing = s.addressing; role = s.role; phase = phase }
 
--- the state that an event leaves
+-- the state after an event
 abbrev pub after : Event → SessionState → SessionState
 after e s = with_phase (phase_after e s) s
 
--- the telegrams that it adds to those that wait
+-- the telegrams that an event adds to the waiting ones
 abbrev pub added_by : Event → SessionState → List Tele
 added_by Up s = sent_by s (at_up s.role s.phase)
 added_by (Arrives t) s = sent_by s (judged s t)
@@ -119,20 +123,20 @@ added_by (Puts kind payload waits) s = if is_none (put_refusal s kind payload wa
 added_by (InitDone waits) s = if is_none (init_refusal s waits) then sent_by s at_init_done else []
 added_by Closes s = []
 
--- what the application takes at it
+-- the command or status that the application takes at an event, if any
 abbrev pub taken_by : Event → SessionState → List Item
 taken_by (Arrives t) s = taken_as t (judged s t)
 taken_by e s = []
 
--- the messages of telegrams
+-- the encodings of telegrams
 abbrev pub texts : List Tele → List (List ℕ)
 texts ts = map tele_text ts
 
--- the caller's condition: room for one message in the phases before Initialising
+-- the condition on the caller: room for one message in the phases before Initialising
 abbrev pub HasRoom : SessionState → List (List ℕ) → Type 0
 HasRoom s waiting = is_early s.phase ≡ true → length waiting < WAITING_MAX
 
--- what makes it keepable: how many messages wait at most, since before Initialising the session itself adds all that there are
+-- the most messages that wait in a phase if only the session itself adds messages before Initialising
 abbrev pub most_waiting : Phase → ℕ
 most_waiting Idle = 0
 most_waiting Checking = 1
@@ -142,5 +146,6 @@ most_waiting AwaitRequest = 1
 most_waiting Refused = 1
 most_waiting phase = WAITING_MAX
 
+-- the bound on waiting messages: no more wait than `most_waiting` allows
 abbrev pub FewWait : SessionState → List (List ℕ) → Type 0
 FewWait s waiting = length waiting ≤ most_waiting s.phase

@@ -4,3 +4,4 @@ pub mod TeleText
 pub mod Places
 pub mod FaultNames
 pub mod Known
+pub mod Pairs

@@ -1,4 +1,4 @@
-//! What a telegram says by its kind and payload.
+//! The meaning of a telegram by its message type and payload.
 
 ghost use Rattle.std.specs.Prelude.{◌≡◌};
 ghost use Rattle.pdi_session.specs.Telegrams.{answer_form, bare_form, check_form, form_of, is_reserved, result_form};
@@ -8,8 +8,9 @@ use super::{
     START_INITIALISATION, VERSION_ANSWER, VERSION_CHECK,
 };
 
-/// Whether a kind is one of the five of the establishment.
+/// Returns true if a message type is one of the five of the establishment.
 pub(crate) fn is_reserved(kind: u16) -> bool
+    // `is_reserved` is true for 0x0021 to 0x0025, the five message types of the establishment, and for no other.
     ensures { result ≡ is_reserved kind }
 {
     kind == VERSION_CHECK
@@ -19,8 +20,9 @@ pub(crate) fn is_reserved(kind: u16) -> bool
         || kind == INITIALISATION_COMPLETED
 }
 
-/// What a version check says.
+/// Returns the form of a version check's payload.
 fn check_form(payload: &[u8]) -> Form
+    // A payload of one byte is a check of that version; any other payload does not fit.
     ensures { result ≡ check_form payload.now }
 {
     match payload {
@@ -29,8 +31,9 @@ fn check_form(payload: &[u8]) -> Form
     }
 }
 
-/// What an answer with this result says.
+/// Returns the form of a reply with this result and version.
 fn result_form(answer: u8, version: u8) -> Form
+    // The result 2 means equal versions and 1 different ones; any other result does not fit.
     ensures { result ≡ result_form answer version }
 {
     if answer == EQUAL {
@@ -42,8 +45,10 @@ fn result_form(answer: u8, version: u8) -> Form
     }
 }
 
-/// What an answer to a version check says.
+/// Returns the form of a reply's payload.
 fn answer_form(payload: &[u8]) -> Form
+    // A payload fits if exactly the given number of checksum bytes follows, at most 16; the result then decides
+    // (`result_form`).
     ensures { result ≡ answer_form payload.now }
 {
     let [answer, version, size, checksum @ ..] = payload else {
@@ -57,8 +62,9 @@ fn answer_form(payload: &[u8]) -> Form
     }
 }
 
-/// What a telegram without payload says.
+/// Returns the form of a telegram that must not have a payload.
 fn bare_form(notice: Notice, payload: &[u8]) -> Form
+    // An empty payload is the `notice`; any other payload does not fit.
     ensures { result ≡ bare_form notice payload.now }
 {
     if payload.is_empty() {
@@ -68,8 +74,10 @@ fn bare_form(notice: Notice, payload: &[u8]) -> Form
     }
 }
 
-/// What a telegram says by its kind and payload.
+/// Returns the form of a telegram.
 pub(crate) fn form_of(kind: u16, payload: &[u8]) -> Form
+    // A message type of the establishment is read by its own layout; any other is a command or status, with any
+    // payload.
     ensures { result ≡ form_of kind payload.now }
 {
     match kind {

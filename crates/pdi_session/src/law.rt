@@ -1,81 +1,88 @@
-//! What the tables promise of any session, and over every list of its events.
+//! Laws of the session: of each row of its tables, of every list of its events, and of two sessions.
 
 ghost use Rattle.pdi_session.specs.JoinedSessions.{InStepLaw, MatchingLaw, OneMoreLaw, PhaseLaw, TakesFrontLaw};
 ghost use Rattle.pdi_session.specs.Numbers.{KindsAre, SizesAre};
 ghost use Rattle.pdi_session.specs.Laws.{BegunLaw, FieldLaw, GoesLaw, InterlockingLaw, MessageLaw, OverLaw, OwnEarlyLaw, OwnLaw, PutLaw, QueueLaw, RoomLaw, StandsLaw, TakenLaw, TakesLaw};
 
-/// The laws of the session's step, which do nothing when they are called.
+/// Laws of the session. The function does nothing when it is called.
+///
+/// The law `phases` also holds for two sessions whose settings do not match. Such sessions end at the first
+/// telegram.
 pub fn session_law()
-    // Whatever leaves the state and adds the messages of an event makes a session stand for its history made
-    // longer by that event.
+    // If a call leaves the state and appends the messages of an event, session and waiting messages fit the old
+    // history with that event appended.
     ensures stands { StandsLaw }
 
-    // A telegram that is taken has no kind of the establishment, and is taken with its kind and payload.
+    // A telegram that the application takes is not of the establishment, and is taken with its own message type
+    // and payload.
     ensures takes { TakesLaw }
 
-    // A telegram at which the session goes on without taking it is of the establishment, and so is what it
-    // answers.
+    // If the session goes on without taking a telegram, that telegram is of the establishment, and so is any
+    // reply.
     ensures goes { GoesLaw }
 
-    // What a session adds by itself is of the establishment.
+    // Messages that a session adds by itself, at `Up`, `InitDone` or an arrival, are of the establishment.
     ensures own { OwnLaw }
 
-    // An accepted put adds one telegram with what was put in, and it is not of the establishment.
+    // An accepted put adds exactly one telegram, with the given message type and payload, and it is not of the
+    // establishment.
     ensures puts { PutLaw }
 
-    // A session is over by a telegram that ends it or by a closing alone.
+    // Only a telegram that ends the session, or a closing, leads a session that is not over to Ended.
     ensures over { OverLaw }
 
-    // A session has begun once its connection is up, and no event leads back to Idle.
+    // After `Up` a session is not Idle, and no event leads back to Idle.
     ensures begun { BegunLaw }
 
-    // Each message added has 43 to 400 octets and is read as its telegram.
+    // With settings in range, each message added has 43 to 400 bytes and decodes to its telegram.
     ensures messages { MessageLaw }
 
-    // The bound on waiting messages holds at the opening, where nothing waits, and stays when messages leave.
-    // The bound on waiting messages gives the room for one message that calls ask for before Initialising.
+    // The bound `FewWait` holds for a new session without waiting messages, leaves room for one message before
+    // Initialising, and still holds when messages leave.
     ensures room { RoomLaw }
 
-    // Over every list of events, what is taken is a beginning of the commands or status judged.
-    // Over every list of events, while the session is not over, all commands or status judged are taken.
+    // Over every list of events, the telegrams taken are a prefix of the commands or status judged, and all of
+    // them while the session is not over.
     ensures taken { TakenLaw }
 
-    // Over every list of events, what was put in is the commands or status of the queue.
+    // Over every list of events, the commands or status in the queue are exactly those that were put, in order.
     ensures queue { QueueLaw }
 
-    // The queue of an interlocking is empty, its version check, or that, the request and then commands, some
-    // only if it was Established.
+    // After any list of events an interlocking's queue is empty, its version check, or that, the request and then
+    // commands. There are commands only if it was Established.
     ensures interlocking { InterlockingLaw }
 
-    // The queue of a field element is empty, one answer, or an answer of equal versions, the start, then status
-    // with one completion at most.
+    // After any list of events a field element's queue is empty, one reply, or the reply of equal versions, the
+    // start, and then status with at most one InitialisationCompleted.
     ensures field { FieldLaw }
 
-    // Of two sessions in turn, a telegram ends one before Initialising alone, and then its peer has put nothing
-    // in.
+    // If a telegram ends one of two sessions in turn, it is before Initialising, and the peer has put nothing.
     ensures phases { PhaseLaw }
 
-    // A session that a telegram ends before Initialising had nothing put in.
+    // A session that a telegram ends before Initialising has put nothing itself.
     ensures own_early { OwnEarlyLaw }
 
-    // Of two sessions in turn whose settings fit, a telegram ends none but the field element in Idle.
+    // If the settings of two sessions in turn match, a telegram ends neither, except the field element while it is
+    // Idle.
     ensures matching { MatchingLaw }
 
-    // Two sessions in turn that run and have judged all of one another's queue are in step.
+    // If two sessions in turn run and have judged all of each other's queue, both are Initialising or both are
+    // Established.
     ensures in_step { InStepLaw }
 
-    // Of two sessions in turn each application takes a beginning of what the other has put in.
+    // In two sessions in turn, what each application takes is a prefix of what the other has put.
     ensures fronts { TakesFrontLaw }
 
-    // A list of events with one more at its end leads one event further, and sessions in turn stay so where
-    // that event is.
+    // Appending an event to a list extends the history by that event. Two sessions stay in turn if the event is
+    // the next one for them.
     ensures one_more { OneMoreLaw }
 {}
 
-/// A law, which does nothing when it is called: the constants are these numbers.
+/// The values of the constants. The function does nothing when it is called.
 pub fn numbers_law()
-    // The kinds of the establishment and the results of a version check are the stated numbers.
+    // A version check has the message type 0x0024, its reply 0x0025, the request 0x0021, the start 0x0022 and the
+    // end of the initialisation 0x0023.
     ensures kinds { KindsAre }
-    // The sizes of versions and checksum are the stated numbers.
+    // The results of a version check are 1 and 2; a field element has at most 4 versions and 16 bytes of checksum.
     ensures sizes { SizesAre }
 {}

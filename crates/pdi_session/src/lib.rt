@@ -1,10 +1,11 @@
-//! The SCI session: the PDI establishment between an interlocking and a field element, and the
-//! commands and status that are exchanged once it is done.
+//! The SCI session: an interlocking and a field element agree on a PDI version, the field element sends its
+//! initial status, and then both exchange commands and status.
 //!
-//! The session layer above RaSTA, in this project's profile. The interlocking is the client and asks
-//! for the session, the field element is the server. One session serves one connection.
+//! It is the session layer above RaSTA, in this project's profile. The interlocking is the client and requests the
+//! session; the field element is the server. One session serves one connection.
 //!
-//! Contracts: sessions are in turn where each is handed the other's queue in order.
+//! A telegram that ends a session also ends the connection: its end disconnects with reason 4 (service not
+//! allowed) and the detail.
 #![tactic(auto)]
 
 ghost use Rattle.std.specs.Prelude.{◌≡◌, ℕ, List};
@@ -14,6 +15,7 @@ ghost use Rattle.pdi_session.specs.Tables.{detail_number};
 use crate::telegram::OwnedName;
 use arrayvec::ArrayVec;
 
+mod counting;
 mod forms;
 mod law;
 mod messages;
@@ -22,45 +24,46 @@ mod session;
 mod tables;
 pub mod telegram;
 
+pub use counting::items_in_unit;
 pub use law::{numbers_law, session_law};
 pub use session::{Session, are_versions};
 
-/// The kind of a version check, from the interlocking. Payload: version (1).
+/// The message type of a version check, from the interlocking. Payload: version (1).
 pub const VERSION_CHECK: u16 = 0x0024;
 
-/// The kind of the answer to a version check, from the field element. Payload: result (1), version
-/// (1), length of the checksum (1, 0 to 16), checksum.
+/// The message type of the reply to a version check, from the field element. Payload: result (1), version (1),
+/// length of the checksum (1, 0 to 16), checksum.
 pub const VERSION_ANSWER: u16 = 0x0025;
 
-/// The kind of the request for initialisation, from the interlocking. It has no payload.
+/// The message type of the request for initialisation, from the interlocking. It has no payload.
 pub const INITIALISATION_REQUEST: u16 = 0x0021;
 
-/// The kind of the start of the initialisation, from the field element. It has no payload.
+/// The message type of the start of the initialisation, from the field element. It has no payload.
 pub const START_INITIALISATION: u16 = 0x0022;
 
-/// The kind of the end of the initialisation, from the field element. It has no payload.
+/// The message type of the end of the initialisation, from the field element. It has no payload.
 pub const INITIALISATION_COMPLETED: u16 = 0x0023;
 
-/// The result of a version check where the field element takes another version.
+/// The result of a version check if the field element does not have the interlocking's version.
 const DIFFERENT: u8 = 1;
 
-/// The result of a version check where the field element takes the version.
+/// The result of a version check if the field element has the interlocking's version.
 const EQUAL: u8 = 2;
 
-/// How many versions a field element may take.
+/// The most versions that a field element can have.
 pub const VERSIONS_MAX: usize = 4;
 
-/// How many octets the checksum of a field element may have.
+/// The greatest size of a field element's checksum, in bytes.
 pub const CHECKSUM_MAX: usize = 16;
 
-/// Who talks to whom: what each telegram of the session bears.
+/// The protocol type and the two names that every telegram of a session has.
 #[derive(Clone, Copy, Debug, PartialEq, Eq)]
 pub struct Parties {
     /// The protocol type.
     pub protocol: u8,
     /// The name of this end.
     pub own: OwnedName,
-    /// The name of its peer.
+    /// The name of the peer.
     pub peer: OwnedName,
 }
 
@@ -78,24 +81,24 @@ pub struct InterlockingConfig {
 pub struct FieldConfig {
     /// Protocol type and names.
     pub parties: Parties,
-    /// The PDI versions that it takes; the first is named to an interlocking of another one.
+    /// The PDI versions that it accepts. A reply to any other version names the first of them.
     pub versions: ArrayVec<u8, VERSIONS_MAX>,
-    /// The checksum that it answers with. Nobody compares it.
+    /// The checksum in its reply to an accepted version. The interlocking does not compare it.
     pub checksum: ArrayVec<u8, CHECKSUM_MAX>,
 }
 
-/// How far a session is.
+/// The state of a session.
 #[derive(Clone, Copy, Debug, PartialEq, Eq)]
 pub enum Phase {
     /// The connection is not up yet.
     Idle,
-    /// The interlocking has sent its version and waits for the answer.
+    /// The interlocking has sent its version and waits for the reply.
     Checking,
-    /// The interlocking has asked for initialisation and waits for its start.
+    /// The interlocking has requested the initialisation and waits for its start.
     Requesting,
     /// The field element waits for a version.
     AwaitCheck,
-    /// The field element has taken the version and waits for the request for initialisation.
+    /// The field element has accepted the version and waits for the request for initialisation.
     AwaitRequest,
     /// The field element has refused the version.
     Refused,
@@ -110,18 +113,19 @@ pub enum Phase {
 /// Why a telegram ended a session.
 #[derive(Clone, Copy, Debug, PartialEq, Eq)]
 pub enum SessionDetail {
-    /// The field element takes another version.
+    /// The field element does not have the interlocking's version: the result is 1.
     VersionDiffers,
-    /// The telegram has no place in this phase, or another payload than its kind has.
+    /// The phase has no row for the telegram, or the payload does not fit its message type. A reply with result 2
+    /// and another version is out of order, too.
     OutOfOrder,
     /// The telegram has another protocol type, or is not from the peer to this end.
     NotOfThisPair,
 }
 
 impl SessionDetail {
-    /// The number of the detail in a DiscReq, whose reason is then 4 (service not allowed).
+    /// Returns the number of the detail in a DiscReq with reason 4 (service not allowed).
     pub fn number(self) -> u16
-        // Each detail has its number in a DiscReq.
+        // `number` is 1 for VersionDiffers, 2 for OutOfOrder and 3 for NotOfThisPair (`detail_number`).
         ensures { result ≡ detail_number self }
     {
         match self {
@@ -132,30 +136,31 @@ impl SessionDetail {
     }
 }
 
-/// A telegram ended the session: the connection is to be left with reason 4 and this detail.
+/// A telegram ended the session: the end must disconnect with reason 4 and this detail.
 #[derive(Clone, Copy, Debug, PartialEq, Eq)]
 pub struct SessionEnd {
-    /// Why.
+    /// Why the session ended.
     pub detail: SessionDetail,
 }
 
-/// Why a telegram was not put in. Where several hold, `Session::put` names the first of this list.
+/// Why `Session::put` refused a telegram. If several apply, it is the first in this order.
 #[derive(Clone, Copy, Debug, PartialEq, Eq)]
 pub enum PutFault {
-    /// The session is in no phase in which this end may put.
+    /// The phase is not one in which this end may put.
     NotEstablished,
-    /// As many messages wait as there is room for.
+    /// 64 messages wait already.
     Full,
-    /// The kind is one of the five of the establishment.
+    /// The message type is one of the five of the establishment.
     ReservedType,
-    /// The payload has more than 357 octets.
+    /// The payload has more than 357 bytes.
     TooLong,
 }
 
 impl PutFault {
-    /// The refusal's name, as it is printed.
+    /// Returns the name of the refusal for output.
     pub fn name(self) -> &'static str
-        // Each refusal of a put has its name.
+        // The name of a refused put is "NotEstablished", "Full", "ReservedType" or "TooLong", as its variant is
+        // spelled.
         ensures { result.now ≡ put_fault_name self }
     {
         match self {
@@ -167,19 +172,19 @@ impl PutFault {
     }
 }
 
-/// Why the end of the initialisation was not accepted. Where both hold, the first is named.
+/// Why `Session::init_done` was refused. If both apply, it is the first.
 #[derive(Clone, Copy, Debug, PartialEq, Eq)]
 pub enum InitFault {
-    /// This is no field element that initialises.
+    /// This is not a field element in Initialising.
     NotInitialising,
-    /// As many messages wait as there is room for.
+    /// 64 messages wait already.
     Full,
 }
 
 impl InitFault {
-    /// The refusal's name, as it is printed.
+    /// Returns the name of the refusal for output.
     pub fn name(self) -> &'static str
-        // Each refusal of the end of the initialisation has its name.
+        // The name of a refused end of the initialisation is "NotInitialising" or "Full" (`init_fault_name`).
         ensures { result.now ≡ init_fault_name self }
     {
         match self {
@@ -189,20 +194,19 @@ impl InitFault {
     }
 }
 
-/// What takes the commands or status that the session accepts.
+/// The application's side of a session: receives the commands or status that the session accepts, in order.
 pub trait Taker {
-    /// What one call does to the value.
+    /// The relation between the value before a call, the message type and payload, and the value after it.
     ghost takes: { Self → ℕ × List ℕ → Self → Type 0 };
 
-    /// Takes a telegram's kind and payload (0 to 357 octets).
+    /// Processes a telegram's message type and payload (0 to 357 bytes).
     fn take(&mut self, kind: u16, payload: &[u8])
-        // A telegram that an application takes is added to its `Texts` where these have room for one of the
-        // greatest size.
+        // `take` changes the value as the implementation's relation `takes` allows for this message type and
+        // payload.
         ensures { takes self.old (kind, payload.now) self.new };
 }
 
-/// Which end it is, with the settings of that end: the version of an interlocking, or the versions and
-/// the checksum of a field element.
+/// Which end it is, with the settings of that end.
 #[derive(Debug, Drop)]
 enum OwnSide {
     /// An interlocking, with its version.
@@ -216,37 +220,38 @@ enum OwnSide {
 pub enum Notice {
     /// The interlocking has this version.
     VersionCheck(u8),
-    /// The field element takes this version.
+    /// The field element has this version, too.
     VersionEqual(u8),
-    /// The field element takes another version, and this one first.
+    /// The field element does not have the version; this is the first of its own. It is sent with an empty
+    /// checksum, so that the interlocking's log can name it; the session ignores it.
     VersionDiffers(u8),
-    /// The interlocking asks for initialisation.
+    /// The interlocking requests the initialisation.
     InitialisationRequest,
-    /// The field element begins it.
+    /// The field element starts the initialisation.
     StartInitialisation,
-    /// The field element has done it.
+    /// The field element has completed the initialisation.
     InitialisationCompleted,
 }
 
-/// What a telegram says by its kind and payload.
+/// The meaning of a telegram by its message type and payload.
 #[derive(Clone, Copy, Debug, PartialEq, Eq)]
 pub enum Form {
     /// It is a telegram of the establishment.
     Notifies(Notice),
     /// It is a command or status.
     Item,
-    /// Its kind is one of the establishment, and its payload is not.
+    /// Its message type is of the establishment, but its payload does not fit.
     OtherPayload,
 }
 
-/// What a session decides.
+/// The decision of a session on an event.
 #[derive(Clone, Copy, Debug, PartialEq, Eq)]
 pub enum Verdict {
     /// The application takes the telegram; the phase stays.
     Takes,
-    /// The phase is this one.
+    /// The session goes to this phase.
     Goes(Phase),
-    /// The phase is this one, and this is sent.
+    /// The session goes to this phase and sends this notice.
     Answers(Phase, Notice),
     /// The session ends.
     Ends(SessionDetail),

@@ -1,4 +1,4 @@
-//! Putting a telegram behind the messages that wait.
+//! Appending telegrams to the waiting messages.
 
 ghost use Rattle.std.specs.Prelude.{◌≡◌, ◌<◌, ◌≤◌, ◌+◌, [], ◌∷◌, ◌++◌, length};
 ghost use Rattle.pdi_session.specs.telegram.TeleText.{tele_text};
@@ -16,13 +16,13 @@ use arrayvec::ArrayVec;
 use octets::limits::{MESSAGE_MAX, MESSAGE_MIN, PAYLOAD_MAX};
 use std::alloc::Allocator;
 
-/// The longest answer to a version check: result, version, length, checksum.
+/// The size of the longest reply to a version check: result, version, length and checksum.
 const ANSWER_MAX: usize = 3 + CHECKSUM_MAX;
 
-/// A message of so many octets is short: its buffer costs less than a longest one's, which is cleared each time.
+/// Messages up to this size use a small buffer, which costs less to clear than one of 400 bytes.
 const SHORT_MESSAGE: usize = 64;
 
-/// Puts a telegram of this kind and payload behind the messages that wait.
+/// Appends a telegram with this message type and payload to the waiting messages.
 pub(crate) fn add_telegram<A: Allocator>(
     parties: &Parties,
     kind: u16,
@@ -31,6 +31,7 @@ pub(crate) fn add_telegram<A: Allocator>(
 )
     requires fits { length payload.now ≤ PAYLOAD_MAX }
     requires room { length waiting.old < WAITING_MAX }
+    // The last waiting message is the encoded telegram from this end to the peer; those before it stay.
     ensures { waiting.new ≡ waiting.old ++ tele_text (telegram (addressing_of parties.now) kind payload.now) ∷ [] }
 {
     if MESSAGE_MIN + payload.len() <= SHORT_MESSAGE {
@@ -42,7 +43,7 @@ pub(crate) fn add_telegram<A: Allocator>(
     }
 }
 
-/// Writes a telegram into a buffer, and puts it behind the messages that wait.
+/// Encodes a telegram into `buffer` and appends it to the waiting messages.
 fn add_by<A: Allocator>(
     parties: &Parties,
     kind: u16,
@@ -53,6 +54,8 @@ fn add_by<A: Allocator>(
     requires fits { length payload.now ≤ PAYLOAD_MAX }
     requires room { MESSAGE_MIN + length payload.now ≤ length buffer.old }
     requires place { length waiting.old < WAITING_MAX }
+    // The message appended is the telegram from this end; neither its size nor the old content of `buffer`
+    // matters.
     ensures { waiting.new ≡ waiting.old ++ tele_text (telegram (addressing_of parties.now) kind payload.now) ∷ [] }
 {
     let telegram = Telegram {
@@ -66,7 +69,7 @@ fn add_by<A: Allocator>(
     waiting.add(&buffer[..size]).unwrap();
 }
 
-/// Puts a telegram of the establishment behind the messages that wait.
+/// Appends a telegram of the establishment to the waiting messages.
 pub(crate) fn add_notice<A: Allocator>(
     parties: &Parties,
     checksum: &[u8],
@@ -75,6 +78,7 @@ pub(crate) fn add_notice<A: Allocator>(
 )
     requires fits { length checksum.now ≤ CHECKSUM_MAX }
     requires room { length waiting.old < WAITING_MAX }
+    // The message appended has the message type and the payload of the `notice` (`kind_of`, `payload_of`).
     ensures { waiting.new ≡ waiting.old
         ++ tele_text (telegram (addressing_of parties.now) (kind_of notice) (payload_of checksum.now notice)) ∷ [] }
 {
@@ -96,7 +100,7 @@ pub(crate) fn add_notice<A: Allocator>(
     }
 }
 
-/// Puts the answer of equal versions behind the messages that wait.
+/// Appends the reply that accepts a version.
 fn add_equal<A: Allocator>(
     parties: &Parties,
     checksum: &[u8],
@@ -105,6 +109,7 @@ fn add_equal<A: Allocator>(
 )
     requires fits { length checksum.now ≤ CHECKSUM_MAX }
     requires room { length waiting.old < WAITING_MAX }
+    // The message appended is a reply with result 2, this version, and the checksum after its length.
     ensures { waiting.new ≡ waiting.old
         ++ tele_text (telegram (addressing_of parties.now) (kind_of (Notice.VersionEqual version))
         (payload_of checksum.now (Notice.VersionEqual version))) ∷ [] }

@@ -1,8 +1,8 @@
-//! Units and the messages that wait for one. A unit is what one Data PDU carries: one to three
-//! messages of 43 to 400 octets, each behind its length (2, least significant octet first).
+//! Units and the messages that wait for one. A unit is the body of one Data PDU: one to three messages of 43 to
+//! 400 bytes, each after its length (2 bytes, least significant first).
 //!
-//! Between the session layer and the safety and retransmission layer of DIN VDE V 0831-200:2015, in
-//! this project's profile.
+//! Units are between the session layer and the safety and retransmission layer of DIN VDE V 0831-200:2015, in this
+//! project's profile.
 
 ghost use Rattle.std.specs.Prelude.{◌≡◌};
 ghost use Rattle.pdi_session.specs.packing.FaultNames.{unit_name, unit_number};
@@ -18,25 +18,25 @@ pub use octets::limits::WAITING_MAX;
 pub use unit::{one_spelling, unpack};
 pub use waiting::{Waiting, pack, pack_into, read_back};
 
-/// The messages of a unit, in order, as views of it.
+/// The messages of a unit, in order, as views of it. It allocates nothing.
 pub type Messages<'a> = ArrayVec<&'a [u8], UNIT_MESSAGES>;
 
-/// Why octets are no unit.
+/// Why bytes are not a unit. A wrong length in the third message is `Length`, since it comes before the end of
+/// three messages.
 #[derive(Clone, Copy, Debug, PartialEq, Eq)]
 pub enum PackFault {
-    /// There are no octets.
+    /// There are no bytes.
     Empty,
-    /// A length is outside 43 to 400, fewer octets follow than it says, or one octet alone stands
-    /// where a length must.
+    /// A length is not 43 to 400, fewer bytes follow than it says, or a single byte is left for a length.
     Length,
-    /// Three messages were read and octets remain.
+    /// Three messages were read and bytes remain.
     TooMany,
 }
 
 impl PackFault {
-    /// The fault's number, as it is printed: its place among the faults, from 1.
+    /// Returns the number of the fault for output: its place in the list of faults, from 1.
     pub fn number(self) -> u8
-        // Each fault has its number.
+        // `number` is 1 for Empty, 2 for Length and 3 for TooMany (`unit_number`).
         ensures { result ≡ unit_number self }
     {
         match self {
@@ -46,9 +46,9 @@ impl PackFault {
         }
     }
 
-    /// The fault's name, as it is printed.
+    /// Returns the name of the fault for output.
     pub fn name(self) -> &'static str
-        // Each fault has its name.
+        // The name of a unit's fault is "Empty", "Length" or "TooMany" (`unit_name`).
         ensures { result.now ≡ unit_name self }
     {
         match self {
@@ -59,6 +59,6 @@ impl PackFault {
     }
 }
 
-/// As many messages wait as there is room for.
+/// 64 messages wait already.
 #[derive(Clone, Copy, Debug, PartialEq, Eq)]
 pub struct Full;

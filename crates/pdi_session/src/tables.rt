@@ -1,4 +1,4 @@
-//! The two tables: what an end decides, by its phase.
+//! The two tables of the session: what each end decides, by its phase.
 
 ghost use Rattle.std.specs.Prelude.{◌≡◌};
 ghost use Rattle.pdi_session.specs.Tables.{field_table, field_up, interlocking_table, interlocking_up};
@@ -6,8 +6,9 @@ ghost use Rattle.pdi_session.specs.Settings.{first_version};
 
 use super::{Form, Notice, Phase, SessionDetail, Verdict};
 
-/// What an interlocking with this version decides when the connection is up.
+/// Returns the decision of an interlocking when the connection comes up.
 pub(crate) fn interlocking_up(own: u8, phase: Phase) -> Verdict
+    // An idle interlocking goes to Checking and sends its version; in another phase nothing changes.
     ensures { result ≡ interlocking_up own phase }
 {
     match phase {
@@ -16,8 +17,9 @@ pub(crate) fn interlocking_up(own: u8, phase: Phase) -> Verdict
     }
 }
 
-/// What a field element decides then.
+/// Returns the decision of a field element when the connection comes up.
 pub(crate) fn field_up(phase: Phase) -> Verdict
+    // An idle field element goes to AwaitCheck and sends nothing; in another phase nothing changes.
     ensures { result ≡ field_up phase }
 {
     match phase {
@@ -26,8 +28,10 @@ pub(crate) fn field_up(phase: Phase) -> Verdict
     }
 }
 
-/// What an interlocking with this version decides on a telegram.
+/// Returns the decision of an interlocking on a telegram.
 pub(crate) fn interlocking_verdict(own: u8, phase: Phase, form: Form) -> Verdict
+    // The verdict is the row of `interlocking_table` for this version, phase and form; without a row it is
+    // `OutOfOrder`.
     ensures { result ≡ interlocking_table own phase form }
 {
     match (phase, form) {
@@ -52,8 +56,10 @@ pub(crate) fn interlocking_verdict(own: u8, phase: Phase, form: Form) -> Verdict
     }
 }
 
-/// What a field element that takes these versions decides on a telegram.
+/// Returns the decision of a field element on a telegram.
 pub(crate) fn field_verdict(versions: &[u8], phase: Phase, form: Form) -> Verdict
+    // The verdict is the row of `field_table` for these versions, this phase and form; without a row it is
+    // `OutOfOrder`.
     ensures { result ≡ field_table versions.now phase form }
 {
     match (phase, form) {
@@ -75,8 +81,9 @@ pub(crate) fn field_verdict(versions: &[u8], phase: Phase, form: Form) -> Verdic
     }
 }
 
-/// The version that a field element names to a peer of another one.
+/// Returns the version that a field element names in reply to one that it does not have.
 fn first_version(versions: &[u8]) -> u8
+    // `first_version` returns the first version of the list, and 0 for an empty one.
     ensures { result ≡ first_version versions.now }
 {
     match versions {

@@ -1,8 +1,8 @@
-//! The SCI telegram: what the two applications say to one another, and the payload of every message
-//! of a unit. Layout in octets, least significant first: protocol type (1), message type (2), name
-//! of the sender (20), name of the receiver (20), payload (0 to 357).
+//! The SCI telegram: the message between the two applications, and the content of every message of a unit. Layout
+//! in bytes, numbers with the least significant byte first: protocol type (1), message type (2), sender's name
+//! (20), receiver's name (20), payload (0 to 357).
 //!
-//! The session layer above RaSTA, in this project's profile.
+//! Telegrams belong to the session layer above RaSTA, in this project's profile.
 
 ghost use Rattle.std.specs.Prelude.{◌≡◌};
 ghost use Rattle.pdi_session.specs.telegram.FaultNames.{telegram_name, telegram_number};
@@ -19,30 +19,32 @@ pub use codec::{decode, encode, one_spelling, read_back};
 pub use known::KnownPair;
 pub use octets::limits::{FILLING, NAME_LENGTH};
 
-/// Where the message type stands, behind the protocol type.
+/// The place of the message type, after the protocol type.
 const KIND: usize = 1;
 
-/// Where the sender's name stands.
+/// The place of the sender's name.
 const SENDER: usize = 3;
 
-/// Where the receiver's name stands.
+/// The place of the receiver's name.
 const RECEIVER: usize = SENDER + NAME_LENGTH;
 
 const _: () = prove!(RECEIVER + NAME_LENGTH == MESSAGE_MIN);
 
-/// Why a text is no name. Where several hold, `Name::new` names the first of this list.
+/// Why a text is not a name. If several apply, it is the first in this order.
 #[derive(Clone, Copy, Debug, PartialEq, Eq)]
 pub enum NameFault {
-    /// There is no character.
+    /// The text is empty.
     Empty,
-    /// There are more than 20 octets.
+    /// There are more than 20 bytes. A text of 11 two-byte characters is too long, too.
     Long,
-    /// An octet is none of 0x21 to 0x7e, or it is the filling 0x5f.
+    /// A byte is not in 0x21 to 0x7e, or it is the filling 0x5f.
     Character,
 }
 
-/// The name of an end: 1 to 20 characters 0x21 to 0x7e other than 0x5f. It is a view of the text or
-/// of the telegram that it was read from, without the filling.
+/// The name of an end: 1 to 20 characters 0x21 to 0x7e except 0x5f.
+///
+/// It is a view of the text or the telegram that it was read from, without the filling, so decoding copies
+/// nothing. Every `Name` is valid, so `encode` has no condition on names.
 #[derive(Clone, Copy, Debug, PartialEq, Eq)]
 pub struct Name<'a> {
     /// The characters, without filling.
@@ -50,7 +52,7 @@ pub struct Name<'a> {
     ghost well_formed: { IsName characters.now },
 }
 
-/// A name that owns its characters, for settings that outlive the text they were read from.
+/// A name with its own copy of the characters, for settings that outlive the text that they were read from.
 #[derive(Clone, Copy, Debug, PartialEq, Eq)]
 pub struct OwnedName {
     /// The characters, without filling.
@@ -65,29 +67,29 @@ pub struct Telegram<'a> {
     pub protocol: u8,
     /// The message type.
     pub kind: u16,
-    /// The name of the end that made it.
+    /// The name of the end that sent it.
     pub sender: Name<'a>,
     /// The name of the end that it is for.
     pub receiver: Name<'a>,
-    /// The payload, at most 357 octets; it may be empty.
+    /// The payload, 0 to 357 bytes.
     pub payload: &'a [u8],
 }
 
-/// Why octets are no telegram. Where several hold, the decoder names the first of this list.
+/// Why bytes are not a telegram. If several apply, the decoder returns the first in this order.
 #[derive(Clone, Copy, Debug, PartialEq, Eq)]
 pub enum TeleFault {
-    /// Fewer than 43 octets.
+    /// There are fewer than 43 bytes.
     Short,
-    /// More than 400 octets.
+    /// There are more than 400 bytes.
     Long,
-    /// The sender's name or the receiver's is not well formed.
+    /// The sender's or the receiver's name is not valid; the fault does not say which.
     Name,
 }
 
 impl TeleFault {
-    /// The fault's number, as it is printed: its place among the faults, from 1.
+    /// Returns the number of the fault for output: its place in the list of faults, from 1.
     pub fn number(self) -> u8
-        // Each fault of a telegram has its number.
+        // `number` is 1 for Short, 2 for Long and 3 for Name (`telegram_number`).
         ensures { result ≡ telegram_number self }
     {
         match self {
@@ -97,9 +99,9 @@ impl TeleFault {
         }
     }
 
-    /// The fault's name, as it is printed.
+    /// Returns the name of the fault for output.
     pub fn name(self) -> &'static str
-        // Each fault of a telegram has its name.
+        // The name of a telegram's fault is "Short", "Long" or "Name" (`telegram_name`).
         ensures { result.now ≡ telegram_name self }
     {
         match self {

@@ -1,4 +1,4 @@
--- The lines of messages, one after the other.
+-- The lines of messages, in order.
 use Rattle.std.proofs.Common.{◌≡◌, ◌+◌, ◌<◌, ◌≤◌, ◌∙◌, ◌&&◌, ◌++◌, map, drop, length, List, [], ℕ, Bool, Bor, Option, arith, refl, sym, get_or, drop-cons, suc, true, false}
 use Rattle.std.proofs.lemmas.List.{drop_all}
 use Rattle.std.specs.Io.KnownBytes.{Appends}
@@ -9,7 +9,7 @@ use Rattle.pdu_text.specs.MessageText.{are_telegrams, is_telegram, message_line,
 abbrev pub octets_of_all : List (Bor (List ℕ)) → List (List ℕ)
 octets_of_all messages = map (λ (m : Bor (List ℕ)). m.now) messages
 
--- the lines from the i-th message on are its line and those behind it
+-- the lines from the i-th message on are its line and those of the later ones
 pub message_lines-drop : (number i : ℕ) (ms : List (Bor (List ℕ))) (d : Bor (List ℕ)) → i < length ms
     → message_lines number (octets_of_all (drop i ms))
     ≡ message_line number (tele_seen (get_or ms i d).now) ++ message_lines (number + 1) (octets_of_all (drop (i + 1) ms))
@@ -25,7 +25,7 @@ are_telegrams-drop i ms d inner =
     let later : i + 1 ≡ suc i = omega arith in
     rw (later, drop-cons ms i d inner) refl
 
--- behind the last message there is no line
+-- after the last message there is no line
 pub message_lines-end : (number i : ℕ) (ms : List (Bor (List ℕ))) → length ms ≤ i → message_lines number (octets_of_all (drop i ms)) ≡ []
 unfolding message_lines
 message_lines-end number i ms over = let none : drop i ms ≡ [] = drop_all i ms over in rw none refl
@@ -34,13 +34,13 @@ pub are_telegrams-end : (i : ℕ) (ms : List (Bor (List ℕ))) → length ms ≤
 unfolding are_telegrams
 are_telegrams-end i ms over = let none : drop i ms ≡ [] = drop_all i ms over in rw none refl
 
--- a line that was written, and what the lines behind it lead to
+-- a line was written, and then the lines after it
 pub lines_left : (number i : ℕ) (ms : List (Bor (List ℕ))) (d : Bor (List ℕ)) (a b end : Option (List ℕ)) → i < length ms
     → Appends a b (message_line number (tele_seen (get_or ms i d).now)) → Appends b end (message_lines (number + 1) (octets_of_all (drop (i + 1) ms)))
     → Appends a end (message_lines number (octets_of_all (drop i ms)))
 lines_left number i ms d a b end inner line behind = rw (message_lines-drop number i ms d inner) (Appends-trans a b end _ _ line behind)
 
--- a message that was judged, and what those behind it say
+-- the test of a message, and then those of the messages after it
 pub clean_left : (old whole new : Bool) (i : ℕ) (ms : List (Bor (List ℕ))) (d : Bor (List ℕ)) (all : Bool) → i < length ms
     → whole ≡ is_telegram (tele_seen (get_or ms i d).now) → (old && are_telegrams (octets_of_all (drop i ms))) ≡ all → new ≡ (old && whole)
     → (new && are_telegrams (octets_of_all (drop (i + 1) ms))) ≡ all

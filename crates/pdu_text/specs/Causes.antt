@@ -1,4 +1,4 @@
--- Why a datagram was dropped, and what that may come from.
+-- Why a datagram was dropped, in words, with what may have caused it.
 use Rattle.std.specs.Prelude.{ℕ, List, ◌∷◌, [], codes}
 use Rattle.std.specs.Fmt.{decimal}
 use Rattle.pdu_text.specs.Lines.{joined}
@@ -11,39 +11,41 @@ use Rattle.safe_pdu.specs.declared.SafeFault.TheVariants as fault
 use Rattle.pdu_text.specs.declared.causes.Cause.{Cause}
 use Rattle.pdu_text.specs.declared.causes.Cause.TheVariants.{Early, Part, Stranger}
 
--- in the redundancy layer
+-- the words for an event of the redundancy layer
 abbrev pub event_text : RedEvent → List ℕ
 event_text event.Passed = codes "passed on"
 event_text event.Wait = codes "waits"
-event_text event.Old = codes "its number came before, on this or another channel"
+event_text event.Old = codes "its number was already received, on this or another channel"
 event_text event.Far = codes "its number is too far ahead"
 event_text event.Full = codes "it came early, and every place is taken"
-event_text event.Again = codes "its number waits already"
-event_text (event.Fault why) = codes "it is no redundancy PDU: damage, or not of RaSTA"
+event_text event.Again = codes "its number is already deferred"
+event_text (event.Fault why) = codes "it is not a redundancy PDU: damage, or not RaSTA"
 
--- as a safety PDU
+-- the words for a fault of a safety PDU
 abbrev pub fault_text : SafeFault → List ℕ
 fault_text fault.Short = codes "it is too short for a safety PDU: another length of code, or damage"
 fault_text fault.Length = codes "its length differs from its length field: another length of code, or damage"
 fault_text fault.Code = codes "its safety code is not that of these settings: another code or initial value (iv), or damage"
-fault_text fault.BadType = codes "its type is none"
+fault_text fault.BadType = codes "its type is unknown"
 fault_text fault.Body = codes "its body does not fit its type"
 
--- in the safety machine
+-- the words for a cause of the safety machine
 abbrev pub part_text : DropCause → List ℕ
 part_text (cause.Fault why) = fault_text why
 part_text cause.Stranger = codes "a stranger's: another id or peer_id"
-part_text cause.NotOpened = codes "it asks for no connection, and none stands"
+part_text cause.NotOpened = codes "it is not a connection request, and there is no connection"
 part_text cause.Number = codes "its sequence number is too far ahead"
-part_text cause.Request = codes "it is not the retransmission that is asked for"
-part_text cause.Answered = codes "a request for retransmission that was answered before"
-part_text cause.Below = codes "a request for retransmission that confirms less than was confirmed before"
+part_text cause.Request = codes "it is not the requested retransmission"
+part_text cause.Answered = codes "a retransmission request that was already answered"
+part_text cause.Below = codes "a retransmission request that confirms less than an earlier PDU"
 
+-- the words for a PDU of other ends, with the identifiers of its sender and receiver
 unfoldable pub stranger_text : ℕ → ℕ → List ℕ
 stranger_text sender receiver =
     joined
     (codes "a stranger's: from id " ∷ decimal sender ∷ codes " for id " ∷ decimal receiver ∷ codes ", which are not peer_id and id" ∷ [])
 
+-- the words for why a datagram was dropped
 abbrev pub cause_text : Cause → List ℕ
 cause_text (Early why) = event_text why
 cause_text (Part why) = part_text why

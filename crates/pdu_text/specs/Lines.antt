@@ -1,18 +1,18 @@
--- Texts of pieces, octets in hex digits, and the line of a layer's fault.
+-- Texts made of pieces, bytes in hex digits, and the line of a layer's fault.
 use Rattle.std.specs.Prelude.{ℕ, List, [], ◌∷◌, ◌++◌, codes}
 use Rattle.std.specs.Fmt.{decimal}
 use Rattle.hex.specs.Hex.{encode_lower}
 
--- the pieces, one after the other
+-- the pieces, concatenated
 abbrev pub joined : List (List ℕ) → List ℕ
 joined [] = []
 joined (piece ∷ pieces) = piece ++ joined pieces
 
--- an octet in two hex digits of lower case
+-- a byte in two lowercase hex digits
 abbrev pub octet_text : ℕ → List ℕ
 octet_text octet = encode_lower (octet ∷ [])
 
--- octets in hex digits, and a dash for none
+-- bytes in hex digits, and a dash if there are none
 abbrev pub octets_text : List ℕ → List ℕ
 octets_text [] = codes "-"
 octets_text (octet ∷ octets) = encode_lower (octet ∷ octets)

@@ -1,4 +1,4 @@
--- The words for ends, states, phases, refusals and causes, as they are printed.
+-- The words for ends, states, phases and causes, as they are printed.
 use Rattle.std.specs.Prelude.{codes, List, ℕ, Option, Some, None}
 use Rattle.end_settings.specs.declared.Side.{Side}
 use Rattle.end_settings.specs.declared.Side.TheVariants as side
@@ -15,15 +15,17 @@ use Rattle.safe_machine.specs.declared.Step.{Step}
 use Rattle.safe_machine.specs.declared.Step.TheVariants as step
 use Rattle.safe_pdu.specs.Names.{safe_name}
 
+-- the word for an end
 abbrev pub side_name : Side → List ℕ
 side_name side.Interlocking = codes "il"
 side_name side.FieldElement = codes "fe"
 
--- the letter of an end's labels
+-- the first letter of an end's labels
 abbrev pub side_letter : Side → List ℕ
 side_letter side.Interlocking = codes "i"
 side_letter side.FieldElement = codes "f"
 
+-- the name of a connection's state
 abbrev pub state_name : ConnectionState → List ℕ
 state_name state.Closed = codes "Closed"
 state_name state.Down = codes "Down"
@@ -32,6 +34,7 @@ state_name state.Up = codes "Up"
 state_name state.RetrReq = codes "RetrReq"
 state_name state.RetrRun = codes "RetrRun"
 
+-- the name of a session's phase
 abbrev pub phase_name : Phase → List ℕ
 phase_name phase.Idle = codes "Idle"
 phase_name phase.Checking = codes "Checking"
@@ -43,7 +46,7 @@ phase_name phase.Initialising = codes "Initialising"
 phase_name phase.Established = codes "Established"
 phase_name phase.Ended = codes "Ended"
 
--- why the redundancy layer dropped a datagram
+-- the word for why the redundancy layer dropped a datagram; None if it did not
 abbrev pub red_cause : RedEvent → Option (List ℕ)
 red_cause event.Passed = None
 red_cause event.Wait = None
@@ -55,6 +58,7 @@ red_cause (event.Fault red_fault.Short) = Some (codes "red-Short")
 red_cause (event.Fault red_fault.Length) = Some (codes "red-Length")
 red_cause (event.Fault red_fault.Reserve) = Some (codes "red-Reserve")
 
+-- the word for a cause of the safety machine
 abbrev pub drop_cause : DropCause → List ℕ
 drop_cause (cause.Fault fault) = safe_name fault
 drop_cause cause.Stranger = codes "stranger"
@@ -64,7 +68,7 @@ drop_cause cause.Request = codes "request"
 drop_cause cause.Answered = codes "answered"
 drop_cause cause.Below = codes "below"
 
--- why the safety machine dropped a part
+-- the word for why the safety machine dropped a part; None if it did not
 abbrev pub step_cause : Step → Option (List ℕ)
 step_cause (step.Dropped why) = Some (drop_cause why)
 step_cause step.Gap = Some (codes "gap")

@@ -1,4 +1,4 @@
--- The lines of what ends take, refuse and are.
+-- The lines of a run: telegrams taken, events refused, and the state of an end.
 use Rattle.std.specs.Prelude.{ℕ, List, [], ◌∷◌, codes, Option, Some, None}
 use Rattle.std.specs.Fmt.{decimal}
 use Rattle.std.specs.Int.{w16, to_be_bytes}
@@ -8,7 +8,7 @@ use Rattle.pdu_text.specs.Lines.{joined, octets_text}
 use Rattle.pdu_text.specs.Names.{side_name, state_name, phase_name}
 use Rattle.pdu_text.specs.declared.reports.Standing.{Standing}
 
--- END takes KIND HEX
+-- END takes TYPE HEX
 abbrev pub take_line : Side → ℕ → List ℕ → List ℕ
 take_line side kind payload =
     joined (side_name side ∷ codes " takes " ∷ encode_lower (to_be_bytes w16 kind) ∷ codes " " ∷ octets_text payload ∷ codes "\n" ∷ [])
@@ -17,17 +17,18 @@ take_line side kind payload =
 abbrev pub refusal_line : List ℕ → List ℕ
 refusal_line name = joined (codes "refused " ∷ name ∷ codes "\n" ∷ [])
 
--- SIDE STATE PHASE put N taken N
+-- END STATE PHASE put N taken N
 abbrev pub standing_line : List ℕ → Standing → List ℕ
 standing_line side s =
     joined
     (side ∷ codes " " ∷ state_name s.state ∷ codes " " ∷ phase_name s.phase ∷ codes " put " ∷ decimal s.put ∷ codes " taken " ∷ decimal s.taken
     ∷ codes "\n" ∷ [])
 
+-- END none
 abbrev pub none_line : List ℕ → List ℕ
 none_line side = joined (side ∷ codes " none\n" ∷ [])
 
--- how an end stands, or that it was never opened
+-- the state of an end, or that it was never opened
 abbrev pub report_line : Side → Option Standing → List ℕ
 report_line side None = none_line (side_name side)
 report_line side (Some s) = standing_line (side_name side) s

@@ -1,4 +1,4 @@
-//! Why a datagram was dropped.
+//! Why a datagram was dropped, in words.
 
 ghost use Rattle.std.specs.Prelude.{◌≡◌, OnOk};
 ghost use Rattle.std.specs.Io.KnownBytes.{Appends};
@@ -14,11 +14,11 @@ use std::io::Write;
 /// Why a datagram was dropped.
 #[derive(Clone, Copy, Debug, PartialEq, Eq)]
 pub enum Cause {
-    /// The redundancy layer dropped it, or let it wait.
+    /// The redundancy layer dropped or deferred it.
     Early(RedEvent),
     /// The safety machine dropped it.
     Part(DropCause),
-    /// It has a sender and a receiver that are not the two ends of this connection.
+    /// Its sender and receiver are not the two ends of this connection.
     Stranger {
         /// The identifier of its sender.
         sender: u32,
@@ -29,6 +29,7 @@ pub enum Cause {
 
 /// Writes why a datagram was dropped.
 pub(crate) fn write_cause<W: Write>(writer: &mut W, cause: Cause) -> io::Result<()>
+    // If it succeeds, `write_cause` has appended the words for the cause.
     ensures { OnOk result (Appends (W.contents writer.old) (W.contents writer.new) (causes.cause_text cause)) }
 {
     match cause {
@@ -38,8 +39,10 @@ pub(crate) fn write_cause<W: Write>(writer: &mut W, cause: Cause) -> io::Result<
     }
 }
 
+/// Writes that a datagram is a stranger's, with both identifiers.
 #[tactic(auto, unfolding(crate::specs::Causes::stranger_text))]
 fn write_stranger<W: Write>(writer: &mut W, sender: u32, receiver: u32) -> io::Result<()>
+    // If it succeeds, `write_stranger` has appended the text with both identifiers in decimal.
     ensures { OnOk result (Appends (W.contents writer.old) (W.contents writer.new)
         (causes.stranger_text sender receiver)) }
 {
@@ -49,36 +52,41 @@ fn write_stranger<W: Write>(writer: &mut W, sender: u32, receiver: u32) -> io::R
     )
 }
 
+/// Returns the words for an event of the redundancy layer.
 fn event_words(event: RedEvent) -> &'static str
+    // The result is the text of the event, such as "its number is too far ahead" for `Far`.
     ensures { result.now ≡ causes.event_text event }
 {
     match event {
         RedEvent::Passed => "passed on",
         RedEvent::Wait => "waits",
-        RedEvent::Old => "its number came before, on this or another channel",
+        RedEvent::Old => "its number was already received, on this or another channel",
         RedEvent::Far => "its number is too far ahead",
         RedEvent::Full => "it came early, and every place is taken",
-        RedEvent::Again => "its number waits already",
-        RedEvent::Fault(_) => "it is no redundancy PDU: damage, or not of RaSTA",
+        RedEvent::Again => "its number is already deferred",
+        RedEvent::Fault(_) => "it is not a redundancy PDU: damage, or not RaSTA",
     }
 }
 
+/// Returns the words for a cause of the safety machine.
 fn part_words(why: DropCause) -> &'static str
+    // The result is the text of the cause; for a fault of the safety PDU it is that of the fault.
     ensures { result.now ≡ causes.part_text why }
 {
     match why {
         DropCause::Fault(fault) => fault_words(fault),
         DropCause::Stranger => "a stranger's: another id or peer_id",
-        DropCause::NotOpened => "it asks for no connection, and none stands",
+        DropCause::NotOpened => "it is not a connection request, and there is no connection",
         DropCause::Number => "its sequence number is too far ahead",
-        DropCause::Request => "it is not the retransmission that is asked for",
-        DropCause::Answered => "a request for retransmission that was answered before",
-        DropCause::Below =>
-            "a request for retransmission that confirms less than was confirmed before",
+        DropCause::Request => "it is not the requested retransmission",
+        DropCause::Answered => "a retransmission request that was already answered",
+        DropCause::Below => "a retransmission request that confirms less than an earlier PDU",
     }
 }
 
+/// Returns the words for a fault of a safety PDU, with what may have caused it.
 fn fault_words(fault: SafeFault) -> &'static str
+    // The result is the text of the fault, such as "its body does not fit its type" for `Body`.
     ensures { result.now ≡ causes.fault_text fault }
 {
     match fault {
@@ -87,7 +95,7 @@ fn fault_words(fault: SafeFault) -> &'static str
             "its length differs from its length field: another length of code, or damage",
         SafeFault::Code =>
             "its safety code is not that of these settings: another code or initial value (iv), or damage",
-        SafeFault::BadType => "its type is none",
+        SafeFault::BadType => "its type is unknown",
         SafeFault::Body => "its body does not fit its type",
     }
 }

@@ -1,4 +1,5 @@
-//! The text of a datagram, line by line.
+//! The text of a datagram, line by line. Each piece of a line is written at once. A fault hides no line
+//! above it, and a message that is not a telegram hides no other.
 
 ghost use Rattle.std.specs.Prelude.{◌≡◌, [], ◌∷◌, codes, OnOk, IfOk};
 ghost use Rattle.std.specs.Fmt.{decimal};
@@ -15,18 +16,18 @@ use safe_pdu::{CodeRule, Kind, Leaving, Opening, SafePdu, read_leaving, read_ope
 use std::io;
 use std::io::Write;
 
-/// Writes the text of a datagram of any octets, read under a rule of the safety code, and answers
-/// whether no line of it names a fault.
+/// Writes the text of a datagram, which may contain any bytes, with the given safety code settings. Returns
+/// whether no line names a fault.
 ///
 /// # Errors
 ///
-/// An error is the writer's; what came before it stays
-/// written.
+/// The writer's error; what came before it remains written.
 pub fn show<W: Write>(octets: &[u8], rule: &CodeRule, writer: &mut W) -> io::Result<bool>
-    // Where `show` answers Ok it has written exactly the stated text of a datagram of any octets.
+    // If it succeeds, `show` has appended the text of the datagram: the lines of the redundancy PDU, safety
+    // PDU and messages, up to the first layer with a fault.
     ensures written { OnOk result (Appends (W.contents writer.old) (W.contents writer.new)
         (show_text rule.now octets.now)) }
-    // `show` answers whether no line of a datagram's text names a fault.
+    // The result of `show` is true if and only if no line of the text names a fault.
     ensures clean { IfOk result (λ clean. clean ≡ is_clean rule.now octets.now) }
 {
     match red_layer::pdu::decode(octets) {
@@ -42,10 +43,13 @@ pub fn show<W: Write>(octets: &[u8], rule: &CodeRule, writer: &mut W) -> io::Res
     }
 }
 
-/// Writes the lines of an upper part.
+/// Writes the lines of the payload of a redundancy PDU.
 fn show_upper<W: Write>(upper: &[u8], rule: &CodeRule, writer: &mut W) -> io::Result<bool>
+    // If it succeeds, `show_upper` has appended the line of the safety PDU and those of its messages, or
+    // the line of the safety PDU's fault.
     ensures written { OnOk result (Appends (W.contents writer.old) (W.contents writer.new)
         (upper_text (safe_seen rule.now upper.now))) }
+    // The result of `show_upper` is true if and only if none of these lines names a fault.
     ensures clean { IfOk result (λ clean. clean ≡ is_clean_upper (safe_seen rule.now upper.now)) }
 {
     match safe_pdu::decode(upper, rule) {
@@ -61,7 +65,9 @@ fn show_upper<W: Write>(upper: &[u8], rule: &CodeRule, writer: &mut W) -> io::Re
     }
 }
 
+/// Writes the line of a redundancy PDU.
 fn write_red<W: Write>(writer: &mut W, size: usize, seq: u32) -> io::Result<()>
+    // If it succeeds, `write_red` has appended the line with the length and the sequence number in decimal.
     ensures { OnOk result (Appends (W.contents writer.old) (W.contents writer.new) (red_line size seq)) }
 {
     writeln!(writer, "red length {size} seq {seq}")
@@ -70,6 +76,8 @@ fn write_red<W: Write>(writer: &mut W, size: usize, seq: u32) -> io::Result<()>
 /// Writes the line of a safety PDU.
 fn write_safe<W: Write>(writer: &mut W, pdu: &SafePdu<'_>) -> io::Result<()>
     requires { IsBody pdu.now.kind pdu.now.body.now }
+    // If it succeeds, `write_safe` has appended the line of the PDU: its header fields, the content of its
+    // body, and a line end.
     ensures { OnOk result (Appends (W.contents writer.old) (W.contents writer.new) (safe_line (pdu_of pdu.now))) }
 {
     write_fields(writer, pdu)?;
@@ -77,7 +85,10 @@ fn write_safe<W: Write>(writer: &mut W, pdu: &SafePdu<'_>) -> io::Result<()>
     write_text(writer, "\n")
 }
 
+/// Writes the PDU type and the header fields.
 fn write_fields<W: Write>(writer: &mut W, pdu: &SafePdu<'_>) -> io::Result<()>
+    // If it succeeds, `write_fields` has appended the name of the PDU type and the six other fields in
+    // decimal.
     ensures { OnOk result (Appends (W.contents writer.old) (W.contents writer.new) (fields_text (pdu_of pdu.now))) }
 {
     let SafePdu {
@@ -97,9 +108,11 @@ fn write_fields<W: Write>(writer: &mut W, pdu: &SafePdu<'_>) -> io::Result<()>
     )
 }
 
-/// Writes what a body says on the line of its PDU.
+/// Writes the content of a body on the line of its PDU.
 fn write_body<W: Write>(writer: &mut W, kind: Kind, body: &[u8]) -> io::Result<()>
     requires { IsBody kind body.now }
+    // If it succeeds, `write_body` has appended version and N_sendmax of a ConnReq or ConnResp, detail and
+    // reason of a DiscReq, and otherwise nothing.
     ensures { OnOk result (Appends (W.contents writer.old) (W.contents writer.new) (body_text kind body.now)) }
 {
     match kind {
@@ -112,7 +125,10 @@ fn write_body<W: Write>(writer: &mut W, kind: Kind, body: &[u8]) -> io::Result<(
     }
 }
 
+/// Writes the version and N_sendmax.
 fn write_opening<W: Write>(writer: &mut W, opening: &Opening<'_>) -> io::Result<()>
+    // If it succeeds, `write_opening` has appended " version ", the version, " nsendmax " and N_sendmax in
+    // decimal.
     ensures { OnOk result (Appends (W.contents writer.old) (W.contents writer.new)
         (joined (codes " version " ∷ opening.now.version.now
         ∷ codes " nsendmax " ∷ decimal opening.now.n_sendmax ∷ []))) }

@@ -1,4 +1,4 @@
-//! Why an end is where it is at the end of a run.
+//! The last line of an end: its state at the end of a run, and why.
 
 ghost use Rattle.std.specs.Prelude.{◌≡◌, OnOk};
 ghost use Rattle.std.specs.Io.KnownBytes.{Appends};
@@ -17,7 +17,7 @@ use safe_pdu::Leaving;
 use std::io;
 use std::io::Write;
 
-/// Who left a connection, for reason and detail of its DiscReq.
+/// Who disconnected, with the reason and detail of the DiscReq.
 #[derive(Clone, Copy, Debug, PartialEq, Eq)]
 pub enum Departure {
     /// This end.
@@ -26,28 +26,29 @@ pub enum Departure {
     Peer(Leaving),
 }
 
-/// How an end stands at the end of a run, and what is known of why.
+/// The state of an end at the end of a run, and what may explain it.
 #[derive(Clone, Copy, Debug, PartialEq, Eq)]
 pub struct Ending {
     /// The state of its connection.
     pub state: ConnectionState,
     /// The phase of its session.
     pub phase: Phase,
-    /// Who left, where somebody did.
+    /// Who disconnected, if anyone did.
     pub departure: Option<Departure>,
     /// How many datagrams came.
     pub came: u64,
     /// How many PDUs its safety machine did not drop.
     pub taken: u64,
-    /// Why the last one was dropped that was.
+    /// Why the last dropped datagram was dropped.
     pub last: Option<Cause>,
 }
 
-/// Writes the last line of an end: how it stands, who left and why, and where nothing of the peer was taken what came.
+/// Writes the last line of an end: its state, who disconnected and why, and, if no PDU of the peer was
+/// taken, what came instead.
 ///
 /// # Errors
 ///
-/// An error is the writer's; what came before it stays written.
+/// The writer's error; what came before it remains written.
 #[tactic(auto, unfolding(crate::specs::Pieces::log_line, crate::specs::Endings::ending_text))]
 pub fn write_ending<W: Write>(
     writer: &mut W,
@@ -55,8 +56,8 @@ pub fn write_ending<W: Write>(
     side: Side,
     ending: &Ending,
 ) -> io::Result<()>
-    // The last line of an end says how it stands, who left with which reason and detail, and where nothing of
-    // the peer was taken what came.
+    // If it succeeds, `write_ending` has appended a line: time, end, state and phase, who disconnected and
+    // why, and, if no PDU was taken, what came.
     ensures { OnOk result (Appends (W.contents writer.old) (W.contents writer.new)
         (log_line at side (endings.ending_text ending.now))) }
 {
@@ -67,8 +68,10 @@ pub fn write_ending<W: Write>(
     write_text(writer, "\n")
 }
 
+/// Writes the state and the phase.
 #[tactic(auto, unfolding(crate::specs::Endings::standing_text))]
 fn write_standing<W: Write>(writer: &mut W, ending: &Ending) -> io::Result<()>
+    // If it succeeds, `write_standing` has appended "ends", the name of the state and that of the phase.
     ensures { OnOk result (Appends (W.contents writer.old) (W.contents writer.new)
         (endings.standing_text ending.now)) }
 {
@@ -77,25 +80,31 @@ fn write_standing<W: Write>(writer: &mut W, ending: &Ending) -> io::Result<()>
     write!(writer, "ends {state} {phase}")
 }
 
+/// Writes who disconnected and why.
 fn write_departure<W: Write>(writer: &mut W, departure: Option<Departure>) -> io::Result<()>
+    // If it succeeds, `write_departure` has appended who left with which reason and detail, and nothing if
+    // nobody did.
     ensures { OnOk result (Appends (W.contents writer.old) (W.contents writer.new)
         (endings.departure_text departure)) }
 {
     match departure {
         None => write_text(writer, ""),
-        Some(Departure::Own(leaving)) => write_leaving(writer, "; it left with ", leaving),
+        Some(Departure::Own(leaving)) => write_leaving(writer, "; it disconnected with ", leaving),
         Some(Departure::Peer(leaving)) => {
-            write_leaving(writer, "; its peer left with ", leaving)
+            write_leaving(writer, "; its peer disconnected with ", leaving)
         }
     }
 }
 
+/// Writes what came, if no PDU of the peer was taken.
 fn write_heard<W: Write>(
     writer: &mut W,
     came: u64,
     taken: u64,
     last: Option<Cause>,
 ) -> io::Result<()>
+    // If it succeeds, `write_heard` has appended a question about the settings if nothing `came`, the last
+    // cause if nothing was `taken`, and otherwise nothing.
     ensures { OnOk result (Appends (W.contents writer.old) (W.contents writer.new)
         (endings.heard_text came taken last)) }
 {
@@ -103,7 +112,7 @@ fn write_heard<W: Write>(
         (0, _) => {
             write_text(
                 writer,
-                "; nothing came on any channel: is the peer running, and are local and remote those of its settings?",
+                "; nothing received on any channel: is the peer running, and do local and remote match its settings?",
             )
         }
         (_, 0) => write_untaken(writer, came, last),
@@ -111,8 +120,11 @@ fn write_heard<W: Write>(
     }
 }
 
+/// Writes how many datagrams came and why the last one was dropped.
 #[tactic(auto, unfolding(crate::specs::Endings::untaken_text))]
 fn write_untaken<W: Write>(writer: &mut W, came: u64, last: Option<Cause>) -> io::Result<()>
+    // If it succeeds, `write_untaken` has appended the number of datagrams and why the last one was
+    // dropped, if that is known.
     ensures { OnOk result (Appends (W.contents writer.old) (W.contents writer.new)
         (endings.untaken_text came last)) }
 {
@@ -121,17 +133,22 @@ fn write_untaken<W: Write>(writer: &mut W, came: u64, last: Option<Cause>) -> io
     Ok(())
 }
 
+/// Writes how many datagrams came.
 #[tactic(auto, unfolding(crate::specs::Endings::came_text))]
 fn write_came<W: Write>(writer: &mut W, came: u64) -> io::Result<()>
+    // If it succeeds, `write_came` has appended the number of datagrams in decimal, and that none was the
+    // peer's.
     ensures { OnOk result (Appends (W.contents writer.old) (W.contents writer.new) (endings.came_text came)) }
 {
     write!(
         writer,
-        "; of {came} datagrams none was the peer's, the last one: "
+        "; none of {came} datagrams was the peer's, the last one: "
     )
 }
 
+/// Writes why the last dropped datagram was dropped.
 fn write_last<W: Write>(writer: &mut W, last: Option<Cause>) -> io::Result<()>
+    // If it succeeds, `write_last` has appended the words for the last cause, and nothing if there is none.
     ensures { OnOk result (Appends (W.contents writer.old) (W.contents writer.new) (endings.last_text last)) }
 {
     match last {

@@ -8,19 +8,22 @@ use hex::FromHexError;
 use octets::places::u32_at;
 use std::alloc::Global;
 
-/// Why a text gives no octets.
+/// Why the bytes of a text are not returned.
 #[derive(Clone, Copy, Debug, PartialEq, Eq)]
 pub enum HexFault {
-    /// It is no text of hex digits, two for each octet, or it is empty.
+    /// It is not hex digits, two for each byte, or it is empty: an empty datagram is more likely a slip in
+    /// a shell script than a question.
     Hex,
-    /// Memory was refused.
+    /// There is no memory for the bytes.
     Memory,
 }
 
-/// The initial value that 32 hex digits name, least significant octet of each word first.
+/// Returns the initial value in 32 hex digits, least significant byte of each word first, that of RFC 1320
+/// without a text, or `None` if the text is not 32 hex digits. The text is tested even if the safety code
+/// has 0 bytes, so that a slip never passes unseen.
 pub fn initial_value(iv: Option<&str>) -> Option<[u32; 4]>
-    // 32 hex digits are the words of an initial value, least significant octet first; no text at all is RFC
-    // 1320's; other texts are refused.
+    // The result is the four words of a text of 32 hex digits, RFC 1320's words without a text, and `None`
+    // for any other text.
     ensures { result ≡ initial_value_of (option_copied iv.entry) }
 {
     let Some(text) = iv else {
@@ -38,15 +41,16 @@ pub fn initial_value(iv: Option<&str>) -> Option<[u32; 4]>
     }
 }
 
-/// The octets that a text of hex digits spells.
+/// Returns the bytes that a text of hex digits encodes.
 ///
 /// # Errors
 ///
-/// Refused: `Hex`, where it spells none; `Memory`, where there was no memory for them.
+/// - `Hex` if the text is empty or not hex digits, two for each byte;
+/// - `Memory` if there is no memory for the bytes.
 pub fn hex_octets(alloc: Global, text: &str) -> Result<Vec<u8>, HexFault>
-    // `hex_octets` answers exactly the octets that a text of hex digits spells.
+    // If `hex_octets` succeeds, the result is exactly the bytes that the text encodes.
     ensures ok { IfOk result (λ octets. octets_of text.now ≡ Some octets.items) }
-    // `hex_octets` refuses a text as no hex text only where it is none, or empty.
+    // The fault `Hex` is returned only if the text is empty or not a hex text.
     ensures hex { result ≡ Err HexFault.Hex → octets_of text.now ≡ None }
 {
     if text.is_empty() {

@@ -1,8 +1,10 @@
-//! The text of a datagram, line by line, as `rasta show` prints it, and the writing of texts in general.
+//! The texts that programs print: a datagram line by line as `rasta show` prints it, and the lines of an
+//! end and of its log. It depends only on the types and codecs of the layers, not on an end.
 //!
-//! It stands on the codecs alone, and on no end.
+//! Every writing call returns the writer's error if there is one. The bytes written before it remain
+//! written, so the output is then a prefix of the text.
 //!
-//! Contracts: what is said of a text that is written is said of an output whose contents are known.
+//! Contracts: they describe the text that a call appends, for a writer whose contents are known.
 #![tactic(auto)]
 
 mod causes;

@@ -1,4 +1,4 @@
-//! What happened to an end, one line each.
+//! The log of an end: one line for each thing that happened to it.
 
 ghost use Rattle.std.specs.Prelude.{◌≡◌, OnOk};
 ghost use Rattle.std.specs.Io.KnownBytes.{Appends};
@@ -17,40 +17,40 @@ use safe_pdu::Leaving;
 use std::io;
 use std::io::Write;
 
-/// What happened to an end.
+/// An event in the log of an end.
 #[derive(Clone, Copy, Debug, PartialEq, Eq)]
 pub enum Happening {
-    /// The connection came to this state.
+    /// The connection has entered this state.
     State(ConnectionState),
-    /// The session came to this phase.
+    /// The session has entered this phase.
     Phase(Phase),
-    /// The end was opened anew, and numbers its PDUs from this sequence number on.
+    /// The end was opened again, and its first sequence number is this.
     Anew(u32),
-    /// The end left the connection.
+    /// The end disconnected.
     Left(Leaving),
-    /// Its peer left the connection.
+    /// Its peer disconnected.
     PeerLeft(Leaving),
-    /// It asked for a retransmission.
+    /// The end requested a retransmission.
     Asked,
-    /// It answered a request for a retransmission.
+    /// The end carried out a retransmission.
     Resent,
-    /// A telegram was not put in.
+    /// A telegram was not accepted from the application.
     PutRefused(PutFault),
-    /// The initialisation was not ended.
+    /// The end of the initialisation was not accepted.
     InitRefused(InitFault),
     /// Nothing came on this channel, counted from 1, for longer than T_max.
     Silent(usize),
-    /// Something came on it again.
+    /// Something came on this channel again.
     Heard(usize),
-    /// A datagram of this channel was dropped; 0 where it had waited, and its channel is not known any more.
+    /// A datagram of this channel was dropped; 0 if it was deferred, because its channel is then unknown.
     Dropped(usize, Cause),
 }
 
-/// Writes the line of what happened to an end at a time of its clock, in milliseconds.
+/// Writes the line of an event at a time of the end's clock, in milliseconds.
 ///
 /// # Errors
 ///
-/// An error is the writer's; what came before it stays written.
+/// The writer's error; what came before it remains written.
 #[tactic(auto, unfolding(crate::specs::Pieces::log_line))]
 pub fn write_happening<W: Write>(
     writer: &mut W,
@@ -58,8 +58,8 @@ pub fn write_happening<W: Write>(
     side: Side,
     happening: Happening,
 ) -> io::Result<()>
-    // The line of what happened to an end is exactly the stated text: its time in seconds with three digits,
-    // the end, and what happened.
+    // If it succeeds, `write_happening` has appended a line: the time in seconds with three decimals, the
+    // name of the end, and the text of the event.
     ensures { OnOk result (Appends (W.contents writer.old) (W.contents writer.new)
         (log_line at side (lines.happening_text happening))) }
 {
@@ -68,7 +68,9 @@ pub fn write_happening<W: Write>(
     write_text(writer, "\n")
 }
 
+/// Writes the text of an event.
 fn write_what<W: Write>(writer: &mut W, happening: Happening) -> io::Result<()>
+    // If it succeeds, `write_what` has appended the text of the event.
     ensures { OnOk result (Appends (W.contents writer.old) (W.contents writer.new)
         (lines.happening_text happening)) }
 {
@@ -76,17 +78,17 @@ fn write_what<W: Write>(writer: &mut W, happening: Happening) -> io::Result<()>
         Happening::State(state) => write_state(writer, state_name(state)),
         Happening::Phase(phase) => write_phase(writer, phase_name(phase)),
         Happening::Anew(number) => write_anew(writer, number),
-        Happening::Left(leaving) => write_leaving(writer, "leaves with ", leaving),
+        Happening::Left(leaving) => write_leaving(writer, "disconnects with ", leaving),
         Happening::PeerLeft(leaving) => {
-            write_leaving(writer, "is left by its peer with ", leaving)
+            write_leaving(writer, "peer disconnected with ", leaving)
         }
         Happening::Asked => {
             write_text(
                 writer,
-                "asks for a retransmission: something was lost on all channels",
+                "requests a retransmission: a PDU was lost on all channels",
             )
         }
-        Happening::Resent => write_text(writer, "sends again what its peer has missed"),
+        Happening::Resent => write_text(writer, "resends what the peer has missed"),
         Happening::PutRefused(fault) => write_refused(writer, fault.name()),
         Happening::InitRefused(fault) => write_not_ended(writer, fault.name()),
         Happening::Silent(channel) => write_silent(writer, channel),
@@ -95,64 +97,81 @@ fn write_what<W: Write>(writer: &mut W, happening: Happening) -> io::Result<()>
     }
 }
 
+/// Writes that the connection has entered a state.
 #[tactic(auto, unfolding(crate::specs::LogLines::state_text))]
 fn write_state<W: Write>(writer: &mut W, name: &str) -> io::Result<()>
+    // If it succeeds, `write_state` has appended "connection" and the name of the state.
     ensures { OnOk result (Appends (W.contents writer.old) (W.contents writer.new) (lines.state_text name.now)) }
 {
     write!(writer, "connection {name}")
 }
 
+/// Writes that the session has entered a phase.
 #[tactic(auto, unfolding(crate::specs::LogLines::phase_text))]
 fn write_phase<W: Write>(writer: &mut W, name: &str) -> io::Result<()>
+    // If it succeeds, `write_phase` has appended "session" and the name of the phase.
     ensures { OnOk result (Appends (W.contents writer.old) (W.contents writer.new) (lines.phase_text name.now)) }
 {
     write!(writer, "session {name}")
 }
 
+/// Writes that an end was opened again.
 #[tactic(auto, unfolding(crate::specs::LogLines::anew_text))]
 fn write_anew<W: Write>(writer: &mut W, number: u32) -> io::Result<()>
+    // If it succeeds, `write_anew` has appended that the end is opened again, with its first sequence
+    // number in decimal.
     ensures { OnOk result (Appends (W.contents writer.old) (W.contents writer.new) (lines.anew_text number)) }
 {
-    write!(
-        writer,
-        "is opened anew, its first sequence number is {number}"
-    )
+    write!(writer, "reopened, first sequence number {number}")
 }
 
+/// Writes that a telegram was not accepted.
 #[tactic(auto, unfolding(crate::specs::LogLines::refused_text))]
 fn write_refused<W: Write>(writer: &mut W, name: &str) -> io::Result<()>
+    // If it succeeds, `write_refused` has appended that a telegram was not put in, and the name of the
+    // fault.
     ensures { OnOk result (Appends (W.contents writer.old) (W.contents writer.new) (lines.refused_text name.now)) }
 {
-    write!(writer, "a telegram was not put in: {name}")
+    write!(writer, "telegram not accepted: {name}")
 }
 
+/// Writes that the end of the initialisation was not accepted.
 #[tactic(auto, unfolding(crate::specs::LogLines::not_ended_text))]
 fn write_not_ended<W: Write>(writer: &mut W, name: &str) -> io::Result<()>
+    // If it succeeds, `write_not_ended` has appended that the initialisation was not ended, and the name of
+    // the fault.
     ensures { OnOk result (Appends (W.contents writer.old) (W.contents writer.new)
         (lines.not_ended_text name.now)) }
 {
-    write!(writer, "the initialisation was not ended: {name}")
+    write!(writer, "end of initialisation not accepted: {name}")
 }
 
+/// Writes that nothing came on a channel for longer than T_max.
 #[tactic(auto, unfolding(crate::specs::LogLines::silent_text))]
 fn write_silent<W: Write>(writer: &mut W, channel: usize) -> io::Result<()>
+    // If it succeeds, `write_silent` has appended that the channel with this number is silent.
     ensures { OnOk result (Appends (W.contents writer.old) (W.contents writer.new) (lines.silent_text channel)) }
 {
     write!(
         writer,
-        "channel {channel} is silent: nothing came for longer than T_max"
+        "channel {channel} is silent: nothing received for longer than T_max"
     )
 }
 
+/// Writes that something came on a channel again.
 #[tactic(auto, unfolding(crate::specs::LogLines::heard_text))]
 fn write_heard<W: Write>(writer: &mut W, channel: usize) -> io::Result<()>
+    // If it succeeds, `write_heard` has appended that something comes on the channel with this number
+    // again.
     ensures { OnOk result (Appends (W.contents writer.old) (W.contents writer.new) (lines.heard_text channel)) }
 {
-    write!(writer, "channel {channel} is heard again")
+    write!(writer, "channel {channel} receives again")
 }
 
+/// Writes that a datagram was dropped, and why.
 #[tactic(auto, unfolding(crate::specs::LogLines::dropped_text))]
 fn write_dropped<W: Write>(writer: &mut W, channel: usize, cause: Cause) -> io::Result<()>
+    // If it succeeds, `write_dropped` has appended which datagram was dropped and the words for the cause.
     ensures { OnOk result (Appends (W.contents writer.old) (W.contents writer.new)
         (lines.dropped_text channel cause)) }
 {
@@ -161,29 +180,35 @@ fn write_dropped<W: Write>(writer: &mut W, channel: usize, cause: Cause) -> io::
     Ok(())
 }
 
+/// Writes which datagram was dropped.
 #[tactic(auto, unfolding(crate::specs::LogLines::drop_front))]
 fn write_drop_front<W: Write>(writer: &mut W, channel: usize) -> io::Result<()>
+    // If it succeeds, `write_drop_front` has appended that a deferred datagram was dropped for `channel` 0,
+    // else one of the channel with this number.
     ensures { OnOk result (Appends (W.contents writer.old) (W.contents writer.new) (lines.drop_front channel)) }
 {
     match channel {
-        0 => write_text(writer, "drops a datagram that had waited: "),
+        0 => write_text(writer, "dropped a deferred datagram: "),
         channel => write_channel_front(writer, channel),
     }
 }
 
+/// Writes that a datagram of a channel was dropped.
 #[tactic(auto, unfolding(crate::specs::LogLines::channel_front))]
 fn write_channel_front<W: Write>(writer: &mut W, channel: usize) -> io::Result<()>
+    // If it succeeds, `write_channel_front` has appended that a datagram of the channel with this number
+    // was dropped.
     ensures { OnOk result (Appends (W.contents writer.old) (W.contents writer.new)
         (lines.channel_front channel)) }
 {
-    write!(writer, "drops a datagram of channel {channel}: ")
+    write!(writer, "dropped a datagram of channel {channel}: ")
 }
 
-/// Writes the line of a channel with which an end is opened, counted from 1: its own address, and that of the peer.
+/// Writes the line of a channel that an end is opened with, counted from 1: its own address and the peer's.
 ///
 /// # Errors
 ///
-/// An error is the writer's; what came before it stays written.
+/// The writer's error; what came before it remains written.
 #[tactic(auto, unfolding(crate::specs::Pieces::log_line))]
 pub fn write_channel<W: Write>(
     writer: &mut W,
@@ -193,7 +218,8 @@ pub fn write_channel<W: Write>(
     local: &str,
     remote: &str,
 ) -> io::Result<()>
-    // So are the line of a channel with its addresses, and that of lines left out.
+    // If it succeeds, `write_channel` has appended a line: the time in seconds, the name of the end, the
+    // channel's number, its own address and the peer's.
     ensures { OnOk result (Appends (W.contents writer.old) (W.contents writer.new)
         (log_line at side (lines.channel_text channel local.now remote.now))) }
 {
@@ -202,6 +228,7 @@ pub fn write_channel<W: Write>(
     write_text(writer, "\n")
 }
 
+/// Writes that a channel is opened, with both addresses.
 #[tactic(auto, unfolding(crate::specs::LogLines::channel_text))]
 fn write_opened<W: Write>(
     writer: &mut W,
@@ -209,6 +236,7 @@ fn write_opened<W: Write>(
     local: &str,
     remote: &str,
 ) -> io::Result<()>
+    // If it succeeds, `write_opened` has appended the channel's number, its own address and the peer's.
     ensures { OnOk result (Appends (W.contents writer.old) (W.contents writer.new)
         (lines.channel_text channel local.now remote.now)) }
 {
@@ -218,14 +246,15 @@ fn write_opened<W: Write>(
     )
 }
 
-/// Writes how many lines the log has left out, since more happened in a turn than it keeps.
+/// Writes how many lines were left out of the log, because more happened in a turn than it keeps.
 ///
 /// # Errors
 ///
-/// An error is the writer's; what came before it stays written.
+/// The writer's error; what came before it remains written.
 #[tactic(auto, unfolding(crate::specs::Pieces::log_line))]
 pub fn write_missed<W: Write>(writer: &mut W, at: u64, side: Side, count: u64) -> io::Result<()>
-    // So are the line of a channel with its addresses, and that of lines left out.
+    // If it succeeds, `write_missed` has appended a line: the time in seconds, the name of the end, and how
+    // many lines were left out.
     ensures { OnOk result (Appends (W.contents writer.old) (W.contents writer.new)
         (log_line at side (lines.missed_text count))) }
 {
@@ -234,12 +263,14 @@ pub fn write_missed<W: Write>(writer: &mut W, at: u64, side: Side, count: u64) -
     write_text(writer, "\n")
 }
 
+/// Writes how many lines were left out.
 #[tactic(auto, unfolding(crate::specs::LogLines::missed_text))]
 fn write_count<W: Write>(writer: &mut W, count: u64) -> io::Result<()>
+    // If it succeeds, `write_count` has appended the number of lines left out in decimal, and why.
     ensures { OnOk result (Appends (W.contents writer.old) (W.contents writer.new) (lines.missed_text count)) }
 {
     write!(
         writer,
-        "log: {count} lines left out, too much happened in one turn"
+        "log: {count} lines left out, too many events in one turn"
     )
 }

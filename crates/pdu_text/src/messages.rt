@@ -14,12 +14,13 @@ use safe_pdu::Kind;
 use std::io;
 use std::io::Write;
 
-/// Writes the lines of a body, those of the unit in a Data or RetrData, and answers whether none of
-/// them names a fault.
+/// Writes the lines of a body: those of the unit in a Data or RetrData. Returns whether none of them names
+/// a fault.
 pub fn show_body<W: Write>(writer: &mut W, kind: Kind, body: &[u8]) -> io::Result<bool>
-    // Where `show_body` answers Ok it has written exactly the stated lines for the messages of a body.
+    // If it succeeds, `show_body` has appended the lines of the messages in the unit of a Data or RetrData,
+    // and nothing for other PDU types.
     ensures written { OnOk result (Appends (W.contents writer.old) (W.contents writer.new) (unit_lines kind body.now)) }
-    // `show_body` answers whether no line for the messages of a body names a fault.
+    // The result of `show_body` is true if and only if none of the lines names a fault.
     ensures clean { IfOk result (λ clean. clean ≡ is_clean_body kind body.now) }
 {
     match kind {
@@ -31,9 +32,14 @@ pub fn show_body<W: Write>(writer: &mut W, kind: Kind, body: &[u8]) -> io::Resul
     }
 }
 
+/// Writes the lines of a unit.
 fn show_unit<W: Write>(writer: &mut W, unit: &[u8]) -> io::Result<bool>
+    // If it succeeds, `show_unit` has appended a line for each message of the unit, or the line of the
+    // unit's fault.
     ensures written { OnOk result (Appends (W.contents writer.old) (W.contents writer.new)
         (unit_text (unit_seen unit.now))) }
+    // The result of `show_unit` is true if and only if the unit unpacks and each of its messages is a
+    // telegram.
     ensures clean { IfOk result (λ clean. clean ≡ is_clean_unit (unit_seen unit.now)) }
 {
     match pdi_session::packing::unpack(unit) {
@@ -50,8 +56,10 @@ fn show_unit<W: Write>(writer: &mut W, unit: &[u8]) -> io::Result<bool>
 
 /// Writes the lines of messages, numbered from 1.
 fn write_messages<W: Write>(writer: &mut W, messages: &[&[u8]]) -> io::Result<bool>
+    // If it succeeds, `write_messages` has appended a line for each message, in order, numbered from 1.
     ensures written { OnOk result (Appends (W.contents writer.old) (W.contents writer.new)
         (message_lines 1 (map (λ m. m.now) messages.now))) }
+    // The result of `write_messages` is true if and only if each message is a telegram.
     ensures clean { IfOk result (λ clean. clean ≡ are_telegrams (map (λ m. m.now) messages.now)) }
 {
     let mut clean = true;
@@ -62,10 +70,13 @@ fn write_messages<W: Write>(writer: &mut W, messages: &[&[u8]]) -> io::Result<bo
     Ok(clean)
 }
 
-/// Writes the line of a message, and answers whether it is a telegram.
+/// Writes the line of a message, and returns whether it is a telegram.
 fn write_message<W: Write>(writer: &mut W, number: usize, message: &[u8]) -> io::Result<bool>
+    // If it succeeds, `write_message` has appended the line of the telegram, or that of the message's
+    // fault.
     ensures written { OnOk result (Appends (W.contents writer.old) (W.contents writer.new)
         (message_line number (tele_seen message.now))) }
+    // The result of `write_message` is true if and only if the message is a telegram.
     ensures clean { IfOk result (λ clean. clean ≡ is_telegram (tele_seen message.now)) }
 {
     match pdi_session::telegram::decode(message) {
@@ -80,12 +91,15 @@ fn write_message<W: Write>(writer: &mut W, number: usize, message: &[u8]) -> io:
     }
 }
 
+/// Writes the line of a message that is not a telegram.
 fn write_message_fault<W: Write>(
     writer: &mut W,
     number: usize,
     fault: u8,
     name: &str,
 ) -> io::Result<()>
+    // If it succeeds, `write_message_fault` has appended the line with the message's number and the number
+    // and name of its fault.
     ensures { OnOk result (Appends (W.contents writer.old) (W.contents writer.new)
         (fault_line (message_label number) fault name.now)) }
 {
@@ -98,6 +112,8 @@ fn write_telegram<W: Write>(
     number: usize,
     telegram: &Telegram<'_>,
 ) -> io::Result<()>
+    // If it succeeds, `write_telegram` has appended the line: the head, both names, the payload in hex
+    // digits (a dash if empty), and a line end.
     ensures { OnOk result (Appends (W.contents writer.old) (W.contents writer.new)
         (telegram_line number (tele_of telegram.now))) }
 {
@@ -107,7 +123,10 @@ fn write_telegram<W: Write>(
     write_text(writer, "\n")
 }
 
+/// Writes the number, protocol type and message type of a telegram.
 fn write_head<W: Write>(writer: &mut W, number: usize, telegram: &Telegram<'_>) -> io::Result<()>
+    // If it succeeds, `write_head` has appended the message's number, and the protocol type and message
+    // type in hex digits.
     ensures { OnOk result (Appends (W.contents writer.old) (W.contents writer.new)
         (telegram_head number (tele_of telegram.now))) }
 {
@@ -116,21 +135,27 @@ fn write_head<W: Write>(writer: &mut W, number: usize, telegram: &Telegram<'_>) 
     write_hex_field(writer, " type ", &telegram.kind.to_be_bytes())
 }
 
-/// Writes a label and octets in hex digits.
+/// Writes a label, and bytes in hex digits.
 fn write_hex_field<W: Write>(writer: &mut W, label: &str, octets: &[u8]) -> io::Result<()>
+    // If it succeeds, `write_hex_field` has appended the label, and the bytes in two hex digits each.
     ensures { OnOk result (Appends (W.contents writer.old) (W.contents writer.new) (hex_field label.now octets.now)) }
 {
     write_text(writer, label)?;
     write_hex(writer, octets)
 }
 
+/// Writes the number of a message.
 fn write_label<W: Write>(writer: &mut W, number: usize) -> io::Result<()>
+    // If it succeeds, `write_label` has appended "message" and the number in decimal.
     ensures { OnOk result (Appends (W.contents writer.old) (W.contents writer.new) (message_label number)) }
 {
     write!(writer, "message {number}")
 }
 
+/// Writes the names of a telegram.
 fn write_names<W: Write>(writer: &mut W, sender: &str, receiver: &str) -> io::Result<()>
+    // If it succeeds, `write_names` has appended the names of the sender and the receiver, and the label of
+    // the payload.
     ensures { OnOk result (Appends (W.contents writer.old) (W.contents writer.new)
         (names_text sender.now receiver.now)) }
 {

@@ -1,4 +1,4 @@
-//! The words in which scripts, traces and reports name things.
+//! The words for ends, states, phases and causes in scripts, traces and reports.
 
 ghost use Rattle.std.specs.Prelude.{◌≡◌};
 ghost use Rattle.std.specs.Option.{option_copied};
@@ -10,9 +10,9 @@ use red_layer::RedEvent;
 use red_layer::pdu::RedFault;
 use safe_machine::{ConnectionState, DropCause, Step};
 
-/// The word for an end: `il` or `fe`.
+/// Returns the word for an end: `il` or `fe`.
 pub fn side_name(side: Side) -> &'static str
-    // Each end has its word and the letter of its labels.
+    // The result of `side_name` is "il" for the interlocking and "fe" for the field element.
     ensures { result.now ≡ names.side_name side }
 {
     match side {
@@ -21,9 +21,9 @@ pub fn side_name(side: Side) -> &'static str
     }
 }
 
-/// The letter with which the labels of an end's PDUs begin.
+/// Returns the first letter of the labels of an end's PDUs.
 pub fn side_letter(side: Side) -> &'static str
-    // Each end has its word and the letter of its labels.
+    // The result of `side_letter` is "i" for the interlocking and "f" for the field element.
     ensures { result.now ≡ names.side_letter side }
 {
     match side {
@@ -32,9 +32,9 @@ pub fn side_letter(side: Side) -> &'static str
     }
 }
 
-/// The name of a connection's state.
+/// Returns the name of a connection's state.
 pub fn state_name(state: ConnectionState) -> &'static str
-    // Each state of a connection and each phase of a session has its word.
+    // The result of `state_name` is the name of the state: Closed, Down, Start, Up, RetrReq or RetrRun.
     ensures { result.now ≡ names.state_name state }
 {
     match state {
@@ -47,9 +47,9 @@ pub fn state_name(state: ConnectionState) -> &'static str
     }
 }
 
-/// The name of a session's phase.
+/// Returns the name of a session's phase.
 pub fn phase_name(phase: Phase) -> &'static str
-    // Each state of a connection and each phase of a session has its word.
+    // The result of `phase_name` is the name of the phase, such as Idle, Established or Ended.
     ensures { result.now ≡ names.phase_name phase }
 {
     match phase {
@@ -65,9 +65,11 @@ pub fn phase_name(phase: Phase) -> &'static str
     }
 }
 
-/// Why the redundancy layer dropped a datagram; `None` where it passed it on or lets it wait.
+/// Returns the word for why the redundancy layer dropped a datagram, or `None` if it passed it up or
+/// deferred it.
 pub fn red_cause(event: RedEvent) -> Option<&'static str>
-    // Each cause for which a datagram or a part is dropped has its word; what is not dropped has none.
+    // The result of `red_cause` is the word for the cause, such as "old" or "red-Short", and `None` for a
+    // datagram passed up or deferred.
     ensures { option_copied result ≡ names.red_cause event }
 {
     match event {
@@ -82,9 +84,10 @@ pub fn red_cause(event: RedEvent) -> Option<&'static str>
     }
 }
 
-/// Why the safety machine dropped a part; `None` where it did not.
+/// Returns the word for why the safety machine dropped a part, or `None` if it did not.
 pub fn step_cause(step: Step) -> Option<&'static str>
-    // Each cause for which a datagram or a part is dropped has its word; what is not dropped has none.
+    // The result of `step_cause` is the word for the cause of the drop, "gap" for a gap, and `None` for a
+    // part that was not dropped.
     ensures { option_copied result ≡ names.step_cause step }
 {
     match step {
@@ -94,7 +97,10 @@ pub fn step_cause(step: Step) -> Option<&'static str>
     }
 }
 
+/// Returns the word for a cause of the safety machine.
 fn drop_cause(cause: DropCause) -> &'static str
+    // The result of `drop_cause` is the word for the cause; for a fault of the safety PDU it is the fault's
+    // name.
     ensures { result.now ≡ names.drop_cause cause }
 {
     match cause {

@@ -1,4 +1,4 @@
-//! The front of a line: the end's time and the end.
+//! The start of a line: the time of the end, and its name.
 
 ghost use Rattle.std.specs.Prelude.{◌≡◌, OnOk};
 ghost use Rattle.std.specs.Io.KnownBytes.{Appends};
@@ -9,9 +9,11 @@ use end_settings::Side;
 use std::io;
 use std::io::Write;
 
-/// Writes the time and the end with which a line begins.
+/// Writes the time and the end at the start of a line.
 #[tactic(auto, unfolding(crate::specs::Pieces::front_text))]
 pub(crate) fn write_front<W: Write>(writer: &mut W, at: u64, side: Side) -> io::Result<()>
+    // If it succeeds, `write_front` has appended the time in seconds, a space, the name of the end and a
+    // space.
     ensures { OnOk result (Appends (W.contents writer.old) (W.contents writer.new) (front_text at side)) }
 {
     write_time(writer, at)?;
@@ -19,9 +21,11 @@ pub(crate) fn write_front<W: Write>(writer: &mut W, at: u64, side: Side) -> io::
     write!(writer, " {name} ")
 }
 
-/// Writes milliseconds as seconds with three digits behind the point.
+/// Writes milliseconds as seconds with three decimals.
 #[tactic(auto, unfolding(crate::specs::Pieces::time_text))]
 pub(crate) fn write_time<W: Write>(writer: &mut W, ms: u64) -> io::Result<()>
+    // If it succeeds, `write_time` has appended the whole seconds in decimal, a point, and three digits of
+    // milliseconds.
     ensures { OnOk result (Appends (W.contents writer.old) (W.contents writer.new) (time_text ms)) }
 {
     let seconds = ms / 1_000;
@@ -30,8 +34,9 @@ pub(crate) fn write_time<W: Write>(writer: &mut W, ms: u64) -> io::Result<()>
     writer.write_all(&digits)
 }
 
-/// The last three digits of a number.
+/// Returns the last three digits of a number.
 fn spell(number: u64) -> [u8; 3]
+    // The result is the last three decimal digits of `number`, with leading zeros.
     ensures { result ≡ three_digits number }
 {
     [

@@ -1,4 +1,4 @@
-//! The lines of what ends take, refuse and are.
+//! The lines of a run: telegrams taken, events refused, and the state of an end.
 
 ghost use Rattle.std.specs.Prelude.{◌≡◌, OnOk};
 ghost use Rattle.std.specs.Io.KnownBytes.{Appends};
@@ -12,22 +12,24 @@ use safe_machine::ConnectionState;
 use std::io;
 use std::io::Write;
 
-/// How an end stands, in its present incarnation.
+/// The state of an end in its present incarnation.
 #[derive(Clone, Copy, Debug, PartialEq, Eq)]
 pub struct Standing {
     /// The state of its connection.
     pub state: ConnectionState,
     /// The phase of its session.
     pub phase: Phase,
-    /// How many telegrams were put in.
+    /// How many telegrams were put.
     pub put: u64,
     /// How many telegrams its application took.
     pub taken: u64,
 }
 
-/// Writes the line of a telegram that an application takes: its kind, and its payload in hex digits.
+/// Writes the line of a telegram that an application takes: its message type, and its payload in hex
+/// digits.
 pub fn write_take<W: Write>(writer: &mut W, side: Side, kind: u16, payload: &[u8]) -> io::Result<()>
-    // The line of a telegram taken is exactly the stated text.
+    // If it succeeds, `write_take` has appended the line: the end, "takes", the message type and the
+    // payload in hex digits (a dash if empty).
     ensures { OnOk result (Appends (W.contents writer.old) (W.contents writer.new)
         (lines.take_line side kind payload.now)) }
 {
@@ -41,19 +43,20 @@ pub fn write_take<W: Write>(writer: &mut W, side: Side, kind: u16, payload: &[u8
 
 /// Writes the line of an event that was refused.
 pub fn write_refusal<W: Write>(writer: &mut W, name: &str) -> io::Result<()>
-    // The line of a refusal is exactly the stated text.
+    // If it succeeds, `write_refusal` has appended the line "refused" with the `name`.
     ensures { OnOk result (Appends (W.contents writer.old) (W.contents writer.new) (lines.refusal_line name.now)) }
 {
     writeln!(writer, "refused {name}")
 }
 
-/// Writes how an end stands, or that it was never opened.
+/// Writes the line of the state of an end, or that it was never opened.
 pub fn write_report<W: Write>(
     writer: &mut W,
     side: Side,
     standing: Option<Standing>,
 ) -> io::Result<()>
-    // The line of how an end stands, or that it was never opened, is exactly the stated text.
+    // If it succeeds, `write_report` has appended the line: the end with state, phase and both counts of
+    // telegrams, or "none" if it was never opened.
     ensures { OnOk result (Appends (W.contents writer.old) (W.contents writer.new) (lines.report_line side standing)) }
 {
     match standing {
@@ -62,7 +65,10 @@ pub fn write_report<W: Write>(
     }
 }
 
+/// Writes the line of the state of an end.
 fn write_standing<W: Write>(writer: &mut W, side: &str, standing: &Standing) -> io::Result<()>
+    // If it succeeds, `write_standing` has appended the line with state, phase, and the counts of telegrams
+    // put and taken in decimal.
     ensures { OnOk result (Appends (W.contents writer.old) (W.contents writer.new)
         (lines.standing_line side.now standing.now)) }
 {
@@ -73,7 +79,9 @@ fn write_standing<W: Write>(writer: &mut W, side: &str, standing: &Standing) -> 
     writeln!(writer, "{side} {state} {phase} put {put} taken {taken}")
 }
 
+/// Writes the line of an end that was never opened.
 fn write_none<W: Write>(writer: &mut W, side: &str) -> io::Result<()>
+    // If it succeeds, `write_none` has appended the line with the end and "none".
     ensures { OnOk result (Appends (W.contents writer.old) (W.contents writer.new) (lines.none_line side.now)) }
 {
     writeln!(writer, "{side} none")

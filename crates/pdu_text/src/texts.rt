@@ -1,4 +1,4 @@
-//! Writing texts: octets in hex digits, and the line of a layer's fault.
+//! Writes texts, bytes in hex digits, and the line of a layer's fault.
 
 ghost use Rattle.std.specs.Prelude.{OnOk};
 ghost use Rattle.std.specs.Io.KnownBytes.{Appends};
@@ -15,15 +15,18 @@ pub(crate) fn write_fault<W: Write>(
     number: u8,
     name: &str,
 ) -> io::Result<()>
+    // If it succeeds, `write_fault` has appended the line: the layer, "fault", the fault's number and its
+    // name.
     ensures { OnOk result (Appends (W.contents writer.old) (W.contents writer.new)
         (fault_line layer.now number name.now)) }
 {
     writeln!(writer, "{layer} fault {number} {name}")
 }
 
-/// Writes octets in hex digits, and a dash for none.
+/// Writes bytes in hex digits, and a dash if there are none.
 pub fn write_octets<W: Write>(writer: &mut W, octets: &[u8]) -> io::Result<()>
-    // Where `write_octets` answers Ok it has written octets in hex digits, and no octets as a dash.
+    // If it succeeds, `write_octets` has appended the bytes in two lowercase hex digits each, or a dash if
+    // there are none.
     ensures { OnOk result (Appends (W.contents writer.old) (W.contents writer.new) (octets_text octets.now)) }
 {
     match octets {
@@ -32,9 +35,10 @@ pub fn write_octets<W: Write>(writer: &mut W, octets: &[u8]) -> io::Result<()>
     }
 }
 
-/// Writes octets in hex digits of lower case, two for each.
+/// Writes bytes in lowercase hex digits, two for each.
 pub fn write_hex<W: Write>(writer: &mut W, octets: &[u8]) -> io::Result<()>
-    // Where `write_hex` answers Ok it has written octets in two hex digits each, in lower case.
+    // If it succeeds, `write_hex` has appended the bytes in two lowercase hex digits each, and nothing if
+    // there are none.
     ensures { OnOk result (Appends (W.contents writer.old) (W.contents writer.new) (encode_lower octets.now)) }
 {
     for octet in octets {
@@ -43,7 +47,9 @@ pub fn write_hex<W: Write>(writer: &mut W, octets: &[u8]) -> io::Result<()>
     Ok(())
 }
 
+/// Writes a byte in two hex digits.
 fn write_octet<W: Write>(writer: &mut W, octet: u8) -> io::Result<()>
+    // If it succeeds, `write_octet` has appended the two lowercase hex digits of the byte.
     ensures { OnOk result (Appends (W.contents writer.old) (W.contents writer.new) (octet_text octet)) }
 {
     let mut digits = [0u8; 2];
@@ -53,7 +59,7 @@ fn write_octet<W: Write>(writer: &mut W, octet: u8) -> io::Result<()>
 
 /// Writes a text.
 pub fn write_text<W: Write>(writer: &mut W, text: &str) -> io::Result<()>
-    // Where `write_text` answers Ok it has written the text as it is.
+    // If it succeeds, `write_text` has appended the text as it is.
     ensures { OnOk result (Appends (W.contents writer.old) (W.contents writer.new) text.now) }
 {
     writer.write_all(text.as_bytes())

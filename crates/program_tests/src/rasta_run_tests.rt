@@ -233,7 +233,7 @@ impl<'a> Env for Called<'a> {
     }
 }
 
-// A path of the program that is no UTF-8 text is no word; a word that is none is a fault.
+// The path of the program may be something else than UTF-8 text; an argument that is not UTF-8 is a fault.
 #[test]
 fn passes_over_its_path(rt: HostRuntime) -> Result<(), Fail> {
     let cases: [(&[&[u8]], Status, &str, &str); 4] = [
@@ -253,7 +253,7 @@ fn passes_over_its_path(rt: HostRuntime) -> Result<(), Fail> {
             &[b"rasta", b"md4", b"\xff"],
             Status::WrongWords,
             "",
-            "error: a word is no UTF-8 text\n\nUsage: rasta <COMMAND>\n\nFor more information, try 'rasta --help'.\n",
+            "error: an argument is not valid UTF-8\n\nUsage: rasta <COMMAND>\n\nFor more information, try 'rasta --help'.\n",
         ),
         (
             &[b"rasta", b"md4", b"6"],

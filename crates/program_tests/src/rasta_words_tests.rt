@@ -1,8 +1,8 @@
 use capture::read_ports;
 use capture_text::Remarkable;
 use rasta_words::{
-    CountsForm, FollowRequest, LogLevel, Request, RunLength, RunRequest, Telling, WordsFault,
-    command,
+    Choice, CountsForm, FollowRequest, LogLevel, Rejection, Request, RunLength, RunRequest,
+    Telling, WordsFault, command,
 };
 use safe_pdu::CodeLength;
 use settings_file::Word as Ends;
@@ -21,7 +21,9 @@ fn accepts_the_words_of_show(rt: HostRuntime) -> Result<(), Fail> {
     ];
     for (word, code) in lengths {
         let words = ["rasta", "show", "--code", word, HEARTBEAT];
-        let found = command(rt.alloc(), &words).map_err(|_| "refused")?;
+        let Ok(found) = command(rt.alloc(), &words) else {
+            return Err(Fail::from("refused"));
+        };
         assert_eq!(rt;
             found,
             Request::Show {
@@ -33,7 +35,9 @@ fn accepts_the_words_of_show(rt: HostRuntime) -> Result<(), Fail> {
         let words = [
             "rasta", "show", "--code", word, "--iv", OWN_VALUE, HEARTBEAT,
         ];
-        let found = command(rt.alloc(), &words).map_err(|_| "refused")?;
+        let Ok(found) = command(rt.alloc(), &words) else {
+            return Err(Fail::from("refused"));
+        };
         assert_eq!(rt;
             found,
             Request::Show {
@@ -50,13 +54,15 @@ fn accepts_the_words_of_show(rt: HostRuntime) -> Result<(), Fail> {
 fn accepts_the_words_of_md4(rt: HostRuntime) -> Result<(), Fail> {
     for hex in ["empty", "616263"] {
         let words = ["rasta", "md4", hex];
-        let found = command(rt.alloc(), &words).map_err(|_| "refused")?;
+        let Ok(found) = command(rt.alloc(), &words) else {
+            return Err(Fail::from("refused"));
+        };
         assert_eq!(rt; found, Request::Digest { hex });
     }
     Ok(())
 }
 
-// What `follow` takes where nothing is chosen, each choice, and choices that are none.
+// The defaults of `follow`, each of its options, and values that they do not accept.
 #[test]
 fn accepts_the_words_of_follow(rt: HostRuntime) -> Result<(), Fail> {
     let plain = FollowRequest {
@@ -70,7 +76,9 @@ fn accepts_the_words_of_follow(rt: HostRuntime) -> Result<(), Fail> {
         json: false,
     };
     let words = ["rasta", "follow", "night.tsv"];
-    let found = command(rt.alloc(), &words).map_err(|_| "refused")?;
+    let Ok(found) = command(rt.alloc(), &words) else {
+        return Err(Fail::from("refused"));
+    };
     assert_eq!(rt; found, Request::Follow(plain));
     let words = [
         "rasta",
@@ -89,7 +97,9 @@ fn accepts_the_words_of_follow(rt: HostRuntime) -> Result<(), Fail> {
         "--json",
         "-",
     ];
-    let found = command(rt.alloc(), &words).map_err(|_| "refused")?;
+    let Ok(found) = command(rt.alloc(), &words) else {
+        return Err(Fail::from("refused"));
+    };
     assert_eq!(rt;
         found,
         Request::Follow(FollowRequest {
@@ -103,17 +113,23 @@ fn accepts_the_words_of_follow(rt: HostRuntime) -> Result<(), Fail> {
             json: true,
         })
     );
-    for (choice, text) in [
-        ("--code", "9"),
-        ("--only", "lost"),
-        ("--t-max", "0"),
-        ("--t-max", "4294967296"),
-        ("--ports", "2-1"),
-        ("--ports", "1,2,3,4,5"),
+    for (choice, option, text) in [
+        ("--code", Choice::Code, "9"),
+        ("--only", Choice::Only, "lost"),
+        ("--t-max", Choice::TMax, "0"),
+        ("--t-max", Choice::TMax, "4294967296"),
+        ("--ports", Choice::Ports, "2-1"),
+        ("--ports", Choice::Ports, "1,2,3,4,5"),
     ] {
         let words = ["rasta", "follow", choice, text, "night.tsv"];
-        let refused = matches!(command(rt.alloc(), &words), Err(WordsFault::BadChoice));
-        assert!(rt; refused, "at {choice} {text}");
+        let value = Rejection::Value {
+            option,
+            value: text,
+        };
+        assert!(rt;
+            is_rejected(command(rt.alloc(), &words), value),
+            "at {choice} {text}"
+        );
     }
     Ok(())
 }
@@ -123,7 +139,9 @@ fn accepts_the_words_of_the_ends(rt: HostRuntime) -> Result<(), Fail> {
     for (name, word) in [("il", Ends::Il), ("fe", Ends::Fe), ("pair", Ends::Pair)] {
         for (text, turns) in [("1", 1), ("200", 200), ("1000000", 1_000_000)] {
             let words = ["rasta", name, "ends.toml", "--turns", text];
-            let found = command(rt.alloc(), &words).map_err(|_| "refused")?;
+            let Ok(found) = command(rt.alloc(), &words) else {
+                return Err(Fail::from("refused"));
+            };
             let file = "ends.toml";
             let running = RunRequest {
                 word,
@@ -142,7 +160,9 @@ fn accepts_the_words_of_the_ends(rt: HostRuntime) -> Result<(), Fail> {
         }
     }
     let until_end = ["rasta", "fe", "--until-end", "ends.toml"];
-    let found = command(rt.alloc(), &until_end).map_err(|_| "refused")?;
+    let Ok(found) = command(rt.alloc(), &until_end) else {
+        return Err(Fail::from("refused"));
+    };
     let running = RunRequest {
         word: Ends::Fe,
         file: "ends.toml",
@@ -153,14 +173,23 @@ fn accepts_the_words_of_the_ends(rt: HostRuntime) -> Result<(), Fail> {
         counts: None,
     };
     assert_eq!(rt; found, Request::Net(running));
-    let lists: [&[&str]; 3] = [
-        &["rasta", "il", "ends.toml", "--turns", "0"],
-        &["rasta", "il", "ends.toml"],
-        &["rasta", "il", "ends.toml", "--turns", "1", "--until-end"],
+    let no_turns = Rejection::Value {
+        option: Choice::Turns,
+        value: "0",
+    };
+    let lists: [(&[&str], Rejection); 3] = [
+        (&["rasta", "il", "ends.toml", "--turns", "0"], no_turns),
+        (&["rasta", "il", "ends.toml"], Rejection::NoLength),
+        (
+            &["rasta", "il", "ends.toml", "--turns", "1", "--until-end"],
+            Rejection::TwoLengths,
+        ),
     ];
-    for words in lists {
-        let refused = matches!(command(rt.alloc(), words), Err(WordsFault::BadTurns));
-        assert!(rt; refused, "at {words:?}");
+    for (words, rejection) in lists {
+        assert!(rt;
+            is_rejected(command(rt.alloc(), words), rejection),
+            "at {words:?}"
+        );
     }
     Ok(())
 }
@@ -182,7 +211,9 @@ fn accepts_kept_ends_and_counts(rt: HostRuntime) -> Result<(), Fail> {
                 "--until-end",
                 "ends.toml",
             ];
-            let found = command(rt.alloc(), &words).map_err(|_| "refused")?;
+            let Ok(found) = command(rt.alloc(), &words) else {
+                return Err(Fail::from("refused"));
+            };
             let counts = Some(Telling {
                 form,
                 every: Some(every),
@@ -190,7 +221,9 @@ fn accepts_kept_ends_and_counts(rt: HostRuntime) -> Result<(), Fail> {
             assert_eq!(rt; found, Request::Net(kept_until_end(true, counts)));
         }
         let words = ["rasta", "il", "--stats", text, "--until-end", "ends.toml"];
-        let found = command(rt.alloc(), &words).map_err(|_| "refused")?;
+        let Ok(found) = command(rt.alloc(), &words) else {
+            return Err(Fail::from("refused"));
+        };
         let counts = Some(Telling { form, every: None });
         assert_eq!(rt; found, Request::Net(kept_until_end(false, counts)));
     }
@@ -261,7 +294,11 @@ fn kept_until_end(keep: bool, counts: Option<Telling>) -> RunRequest<'static> {
 #[test]
 fn refuses_other_words(rt: HostRuntime) -> Result<(), Fail> {
     let nine = ["rasta", "show", "--code", "9", "00"];
-    assert!(rt; matches!(command(rt.alloc(), &nine), Err(WordsFault::BadCode)));
+    let rejection = Rejection::Value {
+        option: Choice::ShowCode,
+        value: "9",
+    };
+    assert!(rt; is_rejected(command(rt.alloc(), &nine), rejection));
     let lists: [&[&str]; 9] = [
         &["rasta"],
         &["rasta", "shew"],
@@ -289,20 +326,29 @@ fn tells_what_a_digest_is_of(rt: HostRuntime) -> Result<(), Fail> {
         return Err(Fail::from("accepted"));
     };
     let text = format!(in rt.alloc(); "{fault}")?;
-    assert!(rt; text.contains("The message as hex digits, or the word `empty` for no octets"));
+    assert!(rt; text.contains("Message as hex digits, or `empty` for an empty message"));
     Ok(())
 }
 
-// A number of turns that is none is answered by those that there are.
+// The text of a rejection names the option, its value, and the values that it accepts.
 #[test]
-fn tells_how_many_turns_there_are(rt: HostRuntime) -> Result<(), Fail> {
+fn names_option_value_and_range(rt: HostRuntime) -> Result<(), Fail> {
     let words = ["rasta", "il", "--turns", "0", "il.toml"];
     let Err(fault) = command(rt.alloc(), &words) else {
         return Err(Fail::from("accepted"));
     };
     let text = format!(in rt.alloc(); "{fault}")?;
-    assert!(rt; text.contains("--turns, a number from 1 to 1,000,000;"));
+    let line = "error: invalid value '0' for '--turns': expected 1 to 1000000\n";
+    assert!(rt; text.starts_with(line));
     Ok(())
+}
+
+/// Returns whether words are rejected for this reason.
+fn is_rejected(answer: Result<Request, WordsFault>, reason: Rejection) -> bool {
+    match answer {
+        Err(WordsFault::Rejected(rejection)) => rejection == reason,
+        _ => false,
+    }
 }
 
 /// Whether words are answered by a text alone: of a fault, on standard error, or of help.

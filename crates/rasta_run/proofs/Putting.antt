@@ -8,7 +8,7 @@ use Rattle.settings_file.specs.declared.values.Put.{Put as Telegram}
 use Rattle.stack_end.specs.EndValue.{EndValue}
 use Rattle.rasta_run.specs.Putting.{Answers, IsFullFor, Passes, Putting, PutsBeginning}
 
--- one more goes from what is left to what is done with
+-- one more telegram is done with
 moved : {A : Type 0} (done rest : List A) (x : A) → done ++ (x ∷ rest) ≡ (done ++ x ∷ []) ++ rest
 moved [] rest x = refl
 moved (d ∷ ds) rest x = ap (λ l. d ∷ l) (moved ds rest x)
@@ -23,7 +23,7 @@ one-more R before left rest x s t u n h split step = (
   FoldsTo-append R h.0 (x ∷ []) s t u h.3 (u, step, refl),
 )
 
--- the end is full for the next one, and nothing has changed
+-- the end is full for the next telegram, and nothing has changed
 pub stops : {C A : Type 0} (told : C → Told) (now : ℕ) (before left after rest : List Telegram) (p : Telegram) (s : Putting C A)
     (v w : EndValue C A) (n m : ℕ) (x y : Option (List ℕ)) (done : List Telegram)
     → before ≡ done ++ left → FoldsTo (Passes told now) s done (v, n, x) → left ≡ p ∷ rest → Answers v p (Some Full)

@@ -1,19 +1,21 @@
--- What a run of the program's words has done.
+-- What a run of the program has done.
 use Rattle.std.specs.Prelude.{⊤, ℕ, true, List, Option}
 use Rattle.std.specs.Option.{option_copied}
 use Rattle.clap.specs.Words.{Text}
 use Rattle.rasta_words.specs.CommandLine.{Asks}
 use Rattle.rasta_words.specs.declared.command_line.Request.{Request}
-use Rattle.rasta_words.specs.declared.command_line.Request.TheVariants.{Digest, Show, Sim, Follow, Net}
+use Rattle.rasta_words.specs.declared.command_line.Request.TheVariants.{Check, Digest, Show, Sim, Follow, Net}
+use Rattle.rasta_run.specs.Checked.{HasCheckedSome}
 use Rattle.rasta_run.specs.Shown.{HasDigested, HasShown}
 
--- What a request asks for was done. Of a script and a capture, whose files no contract can name, and of a run over sockets no more is said than
--- that it ended.
+-- the request was done. No contract can name the files of a script or a capture, so for these and a run over sockets this says only that the run has
+-- ended.
 abbrev pub HasDone : Request → Option (List ℕ) → Option (List ℕ) → Type 0
 HasDone (Digest hex) old new = HasDigested hex.now old new
 HasDone (Show code iv hex) old new = HasShown code (option_copied iv) hex.now true old new
 HasDone (Sim script) old new = ⊤
 HasDone (Follow following) old new = ⊤
+HasDone (Check file) old new = HasCheckedSome old new
 HasDone (Net running) old new = ⊤
 
 -- the words ask for a request, and it was done

@@ -1,4 +1,4 @@
--- What `follow` asks of a capture, and how it ends.
+-- What `follow` reads of a capture, and how it ends.
 use Rattle.std.specs.Prelude.{ℕ, Bool, true, false, List, Option, Some, None}
 use Rattle.capture_text.specs.declared.course.Asked.{Asked}
 use Rattle.capture_text.specs.declared.course.OutputForm.{OutputForm}
@@ -9,11 +9,12 @@ use Rattle.rasta_words.specs.declared.status.Status.{Status}
 use Rattle.rasta_words.specs.declared.status.Status.TheVariants.{Done, Refused, Failed}
 use Rattle.rasta_words.specs.declared.command_line.FollowRequest.{FollowRequest}
 
+-- the form of the output
 abbrev pub form_of : Bool → OutputForm
 form_of true = Json
 form_of false = Lines
 
--- each choice has its effect
+-- each choice of `follow`, with the words of the initial value
 abbrev pub asked_of : FollowRequest → List ℕ → Asked
 asked_of f words =
     record {
@@ -25,11 +26,12 @@ asked_of f words =
       form = form_of f.json;
     }
 
+-- the same, if there are such words
 abbrev pub asked_under : FollowRequest → Option (List ℕ) → Option Asked
 asked_under f (Some words) = Some (asked_of f words)
 asked_under f None = None
 
--- a line that is no datagram, want of memory and a reader that fails refuse a capture; an output that fails is the system's
+-- a line that is not a datagram, want of memory and a reader that fails refuse a capture; an output that fails is the system's fault
 abbrev pub end_of : FollowStatus → Status
 end_of follow.Done = Done
 end_of follow.Unreadable = Refused

@@ -1,39 +1,29 @@
--- When an end that is kept is opened anew.
-use Rattle.std.specs.Prelude.{ℕ, ◌-◌, ◌/◌, nat_eq, not, ◌&&◌, Bool, true, false, Option, Some, None}
+-- When an end that is kept is opened again.
+use Rattle.std.specs.Prelude.{ℕ, ◌-◌, ◌/◌, nat_eq, ◌&&◌, Bool, true, false, Option, Some, None}
 use Rattle.end_settings.specs.declared.Side.{Side}
 use Rattle.end_settings.specs.declared.Side.TheVariants.{Interlocking, FieldElement}
-use Rattle.safe_machine.specs.declared.ConnectionState.{ConnectionState}
-use Rattle.safe_machine.specs.declared.ConnectionState.TheVariants.{Closed, Down, Start, Up, RetrReq, RetrRun}
+use Rattle.rasta_run.specs.declared.keeping.Keeper.{Keeper}
 
--- since when an end is seen closed
-abbrev pub left_by : Option ℕ → ConnectionState → ℕ → Option ℕ
-left_by (Some at) Closed now = Some at
-left_by None Closed now = Some now
-left_by before Down now = None
-left_by before Start now = None
-left_by before Up now = None
-left_by before RetrReq now = None
-left_by before RetrRun now = None
+-- since when an end is stale
+abbrev pub left_by : Option ℕ → (stale : Bool) → ℕ → Option ℕ
+left_by (Some at) true now = Some at
+left_by None true now = Some now
+left_by before false now = None
 
-abbrev pub is_down : ConnectionState → Bool
-is_down Down = true
-is_down Closed = false
-is_down Start = false
-is_down Up = false
-is_down RetrReq = false
-is_down RetrRun = false
+-- how long it is until the end is opened again, in milliseconds; none if it may still connect. A field element is opened at least T_max/8 after its last
+-- opening. An interlocking waits T_max/4 after it disconnected: by then its last PDUs have arrived at the field element, so that its request finds that
+-- one newly opened.
+abbrev pub until_anew : Side → Option ℕ → (opened now t_max : ℕ) → Option ℕ
+until_anew Interlocking (Some left) opened now t_max = Some (t_max / 4 - (now - left))
+until_anew FieldElement (Some left) opened now t_max = Some (t_max / 8 - (now - opened))
+until_anew Interlocking None opened now t_max = None
+until_anew FieldElement None opened now t_max = None
 
--- A field element that waits for a request, and whose redundancy layer has let something in since it was opened: it can expect a number above
--- that of the next request, which has the first one.
-abbrev pub is_passed_by : ConnectionState → (before let_in : ℕ) → Bool
-is_passed_by state before let_in = is_down state && not (nat_eq let_in before)
+-- nothing of a wait is left
+abbrev pub is_wait_over : Option ℕ → Bool
+is_wait_over None = false
+is_wait_over (Some rest) = nat_eq rest 0
 
--- How long until it is opened anew, in milliseconds; none where it may still come up. A field element is opened at once, and then again an eighth of
--- T_max after its last opening at the earliest. An interlocking rests a quarter of T_max from when it left: what it said last has gone by
--- then at the field element, so its request finds that one fresh.
-abbrev pub until_anew : Side → Option ℕ → Bool → (opened now t_max : ℕ) → Option ℕ
-until_anew Interlocking (Some left) passed_by opened now t_max = Some (t_max / 4 - (now - left))
-until_anew Interlocking None passed_by opened now t_max = None
-until_anew FieldElement (Some left) passed_by opened now t_max = Some (t_max / 8 - (now - opened))
-until_anew FieldElement None true opened now t_max = Some (t_max / 8 - (now - opened))
-until_anew FieldElement None false opened now t_max = None
+-- an end is opened again: it is kept, it is stale, and its wait is over
+abbrev pub opens_anew : (kept : Bool) → Side → (stale : Bool) → Keeper → ℕ → Bool
+opens_anew kept side stale k now = kept && is_wait_over (until_anew side (left_by k.left stale now) k.opened now k.config.t_max)

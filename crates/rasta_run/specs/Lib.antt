@@ -12,9 +12,15 @@ pub mod Standing
 pub mod Feeding
 pub mod Counts
 pub mod Keeping
+pub mod Drawing
 pub mod Unopened
 pub mod Putting
+pub mod Noticing
+pub mod Printing
+pub mod Progress
+pub mod Undone
 pub mod Done
 pub mod Refusal
 pub mod Following
 pub mod Starting
+pub mod Checked

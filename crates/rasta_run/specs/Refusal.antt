@@ -1,20 +1,18 @@
--- How the program ends where words are no command.
+-- How the program ends for words that are not a command.
 use Rattle.std.specs.Prelude.{◌≡◌, ◌≢◌, ◌⊎◌}
 use Rattle.clap.specs.Values.{kind_of}
 use Rattle.clap.specs.declared.error.kind.ErrorKind.TheVariants as kind
 use Rattle.rasta_words.specs.declared.command_line.WordsFault.{WordsFault}
-use Rattle.rasta_words.specs.declared.command_line.WordsFault.TheVariants.{Words, BadCode, BadTurns, BadChoice, NotText, Memory}
+use Rattle.rasta_words.specs.declared.command_line.WordsFault.TheVariants.{Words, Rejected, NotText, Memory}
 use Rattle.rasta_words.specs.declared.status.Status.{Status}
 use Rattle.rasta_words.specs.declared.status.Status.TheVariants.{Done, Refused, WrongWords, Failed}
 
--- help that was asked for is no fault
+-- want of memory is refused; help and version are not a fault, but their output can fail; anything else is a wrong command line
 abbrev pub EndsBy : WordsFault → Status → Type 0
 EndsBy (Words error) status =
     (kind_of error ≡ kind.OutOfMemory → status ≡ Refused)
     × (kind_of error ≢ kind.OutOfMemory → kind_of error ≢ kind.DisplayHelp → kind_of error ≢ kind.DisplayVersion → status ≡ WrongWords)
     × ((kind_of error ≡ kind.DisplayHelp) ⊎ (kind_of error ≡ kind.DisplayVersion) → (status ≡ Done) ⊎ (status ≡ Failed))
-EndsBy BadCode status = status ≡ WrongWords
-EndsBy BadTurns status = status ≡ WrongWords
-EndsBy BadChoice status = status ≡ WrongWords
+EndsBy (Rejected rejection) status = status ≡ WrongWords
 EndsBy NotText status = status ≡ WrongWords
 EndsBy (Memory error) status = status ≡ Refused

@@ -1,22 +1,23 @@
--- When a channel is told to be silent, and to be heard again.
+-- When a channel is logged as silent, and when it receives again.
 use Rattle.std.specs.Prelude.{◌≡◌, ℕ, ◌-◌, nat_eq, nat_lt, Bool, true, false, if◌then◌else◌}
 use Rattle.rasta_run.specs.declared.logging.Listening.{Listening}
 use Rattle.rasta_run.specs.declared.logging.Said.{Said}
 use Rattle.rasta_run.specs.declared.logging.Said.TheVariants.{Nothing, Silent, Heard}
 
--- something came since, or nothing for longer than T_max
+-- the channel after a look: a datagram came, or none for longer than T_max
 abbrev pub hears : Listening → ℕ → ℕ → ℕ → Listening
 hears l came now t_max =
     if nat_eq came l.came
     then (if nat_lt t_max (now - l.at) then record l { silent = true } else l)
     else record { came = came; at = now; silent = false }
 
+-- the change from silent or not to silent or not
 abbrev pub told_by : Bool → Bool → Said
 told_by false true = Silent
 told_by true false = Heard
 told_by true true = Nothing
 told_by false false = Nothing
 
--- only a change is told
+-- the change that is logged
 abbrev pub said_of : Listening → Listening → Said
 said_of l m = told_by l.silent m.silent

@@ -1,8 +1,8 @@
--- How ends are run that words ask for.
+-- How ends run for a request.
 use Rattle.rasta_run.specs.declared.net.Run.{Run}
 use Rattle.rasta_words.specs.declared.command_line.RunRequest.{RunRequest}
 
--- each choice has its effect
+-- each choice of the request
 abbrev pub run_under : RunRequest → Run
 run_under r =
     record {

@@ -1,4 +1,4 @@
--- What the log tells of what is heard.
+-- The events that are recorded for the log.
 use Rattle.std.specs.Prelude.{ℕ, Bool, true, false, ◌-◌, ◌%◌, nat_eq, nat_le, nat_lt, List, slice_index_or, Option, Some, None, if◌then◌else◌}
 use Rattle.red_layer.specs.declared.RedEvent.{RedEvent}
 use Rattle.red_layer.specs.declared.RedEvent.TheVariants as event
@@ -11,7 +11,7 @@ use Rattle.pdu_text.specs.declared.lines.Happening.{Happening}
 use Rattle.pdu_text.specs.declared.lines.Happening.TheVariants.{Left, Asked, Resent}
 use Rattle.rasta_run.specs.declared.header.Header.{Header}
 
--- why the redundancy layer dropped a datagram, where it did
+-- why the redundancy layer dropped a datagram; none if it did not
 abbrev pub event_cause : RedEvent → Option Cause
 event_cause event.Passed = None
 event_cause event.Wait = None
@@ -21,7 +21,7 @@ event_cause event.Full = Some (Early event.Full)
 event_cause event.Again = Some (Early event.Again)
 event_cause (event.Fault why) = Some (Early (event.Fault why))
 
--- why the safety machine dropped a part, with the identifiers of its datagram where they are known
+-- why the safety machine dropped a part, with the identifiers of its datagram if they are known
 abbrev pub drop_cause : DropCause → Option Header → Cause
 drop_cause cause.Stranger (Some header) = Stranger header.sender header.receiver
 drop_cause cause.Stranger None = Part cause.Stranger
@@ -32,7 +32,7 @@ drop_cause cause.Request header = Part cause.Request
 drop_cause cause.Answered header = Part cause.Answered
 drop_cause cause.Below header = Part cause.Below
 
--- a copy of a datagram that came before
+-- the datagram is a copy of an earlier one
 abbrev pub is_copy : Cause → Bool
 is_copy (Early event.Old) = true
 is_copy (Early event.Passed) = false
@@ -44,16 +44,17 @@ is_copy (Early (event.Fault why)) = false
 is_copy (Part why) = false
 is_copy (Stranger sender receiver) = false
 
--- of two causes, one before the other, that which tells why nothing was taken: a copy tells nothing new
+-- which of two causes explains that nothing was taken: a copy explains nothing
 abbrev pub last_of : Option Cause → Cause → Cause
 last_of None cause = cause
 last_of (Some before) cause = if is_copy cause then before else cause
 
+-- the event of a DiscReq with this body
 abbrev pub left_with : Option Leaving → Option Happening
 left_with None = None
 left_with (Some leaving) = Some (Left leaving)
 
--- what is told of a PDU that the end made, by its type
+-- the event of a PDU that the end made, by its type
 abbrev pub made_told : Header → Option Happening
 made_told header =
     if nat_eq header.kind 6216 then left_with header.leaving
@@ -61,7 +62,7 @@ made_told header =
     else if nat_eq header.kind 6213 then Some Resent
     else None
 
--- of what happened the last 256 are kept, each at the place of its number
+-- the event with this number, if it is one of the last 256, which are kept at the places of their numbers
 abbrev pub kept_as : List Happening → ℕ → ℕ → Option Happening
 kept_as kept happened number =
     if nat_le happened number then None

@@ -1,11 +1,11 @@
--- The clock of a run: whole milliseconds since it began, which never fall.
+-- The clock of a run: whole milliseconds since it began, which never decrease.
 use Rattle.std.specs.Prelude.{ℕ, ◌-◌, ◌/◌, ◌^◌, max}
 
--- the greatest time that an end may be handed, in milliseconds
+-- the greatest time that an end accepts, in milliseconds
 abbrev pub greatest_time : ℕ
 greatest_time = 2 ^ 62
 
--- the milliseconds from one reading of the system's clock to another, both in nanoseconds
+-- the milliseconds between two readings of the system's clock in nanoseconds
 abbrev pub millis_between : ℕ → ℕ → ℕ
 millis_between began seen = (seen - began) / 1_000_000
 

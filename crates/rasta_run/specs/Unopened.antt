@@ -1,4 +1,4 @@
--- What is said of a channel that was not opened, behind the line that names the fault.
+-- What is printed of a channel that could not be opened, after the line of the fault.
 use Rattle.std.specs.Prelude.{ℕ, nat_eq, Bool, true, false, List, [], ◌∷◌, codes, Option, Some, None, if◌then◌else◌}
 use Rattle.std.specs.Fmt.{decimal}
 use Rattle.udp_channels.specs.declared.udp.UdpFault.{UdpFault}
@@ -11,7 +11,7 @@ use Rattle.rasta_words.specs.declared.status.Fault.TheVariants.{Memory, Settings
 use Rattle.stack_end.specs.declared.OpenFault.{OpenFault}
 use Rattle.stack_end.specs.declared.OpenFault.TheVariants as end
 
--- what ends a run whose channels were not opened: addresses are settings, and what the system does not give is the network
+-- the fault of a run whose channels were not opened: addresses are settings, and what the system refuses is the network
 abbrev pub fault_of : UdpFault → Fault
 fault_of udp.Lists = Settings
 fault_of udp.Memory = Memory
@@ -19,42 +19,46 @@ fault_of (udp.Address place) = Settings
 fault_of (udp.Bind refusal) = Network
 fault_of udp.Wait = Network
 
--- and an end that was not opened on them
+-- the fault of a run whose end was not opened
 abbrev pub fault_of_end : OpenFault → Fault
 fault_of_end end.BadConfig = Settings
 fault_of_end end.Memory = Memory
 
+-- whose address it is
 abbrev pub whose_text : Bool → List ℕ
 whose_text true = codes "own address "
 whose_text false = codes "peer's address "
 
--- END channel N: WHOSE address TEXT; channels count from 1
+-- END channel N: WHOSE address TEXT; channels are numbered from 1
 unfoldable pub place_text : Side → ℕ → Bool → List ℕ → List ℕ
 place_text side channel is_own address =
     joined (side_name side ∷ codes " channel " ∷ decimal channel ∷ codes ": " ∷ whose_text is_own ∷ address ∷ [])
 
--- a text that spells no address
+-- the line of a text that is not an address
 unfoldable pub unread_text : Side → ℕ → Bool → List ℕ → List ℕ
-unread_text side channel is_own address = joined (place_text side channel is_own address ∷ codes ": it is no number and port\n" ∷ [])
+unread_text side channel is_own address = joined (place_text side channel is_own address ∷ codes ": not an IP address and a port\n" ∷ [])
 
--- what the system's numbers say that come most often
+-- words for the most frequent errors of the system
 abbrev pub error_words : ℕ → List ℕ
 error_words error =
-    if nat_eq error 98 then codes ", it is in use"
-    else if nat_eq error 99 then codes ", it is not this machine's"
-    else if nat_eq error 13 then codes ", this user may not have that port"
+    if nat_eq error 98 then codes ": address in use"
+    else if nat_eq error 99 then codes ": not an address of this machine"
+    else if nat_eq error 13 then codes ": this user may not use the port"
     else []
 
+-- the number of an error, and its words
 unfoldable pub numbered_text : ℕ → List ℕ
 numbered_text error = joined (codes ", error " ∷ decimal error ∷ error_words error ∷ [])
 
+-- the error, if it has a number
 abbrev pub error_text : Option ℕ → List ℕ
 error_text None = []
 error_text (Some error) = numbered_text error
 
+-- the channel, and that the system gives no socket at its own address
 unfoldable pub unbound_front : Side → ℕ → List ℕ → List ℕ
-unbound_front side channel address = joined (place_text side channel true address ∷ codes ": the system gives no socket there" ∷ [])
+unbound_front side channel address = joined (place_text side channel true address ∷ codes ": no socket there" ∷ [])
 
--- an own address at which the system gives no socket, with the system's number for why, where it gave one
+-- the line of a channel without a socket, with the system's error, if it has a number
 unfoldable pub unbound_text : Side → ℕ → List ℕ → Option ℕ → List ℕ
 unbound_text side channel address error = joined (unbound_front side channel address ∷ error_text error ∷ codes "\n" ∷ [])

@@ -3,10 +3,11 @@
 ghost use Rattle.std.specs.Prelude.{◌≡◌, ◌≤◌, ◌+◌, ◌%◌, ◌^◌, None, true, IfOk, OnOk};
 ghost use Rattle.rasta_run.specs.Ticking.{greatest_time};
 
-use crate::input::{Feed, is_run_over, over_at};
-use crate::net::{Run, TURNS_MOST, sent_off};
+use crate::input::Feed;
+use crate::net::{Run, TURNS_MOST, limit_after, sent_off, write_lines};
 use crate::ticking::RunClock;
 use crate::turns::Actor;
+use crate::undone::Outcome;
 use crate::waiting::{earlier, take_rest};
 use octets::Milliseconds;
 use rasta_words::{Fault, RunLength};
@@ -27,11 +28,13 @@ pub struct Both<'a> {
 }
 
 impl Both<'_> {
-    /// So many turns of both.
+    /// Takes this many turns of both ends.
     ///
     /// # Errors
     ///
-    /// Refused as Clock, or as Output.
+    /// - `Clock` if the clock gives no time, or one above 2^62 ms;
+    /// - `Output` if a line cannot be printed;
+    /// - `File` or `Memory` if an end cannot be opened again.
     pub fn take_turns<R: Clock + Files, O: Write, E: Write>(
         &mut self,
         rt: &R,
@@ -44,16 +47,19 @@ impl Both<'_> {
     ) -> Result<(), Fault>
         requires later { (self.old.interlocking.end.time ≤ clock.old.last) × (self.old.field_element.end.time ≤ clock.old.last) }
         requires bounded { clock.old.last ≤ greatest_time }
+        // If `take_turns` succeeds, neither end is later than the last reading of the clock, which is at most 2^62
+        // ms.
         ensures later { OnOk result ((self.new.interlocking.end.time ≤ clock.new.last) × (self.new.field_element.end.time ≤ clock.new.last)
             × (clock.new.last ≤ greatest_time)) }
-        // Turns that end without a fault have read the clock as often as words state turns; that each reading
-        // goes with a turn no contract says.
+        // If `take_turns` succeeds, it has read the clock once for each of its `turns`. No clause says that each
+        // reading belongs to one turn of both ends.
         ensures taken { OnOk result (clock.new.readings ≡ (clock.old.readings + turns) % 2 ^ 64) }
     {
         'turns: for _ in 0..turns {
             let now = clock.read(rt)?;
             let heard = self.take_turn(now, out, err)?;
             let anew = self.keep(rt, alloc, now, err)?;
+            write_lines(out, err)?;
             let found = heard || anew;
             take_rest(
                 watch,
@@ -66,24 +72,29 @@ impl Both<'_> {
         Ok(())
     }
 
-    /// The turns of both until standard input has ended, and all was put and confirmed or T_max has passed. Its lines are put by the
-    /// interlocking.
+    /// Takes turns of both ends until standard input has ended, and everything is put and confirmed or the ends give
+    /// up. The interlocking puts the lines of input. Returns how many of them were not offered to it.
     ///
     /// # Errors
     ///
-    /// Refused as Memory, as File where there is no standard input, as Network, as Clock, or as Output.
+    /// - `Memory` if an allocation fails;
+    /// - `File` if there is no standard input, or if no first sequence number can be drawn;
+    /// - `Network` if the system cannot watch the input;
+    /// - `Clock` if the clock gives no time, or one above 2^62 ms;
+    /// - `Output` if a line cannot be printed.
     pub fn run_until_end<R: Net + Clock + Input + Files, O: Write, E: Write>(
         &mut self,
         rt: &R,
         alloc: Global,
         clock: &mut RunClock,
         watch: &mut Watch,
-        t_max: Milliseconds,
         out: &mut O,
         err: &mut E,
-    ) -> Result<(), Fault>
+    ) -> Result<u64, Fault>
         requires later { (self.old.interlocking.end.time ≤ clock.old.last) × (self.old.field_element.end.time ≤ clock.old.last) }
         requires bounded { clock.old.last ≤ greatest_time }
+        // If `run_until_end` succeeds, neither end is later than the last reading of the clock, which is at most
+        // 2^62 ms.
         ensures { OnOk result ((self.new.interlocking.end.time ≤ clock.new.last) × (self.new.field_element.end.time ≤ clock.new.last)
             × (clock.new.last ≤ greatest_time)) }
     {
@@ -95,21 +106,35 @@ impl Both<'_> {
             let put = self
                 .interlocking
                 .put_lines(alloc, &mut feed, now, out, err)?;
-            let done = feed.is_done()
-                && self.interlocking.is_settled()
-                && self.field_element.is_settled();
-            if is_run_over(feed.ended, now, t_max, done) {
-                return Ok(());
+            if feed.ended.is_some() && self.are_over(feed.is_done(), now) {
+                return Ok(feed.unput());
             }
             let anew = self.keep(rt, alloc, now, err)?;
+            write_lines(out, err)?;
             let found = heard || came || put || anew;
-            let deadline = earlier(self.next_deadline(), over_at(feed.ended, t_max));
+            let limit = limit_after(feed.ended, self.limit(), now);
+            let deadline = earlier(self.next_deadline(), limit);
             take_rest(watch, RunLength::UntilEnd, found, now, deadline);
         }
-        Ok(())
+        Ok(feed.unput())
     }
 
-    /// One turn of both; answers whether anything came.
+    /// Returns whether both ends are over, once input has ended.
+    fn are_over(&mut self, input_done: bool, now: Milliseconds) -> bool
+        // `are_over` does not change the ends.
+        ensures { (self.new.interlocking.end ≡ self.old.interlocking.end) × (self.new.field_element.end ≡ self.old.field_element.end) }
+    {
+        self.interlocking.note_progress(now);
+        self.field_element.note_progress(now);
+        self.interlocking.is_over(input_done, now) && self.field_element.is_over(true, now)
+    }
+
+    /// Returns when the later of both ends gives up, in milliseconds.
+    fn limit(&self) -> Milliseconds {
+        self.interlocking.limit().max(self.field_element.limit())
+    }
+
+    /// Takes one turn of both ends, and returns whether anything was received.
     fn take_turn<O: Write, E: Write>(
         &mut self,
         now: Milliseconds,
@@ -118,6 +143,7 @@ impl Both<'_> {
     ) -> Result<bool, Fault>
         requires now { now ≤ 2 ^ 62 }
         requires later { (self.old.interlocking.end.time ≤ now) × (self.old.field_element.end.time ≤ now) }
+        // After `take_turn` neither end is later than `now`.
         ensures { (self.new.interlocking.end.time ≤ now) × (self.new.field_element.end.time ≤ now) }
     {
         let before = (self.interlocking.received(), self.field_element.received());
@@ -126,7 +152,7 @@ impl Both<'_> {
         Ok((self.interlocking.received(), self.field_element.received()) != before)
     }
 
-    /// Opens either end anew where it is to be, and tells what was counted where that is due; answers whether one was opened.
+    /// Opens each end again that is to be, prints counts that are due, and returns whether an end was opened.
     fn keep<R: Files, E: Write>(
         &mut self,
         rt: &R,
@@ -136,6 +162,7 @@ impl Both<'_> {
     ) -> Result<bool, Fault>
         requires now { now ≤ 2 ^ 62 }
         requires later { (self.old.interlocking.end.time ≤ now) × (self.old.field_element.end.time ≤ now) }
+        // After `keep` neither end is later than `now`.
         ensures { (self.new.interlocking.end.time ≤ now) × (self.new.field_element.end.time ≤ now) }
     {
         let field_element = self.field_element.keep(rt, alloc, now, err)?;
@@ -145,6 +172,7 @@ impl Both<'_> {
         Ok(field_element || interlocking)
     }
 
+    /// Returns the earlier deadline of both ends.
     fn next_deadline(&self) -> Option<Milliseconds> {
         earlier(
             self.interlocking.next_deadline(),
@@ -152,34 +180,48 @@ impl Both<'_> {
         )
     }
 
-    /// Ends a run: how both stand is printed and told; where they ran until their input ended they leave before. Answers whether both
-    /// stood as they were expected to.
+    /// Ends a run, in which this many lines of input are left: prints the state of both ends and what they leave
+    /// undone, and finishes their logs. Ends that ran until their input ended disconnect first. Returns how both
+    /// were.
     ///
     /// # Errors
     ///
-    /// Refused as Output.
+    /// - `Output` if a line cannot be printed.
     pub fn finish<O: Write, E: Write>(
         &mut self,
         run: &Run,
+        lines: u64,
         now: Milliseconds,
         out: &mut O,
         err: &mut E,
-    ) -> Result<bool, Fault>
+    ) -> Result<Outcome, Fault>
         requires now { now ≤ 2 ^ 62 }
         requires later { (self.old.interlocking.end.time ≤ now) × (self.old.field_element.end.time ≤ now) }
-        ensures { run.now.expected ≡ None → IfOk result (λ met. met ≡ true) }
+        // If no state is expected, both ends were in it when `finish` succeeds.
+        ensures { run.now.expected ≡ None → IfOk result (λ outcome. outcome.is_met ≡ true) }
     {
-        let il_met = self.interlocking.stands_as(run.expected);
-        let fe_met = self.field_element.stands_as(run.expected);
-        if run.length == RunLength::UntilEnd {
+        let il_undone = self.interlocking.undone(lines);
+        let fe_undone = self.field_element.undone(0);
+        let il_met = self.interlocking.stands_as(run.expected, il_undone);
+        let fe_met = self.field_element.stands_as(run.expected, fe_undone);
+        let is_until_end = run.length == RunLength::UntilEnd;
+        if is_until_end {
             self.interlocking.close(now, err);
             self.field_element.close(now, err);
         }
         self.interlocking.report(out)?;
         self.field_element.report(out)?;
         sent_off(out)?;
+        if is_until_end {
+            self.interlocking.tell_undone(il_undone, err);
+            self.field_element.tell_undone(fe_undone, err);
+        }
         self.interlocking.conclude(now, il_met, err);
         self.field_element.conclude(now, fe_met, err);
-        Ok(il_met && fe_met)
+        let is_finished = il_undone.is_nothing() && fe_undone.is_nothing();
+        Ok(Outcome {
+            is_finished: !is_until_end || is_finished,
+            is_met: il_met && fe_met,
+        })
     }
 }

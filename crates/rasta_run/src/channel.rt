@@ -1,4 +1,7 @@
-//! Channels that pass everything on, and are listened to.
+//! Channels that pass everything on, and record it for the log and the counts.
+//!
+//! The end makes no note beyond what it did, no promise depends on the log, and an end without a log pays one test
+//! a datagram.
 
 ghost use Rattle.std.specs.Prelude.{◌≡◌, ◌≤◌, true, length, is_ok, IfOk, IfSome};
 ghost use Rattle.channels.specs.Told.{Sends, after_receive};
@@ -8,25 +11,25 @@ use channels::{ChannelFault, Channels};
 use stack_end::{Listener, Note};
 use std::alloc::{AllocError, Global};
 
-/// Channels that are listened to. What is sent and received goes through as it is, and notes are handed on.
+/// Channels that record. Everything sent and received goes through unchanged; notes of the end are recorded, too.
 #[derive(Drop)]
 pub struct Overheard<C> {
     /// The channels themselves.
     pub inner: C,
-    /// What is heard of them. It stands on the heap, so that an end stays small enough to be handed on.
+    /// The recorder. It is on the heap, so that an end stays small enough to be moved.
     pub ear: Box<Ear>,
 }
 
 impl<C: Drop> Overheard<C> {
-    /// Channels that are listened to, or by an ear that keeps nothing.
+    /// Wraps channels with a recorder, or with one that keeps nothing.
     ///
     /// # Errors
     ///
-    /// The error is that memory was refused.
+    /// - Returns the error if an allocation fails.
     pub fn over(alloc: Global, inner: C, listens: bool) -> Result<Self, AllocError>
-        // Channels that are listened to are what they were.
+        // If `over` succeeds, the channels inside are the ones given.
         ensures inner { IfOk result (λ o. o.inner ≡ inner) }
-        // They are listened to exactly where that is asked.
+        // If `over` succeeds, the recorder listens if and only if `listens` is true.
         ensures listens { IfOk result (λ o. o.ear.value.listens ≡ listens) }
     {
         let ear = Box::new(alloc, Ear::new(listens))?;
@@ -35,7 +38,7 @@ impl<C: Drop> Overheard<C> {
 }
 
 impl<C: Channels> Channels for Overheard<C> {
-    // What is told of them is what is told of the channels themselves.
+    // The datagrams, results and failures are those of the channels inside.
     ghost told = { λ o. C.told o.inner };
 
     fn send(&mut self, channel: usize, datagram: &[u8]) -> Result<(), ChannelFault> {
@@ -54,9 +57,9 @@ impl<C: Channels> Channels for Overheard<C> {
 }
 
 impl<C: Channels> Listener for Overheard<C> {
-    /// An ear that listens hears notes.
+    /// Returns whether notes of the end are recorded.
     fn hears_notes(&self) -> bool
-        // Notes are heard exactly where an ear listens.
+        // `hears_notes` is true if and only if the recorder listens.
         ensures { result ≡ self.now.ear.value.listens }
     {
         self.ear.listens

@@ -1,4 +1,8 @@
-//! What the peer confirms of what an end made.
+//! The units of an end that its peer confirms.
+//!
+//! No note of an end says what its peer confirms. So this counts by the headers of PDUs: the numbers of the units
+//! that the end made, and the confirmed number of each PDU that it took. A PDU that came early counts when it goes
+//! up. No theorem says that this agrees with the safety machine.
 
 ghost use Rattle.std.specs.Prelude.{◌≡◌, ◌≤◌, count_by, drop, length};
 ghost use Rattle.octets.specs.declared.limits.TheConstants.{WINDOW_MAX};
@@ -11,16 +15,16 @@ use octets::Milliseconds;
 use octets::limits::WINDOW_MAX;
 use std::marker::Model;
 
-/// What an end awaits to be confirmed, as far as the PDUs tell that it made and took.
+/// The units of an end that are not confirmed, as far as the headers of its PDUs show.
 #[derive(Drop)]
 pub struct Awaiting {
-    /// The sequence numbers of the units that are not confirmed, the first one first.
+    /// The sequence numbers of the unconfirmed units, the oldest first.
     units: ArrayVec<u32, WINDOW_MAX>,
-    /// Those under which they were sent again upon the last request.
+    /// The new numbers of those that were sent again after the last request.
     again: ArrayVec<u32, WINDOW_MAX>,
     /// The sequence number that was confirmed last.
     confirmed: u32,
-    /// Whether the end asks for a retransmission.
+    /// Whether the end is requesting a retransmission.
     asking: bool,
 }
 
@@ -38,9 +42,9 @@ impl Model for Awaiting {
 }
 
 impl Awaiting {
-    /// Nothing was made.
+    /// Returns the state before any PDU was made.
     pub fn new() -> Self
-        // At first nothing is awaited.
+        // A new `Awaiting` has no unconfirmed unit and requests no retransmission.
         ensures { result ≡ confirming.nothing_awaited }
     {
         Awaiting {
@@ -51,10 +55,10 @@ impl Awaiting {
         }
     }
 
-    /// The end made a PDU.
+    /// Records a PDU that the end made.
     pub(crate) fn made(&mut self, header: &Header)
-        // An ear counts of a PDU that was taken what it confirms: the units whose numbers lie up to the
-        // confirmed one, each once, and of what was sent again under its new number alone.
+        // `made` appends the number of a Data or RetrData, starts at that of a ConnReq or ConnResp, begins a
+        // request at a RetrReq, and forgets older resent units at a RetrResp.
         ensures { self.new ≡ confirming.made header.now self.old }
     {
         match header.kind {
@@ -67,13 +71,12 @@ impl Awaiting {
         }
     }
 
-    /// The end took a PDU of its peer; answers how many units that confirms.
+    /// Records a PDU of the peer that the end took, and returns how many units it confirms.
     pub(crate) fn taken(&mut self, header: &Header) -> usize
-        // An ear counts of a PDU that was taken what it confirms: the units whose numbers lie up to the
-        // confirmed one, each once, and of what was sent again under its new number alone.
+        // After `taken` the units up to the confirmed number are gone. A RetrReq leaves those that were sent
+        // again; a RetrResp ends the end's own request; a ConnReq changes nothing.
         ensures left { self.new ≡ confirming.taken header.now self.old }
-        // An ear counts of a PDU that was taken what it confirms: the units whose numbers lie up to the
-        // confirmed one, each once, and of what was sent again under its new number alone.
+        // `taken` returns the number of unconfirmed units up to the confirmed number, and 0 for a ConnReq.
         ensures units { result ≡ confirming.units_taken header.now self.old }
     {
         if header.kind == 6200 {
@@ -92,8 +95,10 @@ impl Awaiting {
         count
     }
 
-    /// How many of the units a sequence number confirms.
+    /// Returns how many units a sequence number confirms.
     fn confirmed_by(&self, cs: u32) -> usize
+        // `confirmed_by` counts the units whose distance from the last confirmed number is at most that of `cs`,
+        // modulo 2^32.
         ensures value { result ≡ confirming.confirmed_by cs self.now }
     {
         let from = self.confirmed;
@@ -105,10 +110,11 @@ impl Awaiting {
             .count()
     }
 
-    /// How old the confirmed timestamp of a PDU that the end takes is by its clock, in milliseconds; none where the end does not test it.
+    /// Returns the age of the confirmed timestamp of a PDU that the end takes, by its own clock in milliseconds.
+    /// Returns `None` if the end does not test it.
     pub(crate) fn age(&self, header: &Header, now: Milliseconds) -> Option<u32>
-        // The greatest age of a confirmed timestamp is kept: the end's time less the timestamp, modulo 2^32; a
-        // ConnReq has none, nor has a RetrReq while the end asks itself.
+        // `age` returns the end's time minus the timestamp, modulo 2^32, and `None` for a ConnReq, or for a
+        // RetrReq while the end requests a retransmission itself.
         ensures { result ≡ confirming.age_of now header.now self.now }
     {
         match header.kind {
@@ -119,15 +125,17 @@ impl Awaiting {
     }
 }
 
-/// Keeps the number of one more unit.
+/// Appends the number of a unit.
 fn keep(units: &mut ArrayVec<u32, WINDOW_MAX>, unit: u32)
+    // `keep` appends the unit, if there are fewer than the greatest window.
     ensures { units.new.items ≡ confirming.with_last unit units.old.items }
 {
     let _kept = units.try_push(unit);
 }
 
-/// Lets so many go from the front. Few PDUs confirm any.
+/// Removes this many units from the front. Few PDUs confirm any.
 fn pass(units: &mut ArrayVec<u32, WINDOW_MAX>, count: usize)
+    // `pass` leaves the units after the first `count`.
     ensures { units.new.items ≡ drop count units.old.items }
 {
     if count > 0 {
@@ -135,8 +143,9 @@ fn pass(units: &mut ArrayVec<u32, WINDOW_MAX>, count: usize)
     }
 }
 
-/// The units behind so many.
+/// Returns the units after the first `count`.
 fn behind(units: &ArrayVec<u32, WINDOW_MAX>, count: usize) -> ArrayVec<u32, WINDOW_MAX>
+    // The result of `behind` is the list without its first `count` units.
     ensures { result.items ≡ drop count units.now.items }
 {
     let units = units.as_slice();
@@ -145,16 +154,17 @@ fn behind(units: &ArrayVec<u32, WINDOW_MAX>, count: usize) -> ArrayVec<u32, WIND
     left
 }
 
-/// How far a number of 32 bits lies ahead of another.
-
+/// Returns how far a 32-bit number is ahead of another.
 fn steps_ahead(from: u32, to: u32) -> u32
+    // `steps_ahead` returns `to` minus `from`, modulo 2^32.
     ensures { result ≡ ahead from to }
 {
     to.wrapping_sub(from)
 }
 
-/// How old a timestamp is, in milliseconds: less than 2^32.
+/// Returns the age of a timestamp in milliseconds, below 2^32.
 fn age_at(timestamp: u32, now: Milliseconds) -> u32
+    // `age_at` returns `now` minus the timestamp, modulo 2^32.
     ensures { result ≡ ahead timestamp now }
 {
     steps_ahead(timestamp, (now % (1 << 32)) as u32)

@@ -1,4 +1,4 @@
-//! What is counted of a channel and of a connection.
+//! The counts of a channel and of a connection.
 
 ghost use Rattle.std.specs.Prelude.{◌≡◌};
 ghost use Rattle.rasta_run.specs.Counting as counting;
@@ -6,34 +6,34 @@ ghost use Rattle.rasta_run.specs.Counting as counting;
 use red_layer::RedEvent;
 use safe_machine::{DropCause, Step};
 
-/// What is counted of a channel, modulo 2^64.
+/// The counts of a channel, modulo 2^64.
 #[derive(Clone, Copy, Debug, PartialEq, Eq)]
 pub struct ChannelCounts {
     /// Datagrams sent.
     pub sent: u64,
-    /// Datagrams that the channel did not take.
+    /// Datagrams that could not be sent.
     pub failed: u64,
-    /// Datagrams that came.
+    /// Datagrams received.
     pub came: u64,
-    /// Those that had the expected number.
+    /// Those with the expected number.
     pub passed: u64,
-    /// Those that came early, and waited.
+    /// Those that came early and were deferred.
     pub deferred: u64,
-    /// Those whose number came before on any channel, or was given up.
+    /// Those whose number was already received on any channel, or given up.
     pub old: u64,
-    /// Those that came early, and whose number waited already.
+    /// Those that came early, with a number that was already deferred.
     pub repeats: u64,
     /// Those whose number was too far ahead.
     pub far: u64,
-    /// Those that came early, and found every place taken.
+    /// Those that came early when every place was taken.
     pub full: u64,
-    /// Those that were no PDU under this end's code.
+    /// Those that were not a PDU under this end's safety code.
     pub damaged: u64,
     /// Those of other ends.
     pub strangers: u64,
 }
 
-/// What is counted of a connection, modulo 2^64.
+/// The counts of a connection, modulo 2^64.
 #[derive(Clone, Copy, Debug, PartialEq, Eq)]
 pub struct PduCounts {
     /// Units sent for the first time.
@@ -42,9 +42,9 @@ pub struct PduCounts {
     pub resent: u64,
     /// Heartbeats sent.
     pub heartbeats: u64,
-    /// Requests for a retransmission sent.
+    /// Retransmissions requested by this end.
     pub asked: u64,
-    /// Requests for a retransmission answered.
+    /// Retransmissions that this end granted.
     pub answered: u64,
     /// PDUs of the peer that the safety machine did not drop.
     pub taken: u64,
@@ -52,15 +52,15 @@ pub struct PduCounts {
     pub dropped: u64,
     /// Units that the peer confirmed.
     pub confirmed: u64,
-    /// How old the confirmed timestamp of a PDU was at most when the end took it, in milliseconds by the end's clock; none where none was
-    /// confirmed.
+    /// The greatest age of a confirmed timestamp when the end took its PDU, in milliseconds by the end's clock.
+    /// `None` if nothing was confirmed. So the margin to T_max is one of arrivals.
     pub oldest: Option<u32>,
 }
 
 impl ChannelCounts {
-    /// Nothing was counted.
+    /// Returns counts of zero.
     pub fn none() -> Self
-        // An ear begins with nothing counted, nobody left and nothing dropped.
+        // In new `ChannelCounts` every count is 0.
         ensures { result ≡ counting.no_datagrams }
     {
         ChannelCounts {
@@ -78,18 +78,17 @@ impl ChannelCounts {
         }
     }
 
-    /// How many datagrams the redundancy layer let in, modulo 2^64: it passed them on, or they had to wait.
+    /// Returns how many datagrams the redundancy layer passed on or deferred, modulo 2^64.
     pub fn let_in(self) -> u64
-        // The datagrams that were let in are those passed on and those that had to wait.
+        // `let_in` returns the sum of the datagrams passed on and deferred.
         ensures { result ≡ counting.let_in self }
     {
         self.passed.wrapping_add(self.deferred)
     }
 
-    /// With a datagram that was to be sent, and whether it went out.
+    /// Counts a datagram that was to be sent, and whether it was.
     pub fn with_sent(mut self, went: bool) -> Self
-        // A datagram, what the redundancy layer did with it and what the safety machine did with its part raise
-        // exactly one count by one.
+        // `with_sent` adds 1 to the datagrams sent, or to those that failed, as `went` says.
         ensures { result ≡ counting.with_sent went self }
     {
         if went {
@@ -100,20 +99,19 @@ impl ChannelCounts {
         self
     }
 
-    /// With a datagram that came.
+    /// Counts a datagram that was received.
     pub fn with_came(mut self) -> Self
-        // A datagram, what the redundancy layer did with it and what the safety machine did with its part raise
-        // exactly one count by one.
+        // `with_came` adds 1 to the datagrams received.
         ensures { result ≡ counting.with_came self }
     {
         self.came = one_more(self.came);
         self
     }
 
-    /// With what the redundancy layer did with a datagram.
+    /// Counts how the redundancy layer handled a datagram.
     pub fn with_event(mut self, event: RedEvent) -> Self
-        // A datagram, what the redundancy layer did with it and what the safety machine did with its part raise
-        // exactly one count by one.
+        // `with_event` adds 1 to the one count of this event: passed, deferred, old, repeated, too far ahead,
+        // without a place, or damaged.
         ensures { result ≡ counting.with_event event self }
     {
         match event {
@@ -128,10 +126,10 @@ impl ChannelCounts {
         self
     }
 
-    /// With a part that the safety machine dropped.
+    /// Counts a part that the safety machine dropped.
     pub fn with_dropped(mut self, cause: DropCause) -> Self
-        // A datagram, what the redundancy layer did with it and what the safety machine did with its part raise
-        // exactly one count by one.
+        // `with_dropped` adds 1 to the damaged datagrams for a `Fault`, and to those of strangers for a
+        // `Stranger`. Other causes count nothing.
         ensures { result ≡ counting.with_dropped cause self }
     {
         match cause {
@@ -144,9 +142,9 @@ impl ChannelCounts {
 }
 
 impl PduCounts {
-    /// Nothing was counted.
+    /// Returns counts of zero.
     pub fn none() -> Self
-        // An ear begins with nothing counted, nobody left and nothing dropped.
+        // In new `PduCounts` every count is 0 and no age is known.
         ensures { result ≡ counting.no_pdus }
     {
         PduCounts {
@@ -162,10 +160,9 @@ impl PduCounts {
         }
     }
 
-    /// With what the safety machine did with a part.
+    /// Counts how the safety machine handled a part.
     pub fn with_step(mut self, step: Step) -> Self
-        // A datagram, what the redundancy layer did with it and what the safety machine did with its part raise
-        // exactly one count by one.
+        // `with_step` adds 1 to the PDUs dropped for a `Dropped`, and to those taken for any other step.
         ensures { result ≡ counting.with_step step self }
     {
         match step {
@@ -175,10 +172,10 @@ impl PduCounts {
         self
     }
 
-    /// With a PDU that was made, by the number of its type.
+    /// Counts a PDU that the end made, by the number of its type.
     pub fn with_made(mut self, kind: u16) -> Self
-        // A datagram, what the redundancy layer did with it and what the safety machine did with its part raise
-        // exactly one count by one.
+        // `with_made` adds 1 to the units, resent units, heartbeats, requests or granted requests, as the type
+        // says. Other types count nothing.
         ensures { result ≡ counting.with_made kind self }
     {
         match kind {
@@ -192,20 +189,18 @@ impl PduCounts {
         self
     }
 
-    /// With so many units that a PDU of the peer confirmed.
+    /// Counts units that a PDU of the peer confirmed.
     pub fn with_confirmed(mut self, units: usize) -> Self
-        // The greatest age of a confirmed timestamp is kept: the end's time less the timestamp, modulo 2^32; a
-        // ConnReq has none, nor has a RetrReq while the end asks itself.
+        // `with_confirmed` adds `units` to the confirmed units.
         ensures { result ≡ counting.with_confirmed units self }
     {
         self.confirmed = self.confirmed.wrapping_add(units as u64);
         self
     }
 
-    /// With the age of the timestamp that a PDU of the peer confirmed, in milliseconds, where it confirmed one.
+    /// Counts the age of a confirmed timestamp, in milliseconds, if the PDU confirmed one.
     pub fn with_age(mut self, age: Option<u32>) -> Self
-        // The greatest age of a confirmed timestamp is kept: the end's time less the timestamp, modulo 2^32; a
-        // ConnReq has none, nor has a RetrReq while the end asks itself.
+        // `with_age` keeps the greater of the greatest age so far and this one.
         ensures { result ≡ counting.with_age age self }
     {
         self.oldest = older_of(self.oldest, age);
@@ -213,8 +208,9 @@ impl PduCounts {
     }
 }
 
-/// The greater of two ages, where there is one.
+/// Returns the greater of two ages that may be absent.
 fn older_of(oldest: Option<u32>, age: Option<u32>) -> Option<u32>
+    // `older_of` returns the greater age if both are there, and else the one that is there.
     ensures { result ≡ counting.older_of oldest age }
 {
     match (oldest, age) {
@@ -224,8 +220,9 @@ fn older_of(oldest: Option<u32>, age: Option<u32>) -> Option<u32>
     }
 }
 
-/// One more, modulo 2^64.
+/// Returns the next count, modulo 2^64.
 fn one_more(count: u64) -> u64
+    // `one_more` returns the count plus 1, modulo 2^64.
     ensures { result ≡ counting.one_more count }
 {
     count.wrapping_add(1)

@@ -1,4 +1,7 @@
-//! What is heard of the channels of an end, and of its doings.
+//! The recorder of an end: what its channels sent and received, and its notes.
+//!
+//! The reason for a disconnect is that of the end's own DiscReq, or that of the peer's DiscReq with the number of
+//! the part that closed the end.
 
 ghost use Rattle.std.specs.Prelude.{◌≡◌, ℕ, None, true};
 ghost use Rattle.safe_machine.specs.declared.Step.{Step};
@@ -17,55 +20,57 @@ use safe_machine::{DropCause, Step};
 use safe_pdu::Leaving;
 use stack_end::Note;
 
-/// How many happenings are kept at once. A turn takes 64 datagrams at most, and few of them make more than two.
+/// The greatest number of events that are kept. A turn receives at most 64 datagrams, and few of them make more
+/// than two events.
 const KEPT: usize = 256;
 
-/// At how many places headers of datagrams stand that came early: the numbers of those that wait are at most 80 apart.
+/// The number of places for headers of datagrams that came early: the numbers of deferred ones differ by at most
+/// 80.
 const EARLY: usize = 128;
 
-/// What is heard of the channels of an end, and of its doings. An ear that does not listen keeps nothing, and costs one test a datagram.
+/// The recorder of an end. If it does not listen, it keeps nothing, and costs one test a datagram.
 #[derive(Drop)]
 pub struct Ear {
     /// Whether it listens.
     pub listens: bool,
-    /// What is counted of each channel, the first one first.
+    /// The counts of each channel, the first one first.
     pub channels: [ChannelCounts; CHANNELS_MAX],
-    /// What is counted of the connection.
+    /// The counts of the connection.
     pub pdus: PduCounts,
-    /// What the end awaits to be confirmed.
+    /// The units of the end that are not confirmed.
     pub awaiting: Awaiting,
-    /// The time of the end, in milliseconds; its owner sets it before the end hears what comes.
+    /// The time of the end, in milliseconds. The owner sets it before the end receives anything.
     pub time: u64,
-    /// Who left the connection, where somebody did.
+    /// Which side disconnected, and why.
     pub departure: Option<Departure>,
-    /// Why the last datagram was dropped that was. A copy of one that came before tells nothing new.
+    /// Why the last datagram was dropped. A copy of an earlier datagram does not change it.
     pub last_cause: Option<Cause>,
-    /// The channel of the datagram that came last, and what stands at the places of its header.
+    /// The channel of the last datagram received, and the fields of its header.
     came: (usize, Option<Header>),
     /// The headers of datagrams that came early, each at the place of its number.
     early: [Option<Header>; EARLY],
-    /// Number and body of the last datagram that has the type of a DiscReq.
+    /// Number and body of the last datagram received with the type of a DiscReq.
     leaving: Option<(u32, Leaving)>,
-    /// What happened, each at the place of its number.
+    /// The events, each at the place of its number.
     pub kept: [Happening; KEPT],
-    /// How much has happened, modulo 2^64.
+    /// The number of events so far, modulo 2^64.
     pub happened: u64,
 }
 
 impl Ear {
-    /// An ear that has heard nothing.
+    /// Returns a recorder that has recorded nothing.
     pub fn new(listens: bool) -> Self
-        // An ear listens exactly where that is asked.
+        // A new recorder listens if and only if `listens` is true.
         ensures listens { result.listens ≡ listens }
-        // An ear begins with nothing that happened.
+        // A new recorder has no events.
         ensures happened { result.happened ≡ 0 }
-        // An ear begins with no PDU counted.
+        // In a new recorder no PDU is counted.
         ensures pdus { result.pdus ≡ no_pdus }
-        // An ear begins with nothing awaited.
+        // In a new recorder no unit is awaited.
         ensures awaiting { result.awaiting ≡ confirming.nothing_awaited }
-        // An ear begins with nobody who left.
+        // In a new recorder neither side has disconnected.
         ensures departure { result.departure ≡ None }
-        // An ear begins with nothing dropped.
+        // In a new recorder no datagram was dropped.
         ensures last_cause { result.last_cause ≡ None }
     {
         Ear {
@@ -84,9 +89,9 @@ impl Ear {
         }
     }
 
-    /// What happened as the one with this number, from 0; none where it is forgotten, or has not happened.
+    /// Returns the event with this number, from 0. Returns `None` if it is forgotten, or has not happened.
     pub fn happening(&self, number: u64) -> Option<Happening>
-        // Of what happened the last 256 are kept, and found by their numbers.
+        // `happening` returns each of the last 256 events by its number, and `None` for any other.
         ensures { result ≡ telling.kept_as self.now.kept self.now.happened number }
     {
         if number >= self.happened || self.happened - number > KEPT as u64 {
@@ -95,9 +100,9 @@ impl Ear {
         Some(self.kept[(number % KEPT as u64) as usize])
     }
 
-    /// How many datagrams came on all channels, modulo 2^64.
+    /// Returns how many datagrams were received on all channels, modulo 2^64.
     pub fn came(&self) -> u64
-        // The datagrams that came are the sum over the channels.
+        // `came` returns the sum of the datagrams received over the four channels.
         ensures { result ≡ came_on self.now.channels }
     {
         let [first, second, third, fourth] = self.channels;
@@ -108,9 +113,9 @@ impl Ear {
             .wrapping_add(fourth.came)
     }
 
-    /// How many datagrams of all channels the redundancy layer let in, modulo 2^64.
+    /// Returns how many datagrams the redundancy layer passed on or deferred on all channels, modulo 2^64.
     pub fn let_in(&self) -> u64
-        // The datagrams that were let in are the sum over the channels.
+        // `let_in` returns the sum of the datagrams passed on and deferred over the four channels.
         ensures { result ≡ let_in_on self.now.channels }
     {
         let [first, second, third, fourth] = self.channels;
@@ -121,37 +126,39 @@ impl Ear {
             .wrapping_add(fourth.let_in())
     }
 
-    /// The end is opened anew on these channels: of the connection before nothing is told any more, and the counts go on.
+    /// Forgets the connection, since the end is opened again on these channels. Counts and events go on.
     pub fn begin_anew(&mut self)
-        // With another connection an ear listens as before.
+        // `begin_anew` does not change whether the recorder listens.
         ensures listens { self.new.listens ≡ self.old.listens }
-        // With another connection the counts of channels go on.
+        // `begin_anew` keeps the counts of channels.
         ensures channels { self.new.channels ≡ self.old.channels }
-        // With another connection the counts of PDUs go on.
+        // `begin_anew` keeps the counts of PDUs.
         ensures pdus { self.new.pdus ≡ self.old.pdus }
-        // With another connection nothing of the one before is awaited.
+        // After `begin_anew` no unit is awaited.
         ensures awaiting { self.new.awaiting ≡ confirming.nothing_awaited }
-        // With another connection nobody has left.
+        // After `begin_anew` neither side has disconnected.
         ensures departure { self.new.departure ≡ None }
-        // With another connection nothing was dropped.
-        ensures last_cause { self.new.last_cause ≡ None }
-        // What happened before is kept.
+        // `begin_anew` keeps the cause of the last dropped datagram, since the counts go on.
+        ensures last_cause { self.new.last_cause ≡ self.old.last_cause }
+        // `begin_anew` keeps the events.
         ensures kept { self.new.kept ≡ self.old.kept }
-        // What happened is counted on.
+        // `begin_anew` keeps the number of events.
         ensures happened { self.new.happened ≡ self.old.happened }
     {
         self.departure = None;
-        self.last_cause = None;
         self.came = (0, None);
         self.early = [None; EARLY];
         self.awaiting = Awaiting::new();
         self.leaving = None;
     }
 
-    /// Hears a datagram that was to be sent on a channel, and whether it went out. What a PDU says is told on the first channel alone.
+    /// Records a datagram that was to be sent on a channel, and whether it was. Its PDU counts only on the first
+    /// channel, since all channels carry the same.
     pub(crate) fn hear_sent(&mut self, channel: usize, datagram: &[u8], went: bool)
+        // If the recorder listens, a datagram sent on channel 1 counts in `pdus` by the type in its header.
         ensures pdus { self.old.listens ≡ true → channel ≡ 1
             → self.new.pdus ≡ confirming.counts_made (header_seen datagram.now) self.old.pdus }
+        // If the recorder listens, a datagram sent on channel 1 is recorded in `awaiting` by its header.
         ensures awaiting { self.old.listens ≡ true → channel ≡ 1
             → self.new.awaiting ≡ confirming.awaited_made (header_seen datagram.now) self.old.awaiting }
     {
@@ -166,8 +173,11 @@ impl Ear {
         }
     }
 
+    /// Records a PDU that the end made.
     fn hear_made(&mut self, datagram: &[u8])
+        // `hear_made` counts the PDU by the type in its header, and nothing if the datagram is too short for one.
         ensures pdus { self.new.pdus ≡ confirming.counts_made (header_seen datagram.now) self.old.pdus }
+        // `hear_made` records the PDU in `awaiting`, if the datagram has a header.
         ensures awaiting { self.new.awaiting ≡ confirming.awaited_made (header_seen datagram.now) self.old.awaiting }
     {
         let Some(header) = header_of(datagram) else {
@@ -182,11 +192,16 @@ impl Ear {
         self.keep_some(told);
     }
 
-    /// Hears a datagram that came on a channel.
+    /// Records a datagram that was received on a channel.
     pub(crate) fn hear_came(&mut self, channel: usize, datagram: &[u8])
+        // If the recorder listens, `hear_came` keeps the channel and the header of the datagram as those of the
+        // last one.
         ensures came { self.old.listens ≡ true → self.new.came ≡ (channel, header_seen datagram.now) }
+        // `hear_came` does not change the counts of PDUs.
         ensures pdus { self.new.pdus ≡ self.old.pdus }
+        // `hear_came` does not change the unconfirmed units.
         ensures awaiting { self.new.awaiting ≡ self.old.awaiting }
+        // `hear_came` does not change the headers of early datagrams.
         ensures early { self.new.early ≡ self.old.early }
     {
         if !self.listens {
@@ -202,10 +217,15 @@ impl Ear {
         }
     }
 
+    /// Keeps the body of a datagram with the type of a DiscReq.
     fn note_leaving(&mut self, header: &Header)
+        // `note_leaving` does not change the last datagram.
         ensures came { self.new.came ≡ self.old.came }
+        // `note_leaving` does not change the counts of PDUs.
         ensures pdus { self.new.pdus ≡ self.old.pdus }
+        // `note_leaving` does not change the unconfirmed units.
         ensures awaiting { self.new.awaiting ≡ self.old.awaiting }
+        // `note_leaving` does not change the headers of early datagrams.
         ensures early { self.new.early ≡ self.old.early }
     {
         if header.kind == 6216 {
@@ -215,17 +235,16 @@ impl Ear {
         }
     }
 
-    /// Hears what the end tells.
+    /// Records a note of the end.
     pub(crate) fn hear_note(&mut self, note: &Note<'_>)
-        // An ear counts of a PDU that was taken what it confirms: the units whose numbers lie up to the
-        // confirmed one, each once, and of what was sent again under its new number alone.
-        // What is confirmed is that of the datagram with the part's number: one that came early, or the last
-        // one.
+        // If the recorder listens and the note is a step, it counts. If its part was taken, the units that it
+        // confirms and the age of its timestamp count too, by the header with the part's number: of a datagram
+        // that came early, or of the last one.
         ensures pdus { self.old.listens ≡ true → (number : ℕ) (step : Step) → note.now ≡ Note.Step number step
             → self.new.pdus ≡ confirming.counts_by self.old.time step
             (confirming.header_under self.old.early self.old.came.1 number) self.old.awaiting self.old.pdus }
-        // An ear counts of a PDU that was taken what it confirms: the units whose numbers lie up to the
-        // confirmed one, each once, and of what was sent again under its new number alone.
+        // If the recorder listens and the note says that a part was taken, the units that it confirms are removed
+        // from `awaiting`.
         ensures awaiting { self.old.listens ≡ true → (number : ℕ) (step : Step) → note.now ≡ Note.Step number step
             → self.new.awaiting ≡ confirming.awaited_by step
             (confirming.header_under self.old.early self.old.came.1 number) self.old.awaiting }
@@ -242,11 +261,13 @@ impl Ear {
         }
     }
 
+    /// Records how the redundancy layer handled a datagram.
     fn hear_event(&mut self, event: RedEvent)
-        // What is confirmed is that of the datagram with the part's number: one that came early, or the last
-        // one.
+        // `hear_event` keeps the header of the last datagram if it was deferred, and else no header.
         ensures early { self.new.early ≡ confirming.early_after event self.old.came.1 self.old.early }
+        // `hear_event` does not change the counts of PDUs.
         ensures pdus { self.new.pdus ≡ self.old.pdus }
+        // `hear_event` does not change the unconfirmed units.
         ensures awaiting { self.new.awaiting ≡ self.old.awaiting }
     {
         let (channel, header) = self.came;
@@ -261,11 +282,16 @@ impl Ear {
         }
     }
 
+    /// Records how the safety machine handled a part.
     fn hear_step(&mut self, number: u32, step: Step)
+        // `hear_step` counts the step. If the part was taken, it also counts the units that it confirms and the
+        // age of its timestamp, by the header with its number.
         ensures pdus { self.new.pdus ≡ confirming.counts_by self.old.time step
             (confirming.header_under self.old.early self.old.came.1 number) self.old.awaiting self.old.pdus }
+        // `hear_step` removes the units that a taken part confirms, and changes nothing at any other step.
         ensures awaiting { self.new.awaiting ≡ confirming.awaited_by step
             (confirming.header_under self.old.early self.old.came.1 number) self.old.awaiting }
+        // `hear_step` does not change the headers of early datagrams.
         ensures early { self.new.early ≡ self.old.early }
     {
         self.pdus = self.pdus.with_step(step);
@@ -279,6 +305,7 @@ impl Ear {
 
     /// Keeps the header of a datagram that came early.
     fn keep_early(&mut self, header: Option<Header>)
+        // `keep_early` puts the header at the place of its number, and changes nothing else.
         ensures { self.new ≡ record self.old { early = confirming.with_early header self.old.early } }
     {
         if let Some(header) = header {
@@ -286,12 +313,16 @@ impl Ear {
         }
     }
 
-    /// A part was taken: it confirms.
+    /// Records what a part that was taken confirms.
     fn hear_taken(&mut self, number: u32)
+        // `hear_taken` counts the units that the part confirms and the age of its timestamp, by the header with
+        // its number.
         ensures pdus { self.new.pdus ≡ confirming.counts_after self.old.time
             (confirming.header_under self.old.early self.old.came.1 number) self.old.awaiting self.old.pdus }
+        // `hear_taken` removes the units that the part confirms, by the header with its number.
         ensures awaiting { self.new.awaiting ≡ confirming.awaited_after
             (confirming.header_under self.old.early self.old.came.1 number) self.old.awaiting }
+        // `hear_taken` does not change the headers of early datagrams.
         ensures early { self.new.early ≡ self.old.early }
     {
         let (_, last) = self.came;
@@ -302,10 +333,14 @@ impl Ear {
         }
     }
 
-    /// A part was dropped. Where it is not of the datagram that came last, it had waited, and its channel is not known.
+    /// Records a part that was dropped. If it is not that of the last datagram, it was deferred, and its channel
+    /// is not known.
     fn hear_dropped(&mut self, number: u32, cause: DropCause)
+        // `hear_dropped` does not change the counts of PDUs.
         ensures pdus { self.new.pdus ≡ self.old.pdus }
+        // `hear_dropped` does not change the unconfirmed units.
         ensures awaiting { self.new.awaiting ≡ self.old.awaiting }
+        // `hear_dropped` does not change the headers of early datagrams.
         ensures early { self.new.early ≡ self.old.early }
     {
         let (channel, header) = match self.came {
@@ -318,10 +353,13 @@ impl Ear {
         self.drop_for(channel, drop_cause(cause, header));
     }
 
-    /// A DiscReq of the peer closed the end.
+    /// Records that a DiscReq of the peer closed the end.
     fn hear_left(&mut self, number: u32)
+        // `hear_left` does not change the counts of PDUs.
         ensures pdus { self.new.pdus ≡ self.old.pdus }
+        // `hear_left` does not change the unconfirmed units.
         ensures awaiting { self.new.awaiting ≡ self.old.awaiting }
+        // `hear_left` does not change the headers of early datagrams.
         ensures early { self.new.early ≡ self.old.early }
     {
         if let Some((of, leaving)) = self.leaving {
@@ -332,18 +370,26 @@ impl Ear {
         }
     }
 
+    /// Records a dropped datagram with its cause.
     fn drop_for(&mut self, channel: usize, cause: Cause)
+        // `drop_for` does not change the counts of PDUs.
         ensures pdus { self.new.pdus ≡ self.old.pdus }
+        // `drop_for` does not change the unconfirmed units.
         ensures awaiting { self.new.awaiting ≡ self.old.awaiting }
+        // `drop_for` does not change the headers of early datagrams.
         ensures early { self.new.early ≡ self.old.early }
     {
         self.last_cause = Some(last_of(self.last_cause, cause));
         self.keep(Happening::Dropped(channel, cause));
     }
 
+    /// Keeps an event, if there is one.
     fn keep_some(&mut self, happening: Option<Happening>)
+        // `keep_some` does not change the counts of PDUs.
         ensures pdus { self.new.pdus ≡ self.old.pdus }
+        // `keep_some` does not change the unconfirmed units.
         ensures awaiting { self.new.awaiting ≡ self.old.awaiting }
+        // `keep_some` does not change the headers of early datagrams.
         ensures early { self.new.early ≡ self.old.early }
     {
         if let Some(happening) = happening {
@@ -351,9 +397,13 @@ impl Ear {
         }
     }
 
+    /// Keeps an event, in place of the oldest if there is no room.
     fn keep(&mut self, happening: Happening)
+        // `keep` does not change the counts of PDUs.
         ensures pdus { self.new.pdus ≡ self.old.pdus }
+        // `keep` does not change the unconfirmed units.
         ensures awaiting { self.new.awaiting ≡ self.old.awaiting }
+        // `keep` does not change the headers of early datagrams.
         ensures early { self.new.early ≡ self.old.early }
     {
         if let Some(place) = self.kept.get_mut((self.happened % KEPT as u64) as usize) {
@@ -363,8 +413,9 @@ impl Ear {
     }
 }
 
-/// Why the redundancy layer dropped a datagram, where it did.
+/// Returns why the redundancy layer dropped a datagram.
 fn event_cause(event: RedEvent) -> Option<Cause>
+    // `event_cause` returns the event as the cause, and `None` if the datagram was passed on or deferred.
     ensures { result ≡ telling.event_cause event }
 {
     match event {
@@ -373,13 +424,14 @@ fn event_cause(event: RedEvent) -> Option<Cause>
     }
 }
 
-/// The header of the part that goes up with a number: of a datagram that came early, or of the one that came last.
+/// Returns the header of the part with a number: that of a datagram that came early, or of the last one.
 fn header_under(
     early: &[Option<Header>; EARLY],
     last: Option<Header>,
     number: u32,
 ) -> Option<Header>
-    // What is confirmed is that of the datagram with the part's number: one that came early, or the last one.
+    // `header_under` returns the kept header with this number, or else the last one if it has the number, or else
+    // `None`.
     ensures { result ≡ confirming.header_under early.now last number }
 {
     match with_number(early[number as usize % EARLY], number) {
@@ -388,8 +440,9 @@ fn header_under(
     }
 }
 
-/// A header, where it has this number.
+/// Returns a header, if it has this number.
 fn with_number(header: Option<Header>, number: u32) -> Option<Header>
+    // `with_number` returns the header if its number is this one, and else `None`.
     ensures { result ≡ confirming.with_number number header }
 {
     match header {
@@ -398,8 +451,10 @@ fn with_number(header: Option<Header>, number: u32) -> Option<Header>
     }
 }
 
-/// Of two causes, one before the other, that which tells why nothing was taken: a copy tells nothing new.
+/// Returns which of two causes explains that nothing was taken.
 fn last_of(before: Option<Cause>, cause: Cause) -> Cause
+    // `last_of` returns the later cause, but the earlier one, if there is one, when the later is a copy of an
+    // earlier datagram.
     ensures { result ≡ telling.last_of before cause }
 {
     match (before, cause) {
@@ -408,8 +463,9 @@ fn last_of(before: Option<Cause>, cause: Cause) -> Cause
     }
 }
 
-/// Why the safety machine dropped a part, with the identifiers in its header where they are known.
+/// Returns why the safety machine dropped a part, with the identifiers of its header if they are known.
 fn drop_cause(cause: DropCause, header: Option<Header>) -> Cause
+    // `drop_cause` returns the cause itself, and for a stranger with a known header the identifiers in it.
     ensures { result ≡ telling.drop_cause cause header }
 {
     match (cause, header) {
@@ -421,8 +477,10 @@ fn drop_cause(cause: DropCause, header: Option<Header>) -> Cause
     }
 }
 
-/// What is told of a PDU that the end made, by its type.
+/// Returns the event of a PDU that the end made, by its type.
 fn made_told(header: &Header) -> Option<Happening>
+    // `made_told` returns an event for a DiscReq with its body, a RetrReq and a RetrResp, and `None` for any other
+    // type.
     ensures { result ≡ telling.made_told header.now }
 {
     match header.kind {

@@ -1,4 +1,4 @@
-//! The word `follow`: a recorded connection, line by line.
+//! The subcommand `follow`: a recorded connection, line by line.
 
 ghost use Rattle.std.specs.Prelude.{◌≡◌, ◌≢◌, None};
 ghost use Rattle.std.specs.Option.{option_copied};
@@ -12,12 +12,12 @@ use safe_pdu::CodeRule;
 use std::alloc::Allocator;
 use std::io::{Read, Write};
 
-/// Runs `follow` over the capture that a reader holds. The lines of its datagrams and the sums go to `out`, lines that are no
-/// datagrams to `err`. A text for the initial value that is none is `fault: hex`.
+/// Runs `follow` over the capture of a reader. The lines of its datagrams and the summary go to `out`, lines that
+/// are not datagrams to `err`. It returns `Done` if each line was a datagram, `Refused` if one was not, and else
+/// the status of the fault that stopped it: of the file, of memory or of an output. An initial value that is not
+/// 32 hex digits is `fault: hex`.
 ///
-/// It ends as done where each line was a datagram, as refused where one was none, and else by the fault that stopped it: of the
-/// file, of memory, of an output.
-// (its connections take 200 KiB of stack, which no other word is to need)
+/// It is not inlined, since its connections take 230 KiB of stack that no other subcommand needs.
 #[inline(never)]
 pub fn run_follow<R: Read + Drop, O: Write, E: Write, A: Allocator + Copy>(
     alloc: A,
@@ -26,9 +26,9 @@ pub fn run_follow<R: Read + Drop, O: Write, E: Write, A: Allocator + Copy>(
     out: &mut O,
     err: &mut E,
 ) -> Status
-    // An initial value that is none is refused by `follow`.
+    // If the initial value is not 32 hex digits, `run_follow` returns `Refused`.
     ensures no_value { initial_value_of (option_copied following.now.iv) ≡ None → result ≡ Status.Refused }
-    // No run of `sim` or `follow` ends as wrong words.
+    // `run_follow` never returns `WrongWords`.
     ensures words { result ≢ Status.WrongWords }
 {
     let Some(asked) = ask_for(following) else {
@@ -38,9 +38,10 @@ pub fn run_follow<R: Read + Drop, O: Write, E: Write, A: Allocator + Copy>(
     end(err, ended)
 }
 
-/// What the choices of `follow` ask of a capture; nothing where the text for the initial value is none.
+/// Returns the choices of `follow` in the form that `capture_text` expects; `None` if the initial value is not 32
+/// hex digits.
 fn ask_for(following: &FollowRequest<'_>) -> Option<Asked>
-    // Each choice of `follow` has its effect on what is asked of a capture.
+    // `ask_for` passes each choice on, with the words of the initial value, and returns `None` if there are none.
     ensures { result ≡ asked_under following.now (initial_value_of (option_copied following.now.iv)) }
 {
     let initial_value = initial_value(following.iv)?;
@@ -57,7 +58,9 @@ fn ask_for(following: &FollowRequest<'_>) -> Option<Asked>
     })
 }
 
+/// Returns the form of the output.
 fn form(json: bool) -> OutputForm
+    // `form` returns `Json` if `json` is true, and else `Lines`.
     ensures { result ≡ form_of json }
 {
     if json {
@@ -67,9 +70,9 @@ fn form(json: bool) -> OutputForm
     }
 }
 
-/// Names what stopped a run, and answers how the program ends.
+/// Prints the fault that stopped a run, and returns how the program ends.
 fn end<E: Write>(err: &mut E, ended: FollowStatus) -> Status
-    // A run of `follow` ends by what stopped it.
+    // `end` returns `Done` for a capture without fault, `Failed` for a failed output, and else `Refused`.
     ensures { result ≡ end_of ended }
 {
     match ended {

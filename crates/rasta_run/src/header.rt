@@ -1,4 +1,4 @@
-//! What stands at the places of a datagram's header.
+//! The fields in the header of a datagram.
 
 ghost use Rattle.std.specs.Prelude.{◌≡◌};
 ghost use Rattle.rasta_run.specs.Headers.{header_seen, leaving_seen};
@@ -6,22 +6,22 @@ ghost use Rattle.rasta_run.specs.Headers.{header_seen, leaving_seen};
 use octets::places::{u16_at, u32_at};
 use safe_pdu::Leaving;
 
-/// Where the fields of a safety PDU end, in octets from the datagram's first.
+/// Where the fields of a safety PDU end, in bytes from the start of the datagram.
 const HEADER_END: usize = 36;
 
 /// Where reason and detail of a DiscReq end.
 const LEAVING_END: usize = 40;
 
-/// What stands at the places of a datagram's header. Whether it is a PDU is not tested: the end does that.
+/// The fields in the header of a datagram. The end itself tests whether it is a PDU; this does not.
 #[derive(Clone, Copy, Debug, PartialEq, Eq)]
 pub struct Header {
     /// The redundancy number.
     pub number: u32,
     /// The number of the safety PDU's type.
     pub kind: u16,
-    /// The identifier of the end that it is for.
+    /// The identifier of the receiver.
     pub receiver: u32,
-    /// The identifier of its sender.
+    /// The identifier of the sender.
     pub sender: u32,
     /// The sequence number (SN).
     pub sn: u32,
@@ -29,13 +29,14 @@ pub struct Header {
     pub cs: u32,
     /// The confirmed timestamp (CTS), in milliseconds modulo 2^32.
     pub cts: u32,
-    /// What stands where a DiscReq has detail and reason; none where there are too few octets.
+    /// Detail and reason, if the datagram is long enough for those of a DiscReq.
     pub leaving: Option<Leaving>,
 }
 
-/// Reads the places of a header; none where there are too few octets.
+/// Reads the fields of a header; `None` if there are too few bytes.
 pub fn header_of(datagram: &[u8]) -> Option<Header>
-    // The header of a datagram is what stands at its places, and none where there are too few octets.
+    // `header_of` returns the little-endian numbers at the places of the fields, and `None` for fewer than 36
+    // bytes.
     ensures { result ≡ header_seen datagram.now }
 {
     if datagram.len() < HEADER_END {
@@ -53,7 +54,9 @@ pub fn header_of(datagram: &[u8]) -> Option<Header>
     })
 }
 
+/// Reads detail and reason of a DiscReq; `None` if there are too few bytes.
 fn leaving_of(datagram: &[u8]) -> Option<Leaving>
+    // `leaving_of` returns the two numbers after the header, and `None` for fewer than 40 bytes.
     ensures { result ≡ leaving_seen datagram.now }
 {
     if datagram.len() < LEAVING_END {

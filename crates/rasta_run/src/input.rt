@@ -1,8 +1,10 @@
-//! Standard input while ends run: each of its lines is a telegram to be put, and its end is theirs.
+//! Standard input while ends run: each of its lines is a telegram to be put, and its end ends the run.
+//!
+//! Input is watched together with the sockets, and read only if something is there.
 
 ghost use Rattle.std.specs.Prelude.{◌≡◌, ◌≤◌, ◌<◌, length, IfOk, OnErr, OnOk, IfSome};
 ghost use Rattle.std.specs.Io.KnownBytes.{Appends};
-ghost use Rattle.rasta_run.specs.Feeding.{cut_after, feed_place, IsNumbered, is_over, left_behind, line_read, line_seen, next_line, none_text, over_time, unfed_line};
+ghost use Rattle.rasta_run.specs.Feeding.{cut_after, feed_place, is_open, IsNumbered, left_behind, line_read, line_seen, lines_left, next_line, none_text, unfed_line};
 
 use mio::unix::SourceFd;
 use mio::{Events, Interest, Poll, Token};
@@ -16,65 +18,80 @@ use std::net::Net;
 use std::time::Duration;
 use udp_channels::Watch;
 
-/// How many octets are read ahead: beyond them input waits until an end can put what was read. A line may not be longer.
+/// The number of bytes that are read ahead, and the longest line. Beyond it, input waits until an end can put what
+/// was read.
 const AHEAD_MAX: usize = 65_536;
 
-/// What ends a line.
+/// The byte that ends a line.
 const LINE_FEED: u8 = 10;
 
-/// How many octets are read at once.
+/// The number of bytes of one read.
 const READ_MAX: usize = 4_096;
 
-/// Standard input, its descriptor.
+/// The descriptor of standard input.
 const INPUT: i32 = 0;
 
 /// Standard input while ends run.
 #[derive(Drop)]
 pub struct Feed<I: Read + Drop> {
-    /// What is read.
+    /// Where it is read from.
     reader: I,
-    /// Whether it can be read without a wait.
+    /// Whether it can be read without waiting.
     readiness: Readiness,
-    /// What came of it and was not put yet.
+    /// The bytes that were read and are not yet put.
     lines: Lines,
     /// The telegram that is to be put next.
     pub next: Option<Put>,
-    /// When it was seen to be at its end, in milliseconds of the run's clock.
+    /// The number of lines that are not telegrams.
+    unread: u64,
+    /// When it was at its end, in milliseconds of the run's clock.
     pub ended: Option<u64>,
 }
 
 impl<I: Read + Drop> Feed<I> {
-    /// An input of which nothing was read, and with which a wait ends.
+    /// Opens an input, which then ends a wait when something comes.
     ///
     /// # Errors
     ///
-    /// Refused as Memory, as Network where the system has no means to ask, and as File where there is no standard input.
+    /// - `Memory` if an allocation fails;
+    /// - `Network` if the system cannot watch descriptors;
+    /// - `File` if there is no standard input.
     pub fn open<N: Net>(alloc: Global, net: &N, watch: &Watch, reader: I) -> Result<Self, Fault> {
         let readiness = Readiness::open(alloc, net)?;
-        // A file is refused here, and never makes its reader wait.
-        let _watched = watch.add_descriptor(INPUT);
+        // The system does not watch a file, whose reader never waits. If standard input was closed, the watch has its
+        // descriptor, and does not watch itself.
+        match watch.add_descriptor(INPUT) {
+            Ok(()) => {}
+            Err(error) if error.kind() == ErrorKind::PermissionDenied => {}
+            Err(_) => return Err(Fault::File),
+        }
         let lines = Lines::new(alloc);
         Ok(Feed {
             reader,
             readiness,
             lines,
             next: None,
+            unread: 0,
             ended: None,
         })
     }
 
-    /// Reads what has come, where there is room for it, and does not wait; answers whether anything came. An input that fails is at
-    /// its end.
+    /// Reads without waiting, if there is room, and returns whether anything came.
     ///
     /// # Errors
     ///
-    /// Refused as Memory.
+    /// - `File` if standard input cannot be read, for example because it is a folder;
+    /// - `Memory` if an allocation fails.
     pub fn read(&mut self, now: Milliseconds) -> Result<bool, Fault> {
         if self.ended.is_some() || !self.lines.has_room() || !self.readiness.is_ready() {
             return Ok(false);
         }
         let mut octets = [0u8; READ_MAX];
-        let size = self.reader.read(&mut octets).unwrap_or(0);
+        let size = match self.reader.read(&mut octets) {
+            Ok(size) => size,
+            Err(error) if is_passing(error.kind()) => return Ok(false),
+            Err(_) => return Err(Fault::File),
+        };
         if size == 0 {
             self.ended = Some(now);
             return Ok(false);
@@ -86,12 +103,12 @@ impl<I: Read + Drop> Feed<I> {
         }
     }
 
-    /// Sees to it that the next telegram is at hand, and answers whether a line was there for it. One that is no telegram is named on
-    /// `err`, and then none is at hand.
+    /// Prepares the next telegram, and returns whether there was a line for it. A line that is not a telegram is
+    /// printed on `err`, and then no telegram is ready.
     ///
     /// # Errors
     ///
-    /// Refused as Memory.
+    /// - `Memory` if an allocation fails.
     pub fn prepare<E: Write>(&mut self, alloc: Global, err: &mut E) -> Result<bool, Fault> {
         if self.next.is_some() {
             return Ok(true);
@@ -103,6 +120,7 @@ impl<I: Read + Drop> Feed<I> {
                 Ok(true)
             }
             Ok(Line::Other(number)) => {
+                self.unread = self.unread.saturating_add(1);
                 let _ = write_none(err, number);
                 Ok(true)
             }
@@ -110,60 +128,57 @@ impl<I: Read + Drop> Feed<I> {
         }
     }
 
-    /// Whether it is at its end, and all of it was put.
+    /// Returns the number of the line of the next telegram, from 1.
+    pub fn number(&self) -> u64
+        // `number` returns how many lines were cut so far.
+        ensures { result ≡ self.now.lines.cut }
+    {
+        self.lines.cut
+    }
+
+    /// Returns how many lines were not put: those that are not telegrams, and those that are left.
+    pub fn unput(&self) -> u64 {
+        let next = match self.next {
+            None => 0,
+            Some(_) => 1,
+        };
+        let left = lines_left(self.lines.octets.as_slice());
+        self.unread.saturating_add(next).saturating_add(left as u64)
+    }
+
+    /// Returns whether the input is at its end and all of it was put.
     pub fn is_done(&self) -> bool {
         self.ended.is_some() && self.next.is_none() && self.lines.is_empty()
     }
 }
 
-/// Writes that a line of standard input is no telegram.
+/// Returns whether a read that failed is to be tried again: nothing was there, or a signal came.
+fn is_passing(kind: ErrorKind) -> bool {
+    kind == ErrorKind::WouldBlock || kind == ErrorKind::Interrupted
+}
+
+/// Writes that a line of standard input is not a telegram.
 #[tactic(auto, unfolding(crate::specs::Feeding::none_text))]
 fn write_none<W: Write>(writer: &mut W, number: u64) -> io::Result<()>
-    // A line that is no telegram is named by its number.
+    // If `write_none` succeeds, it has appended the message with the line's number.
     ensures { OnOk result (Appends (W.contents writer.old) (W.contents writer.new) (none_text number)) }
 {
-    write!(
-        writer,
-        "line {number}: a telegram KIND:HEX expected, another text found\n"
-    )
+    write!(writer, "line {number}: not a telegram TYPE:HEX\n")
 }
 
-/// Whether a run is over whose input ended at a time: all was put and confirmed, or T_max has passed since.
-pub fn is_run_over(ended: Option<u64>, now: Milliseconds, t_max: Milliseconds, done: bool) -> bool
-    // A run that lasts until its input ends is over once that has ended and all is put and confirmed, or T_max
-    // has passed since.
-    ensures { result ≡ is_over ended now t_max done }
-{
-    match ended {
-        None => false,
-        Some(at) => done || t_max <= now.saturating_sub(at),
-    }
-}
-
-/// When that is so by time alone, in milliseconds, where input has ended.
-pub fn over_at(ended: Option<u64>, t_max: Milliseconds) -> Option<u64>
-    // A run that lasts until its input ends is over once that has ended and all is put and confirmed, or T_max
-    // has passed since.
-    ensures { result ≡ over_time ended t_max }
-{
-    match ended {
-        None => None,
-        Some(at) => Some(at.saturating_add(t_max)),
-    }
-}
-
-/// Whether standard input can be read without a wait.
+/// Whether standard input can be read without waiting.
 #[derive(Drop)]
 struct Readiness {
-    /// What tells that something has come.
+    /// The system's watch.
     poll: Poll,
-    /// Room for what it tells.
+    /// Room for its events.
     events: Events,
-    /// Whether it is a file, which never makes its reader wait, and which the system does not watch.
+    /// Whether it is a file, whose reader never waits, and which the system does not watch.
     is_file: bool,
 }
 
 impl Readiness {
+    /// Starts to watch standard input.
     fn open<N: Net>(alloc: Global, net: &N) -> Result<Self, Fault> {
         let Ok(events) = Events::with_capacity(alloc, 1) else {
             return Err(Fault::Memory);
@@ -186,7 +201,7 @@ impl Readiness {
         })
     }
 
-    /// Asks the system, and does not wait.
+    /// Asks the system without waiting.
     fn is_ready(&mut self) -> bool {
         if self.is_file {
             return true;
@@ -200,7 +215,7 @@ impl Readiness {
         }
     }
 
-    /// Has the system tell again what is left to be read.
+    /// Has the system report again that bytes are left.
     fn ask_again(&mut self) {
         let _asked = self
             .poll
@@ -209,27 +224,28 @@ impl Readiness {
     }
 }
 
-/// What has come of an input, cut into lines.
+/// The bytes of an input, cut into lines.
 #[derive(Drop)]
 pub struct Lines {
-    /// What came and is in no line yet.
+    /// The bytes that are in no line yet.
     octets: Vec<u8>,
-    /// How many lines were cut, modulo 2^64.
+    /// The number of lines so far, modulo 2^64.
     cut: u64,
 }
 
 /// A line of input.
 #[derive(Drop)]
 pub enum Line {
-    /// None waits.
+    /// No whole line is there.
     Missing,
-    /// It is a telegram to be put.
+    /// A telegram to be put.
     Telegram(Put),
-    /// It is none; its number, counted from 1.
+    /// Not a telegram; the number of the line, from 1.
     Other(u64),
 }
 
 impl Lines {
+    /// Returns an empty input.
     fn new(alloc: Global) -> Self {
         Lines {
             octets: Vec::new(alloc),
@@ -237,37 +253,33 @@ impl Lines {
         }
     }
 
-    /// Takes what came.
+    /// Appends bytes that were read.
     fn add(&mut self, octets: &[u8]) -> Result<(), AllocError> {
         self.octets.extend_from_slice(octets)
     }
 
-    /// Whether nothing waits.
+    /// Returns whether no byte is left.
     fn is_empty(&self) -> bool {
         self.octets.is_empty()
     }
 
-    /// Whether more is to be read.
+    /// Returns whether more is to be read.
     fn has_room(&self) -> bool {
         self.octets.len() < AHEAD_MAX
     }
 
-    /// Cuts the next line off, and reads it.
+    /// Cuts off the next line, and reads it.
     fn next(&mut self, alloc: Global, ended: bool) -> Result<Line, AllocError>
-        // The next line of input is read as an entry of `puts` is, or named by its number, and what stands
-        // behind it is left.
+        // If `next` succeeds, the line is missing, a telegram as in an entry of the settings, or another text, as
+        // the bytes up to its end say.
         ensures line { IfOk result (λ line. line_seen line ≡ line_read ended self.old.octets.items) }
-        // The next line of input is read as an entry of `puts` is, or named by its number, and what stands
-        // behind it is left.
+        // If `next` returns a line that is not a telegram, its number is that of the lines cut so far.
         ensures numbered { IfOk result (λ line. IsNumbered line self.new.cut) }
-        // The next line of input is read as an entry of `puts` is, or named by its number, and what stands
-        // behind it is left.
+        // If `next` succeeds, the bytes after the line are left, and all of them if no line was there.
         ensures left { OnOk result (self.new.octets.items ≡ left_behind ended self.old.octets.items) }
-        // The next line of input is read as an entry of `puts` is, or named by its number, and what stands
-        // behind it is left.
+        // If `next` succeeds, the number of lines has grown by 1, modulo 2^64, if a line was there.
         ensures cut { OnOk result (self.new.cut ≡ cut_after ended self.old.octets.items self.old.cut) }
-        // The next line of input is read as an entry of `puts` is, or named by its number, and what stands
-        // behind it is left.
+        // If an allocation fails, `next` changes nothing.
         ensures refused { OnErr result (self.new ≡ self.old) }
     {
         let Some((size, used)) = line_in(self.octets.as_slice(), ended) else {
@@ -284,11 +296,13 @@ impl Lines {
     }
 }
 
-/// How many octets the first line has, and how many go with it: up to a line feed; where none came, all at the end of input, or where
-/// there are as many as are read ahead.
+/// Returns the size of the first line, and the number of bytes up to the next one. Without a line feed all bytes
+/// are a line at the end of input, or if there are as many as are read ahead.
 fn line_in(octets: &[u8], ended: bool) -> Option<(usize, usize)>
-    // A line of input ends at its line feed, or at the end of input, or at 65,536 octets.
+    // `line_in` returns the bytes before the first line feed, and 1 more to remove. Without one it returns all, if
+    // the input has `ended` and there are any, or if there are 65,536.
     ensures line { result ≡ next_line ended octets.now }
+    // A line of `line_in` has at most the bytes to remove, and these are at most all.
     ensures bounded { IfSome result (λ p. (p.0 ≤ p.1) × (p.1 ≤ length octets.now)) }
 {
     let size = octets.len();
@@ -298,17 +312,45 @@ fn line_in(octets: &[u8], ended: bool) -> Option<(usize, usize)>
     }
 }
 
-/// Where the first line feed stands.
+/// Returns how many lines bytes have; the last one needs no line feed.
+fn lines_left(octets: &[u8]) -> usize
+    // `lines_left` returns the number of line feeds, and one more if bytes come after the last one.
+    ensures { result ≡ lines_left octets.now }
+{
+    let feeds = octets.iter().filter(|octet| **octet == LINE_FEED).count();
+    if is_open(octets.last().copied()) {
+        return feeds.saturating_add(1);
+    }
+    feeds
+}
+
+/// Returns whether the last byte belongs to a line without a line feed.
+fn is_open(last: Option<u8>) -> bool
+    // `is_open` is true if and only if there is a last byte, and it is not a line feed.
+    ensures { result ≡ is_open last }
+{
+    match last {
+        None => false,
+        Some(octet) => octet != LINE_FEED,
+    }
+}
+
+/// Returns the place of the first line feed.
 fn feed_in(octets: &[u8]) -> Option<usize>
+    // `feed_in` returns the first place with the byte 10, and `None` if there is none.
     ensures value { result ≡ feed_place octets.now }
+    // The place that `feed_in` returns is below the number of bytes.
     ensures bound { IfSome result (λ place. place < length octets.now) }
 {
     octets.iter().position(|octet| *octet == LINE_FEED)
 }
 
-/// The line of so many octets without a line feed, if it is one.
+/// Returns the line of bytes without a line feed, if they are one.
 fn unfed(size: usize, ended: bool) -> Option<(usize, usize)>
+    // `unfed` returns all bytes, if the input has ended and there are any, or if there are 65,536; and else
+    // `None`.
     ensures line { result ≡ unfed_line ended size }
+    // A line of `unfed` has all bytes, and all are removed.
     ensures bounded { IfSome result (λ p. (p.0 ≡ size) × (p.1 ≡ size)) }
 {
     let at_end = ended && 0 < size;

@@ -1,8 +1,12 @@
 //! The program `rasta` from its words to its exit status, over a system that it is given.
+//!
+//! Contracts cover what `show` and `md4` print, what is put, rests, counts and exit statuses. They do not cover a
+//! script, a capture or a whole run over sockets, nor the order of the log; tests do.
 #![tactic(auto)]
 
 mod both;
 mod channel;
+mod check;
 mod confirming;
 mod counting;
 mod counts;
@@ -14,21 +18,28 @@ mod input;
 mod keeping;
 mod logging;
 mod net;
+mod noticing;
+mod printing;
 mod program;
+mod progress;
 mod scripts;
+mod settings;
 mod show;
 mod ticking;
 mod turns;
+mod undone;
 mod unopened;
 mod waiting;
 
 pub use channel::Overheard;
+pub use check::run_check;
 pub use confirming::Awaiting;
 pub use counts::{ChannelCounts, PduCounts};
 pub use ear::Ear;
 pub use follow::run_follow;
 pub use header::{Header, header_of};
-pub use net::{Run, SETTINGS_MAX, refuse_long, run_net};
+pub use net::{Run, run_net};
 pub use program::{run, run_words};
 pub use scripts::run_sim;
+pub use settings::{SETTINGS_MAX, refuse_long};
 pub use show::{run_md4, run_show};

@@ -1,45 +1,57 @@
-//! The log of an end on standard error: what was heard of it, line by line, and which of its channels are silent.
+//! The log of an end on standard error: its events, line by line, and its silent channels.
+//!
+//! The events of a turn are kept in a ring of 256 and logged after the reception; the log says how many were left
+//! out.
 
 ghost use Rattle.std.specs.Prelude.{◌≡◌};
 ghost use Rattle.rasta_run.specs.Silence.{hears, said_of};
 
 use crate::Ear;
+use crate::noticing::{Notice, write_notice};
 use end_settings::Side;
 use octets::Milliseconds;
 use octets::limits::CHANNELS_MAX;
-use pdu_text::{Ending, Happening, write_channel, write_ending, write_happening, write_missed};
+use pdu_text::{
+    Cause, Ending, Happening, write_channel, write_ending, write_happening, write_missed,
+};
 use rasta_words::LogLevel;
+use red_layer::RedEvent;
 use settings_file::Settings;
 use std::io::Write;
 
-/// When a channel was heard.
+/// The greatest number of causes for dropping that are logged once at the level of states.
+const CAUSES_MAX: usize = 16;
+
+/// When a channel last received something.
 #[derive(Clone, Copy, Debug, PartialEq, Eq)]
 pub struct Listening {
-    /// How many datagrams had come then.
+    /// How many datagrams it had received then.
     pub came: u64,
-    /// When the last one had come, in milliseconds.
+    /// When it received the last one, in milliseconds.
     pub at: u64,
-    /// Whether the channel is told to be silent.
+    /// Whether it was logged as silent.
     pub silent: bool,
 }
 
-/// What is to be told of a channel.
+/// The change of a channel that is logged.
 #[derive(Clone, Copy, Debug, PartialEq, Eq)]
 pub enum Said {
-    /// Nothing.
+    /// None.
     Nothing,
-    /// That it is silent.
+    /// It became silent.
     Silent,
-    /// That it is heard again.
+    /// It receives again.
     Heard,
 }
 
 impl Listening {
-    /// Looks at how many datagrams have come by now, and answers what is to be told of it.
+    /// Compares the number of datagrams received so far, and returns the change to be logged.
     pub fn look(&mut self, came: u64, now: Milliseconds, t_max: Milliseconds) -> Said
-        // A channel is told as silent once nothing came for longer than T_max, and as heard again with the next
-        // datagram, and neither twice in turn.
+        // After `look` a channel with a new datagram is not silent, and one without any for longer than T_max is
+        // silent.
         ensures left { self.new ≡ hears self.old came now t_max }
+        // `look` returns `Silent` if the channel has become silent, `Heard` if it no longer is, and else
+        // `Nothing`.
         ensures said { result ≡ said_of self.old self.new }
     {
         let was_silent = self.silent;
@@ -60,25 +72,29 @@ impl Listening {
     }
 }
 
-/// The log of an end. An output that fails is passed over: the log tells of a run and is no part of it.
+/// The log of an end. A failing output is ignored: the run goes on.
 #[derive(Clone, Copy, Debug)]
 pub struct Log {
-    /// The end that it tells of.
+    /// The end.
     side: Side,
-    /// What it tells.
+    /// The level of the log.
     level: LogLevel,
     /// T_max of the end, in milliseconds.
     t_max: Milliseconds,
-    /// How much of what happened was told.
+    /// The number of events that were logged.
     told: u64,
-    /// When each channel was heard.
+    /// When each channel last received something.
     channels: [Listening; CHANNELS_MAX],
-    /// How many channels there are.
+    /// The number of channels.
     count: usize,
+    /// The causes for which a datagram was dropped so far, as many as have room.
+    causes: [Option<Cause>; CAUSES_MAX],
+    /// The number of these causes.
+    cause_count: usize,
 }
 
 impl Log {
-    /// The log of an end that is opened now.
+    /// Returns the log of an end that is opened now.
     pub fn new(side: Side, level: LogLevel, settings: &Settings, now: Milliseconds) -> Self {
         let unheard = Listening {
             came: 0,
@@ -92,10 +108,12 @@ impl Log {
             told: 0,
             channels: [unheard; CHANNELS_MAX],
             count: settings.local.len(),
+            causes: [None; CAUSES_MAX],
+            cause_count: 0,
         }
     }
 
-    /// Tells the channels with which the end is opened.
+    /// Logs the channels with which the end is opened.
     pub fn open<E: Write>(&self, settings: &Settings, now: Milliseconds, err: &mut E) {
         if self.level == LogLevel::Off {
             return;
@@ -114,7 +132,7 @@ impl Log {
         }
     }
 
-    /// Tells what has happened since it was asked last.
+    /// Logs the events since the last call.
     pub fn catch_up<E: Write>(&mut self, ear: &Ear, now: Milliseconds, err: &mut E) {
         if self.level == LogLevel::Off {
             return;
@@ -133,10 +151,11 @@ impl Log {
         self.look(ear, now, err);
     }
 
-    /// Tells one thing, where the log is to tell it.
-    pub fn tell<E: Write>(&self, happening: Happening, now: Milliseconds, err: &mut E) {
+    /// Logs one event, if the level includes it. At the level of states, each cause for dropping is logged once.
+    pub fn tell<E: Write>(&mut self, happening: Happening, now: Milliseconds, err: &mut E) {
         let is_told = match (self.level, happening) {
-            (LogLevel::Off, _) | (LogLevel::State, Happening::Dropped(_, _)) => false,
+            (LogLevel::Off, _) => false,
+            (LogLevel::State, Happening::Dropped(_, cause)) => self.is_new(cause),
             _ => true,
         };
         if is_told {
@@ -144,7 +163,34 @@ impl Log {
         }
     }
 
-    /// Tells which channels are silent now, and which are heard again.
+    /// Logs a notice of the run.
+    pub fn notice<E: Write>(&self, notice: Notice, now: Milliseconds, err: &mut E) {
+        if self.level != LogLevel::Off {
+            let _ = write_notice(err, now, self.side, notice);
+        }
+    }
+
+    /// Records a cause for dropping, and returns whether it is new. A copy of an earlier datagram is none.
+    fn is_new(&mut self, cause: Cause) -> bool {
+        if matches!(cause, Cause::Early(RedEvent::Old | RedEvent::Again)) {
+            return false;
+        }
+        for known in &self.causes {
+            if *known == Some(cause) {
+                return false;
+            }
+        }
+        match self.causes.get_mut(self.cause_count) {
+            None => false,
+            Some(place) => {
+                *place = Some(cause);
+                self.cause_count = self.cause_count.saturating_add(1);
+                true
+            }
+        }
+    }
+
+    /// Logs the channels that became silent, and those that receive again.
     fn look<E: Write>(&mut self, ear: &Ear, now: Milliseconds, err: &mut E) {
         for channel in 0..self.count.min(CHANNELS_MAX) {
             let came = ear.channels[channel].came;
@@ -158,12 +204,12 @@ impl Log {
         }
     }
 
-    /// Tells why the end is where it is.
+    /// Logs why the end is in its state.
     pub fn end<E: Write>(&self, ending: &Ending, now: Milliseconds, err: &mut E) {
         let _ = write_ending(err, now, self.side, ending);
     }
 
-    /// Whether it tells nothing.
+    /// Returns whether nothing is logged.
     pub fn is_off(&self) -> bool {
         self.level == LogLevel::Off
     }

@@ -1,46 +1,48 @@
-//! Ends over sockets: the words il, fe and pair.
+//! Ends over sockets: the subcommands `il`, `fe` and `pair`.
+//!
+//! At the end of input an end disconnects with a DiscReq, so that its peer need not wait for T_max.
 
-ghost use Rattle.std.specs.Prelude.{◌≡◌, ◌≢◌, ◌≤◌, ◌<◌, ◌+◌, ◌%◌, ◌^◌, false, true, is_ok, length, IfOk, OnOk, None};
+ghost use Rattle.std.specs.Prelude.{◌≡◌, ◌≢◌, ◌≤◌, ◌<◌, ◌+◌, ◌%◌, ◌^◌, ℕ, false, true, is_ok, length, IfOk, OnOk, None};
 ghost use Rattle.settings_file.specs.Whole.{ends_of};
 ghost use Rattle.rasta_run.specs.Reading.{settings_most};
 ghost use Rattle.rasta_run.specs.Ticking.{greatest_time};
 ghost use Rattle.rasta_run.specs.Unopened.{fault_of};
 ghost use Rattle.rasta_words.specs.Status.{status_of};
+ghost use Rattle.rasta_run.specs.Drawing.{MayBegin};
+ghost use Rattle.rasta_run.specs.Progress.{limit_after};
+ghost use Rattle.stack_end.specs.EndValue.{EndStands};
+ghost use Rattle.stack_end.specs.Ends.{opened_end};
+ghost use Rattle.udp_channels.specs.Sockets.{told_of};
 
 use crate::Overheard;
 use crate::both::Both;
 use crate::counting::Teller;
 use crate::drawing::first_number;
-use crate::input::{Feed, is_run_over, over_at};
+use crate::input::Feed;
 use crate::keeping::Keeper;
 use crate::logging::Log;
+use crate::settings::{NoAddress, read_ends, warn};
 use crate::ticking::RunClock;
 use crate::turns::{Actor, fault_of_end};
+use crate::undone::{Outcome, run_status};
 use crate::unopened::Unopened;
 use crate::waiting::{earlier, take_rest};
 use end_settings::Side;
 use octets::Milliseconds;
-use pdu_text::side_name;
 use rasta_words::{Expected, Fault, LogLevel, RunLength, Status, Telling, report};
-use settings_file::{Ends, Settings, SettingsFault, Word, findings, settings, warnings};
+use settings_file::{Ends, Settings, Word};
 use stack_end::End;
 use std::alloc::Global;
-use std::fmt::Display;
-use std::io::{Input, Write};
+use std::io::{BufWriter, Input, Write};
 use std::net::Net;
 use std::rt::Files;
 use std::time::Clock;
-use thiserror::Error;
 use udp_channels::{UdpChannels, UdpFault, Watch, open_udp};
 
-/// The most octets of a settings file. Some 60,000 short telegrams to put have room, and whatever the file says, it is read within
-/// 200 MB and a second.
-pub const SETTINGS_MAX: usize = 1_048_576;
+/// The room for the lines of a turn, in bytes. More lines are written before the turn ends.
+const LINES_SIZE: usize = 65_536;
 
-/// So much that is wrong in a settings file is told at most.
-const TOLD_MOST: usize = 100;
-
-/// How many turns a run has at most that lasts until its input ends: more than there is time for.
+/// The turn limit of a run that lasts until its input ends. It is never reached.
 pub(crate) const TURNS_MOST: u64 = 1 << 63;
 
 /// How ends are run.
@@ -50,85 +52,110 @@ pub struct Run {
     pub word: Word,
     /// How long they run.
     pub length: RunLength,
-    /// What is told on standard error.
+    /// The level of the log.
     pub log: LogLevel,
-    /// How they are to stand at the end.
+    /// The state that is expected at the end.
     pub expected: Option<Expected>,
-    /// Whether an end that has lost its connection is opened anew.
+    /// Whether an end that has lost its connection is opened again.
     pub keep: bool,
-    /// How counts are told on standard error, where they are.
+    /// The form and times of counts on standard error, if they are printed.
     pub counts: Option<Telling>,
 }
 
-/// Runs `il`, `fe` or `pair` for its turns, or until standard input ends, over the sockets that the text of a settings file names, prints
-/// each telegram that an end takes, and at last how each end stands. What the log tells goes to `err`.
+/// Runs `il`, `fe` or `pair` for its turns, or until standard input ends, over the sockets that the text of a
+/// settings file names; `file` is its name in faults. It prints each telegram that an end takes, and at last the state of each end. The log goes
+/// to `err`.
 ///
-/// A text that is no settings is `fault: settings`, and behind it stands the key and what is wrong with it; a text of more than
-/// 1,048,576 octets is none. Where an end does not stand as it was expected to, the status says so.
+/// A text that is not a settings file is `fault: settings`, followed by its faults. The same holds for a text of
+/// more than 1,048,576 bytes, and for one with a text that is not an address, which shows when channels are
+/// opened. If standard input has ended and a telegram was not put or not confirmed, the status is `Unfinished`; else,
+/// if an end is not in the expected state, it is `Unexpected`.
 pub fn run_net<R: Net + Clock + Input + Files, O: Write, E: Write>(
     rt: &R,
     alloc: Global,
     run: &Run,
+    file: &str,
     text: &str,
     out: &mut O,
     err: &mut E,
 ) -> Status
-    // A text of more than 1,048,576 octets is refused.
+    // `run_net` returns `Refused` for a text of more than 1,048,576 bytes.
     ensures long { settings_most < length text.now → result ≡ Status.Refused }
-    // A text that says no settings is refused.
+    // `run_net` returns `Refused` if the text has no settings for the word.
     ensures unread { is_ok (ends_of run.now.word text.now) ≡ false → result ≡ Status.Refused }
-    // No run over sockets ends as wrong words.
+    // `run_net` never returns `WrongWords`.
     ensures words { result ≢ Status.WrongWords }
-    // Where nothing is expected, no run ends with the status of an end that stands otherwise.
+    // If no state is expected, `run_net` does not return `Unexpected`.
     ensures expected { run.now.expected ≡ None → result ≢ Status.Unexpected }
 {
-    if text.len() > SETTINGS_MAX {
-        return refuse_long(err);
-    }
-    let ends = match settings(alloc, run.word, text) {
+    let ends = match read_ends(alloc, run.word, file, text, err) {
         Ok(ends) => ends,
-        Err(SettingsFault::Memory(_)) => return report(err, Fault::Memory),
-        Err(fault) => return refuse_all(alloc, run.word, text, &fault, err),
+        Err(status) => return status,
     };
-    warn(alloc, &ends, err);
     let mut unopened = None;
-    let done = match &ends {
-        Ends::Il(il) => run_one(
-            rt,
-            alloc,
-            Side::Interlocking,
-            il,
-            run,
-            &mut unopened,
-            out,
-            err,
-        ),
-        Ends::Fe(fe) => run_one(
-            rt,
-            alloc,
-            Side::FieldElement,
-            fe,
-            run,
-            &mut unopened,
-            out,
-            err,
-        ),
-        Ends::Pair(il, fe) => run_two(rt, alloc, il, fe, run, &mut unopened, out, err),
-    };
-    match done {
-        Ok(true) => Status::Done,
-        Ok(false) => Status::Unexpected,
-        Err(fault) => stop(fault, unopened, &ends, err),
+    match run_buffered(rt, alloc, &ends, run, &mut unopened, out, err) {
+        Ok(outcome) => run_status(outcome),
+        Err(fault) => stop(fault, unopened, &ends, file, err),
     }
 }
 
-/// Names the fault that ended a run on standard error, and behind it the channel that was not opened, where that is why.
-fn stop<E: Write>(fault: Fault, unopened: Option<Unopened>, ends: &Ends, err: &mut E) -> Status
+/// Runs ends with buffered outputs, so that the lines of a turn are one write.
+fn run_buffered<R: Net + Clock + Input + Files, O: Write, E: Write>(
+    rt: &R,
+    alloc: Global,
+    ends: &Ends,
+    run: &Run,
+    unopened: &mut Option<Unopened>,
+    out: &mut O,
+    err: &mut E,
+) -> Result<Outcome, Fault>
+    // If no state is expected, each end was in it when `run_buffered` succeeds.
+    ensures { run.now.expected ≡ None → IfOk result (λ outcome. outcome.is_met ≡ true) }
+{
+    let Ok(mut out) = BufWriter::with_capacity(alloc, LINES_SIZE, out) else {
+        return Err(Fault::Memory);
+    };
+    let Ok(mut err) = BufWriter::with_capacity(alloc, LINES_SIZE, err) else {
+        return Err(Fault::Memory);
+    };
+    run_ends(rt, alloc, ends, run, unopened, &mut out, &mut err)
+}
+
+/// Runs the ends of a settings file. Before that it prints what in the file is likely to be a mistake.
+fn run_ends<R: Net + Clock + Input + Files, O: Write, E: Write>(
+    rt: &R,
+    alloc: Global,
+    ends: &Ends,
+    run: &Run,
+    unopened: &mut Option<Unopened>,
+    out: &mut O,
+    err: &mut E,
+) -> Result<Outcome, Fault>
+    // If no state is expected, each end was in it when `run_ends` succeeds.
+    ensures { run.now.expected ≡ None → IfOk result (λ outcome. outcome.is_met ≡ true) }
+{
+    warn(alloc, run.keep, ends, err);
+    match ends {
+        Ends::Il(il) => run_one(rt, alloc, Side::Interlocking, il, run, unopened, out, err),
+        Ends::Fe(fe) => run_one(rt, alloc, Side::FieldElement, fe, run, unopened, out, err),
+        Ends::Pair(il, fe) => run_two(rt, alloc, il, fe, run, unopened, out, err),
+    }
+}
+
+/// Prints the fault that ended a run, followed by the channel that could not be opened, if that is why.
+fn stop<E: Write>(
+    fault: Fault,
+    unopened: Option<Unopened>,
+    ends: &Ends,
+    file: &str,
+    err: &mut E,
+) -> Status
+    // `stop` returns the status of the fault.
     ensures { result ≡ status_of fault }
 {
     let status = report(err, fault);
     if fault == Fault::Settings {
-        let _ = writeln!(err, "settings: {NoAddress}");
+        let _ = writeln!(err, "{file}: {NoAddress}");
     }
     if let Some(unopened) = unopened {
         unopened.tell(ends, err);
@@ -136,81 +163,7 @@ fn stop<E: Write>(fault: Fault, unopened: Option<Unopened>, ends: &Ends, err: &m
     status
 }
 
-/// Names on standard error that a settings file has more than 1,048,576 octets.
-pub fn refuse_long<E: Write>(err: &mut E) -> Status
-    // A settings file that is too long is refused.
-    ensures { result ≡ Status.Refused }
-{
-    refuse(&TooLong, err)
-}
-
-/// Names the fault of settings on standard error, and behind it all that is wrong with them; where there is no memory for that, the first
-/// fault alone.
-fn refuse_all<E: Write>(
-    alloc: Global,
-    word: Word,
-    text: &str,
-    first: &SettingsFault,
-    err: &mut E,
-) -> Status
-    ensures { result ≡ Status.Refused }
-{
-    match findings(alloc, word, text) {
-        Ok(all) if !all.is_empty() => {
-            let status = report(err, Fault::Settings);
-            for finding in all.iter().take(TOLD_MOST) {
-                let _ = writeln!(err, "settings: {finding}");
-            }
-            let more = all.len().saturating_sub(TOLD_MOST);
-            if more > 0 {
-                let _ = writeln!(err, "settings: {more} more");
-            }
-            status
-        }
-        _ => refuse(first, err),
-    }
-}
-
-/// Names on standard error what in settings is likely to be a mistake.
-fn warn<E: Write>(alloc: Global, ends: &Ends, err: &mut E) {
-    match ends {
-        Ends::Il(il) => warn_of(alloc, Side::Interlocking, il, err),
-        Ends::Fe(fe) => warn_of(alloc, Side::FieldElement, fe, err),
-        Ends::Pair(il, fe) => {
-            warn_of(alloc, Side::Interlocking, il, err);
-            warn_of(alloc, Side::FieldElement, fe, err);
-        }
-    }
-}
-
-fn warn_of<E: Write>(alloc: Global, side: Side, settings: &Settings, err: &mut E) {
-    let Ok(all) = warnings(alloc, settings) else {
-        return;
-    };
-    for warning in &all {
-        let _ = writeln!(err, "warning: {}: {warning}", side_name(side));
-    }
-}
-
-/// Names the fault of settings on standard error, and behind it what is wrong with them.
-fn refuse<D: Display, E: Write>(what: &D, err: &mut E) -> Status
-    ensures { result ≡ Status.Refused }
-{
-    let status = report(err, Fault::Settings);
-    let _ = writeln!(err, "settings: {what}");
-    status
-}
-
-/// A settings file is too long.
-#[derive(Clone, Copy, Debug, Error)]
-#[error("at most 1048576 octets expected, more found")]
-struct TooLong;
-
-/// A text of `local` or `remote` is no address.
-#[derive(Clone, Copy, Debug, Error)]
-#[error("local, remote: an address and a port expected, another text found")]
-struct NoAddress;
-
+/// Runs one end, and returns how it was at the end.
 fn run_one<R: Net + Clock + Input + Files, O: Write, E: Write>(
     rt: &R,
     alloc: Global,
@@ -220,8 +173,9 @@ fn run_one<R: Net + Clock + Input + Files, O: Write, E: Write>(
     unopened: &mut Option<Unopened>,
     out: &mut O,
     err: &mut E,
-) -> Result<bool, Fault>
-    ensures { run.now.expected ≡ None → IfOk result (λ met. met ≡ true) }
+) -> Result<Outcome, Fault>
+    // If no state is expected, the end was in it when `run_one` succeeds.
+    ensures { run.now.expected ≡ None → IfOk result (λ outcome. outcome.is_met ≡ true) }
 {
     let mut watch = watch(rt, alloc)?;
     let channels = bound(rt, alloc, side, settings, &watch, unopened)?;
@@ -229,30 +183,54 @@ fn run_one<R: Net + Clock + Input + Files, O: Write, E: Write>(
     let now = clock.read(rt)?;
     let mut actor = open_end(rt, alloc, channels, side, settings, run, now)?;
     actor.tell_opened(settings, now, err);
-    match run.length {
+    let lines = match run.length {
         RunLength::Turns(turns) => {
             take_turns(
                 rt, alloc, &mut clock, &mut watch, &mut actor, turns, out, err,
             )?;
+            0
         }
         RunLength::UntilEnd => {
-            let t_max = settings.config.t_max;
-            run_until_end(
-                rt, alloc, &mut clock, &mut watch, &mut actor, t_max, out, err,
-            )?;
+            run_until_end(rt, alloc, &mut clock, &mut watch, &mut actor, out, err)?
         }
-    }
-    let met = actor.stands_as(run.expected);
-    if run.length == RunLength::UntilEnd {
-        actor.close(clock.last, err);
+    };
+    finish(&mut actor, run, lines, clock.last, out, err)
+}
+
+/// Ends the run of an end, which leaves this many lines of input: prints its state and what it leaves undone, and
+/// finishes its log. An end that ran until its input ended disconnects first.
+fn finish<O: Write, E: Write>(
+    actor: &mut Actor<'_, UdpChannels>,
+    run: &Run,
+    lines: u64,
+    now: Milliseconds,
+    out: &mut O,
+    err: &mut E,
+) -> Result<Outcome, Fault>
+    requires now { now ≤ 2 ^ 62 }
+    requires later { actor.old.end.time ≤ now }
+    // If no state is expected, the end was in it when `finish` succeeds.
+    ensures { run.now.expected ≡ None → IfOk result (λ outcome. outcome.is_met ≡ true) }
+{
+    let undone = actor.undone(lines);
+    let is_met = actor.stands_as(run.expected, undone);
+    let is_until_end = run.length == RunLength::UntilEnd;
+    if is_until_end {
+        actor.close(now, err);
     }
     actor.report(out)?;
     sent_off(out)?;
-    actor.conclude(clock.last, met, err);
-    Ok(met)
+    if is_until_end {
+        actor.tell_undone(undone, err);
+    }
+    actor.conclude(now, is_met, err);
+    Ok(Outcome {
+        is_finished: !is_until_end || undone.is_nothing(),
+        is_met,
+    })
 }
 
-/// The turns of an end, so many of them.
+/// Takes this many turns of an end.
 fn take_turns<R: Clock + Files, O: Write, E: Write>(
     rt: &R,
     alloc: Global,
@@ -265,9 +243,10 @@ fn take_turns<R: Clock + Files, O: Write, E: Write>(
 ) -> Result<(), Fault>
     requires later { actor.old.end.time ≤ clock.old.last }
     requires bounded { clock.old.last ≤ greatest_time }
+    // If `take_turns` succeeds, the end's time is at most the last reading of the clock, which is at most 2^62 ms.
     ensures later { OnOk result ((actor.new.end.time ≤ clock.new.last) × (clock.new.last ≤ greatest_time)) }
-    // Turns that end without a fault have read the clock as often as words state turns; that each reading goes
-    // with a turn no contract says.
+    // If `take_turns` succeeds, it has read the clock once for each of the end's `turns`. No clause says that each
+    // reading belongs to one turn.
     ensures taken { OnOk result (clock.new.readings ≡ (clock.old.readings + turns) % 2 ^ 64) }
 {
     'turns: for _ in 0..turns {
@@ -275,6 +254,7 @@ fn take_turns<R: Clock + Files, O: Write, E: Write>(
         let heard = take_turn(actor, now, out, err)?;
         let anew = actor.keep(rt, alloc, now, err)?;
         actor.tell_due(now, err);
+        write_lines(out, err)?;
         let found = heard || anew;
         take_rest(
             watch,
@@ -287,7 +267,7 @@ fn take_turns<R: Clock + Files, O: Write, E: Write>(
     Ok(())
 }
 
-/// A turn of an end; answers whether anything came.
+/// Takes one turn of an end, and returns whether anything was received.
 fn take_turn<O: Write, E: Write>(
     actor: &mut Actor<'_, UdpChannels>,
     now: Milliseconds,
@@ -296,6 +276,7 @@ fn take_turn<O: Write, E: Write>(
 ) -> Result<bool, Fault>
     requires now { now ≤ 2 ^ 62 }
     requires later { actor.old.end.time ≤ now }
+    // After `take_turn` the end's time is at most `now`.
     ensures { actor.new.end.time ≤ now }
 {
     let before = actor.received();
@@ -303,19 +284,21 @@ fn take_turn<O: Write, E: Write>(
     Ok(actor.received() != before)
 }
 
-/// The turns of an end until standard input has ended, and all was put and confirmed or T_max has passed.
+/// Takes turns of an end until standard input has ended, and everything is put and confirmed or the end gives up.
+/// Returns how many lines of input were not offered to the end.
 fn run_until_end<R: Net + Clock + Input + Files, O: Write, E: Write>(
     rt: &R,
     alloc: Global,
     clock: &mut RunClock,
     watch: &mut Watch,
     actor: &mut Actor<'_, UdpChannels>,
-    t_max: Milliseconds,
     out: &mut O,
     err: &mut E,
-) -> Result<(), Fault>
+) -> Result<u64, Fault>
     requires later { actor.old.end.time ≤ clock.old.last }
     requires bounded { clock.old.last ≤ greatest_time }
+    // If `run_until_end` succeeds, the end's time is at most the last reading of the clock, which is at most 2^62
+    // ms.
     ensures { OnOk result ((actor.new.end.time ≤ clock.new.last) × (clock.new.last ≤ greatest_time)) }
 {
     let mut feed = Feed::open(alloc, rt, watch, rt.reader())?;
@@ -324,24 +307,50 @@ fn run_until_end<R: Net + Clock + Input + Files, O: Write, E: Write>(
         let heard = take_turn(actor, now, out, err)?;
         let came = feed.read(now)?;
         let put = actor.put_lines(alloc, &mut feed, now, out, err)?;
-        let done = feed.is_done() && actor.is_settled();
-        if is_run_over(feed.ended, now, t_max, done) {
-            return Ok(());
+        actor.note_progress(now);
+        if feed.ended.is_some() && actor.is_over(feed.is_done(), now) {
+            return Ok(feed.unput());
         }
         let anew = actor.keep(rt, alloc, now, err)?;
         actor.tell_due(now, err);
+        write_lines(out, err)?;
         let found = heard || came || put || anew;
+        let limit = limit_after(feed.ended, actor.limit(), now);
         take_rest(
             watch,
             RunLength::UntilEnd,
             found,
             now,
-            earlier(actor.next_deadline(), over_at(feed.ended, t_max)),
+            earlier(actor.next_deadline(), limit),
         );
     }
+    Ok(feed.unput())
+}
+
+/// Returns when a run gives up, once its input has ended. A time that has passed does not count: then another end
+/// has something left to do.
+pub(crate) fn limit_after(
+    ended: Option<Milliseconds>,
+    limit: Milliseconds,
+    now: Milliseconds,
+) -> Option<Milliseconds>
+    // `limit_after` returns the time if input has ended and the time is after `now`, and else `None`.
+    ensures { result ≡ limit_after ended limit now }
+{
+    match ended {
+        Some(_) if now < limit => Some(limit),
+        _ => None,
+    }
+}
+
+/// Writes the lines of a turn.
+pub(crate) fn write_lines<O: Write, E: Write>(out: &mut O, err: &mut E) -> Result<(), Fault> {
+    sent_off(out)?;
+    let _ = err.flush();
     Ok(())
 }
 
+/// Runs both ends, and returns how they were at the end.
 fn run_two<R: Net + Clock + Input + Files, O: Write, E: Write>(
     rt: &R,
     alloc: Global,
@@ -351,8 +360,9 @@ fn run_two<R: Net + Clock + Input + Files, O: Write, E: Write>(
     unopened: &mut Option<Unopened>,
     out: &mut O,
     err: &mut E,
-) -> Result<bool, Fault>
-    ensures { run.now.expected ≡ None → IfOk result (λ met. met ≡ true) }
+) -> Result<Outcome, Fault>
+    // If no state is expected, both ends were in it when `run_two` succeeds.
+    ensures { run.now.expected ≡ None → IfOk result (λ outcome. outcome.is_met ≡ true) }
 {
     let mut watch = watch(rt, alloc)?;
     let il_channels = bound(rt, alloc, Side::Interlocking, il, &watch, unopened)?;
@@ -367,23 +377,22 @@ fn run_two<R: Net + Clock + Input + Files, O: Write, E: Write>(
         interlocking,
         field_element,
     };
-    match run.length {
+    let lines = match run.length {
         RunLength::Turns(turns) => {
             pair.take_turns(rt, alloc, &mut clock, &mut watch, turns, out, err)?;
+            0
         }
-        RunLength::UntilEnd => {
-            let t_max = il.config.t_max.max(fe.config.t_max);
-            pair.run_until_end(rt, alloc, &mut clock, &mut watch, t_max, out, err)?;
-        }
-    }
-    pair.finish(run, clock.last, out, err)
+        RunLength::UntilEnd => { pair.run_until_end(rt, alloc, &mut clock, &mut watch, out, err)? }
+    };
+    pair.finish(run, lines, clock.last, out, err)
 }
 
+/// Opens the watch of a run.
 fn watch<R: Net>(rt: &R, alloc: Global) -> Result<Watch, Fault> {
     Watch::open(alloc, rt).map_err(fault_of)
 }
 
-/// The channels of an end, which the wait watches. Why they were not opened is noted.
+/// Opens the channels of an end, and watches them. It records why they could not be opened.
 fn bound<R: Net>(
     rt: &R,
     alloc: Global,
@@ -403,6 +412,7 @@ fn bound<R: Net>(
     }
 }
 
+/// Adds channels to the watch.
 fn watch_channels(channels: UdpChannels, watch: &Watch) -> Result<UdpChannels, Fault> {
     let mut channels = channels;
     match watch.add(&mut channels) {
@@ -411,7 +421,10 @@ fn watch_channels(channels: UdpChannels, watch: &Watch) -> Result<UdpChannels, F
     }
 }
 
+/// Returns the fault of a run whose channels were not opened.
 fn fault_of(fault: UdpFault) -> Fault
+    // `fault_of` returns `Settings` for lists and addresses, `Network` for a socket or a wait that the system
+    // refuses, and `Memory` for want of memory.
     ensures { result ≡ fault_of fault }
 {
     match fault {
@@ -421,7 +434,7 @@ fn fault_of(fault: UdpFault) -> Fault
     }
 }
 
-/// An end that is opened on its channels, which are listened to where anything may have to be told.
+/// Opens an end on its channels, which record if anything may have to be printed.
 fn open_end<'a, R: Files>(
     rt: &R,
     alloc: Global,
@@ -432,7 +445,18 @@ fn open_end<'a, R: Files>(
     now: Milliseconds,
 ) -> Result<Actor<'a, UdpChannels>, Fault>
     requires { now ≤ 2 ^ 62 }
-    ensures { IfOk result (λ actor. actor.end.time ≤ now) }
+    // The end that `open_end` returns is newly opened on this side at this time, with the settings of the file and
+    // with its first sequence number, if the file has one.
+    ensures opened { IfOk result (λ actor. (number : ℕ) × MayBegin settings.now.first_sn number
+        × EndStands (λ o. told_of o.inner) actor.end (opened_end side settings.now.config number now)) }
+    // `open_end` returns an end of this side, and so its telegrams are printed.
+    ensures side { IfOk result (λ actor. actor.side ≡ side) }
+    // The end that `open_end` returns has the telegrams of the file to put.
+    ensures left { IfOk result (λ actor. actor.left.now ≡ settings.now.puts.items) }
+    // The end that `open_end` returns is opened again if the run keeps it, with the settings of the file.
+    ensures kept { IfOk result (λ actor. (actor.is_kept ≡ run.now.keep) × (actor.keeper.config ≡ settings.now.config)) }
+    // The time of the end that `open_end` returns is at most `now`.
+    ensures time { IfOk result (λ actor. actor.end.time ≤ now) }
 {
     let is_heard = run.log != LogLevel::Off || run.expected.is_some();
     let listens = is_heard || run.keep || run.counts.is_some();
@@ -458,7 +482,7 @@ fn open_end<'a, R: Files>(
     }
 }
 
-/// What was printed is sent off.
+/// Flushes what was printed.
 pub(crate) fn sent_off<O: Write>(out: &mut O) -> Result<(), Fault> {
     match out.flush() {
         Ok(()) => Ok(()),

@@ -1,12 +1,14 @@
-//! The program between the words that the system gives it and the runs that they ask for, over two writers.
+//! The program from the words of its environment to the run that they ask for, over two writers.
 
-ghost use Rattle.std.specs.Prelude.{◌≡◌, ◌≤◌, [], map, length, IfOk};
+ghost use Rattle.std.specs.Prelude.{◌≡◌, ◌≤◌, [], map, length, IfErr, IfOk};
 ghost use Rattle.clap.specs.Words.{fault_of};
 ghost use Rattle.rasta_words.specs.CommandLine.{rasta_app};
+ghost use Rattle.rasta_run.specs.Checked.{HasCheckedSome};
 ghost use Rattle.rasta_run.specs.Done.{DoneAs};
 ghost use Rattle.rasta_run.specs.Refusal.{EndsBy};
 ghost use Rattle.rasta_run.specs.Starting.{run_under};
 
+use crate::check::run_check;
 use crate::follow::run_follow;
 use crate::scripts::run_sim;
 use crate::{Run, SETTINGS_MAX, refuse_long, run_md4, run_net, run_show};
@@ -35,17 +37,17 @@ pub fn run_words<R: AllocGlobal + Files + Net + Clock + Input, V: Env, O: Write,
     }
 }
 
-/// Runs the command that words ask for; the first word is the program's name.
+/// Runs the command that words ask for. The first word is the program's name.
 ///
-/// It ends as done only where it has done what they ask for, or has printed the help that they ask for.
+/// It returns `Done` only if it has done what the words ask for, or printed the help that they call for.
 pub fn run<R: AllocGlobal + Files + Net + Clock + Input, S: AsStr, O: Write, E: Write>(
     rt: &R,
     words: &[S],
     out: &mut O,
     err: &mut E,
 ) -> Status
-    // On words without fault by `clap`'s rules `run` ends as done only where it has done what they ask for.
-    // Of a script, a capture and a run over sockets "done" says no more than that words ask for it (`HasDone`).
+    // If clap's rules find no fault in the words, `run` returns `Done` only if they ask for a request that was
+    // done. For a script, a capture and a run over sockets that says no more (`HasDone`).
     ensures done { result ≡ Status.Done → fault_of rasta_app (map S.text words.now) ≡ []
         → DoneAs (map S.text words.now) (O.contents out.old) (O.contents out.new) }
 {
@@ -54,6 +56,7 @@ pub fn run<R: AllocGlobal + Files + Net + Clock + Input, S: AsStr, O: Write, E: 
         Ok(Request::Show { code, iv, hex }) => run_show(rt.alloc(), code, iv, hex, out, err),
         Ok(Request::Sim { script }) => run_script(rt, script, out, err),
         Ok(Request::Follow(following)) => run_capture(rt, &following, out, err),
+        Ok(Request::Check { file }) => check_file(rt, file, out, err),
         Ok(Request::Net(running)) => run_file(rt, &running, out, err),
         Err(fault) => refuse(&fault, out, err),
     }
@@ -72,7 +75,7 @@ fn run_script<R: AllocGlobal + Files, O: Write, E: Write>(
     }
 }
 
-/// Follows the capture of a file; `-` is standard input.
+/// Follows the capture of a file; for `-` that of standard input, `/dev/stdin`.
 fn run_capture<R: AllocGlobal + Files, O: Write, E: Write>(
     rt: &R,
     following: &FollowRequest<'_>,
@@ -97,21 +100,56 @@ fn run_file<R: AllocGlobal + Files + Net + Clock + Input, O: Write, E: Write>(
     out: &mut O,
     err: &mut E,
 ) -> Status {
-    let octets = match file_octets(rt, running.file) {
-        Ok(octets) => octets,
-        Err(error) => return refuse_file(running.file, &error, err),
-    };
-    if octets.len() > SETTINGS_MAX {
-        return refuse_long(err);
-    }
-    match str::from_utf8(octets.as_slice()) {
-        Ok(text) => run_net(rt, rt.alloc(), &run_under(running), text, out, err),
-        Err(_) => report_file(running.file, "no UTF-8 text", err),
+    match file_text(rt, running.file, err) {
+        Ok(text) => {
+            let run = run_under(running);
+            run_net(rt, rt.alloc(), &run, running.file, text.as_str(), out, err)
+        }
+        Err(status) => status,
     }
 }
 
-/// How ends are run that words ask for.
+/// Checks a settings file, and prints the settings in force.
+fn check_file<R: AllocGlobal + Files, O: Write, E: Write>(
+    rt: &R,
+    file: &str,
+    out: &mut O,
+    err: &mut E,
+) -> Status
+    // `check_file` returns `Done` only if it has written the settings in force of a text.
+    ensures { result ≡ Status.Done → HasCheckedSome (O.contents out.old) (O.contents out.new) }
+{
+    match file_text(rt, file, err) {
+        Ok(text) => run_check(rt.alloc(), file, text.as_str(), out, err),
+        Err(status) => status,
+    }
+}
+
+/// Reads the text of a settings file, or prints why there is none.
+fn file_text<R: AllocGlobal + Files, E: Write>(
+    rt: &R,
+    path: &str,
+    err: &mut E,
+) -> Result<String, Status>
+    // If `file_text` fails, it returns `Refused`.
+    ensures { IfErr result (λ status. status ≡ Status.Refused) }
+{
+    let octets = match file_octets(rt, path) {
+        Ok(octets) => octets,
+        Err(error) => return Err(refuse_file(path, &error, err)),
+    };
+    if octets.len() > SETTINGS_MAX {
+        return Err(refuse_long(path, err));
+    }
+    match String::from_utf8(octets) {
+        Ok(text) => Ok(text),
+        Err(_) => Err(report_file(path, "not valid UTF-8", err)),
+    }
+}
+
+/// Returns how ends run for this request.
 fn run_under(running: &RunRequest<'_>) -> Run
+    // `run_under` passes each choice of the request on.
     ensures { result ≡ run_under running.now }
 {
     Run {
@@ -124,7 +162,7 @@ fn run_under(running: &RunRequest<'_>) -> Run
     }
 }
 
-/// The octets of a settings file, and of one that is too long so many that this shows.
+/// Reads a settings file; of one that is too long, one byte more than is allowed.
 fn file_octets<R: AllocGlobal + Files>(rt: &R, path: &str) -> io::Result<Vec<u8>> {
     let mut octets = Vec::new(rt.alloc());
     let mut front = fs::open(rt, path)?.take(SETTINGS_MAX as u64 + 1);
@@ -132,8 +170,9 @@ fn file_octets<R: AllocGlobal + Files>(rt: &R, path: &str) -> io::Result<Vec<u8>
     Ok(octets)
 }
 
-/// Names the fault of a file that the system does not give, or the want of memory for it.
+/// Prints the fault of a file that the system does not give, or want of memory for it.
 fn refuse_file<E: Write>(path: &str, error: &io::Error, err: &mut E) -> Status
+    // `refuse_file` returns `Refused`.
     ensures { result ≡ Status.Refused }
 {
     match error.kind() {
@@ -142,8 +181,9 @@ fn refuse_file<E: Write>(path: &str, error: &io::Error, err: &mut E) -> Status
     }
 }
 
-/// Names the fault of a file on standard error, and behind it the file and why.
+/// Prints the fault of a file, followed by its name and the reason.
 fn report_file<D: Display + Drop, E: Write>(path: &str, why: D, err: &mut E) -> Status
+    // `report_file` returns `Refused`, whatever the reason.
     ensures { result ≡ Status.Refused }
 {
     let status = report(err, Fault::File);
@@ -152,19 +192,18 @@ fn report_file<D: Display + Drop, E: Write>(path: &str, why: D, err: &mut E) -> 
     status
 }
 
-/// Prints why the words are no command, or the help that they ask for.
-fn refuse<O: Write, E: Write>(fault: &WordsFault, out: &mut O, err: &mut E) -> Status
-    // Words that are no command end as wrong words, want of memory as refused, a call for help as done or
-    // failed.
+/// Prints why the words are not a command, or the help that they call for.
+fn refuse<O: Write, E: Write>(fault: &WordsFault<'_>, out: &mut O, err: &mut E) -> Status
+    // `refuse` returns `WrongWords` for words that are not a command, `Refused` for want of memory, and `Done` or
+    // `Failed` for a call for help or the version.
     ensures { EndsBy fault.now result }
 {
     match fault {
         WordsFault::Memory(_) => report(err, Fault::Memory),
-        WordsFault::BadCode | WordsFault::BadTurns | WordsFault::BadChoice | WordsFault::NotText =>
-            {
-                let _ = writeln!(err, "{fault}");
-                Status::WrongWords
-            }
+        WordsFault::Rejected(_) | WordsFault::NotText => {
+            let _ = writeln!(err, "{fault}");
+            Status::WrongWords
+        }
         WordsFault::Words(error) if matches!(error.kind(), ErrorKind::OutOfMemory) => {
             report(err, Fault::Memory)
         }
@@ -179,8 +218,8 @@ fn refuse<O: Write, E: Write>(fault: &WordsFault, out: &mut O, err: &mut E) -> S
     }
 }
 
-/// The words of an environment, with the program's name before them.
-fn words<V: Env>(environment: &V, alloc: Global) -> Result<Vec<String>, WordsFault> {
+/// Returns the words of an environment, after the program's name.
+fn words<V: Env>(environment: &V, alloc: Global) -> Result<Vec<String>, WordsFault<'static>> {
     let args = match env::args(&(Named { environment }, alloc)) {
         Ok(args) => args,
         Err(error) => return Err(unread(&error)),
@@ -191,16 +230,16 @@ fn words<V: Env>(environment: &V, alloc: Global) -> Result<Vec<String>, WordsFau
     }
 }
 
-/// Why the system gave no words.
-fn unread(error: &io::Error) -> WordsFault {
+/// Returns why the system gave no words.
+fn unread(error: &io::Error) -> WordsFault<'static> {
     match error.kind() {
         io::ErrorKind::OutOfMemory => WordsFault::Memory(AllocError),
         _ => WordsFault::NotText,
     }
 }
 
-/// An environment in which the program has its own name: the path under which it was called is no word of the command,
-/// and need not be UTF-8 text.
+/// An environment in which the program has its own name: the path under which it was called is not a word of the
+/// command, and may be something else than UTF-8 text.
 #[derive(Clone, Copy)]
 struct Named<'a, V: Env> {
     /// Where the words come from.
@@ -224,8 +263,9 @@ impl<'a, V: Env> Env for Named<'a, V> {
     }
 }
 
-/// Copies a text to the start of a buffer, where it has room.
+/// Copies a text to the start of a buffer, if it has room.
 fn filled(text: &[u8], buffer: &mut [u8]) -> Result<usize, FillError>
+    // The number of bytes that `filled` copies is at most the length of the buffer.
     ensures { IfOk result (λ n. n ≤ length buffer.new) }
 {
     let size = text.len();

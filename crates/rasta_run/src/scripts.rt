@@ -1,4 +1,4 @@
-//! The word `sim`: both ends in memory, as a script plays with them.
+//! The subcommand `sim`: both ends in memory, driven by a script.
 
 ghost use Rattle.std.specs.Prelude.{◌≢◌};
 
@@ -7,18 +7,18 @@ use sim::SimStatus;
 use std::alloc::Allocator;
 use std::io::{Read, Write};
 
-/// Runs `sim`: the script that a reader holds, on two ends that were never opened. What it prints goes to `out`, a
-/// fault to `err`.
+/// Runs `sim`: the script of a reader, on two ends that were never opened. Its lines go to `out`, a fault to
+/// `err`.
 ///
-/// It ends as done where the script ran to its end, as refused by a fault of the script and for want of memory, and
-/// as failed where `out` fails. What was printed before a fault stays printed.
+/// It returns `Done` if the script ran to its end, `Refused` for a fault of the script or want of memory, and
+/// `Failed` if `out` fails. What was printed before a fault stays printed.
 pub fn run_sim<R: Read + Drop, O: Write, E: Write, A: Allocator + Copy>(
     alloc: A,
     reader: R,
     out: &mut O,
     err: &mut E,
 ) -> Status
-    // No run of `sim` or `follow` ends as wrong words.
+    // `run_sim` never returns `WrongWords`.
     ensures words { result ≢ Status.WrongWords }
 {
     match sim::run(alloc, reader, out, err) {

@@ -1,4 +1,4 @@
-//! What is shown of a datagram, and the digest of octets.
+//! The subcommands `show` and `md4`: the fields of a datagram, and the digest of a message.
 
 ghost use Rattle.std.specs.Prelude.{◌≡◌, ◌≢◌, ◌⊎◌, true, false, None, Some, Err, IfOk, IfErr, IsErr, OnOk};
 ghost use Rattle.std.specs.Io.KnownBytes.{Appends};
@@ -15,9 +15,9 @@ use std::alloc::Global;
 use std::io;
 use std::io::Write;
 
-/// Runs `show`: writes the text of the datagram that `hex` spells, read with a code of this length
-/// over an initial value of 32 hex digits (that of RFC 1320 where none is given). A text that is no
-/// hex text, an empty one included, is `fault: hex`.
+/// Runs `show`: decodes the datagram that `hex` spells, with a safety code of this length over an initial value of
+/// 32 hex digits (that of RFC 1320 if none is given), and prints its fields. A text that is not hex digits, or is
+/// empty, is `fault: hex`.
 pub fn run_show<O: Write, E: Write>(
     alloc: Global,
     code: CodeLength,
@@ -26,21 +26,22 @@ pub fn run_show<O: Write, E: Write>(
     out: &mut O,
     err: &mut E,
 ) -> Status
-    // `run_show` ends as done only where it wrote the whole text of the octets that the hex text spells, and no
-    // line names a fault.
+    // `run_show` returns `Done` only if it has written the whole text of the bytes that the hex text spells, and
+    // no line names a fault.
     ensures done { result ≡ Status.Done
         → HasShown code (option_copied iv.entry) hex.now true (O.contents out.old) (O.contents out.new) }
 
-    // `run_show` ends as refused only where it wrote the whole text and a line names a fault, or wrote nothing.
+    // `run_show` returns `Refused` only if it has written the whole text and a line names a fault, or has written
+    // nothing.
     ensures refused { result ≡ Status.Refused
         → HasShown code (option_copied iv.entry) hex.now false (O.contents out.old) (O.contents out.new)
         ⊎ (out.new ≡ out.old) }
-    // An initial value that is none is refused by `run_show`, and nothing is written.
+    // If the initial value is not 32 hex digits, `run_show` returns `Refused` and writes nothing.
     ensures no_value { initial_value_of (option_copied iv.entry) ≡ None
         → (result ≡ Status.Refused) × (out.new ≡ out.old) }
-    // A text that is no hex text is refused by `run_show`, and nothing is written.
+    // If the text is not hex digits, `run_show` returns `Refused` and writes nothing.
     ensures no_octets { octets_of hex.now ≡ None → (result ≡ Status.Refused) × (out.new ≡ out.old) }
-    // No run of `show` or `md4` ends as wrong words.
+    // `run_show` never returns `WrongWords`.
     ensures words { result ≢ Status.WrongWords }
 {
     match show_hex(alloc, code, iv, hex, out) {
@@ -50,17 +51,17 @@ pub fn run_show<O: Write, E: Write>(
     }
 }
 
-/// Runs `md4`: writes the MD4 digest (RFC 1320) of the octets that `hex` spells, as 32 hex digits; the
-/// word `empty` stands for no octets. A text that is no hex text, an empty one included, is `fault: hex`.
+/// Runs `md4`: prints the MD4 digest (RFC 1320) of the bytes that `hex` spells, as 32 hex digits. The word `empty`
+/// is the empty message. A text that is not hex digits, or is empty, is `fault: hex`.
 pub fn run_md4<O: Write, E: Write>(alloc: Global, hex: &str, out: &mut O, err: &mut E) -> Status
-    // `run_md4` ends as done only where it wrote the digest of the octets that the hex text spells, or of none
-    // for the word `empty`.
+    // `run_md4` returns `Done` only if it has written the digest of the bytes that the hex text spells, or of no
+    // bytes for the word `empty`.
     ensures done { result ≡ Status.Done → HasDigested hex.now (O.contents out.old) (O.contents out.new) }
-    // `run_md4` ends as refused only where it wrote nothing.
+    // `run_md4` returns `Refused` only if it has written nothing.
     ensures refused { result ≡ Status.Refused → out.new ≡ out.old }
-    // A text that is no hex text is refused by `run_md4`.
+    // If the text is neither hex digits nor the word for an empty message, `run_md4` returns `Refused`.
     ensures no_octets { message_of hex.now ≡ None → result ≡ Status.Refused }
-    // No run of `show` or `md4` ends as wrong words.
+    // `run_md4` never returns `WrongWords`.
     ensures words { result ≢ Status.WrongWords }
 {
     match digest_hex(alloc, hex, out) {
@@ -69,11 +70,15 @@ pub fn run_md4<O: Write, E: Write>(alloc: Global, hex: &str, out: &mut O, err: &
     }
 }
 
-/// Writes the digest of the octets that a text names.
+/// Writes the digest of the message that a text names.
 fn digest_hex<O: Write>(alloc: Global, hex: &str, out: &mut O) -> Result<(), Fault>
+    // If `digest_hex` succeeds, it has appended the line of the digest of the message.
     ensures ok { OnOk result (HasDigested hex.now (O.contents out.old) (O.contents out.new)) }
+    // If `digest_hex` fails with a fault of status `Refused`, it has written nothing.
     ensures untouched { IfErr result (λ fault. status_of fault ≡ Status.Refused → out.new ≡ out.old) }
+    // If the text names no message, `digest_hex` fails with `Hex` or `Memory`.
     ensures no_octets { message_of hex.now ≡ None → (result ≡ Err Fault.Hex) ⊎ (result ≡ Err Fault.Memory) }
+    // `digest_hex` fails with `Hex` only if the text names no message.
     ensures hex { result ≡ Err Fault.Hex → message_of hex.now ≡ None }
 {
     let octets = match message_octets(alloc, hex) {
@@ -86,11 +91,15 @@ fn digest_hex<O: Write>(alloc: Global, hex: &str, out: &mut O) -> Result<(), Fau
     }
 }
 
-/// The octets that a text names: those of its hex digits, or none for the word `empty`.
+/// Returns the bytes that a text names: those of its hex digits, or none for the word `empty`.
 fn message_octets(alloc: Global, text: &str) -> Result<Vec<u8>, Fault>
+    // If `message_octets` succeeds, its result is the message that the text names.
     ensures ok { IfOk result (λ octets. message_of text.now ≡ Some octets.items) }
+    // If the text names no message, `message_octets` fails with `Hex` or `Memory`.
     ensures none { message_of text.now ≡ None → (result ≡ Err Fault.Hex) ⊎ (result ≡ Err Fault.Memory) }
+    // `message_octets` fails only with `Hex` or `Memory`.
     ensures kinds { IsErr result → (result ≡ Err Fault.Hex) ⊎ (result ≡ Err Fault.Memory) }
+    // `message_octets` fails with `Hex` only if the text names no message.
     ensures hex { result ≡ Err Fault.Hex → message_of text.now ≡ None }
 {
     if text == "empty" {
@@ -101,6 +110,7 @@ fn message_octets(alloc: Global, text: &str) -> Result<Vec<u8>, Fault>
 
 /// Writes the line of the digest of a message.
 fn write_digest<O: Write>(out: &mut O, octets: &[u8]) -> io::Result<()>
+    // If `write_digest` succeeds, it has appended the digest of the bytes as 32 hex digits, and a line feed.
     ensures { OnOk result (Appends (O.contents out.old) (O.contents out.new) (digest_line octets.now)) }
 {
     let digest = md4::digest(md4::INITIAL_VALUE, octets);
@@ -108,7 +118,7 @@ fn write_digest<O: Write>(out: &mut O, octets: &[u8]) -> io::Result<()>
     out.write_all(b"\n")
 }
 
-/// Shows the datagram that a text of hex digits spells, and answers whether it has no fault.
+/// Writes the text of the datagram that hex digits spell, and returns whether it has no fault.
 fn show_hex<O: Write>(
     alloc: Global,
     code: CodeLength,
@@ -116,11 +126,17 @@ fn show_hex<O: Write>(
     hex: &str,
     out: &mut O,
 ) -> Result<bool, Fault>
+    // If `show_hex` succeeds, it has appended the whole text of the bytes, and returns whether no line names a
+    // fault.
     ensures ok { IfOk result
         (λ clean. HasShown code (option_copied iv.entry) hex.now clean (O.contents out.old) (O.contents out.new)) }
+    // If `show_hex` fails with a fault of status `Refused`, it has written nothing.
     ensures untouched { IfErr result (λ fault. status_of fault ≡ Status.Refused → out.new ≡ out.old) }
+    // If the initial value is not 32 hex digits, `show_hex` fails with `Hex`.
     ensures no_value { initial_value_of (option_copied iv.entry) ≡ None → result ≡ Err Fault.Hex }
+    // If the text is not hex digits, `show_hex` fails with `Hex` or `Memory`.
     ensures no_octets { octets_of hex.now ≡ None → (result ≡ Err Fault.Hex) ⊎ (result ≡ Err Fault.Memory) }
+    // `show_hex` fails with `Hex` only if the initial value or the text is not hex digits.
     ensures hex { result ≡ Err Fault.Hex
         → (initial_value_of (option_copied iv.entry) ≡ None) ⊎ (octets_of hex.now ≡ None) }
 {
@@ -141,11 +157,15 @@ fn show_hex<O: Write>(
     }
 }
 
-/// The octets that a text of hex digits spells, or the fault that the program names.
+/// Returns the bytes that hex digits spell, or the fault that the program prints.
 fn spelled_octets(alloc: Global, text: &str) -> Result<Vec<u8>, Fault>
+    // If `spelled_octets` succeeds, its result is the bytes that the text spells.
     ensures ok { IfOk result (λ octets. octets_of text.now ≡ Some octets.items) }
+    // If the text is not hex digits, `spelled_octets` fails with `Hex` or `Memory`.
     ensures none { octets_of text.now ≡ None → (result ≡ Err Fault.Hex) ⊎ (result ≡ Err Fault.Memory) }
+    // `spelled_octets` fails only with `Hex` or `Memory`.
     ensures kinds { IsErr result → (result ≡ Err Fault.Hex) ⊎ (result ≡ Err Fault.Memory) }
+    // `spelled_octets` fails with `Hex` only if the text is not hex digits.
     ensures hex { result ≡ Err Fault.Hex → octets_of text.now ≡ None }
 {
     match hex_octets(alloc, text) {

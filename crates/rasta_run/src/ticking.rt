@@ -7,28 +7,28 @@ ghost use Rattle.rasta_run.specs.Ticking.{greatest_time, millis_between, time_at
 use rasta_words::Fault;
 use std::time::{Clock, Instant};
 
-/// The greatest time that an end may be handed, in milliseconds.
+/// The greatest time that an end accepts, in milliseconds.
 const TIME_MAX: u64 = 1 << 62;
 
-/// The milliseconds since a run began, which never fall.
+/// The milliseconds since a run began, which never decrease.
 #[derive(Clone, Copy, Debug)]
 pub struct RunClock {
-    /// When the run began: its clock shows 0 then.
+    /// When the run began: the clock is 0 then.
     pub began: Instant,
     /// The last reading.
     pub last: u64,
-    /// How often it was read, modulo 2^64: once in each turn.
+    /// The number of readings, modulo 2^64: one for each turn.
     pub readings: u64,
 }
 
 impl RunClock {
-    /// A clock that begins now.
+    /// Starts a clock now.
     ///
     /// # Errors
     ///
-    /// Refused as Clock, where the system gives no time.
+    /// - `Clock` if the system gives no time.
     pub fn start<K: Clock>(system: &K) -> Result<Self, Fault>
-        // The time of a run begins at 0.
+        // A clock that `start` returns is at 0 and was never read.
         ensures { IfOk result (λ clock. (clock.last ≡ 0) × (clock.readings ≡ 0)) }
     {
         match Instant::now(system) {
@@ -41,18 +41,20 @@ impl RunClock {
         }
     }
 
-    /// The time; a reading below the last counts as the last.
+    /// Reads the clock. A reading below the last one counts as the last one.
     ///
     /// # Errors
     ///
-    /// Refused as Clock, where the system gives none or it is above 2^62.
+    /// - `Clock` if the system gives no time, or it is above 2^62.
     pub fn read<K: Clock>(&mut self, system: &K) -> Result<u64, Fault>
-        // The time of a run never falls, and is 2^62 ms at most.
+        // The time that `read` returns is at least the last reading and at most 2^62 ms, and it becomes the last
+        // reading.
         ensures now { IfOk result (λ now. (self.old.last ≤ now) × (now ≤ greatest_time) × (self.new.last ≡ now)) }
+        // `read` does not change when the run began.
         ensures began { self.new.began ≡ self.old.began }
-        // Turns that end without a fault have read the clock as often as words state turns; that each reading
-        // goes with a turn no contract says.
+        // If `read` succeeds, the number of readings has grown by 1, modulo 2^64.
         ensures counted { OnOk result (self.new.readings ≡ (self.old.readings + 1) % 2 ^ 64) }
+        // If `read` fails, the clock is unchanged.
         ensures refused { OnErr result (self.new ≡ self.old) }
     {
         let Ok(seen) = Instant::now(system) else {
@@ -63,21 +65,22 @@ impl RunClock {
         Ok(now)
     }
 
-    /// The time at a reading of the system's clock.
+    /// Returns the time at a reading of the system's clock.
     ///
     /// # Errors
     ///
-    /// Refused as Clock exactly where it is above 2^62.
+    /// - `Clock` if and only if it is above 2^62.
     fn at(&mut self, seen: Instant) -> Result<u64, Fault>
-        // At a reading of the system's clock it is the whole milliseconds since the run began, or the last time
-        // where that is more.
+        // `at` returns the whole milliseconds since the run began, or the last reading if that is more.
         ensures now { IfOk result (λ now. now ≡ time_at (instant_nanos self.old.began) self.old.last (instant_nanos seen)) }
+        // The time that `at` returns is at most 2^62 ms.
         ensures bounded { IfOk result (λ now. now ≤ greatest_time) }
+        // If `at` succeeds, its result becomes the last reading, and nothing else changes.
         ensures kept { IfOk result (λ now. self.new ≡ record self.old { last = now }) }
-        // At a reading of the system's clock it is the whole milliseconds since the run began, or the last time
-        // where that is more.
+        // `at` fails only if the time is above 2^62 ms.
         ensures refusal { IfErr result (λ fault. greatest_time
             < time_at (instant_nanos self.old.began) self.old.last (instant_nanos seen)) }
+        // If `at` fails, the clock is unchanged.
         ensures refused { OnErr result (self.new ≡ self.old) }
     {
         match u64::try_from(seen.duration_since(self.began).as_millis()) {

@@ -1,101 +1,102 @@
-//! The part of one end in a turn: what has come, what is to be put, and how it stands.
+//! One end in a turn: it receives, puts its telegrams, and reports its state.
 
-ghost use Rattle.std.specs.Prelude.{◌≡◌, ℕ, ◌≤◌, ◌^◌, None, Some, true, false, IfErr, IfOk, OnOk};
+ghost use Rattle.std.specs.Prelude.{◌≡◌, ℕ, ◌≤◌, ◌^◌, None, Some, true, false, IfErr, IfOk, IfSome, OnOk};
 ghost use Rattle.pdi_session.specs.declared.PutFault.TheVariants.{Full};
 ghost use Rattle.rasta_run.specs.Putting.{Answers, Passes, PutsBeginning};
 ghost use Rattle.rasta_run.specs.Standing.{meets, takes_lines};
+ghost use Rattle.rasta_run.specs.Keeping.{opens_anew};
 ghost use Rattle.rasta_run.specs.Unopened.{fault_of_end};
 ghost use Rattle.std.specs.List.{FoldsTo};
 ghost use Rattle.channels.specs.Told.{SendsOne};
 ghost use Rattle.udp_channels.specs.Sockets.{told_of};
 ghost use Rattle.stack_end.specs.Datagrams.{sent_at_opening};
-ghost use Rattle.stack_end.specs.EndValue.{EndStands, channels_of};
+ghost use Rattle.stack_end.specs.EndValue.{EndStands, channels_of, inside};
+ghost use Rattle.stack_end.specs.Stale.{is_stale};
 ghost use Rattle.stack_end.specs.Ends.{opened_end};
 
 use crate::Overheard;
 use crate::counting::Teller;
 use crate::drawing::first_number;
 use crate::input::Feed;
-use crate::keeping::Keeper;
+use crate::keeping::{Keeper, is_wait_over};
 use crate::logging::Log;
+use crate::noticing::Notice;
+use crate::printing::Printer;
+use crate::progress::{Gained, Progress, is_finished, is_over, waits_for_peer};
+use crate::undone::{Origin, Undone, doubt_of, write_refused};
 use crate::waiting::earlier;
 use channels::Channels;
 use end_settings::{EndConfig, Side};
 use octets::Milliseconds;
 use pdi_session::{InitFault, Phase, PutFault, Taker};
-use pdu_text::{Ending, Happening, Standing, write_refusal, write_report, write_take};
+use pdu_text::{Ending, Happening, Standing, write_refusal, write_report};
 use rasta_words::{Expected, Fault};
 use safe_machine::ConnectionState;
 use settings_file::{Put, Settings};
-use stack_end::{End, OpenFault};
+use stack_end::{End, Listener, OpenFault};
 use std::alloc::{Allocator, Global};
 use std::io::{Read, Write};
+use std::mem;
 use std::rt::Files;
-use std::{io, mem};
 use udp_channels::{SocketChannels, UdpChannels};
 
-/// How many lines of input are put in one turn at most, so that a turn ends: more than fit into one end.
+/// The greatest number of lines of input that are put in one turn, so that a turn ends: more than fit into one
+/// end.
 const LINES_MAX: usize = 256;
 
-/// Prints each telegram that the application takes, until an output fails.
-#[derive(Drop)]
-struct Printer<'a, W> {
-    /// The end whose telegrams are printed.
-    side: Side,
-    /// Where they are printed.
-    writer: &'a mut W,
-    /// How many were taken.
-    taken: u64,
-    /// Whether a line could not be written.
-    failed: bool,
-}
+/// The wait after a turn in which a reception failed, in milliseconds.
+const DEAF_WAIT: u64 = 10;
 
-impl<W: Write> Taker for Printer<'_, W> {
-    ghost takes = { λ _ _ _. Unit {0} };
+/// The longest time between two turns that is not logged, in milliseconds. The longest wait is 1,000.
+const GAP_MAX: u64 = 1_500;
 
-    fn take(&mut self, kind: u16, payload: &[u8]) {
-        self.taken = self.taken.wrapping_add(1);
-        if !self.failed && self.print(kind, payload).is_err() {
-            self.failed = true;
-        }
-    }
-}
-
-impl<W: Write> Printer<'_, W> {
-    /// Prints a telegram's line, and sends it off at once.
-    fn print(&mut self, kind: u16, payload: &[u8]) -> io::Result<()> {
-        write_take(self.writer, self.side, kind, payload)?;
-        self.writer.flush()
-    }
-}
-
-/// An end that is run by turns, with what is left to be put.
+/// An end that is run by turns, with the telegrams that it still has to put.
 #[derive(Drop)]
 pub struct Actor<'a, C, A: Allocator = Global> {
     /// The end.
     pub end: End<Overheard<C>, A>,
-    /// The end that it acts for.
+    /// The side of the end.
     side: Side,
-    /// What it has still to put in, in order.
+    /// The telegrams that it still has to put, in order.
     pub left: &'a [Put],
-    /// How many telegrams were put in, modulo 2^64.
+    /// The number of telegrams that it had to put at first.
+    entries: usize,
+    /// The number of telegrams put, modulo 2^64.
     pub put: u64,
-    /// How many were taken.
+    /// The number of telegrams that were put before the present opening.
+    before: u64,
+    /// The number of telegrams in doubt of connections that were lost.
+    lost: u64,
+    /// The number of lines of input that it refused.
+    refused_lines: u64,
+    /// The number of telegrams of the list that it refused.
+    refused_entries: u64,
+    /// The number of its openings, modulo 2^64.
+    openings: u64,
+    /// When it last got on.
+    progress: Progress,
+    /// When it took its last turn, in milliseconds.
+    last_turn: Milliseconds,
+    /// The number of turns in a row in which a reception failed.
+    deaf_turns: u64,
+    /// Whether its connection was found closed.
+    is_closed: bool,
+    /// The number of telegrams taken.
     taken: u64,
-    /// What is told of it on standard error.
+    /// Its log.
     log: Log,
-    /// Whether it is opened anew where its connection is lost.
+    /// Whether it is opened again if its connection is lost.
     is_kept: bool,
-    /// What decides when.
+    /// When it is opened again.
     keeper: Keeper,
-    /// When it is to be opened anew, as far as is known, in milliseconds.
+    /// When it is to be opened again, in milliseconds, if that is known.
     anew_at: Option<u64>,
-    /// What is told of its counts.
+    /// The printer of its counts.
     teller: Teller,
 }
 
 impl<'a, C: Channels, A: Allocator + Copy> Actor<'a, C, A> {
-    /// An end that was opened, with the telegrams that it is to put.
+    /// Returns an end that was opened, with the telegrams that it is to put.
     pub fn new(
         end: End<Overheard<C>, A>,
         side: Side,
@@ -105,13 +106,40 @@ impl<'a, C: Channels, A: Allocator + Copy> Actor<'a, C, A> {
         is_kept: bool,
         teller: Teller,
     ) -> Self
-        ensures { result.end ≡ end }
+        // The end of a new `Actor` is the one given.
+        ensures end { result.end ≡ end }
+        // A new `Actor` is of this side.
+        ensures side { result.side ≡ side }
+        // A new `Actor` has all of these telegrams to put.
+        ensures left { result.left.now ≡ puts.now }
+        // A new `Actor` has this keeper.
+        ensures keeper { result.keeper ≡ keeper }
+        // A new `Actor` is opened again if and only if `is_kept` is true.
+        ensures kept { result.is_kept ≡ is_kept }
     {
+        let gained = Gained {
+            put: 0,
+            confirmed: 0,
+            openings: 0,
+        };
         Actor {
             end,
             side,
             left: puts,
+            entries: puts.len(),
             put: 0,
+            before: 0,
+            lost: 0,
+            refused_lines: 0,
+            refused_entries: 0,
+            openings: 0,
+            progress: Progress {
+                gained,
+                at: keeper.opened,
+            },
+            last_turn: keeper.opened,
+            deaf_turns: 0,
+            is_closed: false,
             taken: 0,
             log,
             is_kept,
@@ -121,21 +149,23 @@ impl<'a, C: Channels, A: Allocator + Copy> Actor<'a, C, A> {
         }
     }
 
-    /// Tells the channels with which the end was opened, and what happened at its opening.
+    /// Logs the channels with which the end was opened, and the events of its opening.
     pub fn tell_opened<E: Write>(&mut self, settings: &Settings, now: Milliseconds, err: &mut E)
+        // `tell_opened` does not change the end.
         ensures { self.new.end ≡ self.old.end }
     {
         self.log.open(settings, now, err);
         self.log.catch_up(&self.end.channels_seen().ear, now, err);
     }
 
-    /// Its part of a turn: it takes what has come; then an interlocking whose session is established, and a field
-    /// element that initialises, put what is left until a put is refused as Full. The field element then calls
-    /// `init_done`, once nothing is left. What has happened is told to `err`.
+    /// Takes one turn: the end receives. Then an interlocking with an established session, or a field element that
+    /// initialises, puts its telegrams until a put is refused as `Full`. Once none is left, the field element
+    /// calls `init_done`. Events are logged to `err`.
     ///
     /// # Errors
     ///
-    /// Refused as Output. That a reception fails is no fault of a turn: it counts as nothing received.
+    /// - `Output` if a line cannot be printed. A reception that fails is not a fault of a turn: it counts as
+    ///   nothing received.
     pub fn turn<W: Write, E: Write>(
         &mut self,
         now: Milliseconds,
@@ -144,10 +174,14 @@ impl<'a, C: Channels, A: Allocator + Copy> Actor<'a, C, A> {
     ) -> Result<(), Fault>
         requires now { now ≤ 2 ^ 62 }
         requires later { self.old.end.time ≤ now }
+        // After `turn` the end's time is at most `now`.
         ensures time { self.new.end.time ≤ now }
     {
-        self.hear(now, writer)?;
+        self.note_gap(now, err);
+        let works = self.hear(now, writer)?;
         self.log.catch_up(&self.end.channels_seen().ear, now, err);
+        self.note_reception(works, now, err);
+        self.note_loss(now, err);
         match (self.side, self.end.phase()) {
             (Side::Interlocking, Phase::Established) => self.put_left(now, writer, err),
             (Side::FieldElement, Phase::Initialising) => {
@@ -158,25 +192,107 @@ impl<'a, C: Channels, A: Allocator + Copy> Actor<'a, C, A> {
         }
     }
 
-    /// Whether the end stands as it is expected to.
-    pub fn stands_as(&self, expected: Option<Expected>) -> bool
+    /// Returns whether the end is in the expected state, if it leaves this undone.
+    pub fn stands_as(&self, expected: Option<Expected>, undone: Undone) -> bool
+        // If no state is expected, `stands_as` returns true.
         ensures { expected ≡ None → result ≡ true }
     {
         is_met(
             expected,
             self.end.phase(),
             self.end.settled(),
-            self.left.is_empty(),
+            undone.is_nothing(),
         )
     }
 
-    /// Whether all that was to be put is put in and confirmed.
-    pub fn is_settled(&self) -> bool {
-        self.end.settled() && self.left.is_empty()
+    /// Returns what is left undone, if this many lines of input were not offered to the end.
+    pub fn undone(&self, lines: u64) -> Undone {
+        let left = self.left.len() as u64;
+        Undone {
+            lines: lines.saturating_add(self.refused_lines),
+            entries: left.saturating_add(self.refused_entries),
+            doubt: self.lost.saturating_add(self.doubt()),
+        }
     }
 
-    /// Tells what has happened, and at last why the end is where it is, where the log tells anything or the end did not stand as it was
-    /// expected to.
+    /// Returns how many telegrams put since the opening are in doubt.
+    fn doubt(&self) -> u64 {
+        doubt_of(self.put, self.before, self.end.confirmed())
+    }
+
+    /// Records whether the end has got on.
+    pub fn note_progress(&mut self, now: Milliseconds)
+        // `note_progress` does not change the end.
+        ensures { self.new.end ≡ self.old.end }
+    {
+        let gained = Gained {
+            put: self.put,
+            confirmed: self.end.confirmed(),
+            openings: self.openings,
+        };
+        let waits = waits_for_peer(self.end.state(), self.is_kept);
+        self.progress.look(gained, waits, now);
+    }
+
+    /// Returns when the end gives up, in milliseconds: T_max after it last got on.
+    pub fn limit(&self) -> Milliseconds {
+        self.progress.limit(self.keeper.config.t_max)
+    }
+
+    /// Returns whether the end is over, once input has ended: it has finished all of it, or it gives up.
+    pub fn is_over(&self, input_done: bool, now: Milliseconds) -> bool {
+        let is_done = is_finished(
+            self.end.state(),
+            self.is_kept,
+            self.left.is_empty(),
+            self.end.settled(),
+        );
+        is_over(input_done, is_done, self.limit(), now)
+    }
+
+    /// Logs that the end took no turn for a long time.
+    fn note_gap<E: Write>(&mut self, now: Milliseconds, err: &mut E)
+        // `note_gap` does not change the end.
+        ensures { self.new.end ≡ self.old.end }
+    {
+        let gap = now.saturating_sub(self.last_turn);
+        self.last_turn = now;
+        if gap > GAP_MAX {
+            self.log.notice(Notice::NoTurn(gap), now, err);
+        }
+    }
+
+    /// Counts turns in which a reception fails, and logs when they begin and when they are over.
+    fn note_reception<E: Write>(&mut self, works: bool, now: Milliseconds, err: &mut E)
+        // `note_reception` does not change the end.
+        ensures { self.new.end ≡ self.old.end }
+    {
+        if !works {
+            if self.deaf_turns == 0 {
+                self.log.notice(Notice::Deaf, now, err);
+            }
+            self.deaf_turns = self.deaf_turns.saturating_add(1);
+        } else if self.deaf_turns > 0 {
+            self.log.notice(Notice::Receives(self.deaf_turns), now, err);
+            self.deaf_turns = 0;
+        }
+    }
+
+    /// Logs how many telegrams are in doubt when the connection is lost.
+    fn note_loss<E: Write>(&mut self, now: Milliseconds, err: &mut E)
+        // `note_loss` does not change the end.
+        ensures { self.new.end ≡ self.old.end }
+    {
+        let is_closed = self.end.state() == ConnectionState::Closed;
+        let doubt = self.doubt();
+        if is_closed && !self.is_closed && doubt > 0 {
+            self.log.notice(Notice::InDoubt(doubt), now, err);
+        }
+        self.is_closed = is_closed;
+    }
+
+    /// Logs the last events, and prints the counts. Then it logs why the end is in its state, if the log is on or
+    /// the end is not in the expected state.
     pub fn conclude<E: Write>(&mut self, now: Milliseconds, met: bool, err: &mut E) {
         let ear = &self.end.channels_seen().ear;
         self.log.catch_up(ear, now, err);
@@ -194,11 +310,18 @@ impl<'a, C: Channels, A: Allocator + Copy> Actor<'a, C, A> {
         }
     }
 
-    /// Writes how the end stands.
+    /// Prints what the end leaves undone, if it is anything. A failing output is ignored.
+    pub fn tell_undone<E: Write>(&self, undone: Undone, err: &mut E) {
+        if !undone.is_nothing() {
+            let _ = undone.write(err, self.side);
+        }
+    }
+
+    /// Writes the state of the end.
     ///
     /// # Errors
     ///
-    /// Refused as Output.
+    /// - `Output` if the line cannot be written.
     pub fn report<W: Write>(&self, writer: &mut W) -> Result<(), Fault> {
         let standing = Standing {
             state: self.end.state(),
@@ -212,11 +335,16 @@ impl<'a, C: Channels, A: Allocator + Copy> Actor<'a, C, A> {
         }
     }
 
-    fn hear<W: Write>(&mut self, now: Milliseconds, writer: &mut W) -> Result<(), Fault>
+    /// Receives what has come, and prints the telegrams that the application takes. Returns whether all receptions
+    /// succeeded. If one fails, time passes all the same, so that deadlines are met.
+    fn hear<W: Write>(&mut self, now: Milliseconds, writer: &mut W) -> Result<bool, Fault>
         requires now { now ≤ 2 ^ 62 }
         requires later { self.old.end.time ≤ now }
-        // That a reception fails is no fault.
+        // `hear` fails only with `Output`: a reception that fails is not a fault.
         ensures refused { IfErr result (λ why. why ≡ Fault.Output) }
+        // After `hear` the end's time is `now`: it has ticked, whether or not a reception failed.
+        ensures ticked { self.new.end.time ≡ now }
+        // After `hear` the end's time is at most `now`.
         ensures time { self.new.end.time ≤ now }
     {
         let mut printer = Printer {
@@ -226,14 +354,15 @@ impl<'a, C: Channels, A: Allocator + Copy> Actor<'a, C, A> {
             failed: false,
         };
         self.end.channels().ear.time = now;
-        let _heard = self.end.poll(now, &mut printer);
+        let works = poll_or_tick(&mut self.end, now, &mut printer);
         self.taken = self.taken.wrapping_add(printer.taken);
         if printer.failed {
             return Err(Fault::Output);
         }
-        Ok(())
+        Ok(works)
     }
 
+    /// Puts the telegrams that are left, until the end is full.
     fn put_left<W: Write, E: Write>(
         &mut self,
         now: Milliseconds,
@@ -242,12 +371,12 @@ impl<'a, C: Channels, A: Allocator + Copy> Actor<'a, C, A> {
     ) -> Result<(), Fault>
         requires now { now ≤ 2 ^ 62 }
         requires later { self.old.end.time ≤ now }
-        // Of what an end is to put, a turn's part puts the beginning, in order, each telegram once, up to the
-        // first for which the end is full; a refused one is printed and not counted; what is left is exactly
-        // the rest (`PutsBeginning`).
+        // If `put_left` succeeds, it has put a prefix of the telegrams in order, each once, up to the first for
+        // which the end is `Full`. One that is refused is printed and not counted. Exactly the rest is left.
         ensures puts { OnOk result (PutsBeginning (λ o. C.told o.inner) now self.old.left.now
             (self.old.end, self.old.put, W.contents writer.old) self.new.left.now
             (self.new.end, self.new.put, W.contents writer.new)) }
+        // After `put_left` the end's time is at most `now`.
         ensures time { self.new.end.time ≤ now }
     {
         let count = self.left.len();
@@ -255,7 +384,8 @@ impl<'a, C: Channels, A: Allocator + Copy> Actor<'a, C, A> {
             let Some((put, rest)) = self.left.split_first() else {
                 return Ok(());
             };
-            if !self.put_one(put, now, writer, err)? {
+            let place = self.entries.saturating_sub(rest.len());
+            if !self.put_one(put, Origin::Entry(place as u64), now, writer, err)? {
                 return Ok(());
             }
             self.left = rest;
@@ -263,31 +393,32 @@ impl<'a, C: Channels, A: Allocator + Copy> Actor<'a, C, A> {
         Ok(())
     }
 
-    /// Puts a telegram, and answers whether it is done with: it is not where the end is full, and where it is refused otherwise the refusal
-    /// is printed.
+    /// Puts a telegram, and returns whether it is done with. It is not if the end is full. A telegram that is
+    /// refused for another reason is printed and counted.
     fn put_one<W: Write, E: Write>(
         &mut self,
         put: &Put,
+        origin: Origin,
         now: Milliseconds,
         writer: &mut W,
         err: &mut E,
     ) -> Result<bool, Fault>
         requires now { now ≤ 2 ^ 62 }
         requires later { self.old.end.time ≤ now }
-        // Of one telegram: it is put in and counted, or refused and printed and nothing else changes, or the
-        // end is full for it and nothing changes.
+        // If `put_one` returns true, the telegram was put and counted, or it was refused and only the refusal was
+        // printed.
         ensures passed { IfOk result (λ done. done ≡ true
             → Passes (λ o. C.told o.inner) now (self.old.end, self.old.put, W.contents writer.old) put.now
             (self.new.end, self.new.put, W.contents writer.new)) }
-        // Of one telegram: it is put in and counted, or refused and printed and nothing else changes, or the
-        // end is full for it and nothing changes.
+        // If `put_one` returns false, the end is `Full` for this telegram.
         ensures full { IfOk result (λ done. done ≡ false
             → Answers self.old.end put.now (Some Full)) }
-        // Of one telegram: it is put in and counted, or refused and printed and nothing else changes, or the
-        // end is full for it and nothing changes.
+        // If `put_one` returns false, it has changed neither the end nor the count nor the output.
         ensures kept { IfOk result (λ done. done ≡ false → (self.new.end ≡ self.old.end) × (self.new.put ≡ self.old.put)
             × (W.contents writer.new ≡ W.contents writer.old)) }
+        // `put_one` does not change the telegrams that are left.
         ensures left { self.new.left ≡ self.old.left }
+        // After `put_one` the end's time is at most `now`.
         ensures time { self.new.end.time ≤ now }
     {
         match self.end.put(put.kind, put.payload.as_slice(), now) {
@@ -297,7 +428,7 @@ impl<'a, C: Channels, A: Allocator + Copy> Actor<'a, C, A> {
             }
             Err(PutFault::Full) => Ok(false),
             Err(fault) => {
-                self.log.tell(Happening::PutRefused(fault), now, err);
+                self.note_refusal(put.kind, origin, fault, now, err);
                 match write_refusal(writer, fault.name()) {
                     Ok(()) => Ok(true),
                     Err(_) => Err(Fault::Output),
@@ -306,12 +437,38 @@ impl<'a, C: Channels, A: Allocator + Copy> Actor<'a, C, A> {
         }
     }
 
-    /// Puts the telegrams of input that wait, up to one that is refused as Full, where the session is established, or closed for good;
-    /// answers whether a line was there.
+    /// Counts a telegram that was refused, and prints where it comes from, its message type and the fault.
+    fn note_refusal<E: Write>(
+        &mut self,
+        kind: u16,
+        origin: Origin,
+        fault: PutFault,
+        now: Milliseconds,
+        err: &mut E,
+    )
+        // `note_refusal` does not change the end.
+        ensures end { self.new.end ≡ self.old.end }
+        // `note_refusal` does not change the telegrams that are left.
+        ensures left { self.new.left ≡ self.old.left }
+        // `note_refusal` does not change the number of telegrams put.
+        ensures put { self.new.put ≡ self.old.put }
+    {
+        match origin {
+            Origin::Line(_) => self.refused_lines = self.refused_lines.saturating_add(1),
+            Origin::Entry(_) => self.refused_entries = self.refused_entries.saturating_add(1),
+        }
+        self.log.tell(Happening::PutRefused(fault), now, err);
+        let _ = write_refused(err, origin, kind, fault.name());
+    }
+
+    /// Puts the telegrams of input, until one is refused as `Full`, if the session is established and the list of
+    /// the settings file is done. If the connection is closed for good, each line is refused. Returns whether there
+    /// was a line.
     ///
     /// # Errors
     ///
-    /// Refused as Output, or as Memory.
+    /// - `Output` if a line cannot be printed;
+    /// - `Memory` if an allocation fails.
     pub fn put_lines<I: Read + Drop, W: Write, E: Write>(
         &mut self,
         alloc: Global,
@@ -322,11 +479,16 @@ impl<'a, C: Channels, A: Allocator + Copy> Actor<'a, C, A> {
     ) -> Result<bool, Fault>
         requires now { now ≤ 2 ^ 62 }
         requires later { self.old.end.time ≤ now }
+        // After `put_lines` the end's time is at most `now`.
         ensures time { self.new.end.time ≤ now }
     {
-        if !may_put_lines(self.is_kept, self.end.state(), self.end.phase())
-            || !self.left.is_empty()
-        {
+        let is_ready = may_put_lines(
+            self.is_kept,
+            self.end.state(),
+            self.end.phase(),
+            self.left.is_empty(),
+        );
+        if !is_ready {
             return Ok(false);
         }
         'lines: for place in 0..LINES_MAX {
@@ -340,7 +502,7 @@ impl<'a, C: Channels, A: Allocator + Copy> Actor<'a, C, A> {
         Ok(true)
     }
 
-    /// Puts the telegram of input that is at hand, if one is; answers false where it was refused as Full, and stays at hand.
+    /// Puts the next telegram of input, if there is one. Returns false, and keeps it, if the end is full.
     fn put_next<I: Read + Drop, W: Write, E: Write>(
         &mut self,
         feed: &mut Feed<I>,
@@ -350,10 +512,21 @@ impl<'a, C: Channels, A: Allocator + Copy> Actor<'a, C, A> {
     ) -> Result<bool, Fault>
         requires now { now ≤ 2 ^ 62 }
         requires later { self.old.end.time ≤ now }
+        // If `put_next` returns true, it has put the next telegram, or has refused it and printed the refusal.
+        ensures passed { IfOk result (λ done. done ≡ true → IfSome feed.old.next (λ p.
+            Passes (λ o. C.told o.inner) now (self.old.end, self.old.put, W.contents writer.old) p
+            (self.new.end, self.new.put, W.contents writer.new))) }
+        // If `put_next` returns true, no telegram is next.
+        ensures gone { IfOk result (λ done. done ≡ true → feed.new.next ≡ None) }
+        // If `put_next` returns false, the end is `Full` for the next telegram, which stays.
+        ensures full { IfOk result (λ done. done ≡ false → (feed.new.next ≡ feed.old.next)
+            × IfSome feed.old.next (λ p. Answers self.old.end p (Some Full))) }
+        // After `put_next` the end's time is at most `now`.
         ensures time { self.new.end.time ≤ now }
     {
+        let number = feed.number();
         if let Some(put) = &feed.next {
-            if !self.put_one(put, now, writer, err)? {
+            if !self.put_one(put, Origin::Line(number), now, writer, err)? {
                 return Ok(false);
             }
         }
@@ -361,18 +534,18 @@ impl<'a, C: Channels, A: Allocator + Copy> Actor<'a, C, A> {
         Ok(true)
     }
 
-    /// Leaves the connection, and tells what has happened.
+    /// Disconnects, and logs the events.
     pub fn close<E: Write>(&mut self, now: Milliseconds, err: &mut E)
         requires now { now ≤ 2 ^ 62 }
         requires later { self.old.end.time ≤ now }
+        // After `close` the end's time is at most `now`.
         ensures time { self.new.end.time ≤ now }
     {
         self.end.close(now);
         self.log.catch_up(&self.end.channels_seen().ear, now, err);
     }
 
-    /// Ends the initialisation, once nothing is left to be put. Where it is refused as Full it is tried again in the
-    /// next turn.
+    /// Ends the initialisation, once no telegram is left. If that is refused as `Full`, the next turn tries again.
     fn end_initialising<W: Write, E: Write>(
         &mut self,
         now: Milliseconds,
@@ -381,6 +554,7 @@ impl<'a, C: Channels, A: Allocator + Copy> Actor<'a, C, A> {
     ) -> Result<(), Fault>
         requires now { now ≤ 2 ^ 62 }
         requires later { self.old.end.time ≤ now }
+        // After `end_initialising` the end's time is at most `now`.
         ensures time { self.new.end.time ≤ now }
     {
         if !self.left.is_empty() {
@@ -399,17 +573,43 @@ impl<'a, C: Channels, A: Allocator + Copy> Actor<'a, C, A> {
     }
 }
 
-/// Whether the telegrams of input are put now: once the session is established; where the connection is closed for good too, so that each
-/// is told to be refused and input is read to its end. An end that is kept is never closed for good.
-fn may_put_lines(is_kept: bool, state: ConnectionState, phase: Phase) -> bool
-    ensures { result ≡ takes_lines is_kept state phase }
+/// Polls an end, and returns whether all receptions succeeded. If one fails, time passes all the same, so that
+/// deadlines are met.
+fn poll_or_tick<C: Listener, A: Allocator, T: Taker>(
+    end: &mut End<C, A>,
+    now: Milliseconds,
+    taker: &mut T,
+) -> bool
+    requires now { now ≤ 2 ^ 62 }
+    requires later { end.old.time ≤ now }
+    // After `poll_or_tick` the end's time is `now`: it has ticked, whether or not a reception failed.
+    ensures { end.new.time ≡ now }
 {
-    (state == ConnectionState::Closed && !is_kept) || phase == Phase::Established
+    match end.poll(now, taker) {
+        Ok(()) => true,
+        Err(_) => {
+            end.tick(now, taker);
+            false
+        }
+    }
 }
 
-/// Whether an end stands as it was expected to: `settled` where all that was put in is confirmed, `done` where all was tried.
+/// Returns whether the telegrams of input are put now: once the session is established and the list is done, and
+/// also if the connection is closed for good, so that each is refused by name and input is read to its end. An end
+/// that is kept is never closed for good.
+fn may_put_lines(is_kept: bool, state: ConnectionState, phase: Phase, is_empty: bool) -> bool
+    // `may_put_lines` is true for an established session if nothing of the list is left, and for a closed end that
+    // is not kept; else it is false.
+    ensures { result ≡ takes_lines is_kept state phase is_empty }
+{
+    (state == ConnectionState::Closed && !is_kept) || (phase == Phase::Established && is_empty)
+}
+
+/// Returns whether an end is in the expected state: `settled` if everything put is confirmed, `done` if everything
+/// was tried.
 fn is_met(expected: Option<Expected>, phase: Phase, settled: bool, done: bool) -> bool
-    // Whether an end stands as expected is what its phase, what is unconfirmed and what is left to put say.
+    // `is_met` is true if no state is expected; for `Up` if the session is established; for `Settled` if it also
+    // is `settled` and `done`.
     ensures { result ≡ meets expected phase settled done }
 {
     match expected {
@@ -420,11 +620,12 @@ fn is_met(expected: Option<Expected>, phase: Phase, settled: bool, done: bool) -
 }
 
 impl<C: Channels + Drop, A: Allocator + Copy> Actor<'_, C, A> {
-    /// Opens the end anew on its channels, in place of the one that it has: nothing that was put into that one is put again.
+    /// Opens the end again on its channels, in place of the old one. Telegrams that were put into that one are not
+    /// put again.
     ///
     /// # Errors
     ///
-    /// Refused as Memory; what was kept of the channels is gone then.
+    /// - `Memory` if an allocation fails; the channels are lost then.
     fn open_anew(
         &mut self,
         alloc: A,
@@ -434,16 +635,18 @@ impl<C: Channels + Drop, A: Allocator + Copy> Actor<'_, C, A> {
         now: Milliseconds,
     ) -> Result<(), Fault>
         requires later { self.old.end.time ≤ now }
-        // Each opening anew is an opening of an end with the settings of the first, and a number; what stands
-        // there before is let go, and what is left to put stays.
+        // If `open_anew` succeeds, the end is newly opened with these settings, this first number and this time.
         ensures stands { OnOk result (EndStands (λ o. C.told o.inner) self.new.end
             (opened_end self.old.side config first_sn now)) }
-        // Each opening anew is an opening of an end with the settings of the first, and a number; what stands
-        // there before is let go, and what is left to put stays.
+        // If `open_anew` succeeds, the datagrams of the opening were sent on the channels of the old end, which
+        // are now those of the new one.
         ensures sent { OnOk result (FoldsTo SendsOne (C.told (channels_of self.old.end).inner)
             (sent_at_opening (opened_end self.old.side config first_sn now)) (C.told (channels_of self.new.end).inner)) }
+        // `open_anew` does not change the telegrams that are left.
         ensures left { self.new.left ≡ self.old.left }
+        // `open_anew` does not change the number of telegrams put.
         ensures put { self.new.put ≡ self.old.put }
+        // After `open_anew` the end's time is at most `now`.
         ensures time { self.new.end.time ≤ now }
     {
         let mut channels = mem::replace(self.end.channels(), spare);
@@ -458,8 +661,9 @@ impl<C: Channels + Drop, A: Allocator + Copy> Actor<'_, C, A> {
     }
 }
 
-/// What ends a run whose end was not opened.
+/// Returns the fault of a run whose end was not opened.
 pub(crate) fn fault_of_end(fault: OpenFault) -> Fault
+    // `fault_of_end` returns `Settings` for settings that are not valid, and `Memory` for want of memory.
     ensures { result ≡ fault_of_end fault }
 {
     match fault {
@@ -469,12 +673,13 @@ pub(crate) fn fault_of_end(fault: OpenFault) -> Fault
 }
 
 impl Actor<'_, UdpChannels> {
-    /// Opens the end anew, where it is kept, has lost its connection and its rest is over, with a first sequence number that is drawn; answers
-    /// whether it was.
+    /// Opens the end again on its sockets, if it is kept, has lost its connection and its wait is over, with a
+    /// first sequence number drawn at random. Returns whether it did.
     ///
     /// # Errors
     ///
-    /// Refused as File, where the system gives no number, or as Memory.
+    /// - `File` if the system gives no random number;
+    /// - `Memory` if an allocation fails.
     pub fn keep<R: Files, E: Write>(
         &mut self,
         rt: &R,
@@ -484,36 +689,37 @@ impl Actor<'_, UdpChannels> {
     ) -> Result<bool, Fault>
         requires now { now ≤ 2 ^ 62 }
         requires later { self.old.end.time ≤ now }
-        // Each opening anew is an opening of an end with the settings of the first, and a number; what stands
-        // there before is let go, and what is left to put stays.
+        // `keep` opens the end again if and only if it is kept, it is stale and its wait is over.
+        ensures anew { IfOk result (λ anew. anew ≡ opens_anew self.old.is_kept self.old.side
+            (is_stale (inside self.old.end)) self.old.keeper now) }
+        // If `keep` returns false, it has not changed the end.
         ensures same { IfOk result (λ anew. anew ≡ false → self.new.end ≡ self.old.end) }
-        // Each opening anew is an opening of an end with the settings of the first, and a number; what stands
-        // there before is let go, and what is left to put stays.
+        // If `keep` returns true, the end is newly opened with the settings of its keeper and some first number.
         ensures opened { IfOk result (λ anew. anew ≡ true → (number : ℕ)
             × EndStands (λ o. told_of o.inner) self.new.end (opened_end self.old.side self.old.keeper.config number now)) }
-        // Each opening anew is an opening of an end with the settings of the first, and a number; what stands
-        // there before is let go, and what is left to put stays.
+        // `keep` does not change the telegrams that are left.
         ensures left { self.new.left ≡ self.old.left }
-        // Each opening anew is an opening of an end with the settings of the first, and a number; what stands
-        // there before is let go, and what is left to put stays.
+        // `keep` does not change the number of telegrams put.
         ensures put { self.new.put ≡ self.old.put }
+        // After `keep` the end's time is at most `now`.
         ensures time { self.new.end.time ≤ now }
     {
         if !self.is_kept {
             return Ok(false);
         }
-        let let_in = self.end.channels_seen().ear.let_in();
-        let state = self.end.state();
-        let until = self.keeper.look(self.side, state, let_in, now);
+        let until = self.keeper.look(self.side, self.end.is_stale(), now);
         self.anew_at = match until {
             Some(rest) => Some(now.saturating_add(rest)),
             None => None,
         };
-        if until != Some(0) {
+        if !is_wait_over(until) {
             return Ok(false);
         }
-        self.keeper.note(let_in, now);
+        self.keeper.note(now);
         self.anew_at = None;
+        self.lost = self.lost.saturating_add(self.doubt());
+        self.before = self.put;
+        self.openings = self.openings.wrapping_add(1);
         let config = self.keeper.config;
         let first_sn = first_number(rt, None)?;
         let Ok(spare) = Overheard::over(alloc, SocketChannels::over(Vec::new(alloc)), false) else {
@@ -525,23 +731,29 @@ impl Actor<'_, UdpChannels> {
         Ok(true)
     }
 
-    /// Tells what was counted, where that is due.
+    /// Prints the counts, if they are due.
     pub fn tell_due<E: Write>(&mut self, now: Milliseconds, err: &mut E)
+        // `tell_due` does not change the end.
         ensures end { self.new.end ≡ self.old.end }
     {
         let ear = &self.end.channels_seen().ear;
         self.teller.look(ear, self.put, self.taken, now, err);
     }
 
-    /// When the end has something to do next without a datagram, in milliseconds.
+    /// Returns when the end has something to do without a datagram, in milliseconds. After a reception that failed
+    /// it soon tries again, since another channel may have a datagram.
     pub fn next_deadline(&self) -> Option<Milliseconds> {
+        let again = match self.deaf_turns {
+            0 => None,
+            _ => Some(self.last_turn.saturating_add(DEAF_WAIT)),
+        };
         let own = earlier(self.end.next_deadline(), self.anew_at);
-        earlier(own, self.teller.next)
+        earlier(earlier(own, again), self.teller.next)
     }
 }
 
 impl<A: Allocator> Actor<'_, UdpChannels, A> {
-    /// How many datagrams came to its sockets, modulo 2^64.
+    /// Returns how many datagrams its sockets received, modulo 2^64.
     pub fn received(&self) -> u64 {
         self.end.channels_seen().inner.received()
     }

@@ -1,4 +1,4 @@
-//! Why the channels of an end were not opened, in words for whoever runs it.
+//! Why the channels of an end could not be opened, in words for the user.
 
 ghost use Rattle.std.specs.Prelude.{◌≡◌, OnOk};
 ghost use Rattle.std.specs.Io.KnownBytes.{Appends};
@@ -11,17 +11,18 @@ use std::io;
 use std::io::Write;
 use udp_channels::{UdpFault, is_address};
 
-/// Channels that were not opened: those of which end, and why.
+/// Channels that could not be opened.
 #[derive(Clone, Copy, Debug, PartialEq, Eq)]
 pub struct Unopened {
     /// The end.
     pub side: Side,
-    /// Why.
+    /// The reason.
     pub fault: UdpFault,
 }
 
 impl Unopened {
-    /// Tells each channel, its address and what is wrong with it, where addresses are at fault. An output that fails is passed over.
+    /// Prints each channel with its address and the reason, if addresses are the reason. A failing output is
+    /// ignored.
     pub fn tell<E: Write>(&self, ends: &Ends, err: &mut E) {
         let settings = settings_of(ends, self.side);
         match self.fault {
@@ -36,8 +37,8 @@ impl Unopened {
     }
 }
 
-/// Names each text of `local` and `remote` that is no address.
-fn tell_unread<E: Write>(settings: &Settings, side: Side, err: &mut E) {
+/// Prints each text of `local` and `remote` that is not an address.
+pub(crate) fn tell_unread<E: Write>(settings: &Settings, side: Side, err: &mut E) {
     let pairs = settings.local.iter().zip(settings.remote.iter());
     for (number, (own, peer)) in pairs.enumerate() {
         tell_if_unread(side, number.wrapping_add(1), true, own.as_str(), err);
@@ -45,13 +46,14 @@ fn tell_unread<E: Write>(settings: &Settings, side: Side, err: &mut E) {
     }
 }
 
+/// Prints a text if it is not an address.
 fn tell_if_unread<E: Write>(side: Side, channel: usize, is_own: bool, text: &str, err: &mut E) {
     if !is_address(text) {
         let _ = write_unread(err, side, channel, is_own, text);
     }
 }
 
-/// The settings of one of the ends.
+/// Returns the settings of one of the ends.
 fn settings_of(ends: &Ends, side: Side) -> &Settings {
     match (ends, side) {
         (Ends::Il(settings) | Ends::Fe(settings), _) => settings,
@@ -60,7 +62,7 @@ fn settings_of(ends: &Ends, side: Side) -> &Settings {
     }
 }
 
-/// The address of a channel, counted from 1.
+/// Returns the address of a channel, numbered from 1.
 fn text_at(list: &[String], channel: usize) -> &str {
     match list.get(channel.wrapping_sub(1)) {
         Some(text) => text.as_str(),
@@ -68,7 +70,7 @@ fn text_at(list: &[String], channel: usize) -> &str {
     }
 }
 
-/// The system's number for a reason, which is above 0 where it is one.
+/// Returns the system's number for an error, if it is above 0.
 fn number_of(error: Option<i32>) -> Option<u32> {
     match error {
         Some(error) => u32::try_from(error).ok(),
@@ -76,11 +78,11 @@ fn number_of(error: Option<i32>) -> Option<u32> {
     }
 }
 
-/// Writes that a text is no address.
+/// Writes that a text is not an address.
 ///
 /// # Errors
 ///
-/// An error is the writer's; what came before it stays written.
+/// - The error of the writer; what it wrote before stays written.
 #[tactic(auto, unfolding(crate::specs::Unopened::unread_text))]
 pub fn write_unread<W: Write>(
     writer: &mut W,
@@ -89,19 +91,20 @@ pub fn write_unread<W: Write>(
     is_own: bool,
     address: &str,
 ) -> io::Result<()>
-    // The lines that name a channel that was not opened.
+    // If `write_unread` succeeds, it has appended the line that names the channel and says that its address is not
+    // one.
     ensures { OnOk result (Appends (W.contents writer.old) (W.contents writer.new)
         (unopened.unread_text side channel is_own address.now)) }
 {
     write_place(writer, side, channel, is_own, address)?;
-    write_text(writer, ": it is no number and port\n")
+    write_text(writer, ": not an IP address and a port\n")
 }
 
-/// Writes that the system gives no socket at an own address, and why, where it gave a number for that.
+/// Writes that the system gives no socket at an own address, and the number of its error, if it gave one.
 ///
 /// # Errors
 ///
-/// An error is the writer's; what came before it stays written.
+/// - The error of the writer; what it wrote before stays written.
 #[tactic(auto, unfolding(crate::specs::Unopened::unbound_text))]
 pub fn write_unbound<W: Write>(
     writer: &mut W,
@@ -110,7 +113,8 @@ pub fn write_unbound<W: Write>(
     address: &str,
     error: Option<u32>,
 ) -> io::Result<()>
-    // The lines that name a channel that was not opened.
+    // If `write_unbound` succeeds, it has appended the line that names the channel and says why the system gives
+    // no socket there.
     ensures { OnOk result (Appends (W.contents writer.old) (W.contents writer.new)
         (unopened.unbound_text side channel address.now error)) }
 {
@@ -119,6 +123,7 @@ pub fn write_unbound<W: Write>(
     write_text(writer, "\n")
 }
 
+/// Writes the channel, and that there is no socket.
 #[tactic(auto, unfolding(crate::specs::Unopened::unbound_front))]
 fn write_unbound_front<W: Write>(
     writer: &mut W,
@@ -126,13 +131,16 @@ fn write_unbound_front<W: Write>(
     channel: usize,
     address: &str,
 ) -> io::Result<()>
+    // If `write_unbound_front` succeeds, it has appended the channel with its own address, and that there is no
+    // socket.
     ensures { OnOk result (Appends (W.contents writer.old) (W.contents writer.new)
         (unopened.unbound_front side channel address.now)) }
 {
     write_place(writer, side, channel, true, address)?;
-    write_text(writer, ": the system gives no socket there")
+    write_text(writer, ": no socket there")
 }
 
+/// Writes the channel and its address.
 #[tactic(auto, unfolding(crate::specs::Unopened::place_text))]
 fn write_place<W: Write>(
     writer: &mut W,
@@ -141,6 +149,8 @@ fn write_place<W: Write>(
     is_own: bool,
     address: &str,
 ) -> io::Result<()>
+    // If `write_place` succeeds, it has appended the end, the channel's number, whose address it is, and the
+    // address.
     ensures { OnOk result (Appends (W.contents writer.old) (W.contents writer.new)
         (unopened.place_text side channel is_own address.now)) }
 {
@@ -149,7 +159,10 @@ fn write_place<W: Write>(
     write!(writer, "{end} channel {channel}: {whose}{address}")
 }
 
+/// Returns whose address it is.
 fn whose_words(is_own: bool) -> &'static str
+    // `whose_words` returns the words for the end's own address if `is_own` is true, and else those for the
+    // peer's.
     ensures { result.now ≡ unopened.whose_text is_own }
 {
     match is_own {
@@ -158,7 +171,9 @@ fn whose_words(is_own: bool) -> &'static str
     }
 }
 
+/// Writes the system's error, if there is a number for it.
 fn write_error<W: Write>(writer: &mut W, error: Option<u32>) -> io::Result<()>
+    // If `write_error` succeeds, it has appended the error with its number, or nothing if there is none.
     ensures { OnOk result (Appends (W.contents writer.old) (W.contents writer.new) (unopened.error_text error)) }
 {
     match error {
@@ -167,21 +182,26 @@ fn write_error<W: Write>(writer: &mut W, error: Option<u32>) -> io::Result<()>
     }
 }
 
+/// Writes the number of an error, and words for the most frequent ones.
 #[tactic(auto, unfolding(crate::specs::Unopened::numbered_text))]
 fn write_numbered<W: Write>(writer: &mut W, error: u32) -> io::Result<()>
+    // If `write_numbered` succeeds, it has appended the number of the error, and its words if it is a frequent
+    // one.
     ensures { OnOk result (Appends (W.contents writer.old) (W.contents writer.new) (unopened.numbered_text error)) }
 {
     let words = error_words(error);
     write!(writer, ", error {error}{words}")
 }
 
+/// Returns words for the most frequent errors.
 fn error_words(error: u32) -> &'static str
+    // `error_words` returns words for the errors 98, 99 and 13, and nothing for any other.
     ensures { result.now ≡ unopened.error_words error }
 {
     match error {
-        98 => ", it is in use",
-        99 => ", it is not this machine's",
-        13 => ", this user may not have that port",
+        98 => ": address in use",
+        99 => ": not an address of this machine",
+        13 => ": this user may not use the port",
         _ => "",
     }
 }

@@ -1,4 +1,4 @@
-//! The rest behind a turn.
+//! The wait after a turn.
 
 ghost use Rattle.std.specs.Prelude.{◌≡◌, ℕ};
 ghost use Rattle.stack_end.specs.Deadlines.{earliest};
@@ -10,19 +10,21 @@ use std::cmp::min;
 use std::time::Duration;
 use udp_channels::Watch;
 
-/// The longest wait of a turn that found nothing, where turns are counted, in milliseconds; the system may wait one longer.
+/// The longest wait after a turn that found nothing, if turns are counted, in milliseconds. The system may wait
+/// one longer.
 const WAIT_MAX: u64 = 4;
 
-/// The longest wait where input is awaited, in milliseconds. What comes there ends a wait as a datagram does.
+/// The longest wait if a run lasts until input ends, in milliseconds. Input ends a wait as a datagram does.
 const INPUT_WAIT_MAX: u64 = 1_000;
 
-/// What is waited on, until a datagram or a line of input comes.
+/// Something that waits until a datagram or a line of input comes.
 pub trait Waiter {
-    // What a wait of so many milliseconds does to it.
+    // How a wait of this many milliseconds changes it.
     ghost waits: { Self → ℕ → Self → Type 0 };
 
-    /// Waits until a datagram comes, or so many milliseconds have passed.
+    /// Waits until a datagram comes, or this many milliseconds have passed.
     fn wait(&mut self, milliseconds: u64)
+        // `wait` changes `self` as `waits` says for this time.
         ensures { waits self.old milliseconds self.new };
 }
 
@@ -34,7 +36,7 @@ impl Waiter for Watch {
     }
 }
 
-/// Waits behind a turn, as long as it is to rest.
+/// Waits after a turn.
 pub fn take_rest<T: Waiter>(
     waiter: &mut T,
     length: RunLength,
@@ -42,8 +44,8 @@ pub fn take_rest<T: Waiter>(
     now: Milliseconds,
     deadline: Option<Milliseconds>,
 )
-    // `take_rest` waits once, for that length, or not at all, where what a wait does is told; over sockets it
-    // is not.
+    // `take_rest` waits once, for the time of `rest_of`, or not at all if there is none. Over sockets nothing is
+    // claimed of a wait.
     ensures { Rests T.waits (rest_of length found now deadline) waiter.old waiter.new }
 {
     if let Some(pause) = rest(length, found, now, deadline) {
@@ -51,16 +53,16 @@ pub fn take_rest<T: Waiter>(
     }
 }
 
-/// How long to rest behind a turn, in milliseconds: not at all where it found something; else to the deadline, and no longer than
-/// the longest wait.
+/// Returns how long to wait after a turn, in milliseconds: not at all if it found something; else until the
+/// deadline, but no longer than the longest wait.
 fn rest(
     length: RunLength,
     found: bool,
     now: Milliseconds,
     deadline: Option<Milliseconds>,
 ) -> Option<u64>
-    // A turn that found something does not rest; another, as `rest` has it, rests to the deadline given to it,
-    // and no longer than 4 ms where turns are counted, a second where input is awaited.
+    // `rest` returns `None` after a turn that `found` something. Else it returns the time until the deadline, at
+    // most 4 ms if turns are counted and a second otherwise.
     ensures { result ≡ rest_of length found now deadline }
 {
     let most = longest(length);
@@ -71,8 +73,9 @@ fn rest(
     }
 }
 
-/// The longest rest, in milliseconds.
+/// Returns the longest wait, in milliseconds.
 fn longest(length: RunLength) -> u64
+    // `longest` returns 4 for counted turns, and 1,000 for a run until input ends.
     ensures { result ≡ longest_rest length }
 {
     match length {
@@ -81,9 +84,9 @@ fn longest(length: RunLength) -> u64
     }
 }
 
-/// The earlier of two deadlines, where there is one.
+/// Returns the earlier of two deadlines that may be absent.
 pub fn earlier(first: Option<u64>, second: Option<u64>) -> Option<u64>
-    // Of the deadlines of two ends `earlier` answers the earlier one.
+    // `earlier` returns the earlier deadline if both are there, and else the one that is there.
     ensures { result ≡ earliest first second }
 {
     match (first, second) {

@@ -1,4 +1,4 @@
--- The choices of `follow`, and how its words name them.
+-- The options of `follow`, and the words that name their values.
 use Rattle.std.specs.Prelude.{◌≡◌, ℕ, ◌≤◌, ◌<◌, ◌^◌, Bool, false, true, List, codes, Option, None, Some}
 use Rattle.std.specs.Option.{option_copied}
 use Rattle.std.specs.Str.{bytes_eq}
@@ -13,102 +13,117 @@ use Rattle.safe_pdu.specs.declared.CodeLength.{CodeLength}
 use Rattle.safe_pdu.specs.declared.CodeLength.TheVariants.{Zero, Eight, Sixteen}
 use Rattle.rasta_words.specs.declared.command_line.FollowRequest.{FollowRequest}
 
--- follow [--code N] [--iv HEX] [--json] [--messages] [--only WORD] [--ports PORTS] [--t-max MS] FILE
+-- `--code N` of follow [--code N] [--iv HEX] [--json] [--messages] [--only WORD] [--ports PORTS] [--t-max MS] FILE
 abbrev pub chosen_code_rule : Rule
 chosen_code_rule = record (new_rule (codes "code")) { long = Some (codes "code") }
 
+-- `--iv HEX`
 abbrev pub iv_rule : Rule
 iv_rule = record (new_rule (codes "iv")) { long = Some (codes "iv") }
 
+-- `--messages`, a flag
 abbrev pub messages_rule : Rule
 messages_rule = record (new_rule (codes "messages")) { long = Some (codes "messages"); action = Some SetTrue }
 
+-- `--only WORD`
 abbrev pub only_rule : Rule
 only_rule = record (new_rule (codes "only")) { long = Some (codes "only") }
 
+-- `--t-max MS`
 abbrev pub t_max_rule : Rule
 t_max_rule = record (new_rule (codes "t-max")) { long = Some (codes "t-max") }
 
+-- `--ports PORTS`
 abbrev pub ports_rule : Rule
 ports_rule = record (new_rule (codes "ports")) { long = Some (codes "ports") }
 
+-- `--json`, a flag
 abbrev pub json_rule : Rule
 json_rule = record (new_rule (codes "json")) { long = Some (codes "json"); action = Some SetTrue }
 
+-- FILE, which is required
 abbrev pub file_rule : Rule
 file_rule = record (new_rule (codes "file")) { required = true }
 
+-- `follow` with `--code`
 abbrev pub length_app : App
 length_app = with_rule (new_app (codes "follow")) chosen_code_rule
 
+-- with `--iv`, too
 abbrev pub chosen_app : App
 chosen_app = with_rule length_app iv_rule
 
+-- with `--only`, too
 abbrev pub only_app : App
 only_app = with_rule chosen_app only_rule
 
+-- with `--t-max`, too
 abbrev pub limited_app : App
 limited_app = with_rule only_app t_max_rule
 
+-- with `--messages`, too
 abbrev pub telling_app : App
 telling_app = with_rule limited_app messages_rule
 
+-- with `--ports`, too
 abbrev pub ported_app : App
 ported_app = with_rule telling_app ports_rule
 
+-- with `--json`, too
 abbrev pub summing_app : App
 summing_app = with_rule ported_app json_rule
 
+-- the whole command `follow`
 abbrev pub follow_app : App
 follow_app = with_rule summing_app file_rule
 
--- how a length of code is written
+-- the word for a length of the safety code, in bytes
 abbrev pub code_word : CodeLength → Text
 code_word Zero = codes "0"
 code_word Eight = codes "8"
 code_word Sixteen = codes "16"
 
--- 8 octets, where no length is written
+-- the length of code that the word of `--code` names; 8 bytes without the option
 abbrev pub IsCodeChosen : Option Text → CodeLength → Type 0
 IsCodeChosen None code = code ≡ Eight
 IsCodeChosen (Some word) code = word ≡ code_word code
 
--- whether a flag was given
+-- whether a flag was given: clap then gives it the value `true`
 abbrev pub is_flagged : Option Text → Bool
 is_flagged None = false
 is_flagged (Some word) = bytes_eq word (codes "true")
 
--- how a remark is written by which lines are chosen
+-- the word names this remark
 abbrev pub IsWritten : Text → Option Remarkable → Type 0
 IsWritten word None = ⊥
 IsWritten word (Some remark) = word ≡ word_text remark
 
--- all lines, where no remark is written
+-- the remark that the word of `--only` names; without the option none, so all lines are printed
 abbrev pub IsRemarkChosen : Option Text → Option Remarkable → Type 0
 IsRemarkChosen None remark = remark ≡ None
 IsRemarkChosen (Some word) remark = IsWritten word remark
 
--- how an age is written: in decimal digits, before which a plus may stand; in milliseconds
+-- the word is a number of milliseconds from 1 to 2^32 - 1, in decimal digits, after an optional plus
 abbrev pub IsMilliseconds : Text → ℕ → Type 0
 IsMilliseconds word age =
     IsNumeral 10 (without_leading_plus word) × (digits_value 10 (without_leading_plus word) ≡ age) × (1 ≤ age) × (age < 2 ^ 32)
 
--- 1,800 ms, where none is written
+-- the age that the word of `--t-max` names, in milliseconds; 1,800 without the option
 abbrev pub IsAgeChosen : Option Text → ℕ → Type 0
 IsAgeChosen None age = age ≡ 1800
 IsAgeChosen (Some word) age = IsMilliseconds word age
 
--- how ports are written: as ranges
+-- the word names these ranges of ports
 abbrev pub IsPorts : Text → Option (List (Option PortRange)) → Type 0
 IsPorts word None = ⊥
 IsPorts word (Some ports) = ports_of word ≡ Some ports
 
--- all ports, where none are written
+-- the ports that the word of `--ports` names; without the option none, so those of all ports are read
 abbrev pub ArePortsChosen : Option Text → Option (List (Option PortRange)) → Type 0
 ArePortsChosen None ports = ports ≡ None
 ArePortsChosen (Some word) ports = IsPorts word ports
 
--- the choices are those of the entries found
+-- the choices of `follow` have the values of the entries that clap found
 abbrev pub HasChoices : List Row → FollowRequest → Type 0
 HasChoices rows f =
     IsCodeChosen (first_of (codes "code") rows) f.code × (first_of (codes "iv") rows ≡ option_copied f.iv)
@@ -116,5 +131,6 @@ HasChoices rows f =
     × IsAgeChosen (first_of (codes "t-max") rows) f.t_max × (first_of (codes "file") rows ≡ Some f.file.now)
     × ArePortsChosen (first_of (codes "ports") rows) f.ports × (is_flagged (first_of (codes "json") rows) ≡ f.json)
 
+-- no choices of `follow` have the values of these entries
 abbrev pub HasNoChoices : List Row → Type 0
 HasNoChoices rows = (f : FollowRequest) → ¬ HasChoices rows f

@@ -2,3 +2,4 @@ pub mod Status
 pub mod Choices
 pub mod CommandLine
 pub mod Runs
+pub mod Rejections

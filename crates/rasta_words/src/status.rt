@@ -1,4 +1,4 @@
-//! How the program `rasta` ends, and the faults that it names on standard error.
+//! The exit status of the program `rasta`, and the faults that it prints on standard error.
 
 ghost use Rattle.std.specs.Prelude.{◌≡◌};
 ghost use Rattle.rasta_words.specs.Status.{status_code, status_of};
@@ -9,22 +9,25 @@ use thiserror::Error;
 /// How the program ends.
 #[derive(Clone, Copy, Debug, PartialEq, Eq)]
 pub enum Status {
-    /// All was done, and no fault was found.
+    /// Everything was done, and no fault was found.
     Done,
-    /// The input was refused or has a fault, or memory was refused.
+    /// The input was refused or has a fault, or an allocation failed.
     Refused,
-    /// The words are no command.
+    /// The words are not a command.
     WrongWords,
-    /// No socket was had, or a clock or an output failed.
+    /// A socket could not be opened, or the clock or an output failed.
     Failed,
-    /// An end does not stand as it was expected to.
+    /// An end is not in the expected state.
     Unexpected,
+    /// Standard input has ended, and a telegram was not put or not confirmed.
+    Unfinished,
 }
 
 impl Status {
-    /// The exit status.
+    /// Returns the exit status.
     pub fn code(self) -> u8
-        // Each end of the program has its exit status.
+        // `code` returns 0 for `Done`, 1 for `Refused`, 2 for `WrongWords`, 3 for `Failed`, 4 for `Unexpected` and
+        // 5 for `Unfinished`.
         ensures { result ≡ status_code self }
     {
         match self {
@@ -33,18 +36,19 @@ impl Status {
             Status::WrongWords => 2,
             Status::Failed => 3,
             Status::Unexpected => 4,
+            Status::Unfinished => 5,
         }
     }
 }
 
-/// What the log tells, on standard error.
+/// What goes to the log, on standard error.
 #[derive(Clone, Copy, Debug, PartialEq, Eq)]
 pub enum LogLevel {
     /// Nothing.
     Off,
-    /// What an end does, and how it ended.
+    /// Changes of state, and why an end stopped.
     State,
-    /// Each datagram that is dropped, too.
+    /// Each dropped datagram, too.
     All,
 }
 
@@ -57,16 +61,17 @@ pub enum RunLength {
     UntilEnd,
 }
 
-/// How ends are expected to stand when they have taken their turns.
+/// The state that is expected of ends after their turns.
 #[derive(Clone, Copy, Debug, PartialEq, Eq)]
 pub enum Expected {
-    /// The session is established.
+    /// The session is established. The state of the connection is not asked: it changes with each retransmission,
+    /// the phase of the session does not.
     Up,
-    /// The session is established, and all that was to be put is put in and confirmed.
+    /// The session is established, and everything that was to be put is put and confirmed.
     Settled,
 }
 
-/// How counts are told on standard error.
+/// The form in which counts are printed on standard error.
 #[derive(Clone, Copy, Debug, PartialEq, Eq)]
 pub enum CountsForm {
     /// In words.
@@ -75,28 +80,28 @@ pub enum CountsForm {
     Json,
 }
 
-/// Which counts are told, and when: at the end of a run, and before.
+/// How and when counts are printed: at the end of a run, and before.
 #[derive(Clone, Copy, Debug, PartialEq, Eq)]
 pub struct Telling {
-    /// How they are told.
+    /// Their form.
     pub form: CountsForm,
-    /// After so many seconds each time, where they are told before the end.
+    /// The seconds between two times before the end; `None` if they are printed only at the end.
     pub every: Option<u32>,
 }
 
-/// What the program names on standard error.
+/// A fault that the program prints on standard error, in one line. Details follow in lines of their own.
 #[derive(Clone, Copy, Debug, PartialEq, Eq, Error)]
 pub enum Fault {
-    /// A text that should be hex digits is none.
+    /// A text that should be hex digits is not.
     #[error("fault: hex")]
     Hex,
-    /// A file cannot be read, or is no UTF-8 text.
+    /// A file cannot be read, or is not UTF-8 text.
     #[error("fault: file")]
     File,
-    /// A settings file is none, or a text of it is no address.
+    /// A file is not a valid settings file, or one of its texts is not an address.
     #[error("fault: settings")]
     Settings,
-    /// Memory was refused.
+    /// An allocation failed.
     #[error("fault: memory")]
     Memory,
     /// The system gives no socket at an address.
@@ -111,9 +116,10 @@ pub enum Fault {
 }
 
 impl Fault {
-    /// How the program ends with it.
+    /// Returns how the program ends with this fault.
     pub fn status(self) -> Status
-        // Each fault has the end of the program that it brings about.
+        // `status` returns `Refused` for a fault of hex digits, a file, settings or memory, and `Failed` for one
+        // of the network, the clock or an output.
         ensures { result ≡ status_of self }
     {
         match self {
@@ -123,10 +129,11 @@ impl Fault {
     }
 }
 
-/// Names a fault on standard error, and answers how the program ends. Where that output fails too,
-/// the status alone tells.
+/// Prints a fault on standard error, and returns how the program ends. If that output fails too, only the exit
+/// status is left: a fault's own output is not waited for.
 pub fn report<E: Write>(err: &mut E, fault: Fault) -> Status
-    // `report` answers the end of the program that the fault it names brings about.
+    // `report` returns `Refused` for a fault of hex digits, a file, settings or memory, and else `Failed`, whether
+    // or not its output succeeds.
     ensures { result ≡ status_of fault }
 {
     let _ = writeln!(err, "{fault}");

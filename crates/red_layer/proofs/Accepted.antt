@@ -1,4 +1,4 @@
--- What arrives is what the grammar of the redundancy PDU spells.
+-- An arrival is the part of an encoding by the grammar of the redundancy PDU.
 use Rattle.std.proofs.Common.{subst, ◌≡◌, ◌≤◌, ℕ, zero, suc, ◌+◌, eqb, ltb, List, [], ◌∷◌, ◌++◌, length, drop, Result, Ok, Err, refl, sym, ap, ◌∙◌, arith}
 use Rattle.std.proofs.lemmas.Bool.Decides.{nat_tests}
 use Rattle.byteorder.specs.Endian.{little_bytes}
@@ -16,7 +16,7 @@ use Rattle.std.specs.List.{AllByRecursion}
 use Rattle.red_layer.specs.Laws.{ArrivalLaw, PartsLaw}
 use Rattle.octets.proofs.Choices.{by_cond}
 
--- what is spelled so is read
+-- an encoding is read as its number and payload
 read_of : (seq : ℕ) (upper octets : List ℕ) → RedText seq upper octets → red_seen octets ≡ Ok (seq, upper)
 read_of seq upper octets text =
     let size : length octets ≡ RED_HEADER + length upper = ap length text.spelled ∙ omega arith in
@@ -30,7 +30,7 @@ read_of seq upper octets text =
     let upper_is : drop RED_HEADER octets ≡ upper = ap (drop RED_HEADER) text.spelled in
     grind (arith, nat_tests)
 
--- what is read is spelled so
+-- bytes that are read are the encoding
 text_of : (seq : ℕ) (upper octets : List ℕ) → AreOctets octets → red_seen octets ≡ Ok (seq, upper) → RedText seq upper octets
 text_of seq upper octets bytes =
     let P : Result Part RedFault → Type 0 = λ said. said ≡ Ok (seq, upper) → RedText seq upper octets in
@@ -58,7 +58,7 @@ arrival_law octets now seq upper bytes = (
   λ arrives. text_of seq upper octets bytes (sym (decoded_is octets) ∙ one_accepted (decoded octets) (seq, upper) arrives),
 )
 
--- a part of octets is octets
+-- the payload of a list of bytes is a list of bytes
 abbrev OctetPart : Part → Type 0
 OctetPart p = AreOctets p.1
 

@@ -1,4 +1,4 @@
--- The three ways of an early part, over what is kept: f sees a kept part as its octets.
+-- The three outcomes of an early part; f maps a kept part to its bytes.
 use Rattle.std.proofs.Common.{◌≡◌, ◌≢◌, ℕ, true, false, cond, List, [], length, refl, sym, ap, ◌∙◌, arith}
 use Rattle.std.proofs.lemmas.Bool.Decides.{nat_tests}
 use Rattle.red_layer.specs.FiniteMap.{put_in, has_number}
@@ -27,6 +27,6 @@ deferred-wait f es now p r is absent room =
     let some : length r.waiting ≢ r.q = λ full. room (sym (length-map_parts f es) ∙ ap length (sym is) ∙ full) in
     grind (arith, nat_tests)
 
--- one more beside others keeps the moment since which they wait
+-- one more part beside others keeps the time since which they are deferred
 pub one_more : (now n : ℕ) (x : List ℕ) (r s : Receiver) → r ≡ s → is_nil s.waiting ≡ false → record r { waiting = put_in n x r.waiting } ≡ record s { waiting = put_in n x s.waiting; since = cond (is_nil s.waiting) now s.since }
 one_more now n x r s same some = rw (same, some) refl

@@ -1,10 +1,10 @@
--- Laws of a finite map that is the list of its entries with rising numbers.
+-- Laws of a finite map as the list of its entries with rising numbers.
 use Rattle.std.proofs.Common.{◌≡◌, ◌≢◌, ℕ, ◌+◌, ◌<◌, ◌≤◌, true, false, ◌||◌, cond, eqb, leb, List, [], ◌∷◌, length, Option, Some, None, refl, ap, ◌∙◌, ⊎_elim, subst, arith}
 use Rattle.std.proofs.lemmas.Bool.{false≢true}
 use Rattle.std.proofs.lemmas.Bool.Decides.{nat_tests, leb_tells, eqb_tells}
 use Rattle.red_layer.specs.FiniteMap.{Rises, put_in, take_out, part_under, has_number, least_of}
 
--- what is there after one is put in
+-- the map after an entry is added
 pub has-put_in : {T : Type 0} (n k : ℕ) (x : T) (es : List (ℕ × T)) → has_number n (put_in k x es) ≡ (eqb k n || has_number n es)
 has-put_in n k x [] = refl
 has-put_in n k x (e ∷ es) = grind (arith, nat_tests, has-put_in n k x es)
@@ -17,12 +17,12 @@ pub length-put_in : {T : Type 0} (k : ℕ) (x : T) (es : List (ℕ × T)) → le
 length-put_in k x [] = omega arith
 length-put_in k x (e ∷ es) = grind (arith, nat_tests, length-put_in k x es)
 
--- the order in which two are put in does not matter
+-- two entries can be added in either order
 pub put_in-put_in : {T : Type 0} (a b : ℕ) (x y : T) (es : List (ℕ × T)) → a ≢ b → put_in a x (put_in b y es) ≡ put_in b y (put_in a x es)
 put_in-put_in a b x y [] ne = grind (arith, nat_tests)
 put_in-put_in a b x y (e ∷ es) ne = grind (arith, nat_tests, put_in-put_in a b x y es ne)
 
--- what was put in is taken out
+-- adding and removing an entry leaves the map
 pub take_out-put_in_same : {T : Type 0} (k : ℕ) (x : T) (es : List (ℕ × T)) → take_out k (put_in k x es) ≡ es
 take_out-put_in_same k x [] = grind (arith, nat_tests)
 take_out-put_in_same k x (e ∷ es) = grind (arith, nat_tests, take_out-put_in_same k x es)
@@ -31,12 +31,12 @@ pub Rises-weaken : {T : Type 0} (low high : ℕ) (es : List (ℕ × T)) → low 
 Rises-weaken low high [] le h = tt
 Rises-weaken low high (e ∷ es) le h = (omega arith, h.1)
 
--- a number below all of them is not there
+-- a number below all of the map is not in it
 pub has-below : {T : Type 0} (n low : ℕ) (es : List (ℕ × T)) → n < low → Rises low es → has_number n es ≡ false
 has-below n low [] lt h = refl
 has-below n low (e ∷ es) lt h = let rest : has_number n es ≡ false = has-below n (e.0 + 1) es (omega arith) h.1 in grind (arith, nat_tests)
 
--- a number that is not there
+-- a number that is not in the map
 pub take_out-absent : {T : Type 0} (n : ℕ) (es : List (ℕ × T)) → has_number n es ≡ false → take_out n es ≡ es
 take_out-absent n [] h = refl
 take_out-absent n (e ∷ es) h = grind (arith, nat_tests, take_out-absent n es)
@@ -45,12 +45,12 @@ pub part-absent : {T : Type 0} (n : ℕ) (es : List (ℕ × T)) → has_number n
 part-absent n [] h = refl
 part-absent n (e ∷ es) h = grind (arith, nat_tests, part-absent n es)
 
--- what is put in below all of them stands first
+-- an entry below all others is the first
 pub put_in-below : {T : Type 0} (k : ℕ) (x : T) (low : ℕ) (es : List (ℕ × T)) → k ≤ low → Rises low es → put_in k x es ≡ (k, x) ∷ es
 put_in-below k x low [] le h = refl
 put_in-below k x low (e ∷ es) le h = let first : k ≤ e.0 = omega arith in grind (arith, nat_tests)
 
--- one put in, and another taken out
+-- one entry added, and another removed
 pub take_out-put_in : {T : Type 0} (n k low : ℕ) (x : T) (es : List (ℕ × T)) → n ≢ k → Rises low es → take_out n (put_in k x es) ≡ put_in k x (take_out n es)
 take_out-put_in n k low x [] ne h = grind (arith, nat_tests)
 take_out-put_in n k low x (e ∷ es) ne h =
@@ -93,7 +93,7 @@ absent-before low k x (e ∷ es) h =
     (λ (later : (leb k e.0 ≡ false) × (e.0 < k)). let r = rw later.0 at h in let rest : has_number k es ≡ false = absent-before (e.0 + 1) k x es r.1 in grind (arith, nat_tests))
     (leb_tells k e.0)
 
--- a number is there where a part is under it
+-- a number is in the map if and only if there is a part under it
 pub has-some : {T : Type 0} (n : ℕ) (x : T) (es : List (ℕ × T)) → part_under n es ≡ Some x → has_number n es ≡ true
 has-some n x [] h = absurd (cc)
 has-some n x (e ∷ es) h =
@@ -118,11 +118,11 @@ has-none n (e ∷ es) h =
     (λ (other : (eqb e.0 n ≡ false) × (e.0 ≢ n)). let later : part_under n es ≡ None = rw other.0 at h in rw other.0 (has-none n es later))
     (eqb_tells e.0 n)
 
--- taking out what is not there changes nothing
+-- removing a number that is not in the map changes nothing
 pub take_out-none : {T : Type 0} (n : ℕ) (es : List (ℕ × T)) → part_under n es ≡ None → take_out n es ≡ es
 take_out-none n es h = take_out-absent n es (has-none n es h)
 
--- taking out what is there leaves one less
+-- removing a number that is in the map leaves one entry less
 pub length-take_out : {T : Type 0} (n : ℕ) (es : List (ℕ × T)) (x : T) → part_under n es ≡ Some x → length es ≡ length (take_out n es) + 1
 length-take_out n [] x h = absurd (cc)
 length-take_out n (e ∷ es) x h =
@@ -133,12 +133,12 @@ length-take_out n (e ∷ es) x h =
     rw other.0 (omega (arith, rest)))
     (eqb_tells e.0 n)
 
--- nothing is under a number below all of them
+-- there is no part under a number below all of the map
 pub part-below : {T : Type 0} (n low : ℕ) (es : List (ℕ × T)) → n < low → Rises low es → part_under n es ≡ None
 part-below n low [] lt r = refl
 part-below n low (e ∷ es) lt r = let rest : part_under n es ≡ None = part-below n (e.0 + 1) es (omega arith) r.1 in grind (arith, nat_tests)
 
--- a part under the least number that may be there stands in front
+-- a part under the least possible number is the first entry
 pub front_part : {T : Type 0} (n : ℕ) (es : List (ℕ × T)) (x : T) → Rises n es → part_under n es ≡ Some x → es ≡ (n, x) ∷ take_out n es
 front_part n [] x r h = absurd (cc)
 front_part n (e ∷ es) x r h =
@@ -150,7 +150,7 @@ front_part n (e ∷ es) x r h =
     let later : part_under n es ≡ Some x = rw other.0 at h in absurd (cc))
     (eqb_tells e.0 n)
 
--- and where there is none, the rest stands above it
+-- if there is none, the other numbers are above it
 pub Rises-none : {T : Type 0} (n : ℕ) (es : List (ℕ × T)) → Rises n es → part_under n es ≡ None → Rises (n + 1) es
 Rises-none n [] r h = tt
 Rises-none n (e ∷ es) r h =
@@ -159,7 +159,7 @@ Rises-none n (e ∷ es) r h =
 pub Rises-first : {T : Type 0} (n : ℕ) (es : List (ℕ × T)) (x : T) → Rises n es → part_under n es ≡ Some x → Rises (n + 1) (take_out n es)
 Rises-first n es x r h = (subst (Rises n) (front_part n es x r h) r).1
 
--- the smaller of two numbers that may be missing
+-- the smaller of two numbers, either of which may be missing
 abbrev pub smaller : Option ℕ → Option ℕ → Option ℕ
 smaller None b = b
 smaller (Some a) None = Some a

@@ -1,4 +1,4 @@
--- Near arrivals with no deadline are masked.
+-- Near arrivals without a deadline are masked.
 use Rattle.std.proofs.Common.{◌≡◌, ◌≢◌, ℕ, zero, suc, ◌+◌, ◌*◌, ◌<◌, ◌≤◌, Bool, true, false, not, ◌||◌, cond, eqb, ltb, leb, List, [], ◌∷◌, ◌++◌, length, Option, Some, None, unwrap_or, Result, Ok, Err, refl, sym, ap, ◌∙◌, ⊎_elim, subst, arith, append-nil, append_assoc}
 use Rattle.std.proofs.lemmas.Bool.{false≢true}
 use Rattle.std.proofs.lemmas.Bool.Decides.{nat_tests, leb_tells, eqb_tells}
@@ -14,14 +14,14 @@ use Rattle.octets.proofs.Choices.{by_cond, by_test}
 use Rattle.red_layer.proofs.Ordered.{after_run-rises, IsBelow-weaken}
 use Rattle.red_layer.proofs.FiniteMap.{Rises-put_in, has-none, has-some, length-put_in, part-absent, part-below, part-of_has, part-put_in}
 
--- no number past the greatest has arrived
+-- no number above the greatest has arrived
 pub has-past_greatest : (n : ℕ) (arrived : List Part) → greatest arrived < n → has_number n arrived ≡ false
 has-past_greatest n [] lt = refl
 has-past_greatest n (p ∷ ps) lt =
     let rest : has_number n ps ≡ false = has-past_greatest n ps (omega arith) in
     let apart : p.0 ≢ n = omega arith in grind (arith, nat_tests)
 
--- the search finds the first that is missing
+-- the search finds the first missing number
 pub missing_from-is : (more k : ℕ) (arrived : List Part) → has_number (k + more) arrived ≡ false → ((j : ℕ) → j < k → has_number j arrived ≡ true) → IsFirstMissing arrived (missing_from more k arrived)
 missing_from-is zero k arrived past below = record { all_below = below; not_there = subst (λ n. has_number n arrived ≡ false) (omega arith) past }
 missing_from-is (suc more) k arrived past below =
@@ -33,7 +33,7 @@ missing_from-is (suc more) k arrived past below =
 pub missing_is : (arrived : List Part) → IsFirstMissing arrived (first_missing arrived)
 missing_is arrived = missing_from-is (suc (greatest arrived)) 0 arrived (has-past_greatest _ arrived (omega arith)) (λ j lt. absurd (omega arith))
 
--- and there is only one
+-- there is only one first missing number
 pub IsFirstMissing-unique : (arrived : List Part) (m n : ℕ) → IsFirstMissing arrived m → IsFirstMissing arrived n → m ≡ n
 IsFirstMissing-unique arrived m n first second =
     let not_less : m < n → ⊥ = λ lt. false≢true (sym first.not_there ∙ second.all_below m lt) in
@@ -60,7 +60,7 @@ pub part-last_new : (p : Part) (es : List Part) → has_number p.0 es ≡ false 
 part-last_new p [] h = grind (arith, nat_tests)
 part-last_new p (e ∷ es) h = grind (arith, nat_tests, part-last_new p es)
 
--- a number that came before
+-- the part under each number stays if a number arrives that came before
 pub part-last_known : (n : ℕ) (p : Part) (es : List Part) → has_number p.0 es ≡ true → part_under n (es ++ p ∷ []) ≡ part_under n es
 part-last_known n p es h =
     ⊎_elim
@@ -75,7 +75,7 @@ has-last_known n p es h =
     (λ (other : (eqb p.0 n ≡ false) × (p.0 ≢ n)). grind (arith, nat_tests))
     (eqb_tells p.0 n)
 
--- the first parts depend on what is under each number alone
+-- the first parts depend only on the part under each number
 pub first_parts-same : (m : ℕ) (xs ys : List Part) → ((k : ℕ) → k < m → part_under k xs ≡ part_under k ys) → first_parts m xs ≡ first_parts m ys
 first_parts-same zero xs ys h = refl
 first_parts-same (suc m) xs ys h =
@@ -83,7 +83,7 @@ first_parts-same (suc m) xs ys h =
     let last : part_under m xs ≡ part_under m ys = h m (omega arith) in
     rw (rest, last) refl
 
--- a number above those of a run is where it was
+-- the part under a number after the run is unchanged
 pub part-after_run : (k n : ℕ) (es : List Part) → Rises n es → n + length (run_from n es) ≤ k → part_under k (after_run n es) ≡ part_under k es
 part-after_run k n [] r le = refl
 part-after_run k n (e ∷ es) r le =
@@ -99,7 +99,7 @@ part-after_run k n (e ∷ es) r le =
     skip : (e.0 ≢ k) → part_under k es ≡ part_under k (e ∷ es)
     skip apart = grind (arith, nat_tests)
 
--- each number of a run is there
+-- each number of a run is in the map
 pub has-run : (k n : ℕ) (es : List Part) → Rises n es → n ≤ k → k < n + length (run_from n es) → has_number k es ≡ true
 has-run k n [] r le lt = absurd (omega arith)
 has-run k n (e ∷ es) r le lt =
@@ -117,12 +117,12 @@ pub IsBelow-after_run : (high n : ℕ) (es : List Part) → IsBelow high es → 
 IsBelow-after_run high n [] b = tt
 IsBelow-after_run high n (e ∷ es) b = ⊎_elim (λ same. rw same.0 (IsBelow-after_run high (n + 1) es b.1)) (λ other. rw other.0 b) (eqb_tells e.0 n)
 
--- rising numbers between two bounds are no more than there is room for
+-- there are at most high - low rising numbers from `low` on and below `high`
 pub length-between : {T : Type 0} (low high : ℕ) (es : List (ℕ × T)) → low ≤ high → Rises low es → IsBelow high es → length es + low ≤ high
 length-between low high [] le r b = omega arith
 length-between low high (e ∷ es) le r b = omega (arith, length-between (e.0 + 1) high es (omega arith) r.1 b.1)
 
--- some number above m
+-- some number above m has arrived
 pub above-some : (n m : ℕ) (es : List Part) → m < n → has_number n es ≡ true → has_above m es ≡ true
 above-some n m [] lt h = absurd (false≢true h)
 above-some n m (e ∷ es) lt h = grind (arith, nat_tests, above-some n m es)
@@ -134,7 +134,7 @@ above-none m (e ∷ es) h =
     let here : m < e.0 → ⊥ = λ lt. let gone = h e.0 lt in grind (arith, nat_tests) in
     grind (arith, nat_tests)
 
--- the beginning of a wait, where the numbers in it are known
+-- the start of a wait, if the numbers in it are known
 pub began_by-is : (now : ℕ) (w : Wait) (arrived : List Part) (m n : ℕ) (some : Bool) → first_missing w.arrived ≡ m → first_missing arrived ≡ n → has_above n arrived ≡ some → began_by now w arrived ≡ cond some (Some (cond (eqb m n) (unwrap_or w.began now) now)) None
 began_by-is now w arrived m n some before after above = rw (before, after, above) refl
 
@@ -152,7 +152,7 @@ pub record Masks (q t_seq : ℕ) (r : Receiver) (w : Wait) (passed : List Part) 
 first_missing-is : (q t_seq : ℕ) (r : Receiver) (w : Wait) (passed : List Part) → Masks q t_seq r w passed → first_missing w.arrived ≡ r.expected
 first_missing-is q t_seq r w passed m = IsFirstMissing-unique w.arrived _ _ (missing_is w.arrived) m.missing
 
--- something above m has arrived exactly where something waits
+-- a number above m has arrived if and only if a part is deferred
 above-waiting : (m : ℕ) (waiting arrived : List Part) → Rises (m + 1) waiting → ((n : ℕ) → m < n → part_under n waiting ≡ part_under n arrived) → has_above m arrived ≡ not (is_nil waiting)
 above-waiting m [] arrived r same = above-none m arrived (λ n lt. has-none n arrived (sym (same n lt)))
 above-waiting m (e ∷ es) arrived r same =
@@ -161,7 +161,7 @@ above-waiting m (e ∷ es) arrived r same =
     head : part_under e.0 (e ∷ es) ≡ Some e.1
     head = grind (arith, nat_tests)
 
--- no deadline
+-- the deadline is not due
 not_due : (q t_seq now : ℕ) (r : Receiver) (w : Wait) (passed : List Part) → Masks q t_seq r w passed → IsInTime t_seq now w.began → is_due now r ≡ false
 not_due q t_seq now r w passed m in_time =
     by_test (λ b. is_nil r.waiting ≡ b → is_due now r ≡ false) (is_nil r.waiting)
@@ -176,7 +176,7 @@ began-kept : (m now since : ℕ) (began : Option ℕ) (nil : Bool) → began ≡
 began-kept m now since began true h = refl
 began-kept m now since began false h = rw h (grind (arith, nat_tests))
 
--- nothing new has arrived
+-- no new number has arrived
 masks_still : (q t_seq now : ℕ) (r : Receiver) (w : Wait) (passed : List Part) (arrived : List Part) → Masks q t_seq r w passed → ((n : ℕ) → has_number n arrived ≡ has_number n w.arrived) → ((n : ℕ) → part_under n arrived ≡ part_under n w.arrived) → Masks q t_seq r (record { arrived = arrived; began = began_by now w arrived }) passed
 masks_still q t_seq now r w passed arrived m has under =
     let missing : IsFirstMissing arrived r.expected = record { all_below = λ k lt. has k ∙ m.missing.all_below k lt; not_there = has r.expected ∙ m.missing.not_there } in
@@ -196,14 +196,14 @@ began-moved : (m n now since : ℕ) (began : Option ℕ) (nil : Bool) → m ≢ 
 began-moved m n now since began true ne = refl
 began-moved m n now since began false ne = grind (arith, nat_tests)
 
--- what waits stands ahead
+-- each deferred number is above the expected one
 waiting_ahead : (n k : ℕ) (x : List ℕ) (es : List Part) → Rises (n + 1) es → part_under k es ≡ Some x → n < k
 waiting_ahead n k x es r h =
     ⊎_elim (λ (after : (leb (suc n) k ≡ true) × (suc n ≤ k)). after.1)
     (λ (before : (leb (suc n) k ≡ false) × (k < suc n)). let none : part_under k es ≡ None = part-below k (n + 1) es (omega arith) r in absurd (cc))
     (leb_tells (suc n) k)
 
--- a part that is under a number behind the head
+-- a part under a number after the first entry
 part-later : (e : Part) (es : List Part) (k : ℕ) (x : List ℕ) → Rises (e.0 + 1) es → part_under k es ≡ Some x → part_under k (e ∷ es) ≡ Some x
 part-later e es k x r h =
     ⊎_elim
@@ -247,7 +247,7 @@ first_parts-run n (e ∷ es) all r known =
     (λ (other : (eqb e.0 n ≡ false) × (e.0 ≢ n)). let none : n ≡ n + 0 = omega arith in rw other.0 (append-nil (first_parts n all) ∙ ap (λ m. first_parts m all) none))
     (eqb_tells e.0 n)
 
--- what has gone up once the next number came
+-- the parts passed up after the expected number came
 next_passed : (q t_seq : ℕ) (p : Part) (r : Receiver) (w : Wait) (passed : List Part) → Masks q t_seq r w passed → p.0 ≡ r.expected → passed ++ p ∷ run_from (p.0 + 1) r.waiting ≡ first_parts (p.0 + 1 + length (run_from (p.0 + 1) r.waiting)) (w.arrived ++ p ∷ [])
 next_passed q t_seq p r w passed m next =
     let all : List Part = w.arrived ++ p ∷ [] in
@@ -266,7 +266,7 @@ next_passed q t_seq p r w passed m next =
     ∙ ap (λ xs. xs ++ run) (sym one ∙ ap (λ n. first_parts n all) count)
     ∙ first_parts-run (p.0 + 1) r.waiting all (subst (λ n. Rises (n + 1) r.waiting) (sym next) m.rises) known
 
--- the next number
+-- the expected number arrives
 masks_next : (q t_seq now : ℕ) (p : Part) (r : Receiver) (w : Wait) (passed : List Part) → Masks q t_seq r w passed → p.0 ≡ r.expected → Masks q t_seq (follow now (p.0 + 1) r) (record { arrived = w.arrived ++ p ∷ []; began = began_by now w (w.arrived ++ p ∷ []) }) (passed ++ p ∷ run_from (p.0 + 1) r.waiting)
 masks_next q t_seq now p r w passed m next =
     let all : List Part = w.arrived ++ p ∷ [] in
@@ -302,7 +302,7 @@ is_nil-put_in : (n : ℕ) (x : List ℕ) (es : List Part) → is_nil (put_in n x
 is_nil-put_in n x [] = refl
 is_nil-put_in n x (e ∷ es) = ⊎_elim (λ first. rw first.0 refl) (λ later. rw later.0 refl) (leb_tells n e.0)
 
--- a number ahead that is new
+-- a new number ahead arrives
 masks_wait : (q t_seq now : ℕ) (p : Part) (r : Receiver) (w : Wait) (passed : List Part) → Masks q t_seq r w passed → r.expected < p.0 → p.0 ≤ r.expected + q → has_number p.0 r.waiting ≡ false → Masks q t_seq (record r { waiting = put_in p.0 p.1 r.waiting; since = cond (is_nil r.waiting) now r.since }) (record { arrived = w.arrived ++ p ∷ []; began = began_by now w (w.arrived ++ p ∷ []) }) passed
 masks_wait q t_seq now p r w passed m ahead near new =
     let all : List Part = w.arrived ++ p ∷ [] in
@@ -333,7 +333,7 @@ masks_wait q t_seq now p r w passed m ahead near new =
       passed_is = m.passed_is ∙ first_parts-same r.expected w.arrived all (λ k lt. sym (part-last_same k p w.arrived (m.missing.all_below k lt)));
     }
 
--- a number that came before
+-- a number that came before arrives
 masks_again : (q t_seq now : ℕ) (p : Part) (r : Receiver) (w : Wait) (passed : List Part) → Masks q t_seq r w passed → has_number p.0 w.arrived ≡ true → Masks q t_seq r (record { arrived = w.arrived ++ p ∷ []; began = began_by now w (w.arrived ++ p ∷ []) }) (passed ++ [])
 masks_again q t_seq now p r w passed m again =
     subst (λ ps. Masks q t_seq r (record { arrived = w.arrived ++ p ∷ []; began = began_by now w (w.arrived ++ p ∷ []) }) ps) (sym (append-nil passed))

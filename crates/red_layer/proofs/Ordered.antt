@@ -1,4 +1,4 @@
--- What goes up rises, and has arrived.
+-- The parts passed up rise, and have arrived.
 use Rattle.std.proofs.Common.{◌≡◌, ◌≢◌, ℕ, ◌+◌, ◌*◌, ◌≤◌, true, false, cond, eqb, ltb, List, [], ◌∷◌, ◌++◌, length, Result, Ok, Err, refl, sym, ⊎_elim, inl, inr, subst, arith}
 use Rattle.std.proofs.lemmas.Bool.Decides.{nat_tests, leb_tells, eqb_tells}
 use Rattle.red_layer.specs.declared.pdu.RedFault.{RedFault}
@@ -61,7 +61,7 @@ pub AreAmong-append : (ps qs all : List Part) → AreAmong ps all → AreAmong q
 AreAmong-append [] qs all h k = k
 AreAmong-append (p ∷ ps) qs all h k = (h.0, AreAmong-append ps qs all h.1 k)
 
--- one part of rising numbers, and then another
+-- rising numbers, and then more of them
 pub Rises-append : (low high : ℕ) (ps qs : List Part) → low ≤ high → Rises low ps → IsBelow high ps → Rises high qs → Rises low (ps ++ qs)
 Rises-append low high [] qs le r b s = Rises-weaken low high qs le s
 Rises-append low high (p ∷ ps) qs le r b s = (r.0, Rises-append (p.0 + 1) high ps qs (omega arith) r.1 b.1 s)
@@ -74,7 +74,7 @@ pub IsBelow-append : (high : ℕ) (ps qs : List Part) → IsBelow high ps → Is
 IsBelow-append high [] qs b d = d
 IsBelow-append high (p ∷ ps) qs b d = (b.0, IsBelow-append high ps qs b.1 d)
 
--- what went up from a number on, and what is left: all of it has arrived
+-- the parts passed up from a number on, and those left: all of them have arrived
 pub record IsOrdered (low : ℕ) (passed : List Part) (left : Receiver) (all : List Part) : Type 0 where
   pub rises : Rises low passed
   pub below : IsBelow left.expected passed
@@ -93,11 +93,11 @@ ordered_follow now n r all h among = record {
   waiting_among = after_run-among n r.waiting all among;
 }
 
--- where nothing goes up
+-- no part is passed up
 pub ordered_same : (r : Receiver) (all : List Part) → Rises (r.expected + 1) r.waiting → AreAmong r.waiting all → IsOrdered r.expected [] r all
 ordered_same r all h among = record { rises = tt; below = tt; grows = omega arith; waits = h; passed_among = tt; waiting_among = among }
 
--- from a lower number on
+-- the same from a lower number on
 pub ordered_from : (low high : ℕ) (passed : List Part) (left : Receiver) (all : List Part) → low ≤ high → IsOrdered high passed left all → IsOrdered low passed left all
 ordered_from low high passed left all le o = record {
   rises = Rises-weaken low high passed le o.rises;

@@ -1,4 +1,4 @@
--- Where parts come from, how many wait, and how a list of inputs grows.
+-- The origin of parts, how many are deferred, and how a list of inputs grows.
 use Rattle.std.proofs.Common.{◌≡◌, ◌≢◌, ℕ, ◌+◌, ◌*◌, ◌≤◌, cond, eqb, ltb, List, [], ◌∷◌, ◌++◌, length, Result, Ok, Err, refl, sym, ap, ◌∙◌, inl, inr, arith, append-nil, append_assoc}
 use Rattle.std.proofs.lemmas.Bool.Decides.{nat_tests}
 use Rattle.red_layer.specs.declared.pdu.RedFault.{RedFault}
@@ -24,7 +24,7 @@ AreAmong-back : (ps qs : List Part) → AreAmong qs (ps ++ qs)
 AreAmong-back [] qs = AreAmong-self qs
 AreAmong-back (p ∷ ps) qs = AreAmong-cons p qs (ps ++ qs) (AreAmong-back ps qs)
 
--- what goes up and what then waits are among these
+-- the parts passed up and those then deferred are among these
 abbrev pub ComeFrom : List Part → List Part → Receiver → Type 0
 ComeFrom all passed left = AreAmong passed all × AreAmong left.waiting all
 
@@ -57,7 +57,7 @@ origin_law (Datagram octets now) r =
     (AreAmong-append (released now r) _ all first.0 then.0, then.1)
 origin_law (Tick now) r = origin_release now r (r.waiting ++ []) (AreAmong-more r.waiting r.waiting [] (AreAmong-self r.waiting))
 
--- at most q parts wait
+-- at most q parts are deferred
 pub record IsBounded (q : ℕ) (r : Receiver) : Type 0 where
   pub q_is : r.q ≡ q
   pub at_most : length r.waiting ≤ q
@@ -91,7 +91,7 @@ bounded_along q (Tick now ∷ es) r b = bounded_along q es _ (bounded_release q 
 pub bounded_law : BoundedLaw
 bounded_law q t_seq inputs = (bounded_along q inputs (opened q t_seq) (record { q_is = refl; at_most = omega arith })).at_most
 
--- one input more, at the end
+-- one more input at the end
 pub one_more_law : OneMoreLaw
 one_more_law [] e r = (refl, append-nil (passed_by e r))
 one_more_law (x ∷ xs) e r =

@@ -1,4 +1,4 @@
--- What was read by places is spelled so.
+-- Bytes that are read field by field are the encoding.
 use Rattle.std.proofs.Common.{◌≡◌, ◌≤◌, ℕ, ◌+◌, List, length, drop, arith}
 use Rattle.std.proofs.lemmas.List.{length-drop}
 use Rattle.byteorder.specs.Endian.{little_number}

@@ -1,4 +1,4 @@
--- Parts that are kept, against the lists of octets that are seen of them.
+-- Kept parts, and the lists of bytes that they are seen as.
 use Rattle.std.proofs.Common.{◌≡◌, ℕ, suc, ◌+◌, ◌<◌, ◌≤◌, List, [], ◌∷◌, length, Some, refl, ap, ⊎_elim, arith}
 use Rattle.std.proofs.lemmas.Bool.Decides.{nat_tests, leb_tells, eqb_tells}
 use Rattle.red_layer.specs.FiniteMap.{Rises, put_in, has_number, least_of}
@@ -32,12 +32,12 @@ pub length-after_run : (n : ℕ) (es : List (ℕ × List ℕ)) → length (after
 length-after_run n [] = omega arith
 length-after_run n (e ∷ es) = ⊎_elim (λ same. rw same.0 (omega (arith, length-after_run (n + 1) es))) (λ other. rw other.0 (omega arith)) (eqb_tells e.0 n)
 
--- the least number that waits, with the others above it
+-- the least deferred number, with the others above it
 pub Rises-least : {T : Type 0} (octets : T → List ℕ) (low n : ℕ) (es : List (ℕ × T)) → Rises low es → least_of es ≡ Some n → Rises n (map_parts octets es)
 Rises-least octets low n [] r h = absurd (cc)
 Rises-least octets low n (e ∷ es) r h = let first : e.0 ≡ n = cc in (omega arith, Rises-map_parts octets (e.0 + 1) es r.1)
 
--- something is least where something is there
+-- there is a least number if and only if the map is not empty
 pub is_nil-least : {T : Type 0} (octets : T → List ℕ) (es : List (ℕ × T)) → is_none (least_of es) ≡ is_nil (map_parts octets es)
 is_nil-least octets [] = refl
 is_nil-least octets (e ∷ es) = refl

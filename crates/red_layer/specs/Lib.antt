@@ -3,6 +3,7 @@ pub mod FiniteMap
 pub mod Parts
 pub mod Sound
 pub mod Redundancy
+pub mod Begun
 pub mod Service
 pub mod Masking
 pub mod Laws

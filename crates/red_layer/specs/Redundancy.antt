@@ -1,6 +1,6 @@
--- RedundancyStep: what the receiving half of the redundancy layer does with a datagram and at a deadline, over the number that
--- is expected, a finite map of the parts that wait, and the moment since which they wait
--- (redundancy layer of DIN VDE V 0831-200:2015; the rules are the profile's, docs/PROFILE.md).
+-- RedundancyStep: what the receiving half of the redundancy layer does with a datagram and at a deadline (redundancy layer of DIN VDE V
+-- 0831-200:2015; the rules are the profile's, docs/protocol.md). Its state is the expected number, a finite map of the deferred parts, and the time
+-- since which they are deferred.
 use Rattle.std.specs.Prelude.{ℕ, ◌+◌, ◌*◌, ◌==◌, nat_le, nat_lt, Bool, not, ◌&&◌, List, [], ◌∷◌, ◌++◌, length, Option, Some, None, Result, Ok, Err, if◌then◌else◌}
 use Rattle.red_layer.specs.FiniteMap.{put_in, has_number}
 use Rattle.octets.specs.declared.limits.TheConstants.{REACH}
@@ -10,35 +10,41 @@ use Rattle.red_layer.specs.Parts.{Part, is_nil}
 use Rattle.red_layer.specs.declared.RedEvent.{RedEvent}
 use Rattle.red_layer.specs.declared.RedEvent.TheVariants.{Passed, Wait, Old, Far, Full, Again, Fault}
 
--- a receiving half: its settings, the number that is expected, without wrap, the map of the parts that wait, and the moment since
--- which they wait, which means nothing while none waits
+-- a receiving half: its settings and its state
 pub record Receiver : Type 0 where
   pub q : ℕ
   pub t_seq : ℕ
+  -- the expected number, without wrap
   pub expected : ℕ
+  -- the map of the deferred parts
   pub waiting : List Part
+  -- the time since which they are deferred; without meaning if there are none
   pub since : ℕ
 
--- what is opened
+-- a receiving half just opened
 abbrev pub opened : ℕ → ℕ → Receiver
 opened q t_seq = record { q = q; t_seq = t_seq; expected = 0; waiting = []; since = 0 }
 
--- what a datagram is answered, what goes up, and what it leaves
+-- the outcome of a datagram
 pub record Stepped : Type 0 where
+  -- what was done with the datagram
   pub event : RedEvent
+  -- the parts passed up
   pub passed : List Part
+  -- the state after it
   pub left : Receiver
 
--- the parts with consecutive numbers from n on, and those after them
+-- the parts with consecutive numbers from n on
 abbrev pub run_from : ℕ → List Part → List Part
 run_from n [] = []
 run_from n (e ∷ es) = if e.0 == n then e ∷ run_from (n + 1) es else []
 
+-- the parts after those with consecutive numbers from n on
 abbrev pub after_run : ℕ → List Part → List Part
 after_run n [] = []
 after_run n (e ∷ es) = if e.0 == n then after_run (n + 1) es else e ∷ es
 
--- the receiver once the run from n on has gone up: if something still waits, it waits since now
+-- the receiver after the run from n on is passed up; parts that are left are deferred since now
 abbrev pub follow : ℕ → ℕ → Receiver → Receiver
 follow now n r = record {
   q = r.q;
@@ -48,23 +54,24 @@ follow now n r = record {
   since = if is_nil (after_run n r.waiting) then r.since else now;
 }
 
--- the least number that waits, where one does
+-- the least deferred number, if there is one
 abbrev pub least_waiting : List Part → ℕ
 least_waiting [] = 0
 least_waiting (e ∷ es) = e.0
 
--- something waits, and its time is over
+-- parts are deferred, and their time is over
 abbrev pub is_due : ℕ → Receiver → Bool
 is_due now r = not (is_nil r.waiting) && nat_le (r.since + r.t_seq) now
 
--- what goes up when the deadline is tried, and what that leaves
+-- the parts that are passed up when the deadline is tried
 abbrev pub released : ℕ → Receiver → List Part
 released now r = if is_due now r then run_from (least_waiting r.waiting) r.waiting else []
 
+-- the receiver after the deadline is tried
 abbrev pub after_release : ℕ → Receiver → Receiver
 after_release now r = if is_due now r then follow now (least_waiting r.waiting) r else r
 
--- a part that is ahead, and not too far: dropped if its number waits already, dropped if q parts wait, else it waits
+-- a part that is ahead, and not too far: dropped if its number is already deferred, dropped if q parts are deferred, else deferred
 abbrev pub deferred : ℕ → Part → Receiver → Stepped
 deferred now p r =
     if has_number p.0 r.waiting then record { event = Again; passed = []; left = r }
@@ -84,33 +91,34 @@ arrival now p r =
     else if nat_lt (r.expected + REACH * r.q) p.0 then record { event = Far; passed = []; left = r }
     else deferred now p r
 
--- what comes to the receiving half: any octets, or a moment at which the deadline is tried
+-- an input of the receiving half: any bytes, or a time at which the deadline is tried
 pub data Input : Type 0 where
   Datagram : (octets : List ℕ) → (now : ℕ) → Input
   Tick : (now : ℕ) → Input
 
--- the number and the upper part that a datagram says, or its first fault
+-- the number and the payload of a datagram, or its first fault
 unfoldable pub decoded : List ℕ → Result Part RedFault
 decoded octets = red_seen octets
 
--- what a datagram does once the deadline was tried, by what it says
+-- what a decoded datagram does after the deadline was tried
 abbrev pub heard : ℕ → Result Part RedFault → Receiver → Stepped
 heard now (Ok p) r = arrival now p r
 heard now (Err fault) r = record { event = Fault fault; passed = []; left = r }
 
--- the deadline is tried first, and the datagram is judged by what that leaves
+-- what a datagram does: the deadline is tried first, and the datagram is judged by the state that this leaves
 abbrev pub judged : ℕ → List ℕ → Receiver → Stepped
 judged now octets r = heard now (decoded octets) (after_release now r)
 
--- what goes up at an input, in order, and what it leaves
+-- the parts passed up at an input, in order
 abbrev pub passed_by : Input → Receiver → List Part
 passed_by (Datagram octets now) r = released now r ++ (judged now octets r).passed
 passed_by (Tick now) r = released now r
 
+-- the receiver after an input
 abbrev pub after : Input → Receiver → Receiver
 after (Datagram octets now) r = (judged now octets r).left
 after (Tick now) r = after_release now r
 
--- when the waiting ends
+-- the end of the wait, if parts are deferred
 abbrev pub deadline_of : Receiver → Option ℕ
 deadline_of r = if is_nil r.waiting then None else Some (r.since + r.t_seq)

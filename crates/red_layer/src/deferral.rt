@@ -1,5 +1,5 @@
-//! The table of parts that came early: a finite map from sequence numbers to parts, with a fixed
-//! number of places. All its memory is taken when it is made.
+//! The deferral queue: a finite map from sequence numbers to parts, with a fixed number of places. It
+//! allocates only when it is made.
 //!
 //! The deferral queue of the redundancy layer of DIN VDE V 0831-200:2015.
 
@@ -11,14 +11,14 @@ ghost use Rattle.red_layer.specs.FiniteMap.{Rises, put_in, take_out, part_under,
 use std::alloc::{AllocError, Allocator, Global};
 use std::marker::Model;
 
-/// A finite map from sequence numbers to parts, of as many numbers as it has places.
+/// A finite map from sequence numbers to parts, with as many numbers at most as it has places.
 ///
-/// The places stand in no order. A freed one is used again, and a part that waits is never moved.
+/// The places are in no order. A free place is used again, and a deferred part is never moved.
 #[derive(Drop)]
 pub struct Deferral<T, A: Allocator = Global> {
     /// The places, each empty or with a part under its number.
     places: Vec<Option<(u32, T)>, A>,
-    /// How many of them hold a part, so that an empty table is not looked through.
+    /// How many places hold a part, so that an empty table is not searched.
     count: usize,
 }
 
@@ -36,7 +36,7 @@ impl<T, A: Allocator> Model for Deferral<T, A> {
 /// Why a table was not made.
 #[derive(Clone, Copy, Debug, PartialEq, Eq)]
 pub enum DeferralFault {
-    /// There was no memory for its places.
+    /// There is no memory for its places.
     Memory,
 }
 
@@ -49,10 +49,13 @@ impl From<AllocError> for DeferralFault {
 }
 
 impl<T: Drop, A: Allocator> Deferral<T, A> {
-    /// An empty table with `q` places (the profile has 1 to 8). It is the only call that takes
-    /// memory, and the only one that may answer `Memory`.
+    /// Makes an empty table with `q` places (1 to 8 in the profile). No other call allocates.
+    ///
+    /// # Errors
+    ///
+    /// - `Memory` if there is no memory for the places.
     pub fn new(alloc: A, q: usize) -> Result<Self, DeferralFault>
-        // A new table is empty, and has as many places as were asked for.
+        // A new table is empty and has `q` places.
         ensures { IfOk result (λ table. table ≡ record { room = q; waiting = [] }) }
     {
         let mut places = Vec::with_capacity(alloc, q)?;
@@ -62,21 +65,24 @@ impl<T: Drop, A: Allocator> Deferral<T, A> {
         Ok(Deferral { places, count: 0 })
     }
 
-    /// Puts a part in under its number, or gives it back where every place is taken or the number
-    /// is there already.
+    /// Adds a part under its number.
+    ///
+    /// # Errors
+    ///
+    /// Returns the part if every place is taken or the number is already there.
     pub fn put(&mut self, seq: u32, part: T) -> Result<(), T>
-        // `put` refuses a part exactly where every place is taken or the number is there.
+        // `put` fails if and only if every place is taken or the number is already there.
         ensures variant { IsErr result
             ↔ ((length self.old.waiting ≡ self.old.room) ⊎ IsTrue (has_number seq self.old.waiting)) }
-        // A part that `put` accepts stands under its number, and all else stays.
+        // If `put` succeeds, the map has the part under its number, and all other entries are unchanged.
         ensures ok { OnOk result
             (self.new ≡ record { room = self.old.room; waiting = put_in seq part self.old.waiting }) }
-        // Where `put` refuses a part nothing changes.
+        // If `put` fails, the table is unchanged.
         ensures err { OnErr result (self.new ≡ self.old) }
-        // A part that `put` refuses is given back.
+        // If `put` fails, it returns the part.
         ensures given_back { IfErr result (λ back. back ≡ part) }
 
-        // After `put` no more parts wait than there are places.
+        // After `put`, the table holds at most as many parts as it has places.
         ensures bounded { length self.new.waiting ≤ self.new.room }
     {
         if self.count == self.places.len() {
@@ -91,19 +97,20 @@ impl<T: Drop, A: Allocator> Deferral<T, A> {
         }
     }
 
-    /// Tells whether a part waits under the number.
+    /// Returns whether there is a part under the number.
     pub fn has(&self, seq: u32) -> bool
-        // `has` tells exactly whether a part stands under a number.
+        // The result is true if and only if the map has the number.
         ensures { result ≡ has_number seq self.now.waiting }
     {
         place_of(&self.places, seq).is_some()
     }
 
-    /// Takes out the part under the number, where there is one.
+    /// Takes out the part under the number, if there is one.
     pub fn take(&mut self, seq: u32) -> Option<T>
-        // `take` answers the part under a number, and none where there is none.
+        // The result of `take` is the part under the number, or `None` if the map does not have it.
         ensures part { result ≡ part_under seq self.old.waiting }
-        // `take` leaves the map without that number.
+        // `take` removes the number from the map, and leaves the other entries and the number of places
+        // unchanged.
         ensures rest { self.new
             ≡ record { room = self.old.room; waiting = take_out seq self.old.waiting } }
     {
@@ -119,9 +126,18 @@ impl<T: Drop, A: Allocator> Deferral<T, A> {
         }
     }
 
-    /// The least number under which a part waits.
+    /// Drops every part. The places stay.
+    pub fn clear(&mut self)
+        // After `clear`, the table is empty and has as many places as before.
+        ensures { self.new ≡ record { room = self.old.room; waiting = [] } }
+    {
+        empty_places(&mut self.places);
+        self.count = 0;
+    }
+
+    /// Returns the least number in the map, or `None` if it is empty.
     pub fn least(&self) -> Option<u32>
-        // `least` answers the least number, and none where the map is empty.
+        // The result of `least` is the least number of the map, or `None` if the map is empty.
         ensures { result ≡ least_of self.now.waiting }
     {
         if self.count == 0 {
@@ -131,46 +147,83 @@ impl<T: Drop, A: Allocator> Deferral<T, A> {
     }
 }
 
-/// Puts a part into a free place of a table, or gives it back.
+/// Puts a part into a free place of the table, or returns it.
 fn put_among<T: Drop, A: Allocator>(
     places: &mut Vec<Option<(u32, T)>, A>,
     seq: u32,
     part: T,
 ) -> Result<(), T>
     requires { Rises 0 (entries_of places.old.items) }
+    // `put_among` fails if and only if every place is taken or the number is already in one.
     ensures variant { IsErr result ↔ ((length (entries_of places.old.items) ≡ vec_len places.old)
         ⊎ IsTrue (has_number seq (entries_of places.old.items))) }
+    // After `put_among`, the entries have strictly rising numbers.
     ensures rises { Rises 0 (entries_of places.new.items) }
+    // If `put_among` succeeds, the entries have the part under its number in addition.
     ensures ok { OnOk result (entries_of places.new.items ≡ put_in seq part (entries_of places.old.items)) }
+    // If `put_among` fails, the places are unchanged.
     ensures err { OnErr result (places.new.items ≡ places.old.items) }
+    // If `put_among` fails, it returns the part.
     ensures given_back { IfErr result (λ back. back ≡ part) }
+    // `put_among` leaves the number of places unchanged.
     ensures room { vec_len places.new ≡ vec_len places.old }
+    // After `put_among`, there are at most as many entries as places.
     ensures bounded { length (entries_of places.new.items) ≤ vec_len places.new }
 {
     put_at(places, seq, part)
 }
 
-/// Empties the place of a number in a table, and answers what it held.
+/// Empties the place of a number in the table, and returns its part.
 fn take_from<T: Drop, A: Allocator>(places: &mut Vec<Option<(u32, T)>, A>, seq: u32) -> Option<T>
     requires { Rises 0 (entries_of places.old.items) }
+    // After `take_from`, the entries have strictly rising numbers.
     ensures rises { Rises 0 (entries_of places.new.items) }
+    // The result of `take_from` is the part under `seq`, or `None`.
     ensures part { result ≡ part_under seq (entries_of places.old.items) }
+    // `take_from` leaves all entries except that of `seq`.
     ensures rest { entries_of places.new.items ≡ take_out seq (entries_of places.old.items) }
+    // `take_from` leaves the number of places unchanged.
     ensures room { vec_len places.new ≡ vec_len places.old }
 {
     take_at(places, seq)
 }
 
-/// Puts a part into a free place, or gives it back.
+/// Empties every place of the table.
+fn empty_places<T: Drop, A: Allocator>(places: &mut Vec<Option<(u32, T)>, A>)
+    // After `empty_places`, there is no entry.
+    ensures empty { entries_of places.new.items ≡ [] }
+    // `empty_places` leaves the number of places unchanged.
+    ensures room { vec_len places.new ≡ vec_len places.old }
+{
+    empty_all(places);
+}
+
+/// Empties every place.
+fn empty_all<T: Drop>(places: &mut [Option<(u32, T)>])
+    // After `empty_all`, there is no entry.
+    ensures { entries_of places.new ≡ [] }
+{
+    for place in places.iter_mut() {
+        *place = None;
+    }
+}
+
+/// Puts a part into a free place, or returns it.
 #[tactic(auto, using(crate::proofs::Entries::entries_fit))]
 fn put_at<T: Drop>(places: &mut [Option<(u32, T)>], seq: u32, part: T) -> Result<(), T>
     requires { Rises 0 (entries_of places.old) }
+    // `put_at` fails if and only if every place is taken or the number is already in one.
     ensures variant { IsErr result
         ↔ ((length (entries_of places.old) ≡ length places.old) ⊎ IsTrue (has_number seq (entries_of places.old))) }
+    // After `put_at`, the entries have strictly rising numbers.
     ensures rises { Rises 0 (entries_of places.new) }
+    // If `put_at` succeeds, the entries have the part under its number in addition.
     ensures ok { OnOk result (entries_of places.new ≡ put_in seq part (entries_of places.old)) }
+    // If `put_at` fails, the places are unchanged.
     ensures err { OnErr result (places.new ≡ places.old) }
+    // If `put_at` fails, it returns the part.
     ensures given_back { IfErr result (λ back. back ≡ part) }
+    // After `put_at`, there are at most as many entries as places.
     ensures bounded { length (entries_of places.new) ≤ length places.new }
 {
     if place_of(places, seq).is_some() {
@@ -185,11 +238,14 @@ fn put_at<T: Drop>(places: &mut [Option<(u32, T)>], seq: u32, part: T) -> Result
     }
 }
 
-/// Empties the place of a number, and answers what it held.
+/// Empties the place of a number, and returns its part.
 fn take_at<T: Drop>(places: &mut [Option<(u32, T)>], seq: u32) -> Option<T>
     requires { Rises 0 (entries_of places.old) }
+    // After `take_at`, the entries have strictly rising numbers.
     ensures rises { Rises 0 (entries_of places.new) }
+    // The result of `take_at` is the part under `seq`, or `None`.
     ensures part { result ≡ part_under seq (entries_of places.old) }
+    // `take_at` leaves all entries except that of `seq`.
     ensures rest { entries_of places.new ≡ take_out seq (entries_of places.old) }
 {
     match place_of(places, seq) {
@@ -201,35 +257,45 @@ fn take_at<T: Drop>(places: &mut [Option<(u32, T)>], seq: u32) -> Option<T>
     }
 }
 
-/// Which place holds a number.
+/// Returns the place that holds a number.
 fn place_of<T>(places: &[Option<(u32, T)>], seq: u32) -> Option<usize>
+    // `place_of` returns one of the places.
     ensures in_range { IfSome result (λ i. i < length places.now) }
+    // `place_of` returns a place if and only if an entry has the number.
     ensures there { is_some result ≡ has_number seq (entries_of places.now) }
+    // The place that `place_of` returns holds an entry under `seq`.
     ensures found { IfSome result (λ i. HoldsAt (IsUnder seq) places.now i) }
 {
     search(places, seq)
 }
 
-/// Looks through the places for a number.
+/// Searches the places for a number.
 fn search<T>(places: &[Option<(u32, T)>], seq: u32) -> Option<usize>
+    // `search` returns one of the places.
     ensures in_range { IfSome result (λ i. i < length places.now) }
+    // The place that `search` returns holds an entry under `seq`.
     ensures found { IfSome result (λ i. HoldsAt (IsUnder seq) places.now i) }
+    // If `search` returns `None`, no place holds an entry under `seq`.
     ensures none { IfNone result (All (λ place. ¬ IsUnder seq place) places.now) }
 {
     places.iter().position(|place| matches!(place, Some((number, _)) if *number == seq))
 }
 
-/// Which place holds nothing.
+/// Returns an empty place.
 fn free_place<T>(places: &[Option<(u32, T)>]) -> Option<usize>
+    // `free_place` returns one of the places.
     ensures in_range { IfSome result (λ i. i < length places.now) }
+    // The place that `free_place` returns is empty.
     ensures found { IfSome result (λ i. HoldsAt IsNone places.now i) }
+    // If `free_place` returns `None`, every place holds an entry.
     ensures none { IfNone result (All IsSome places.now) }
 {
     places.iter().position(|place| place.is_none())
 }
 
-/// The least number in a place.
+/// Returns the least number in the places.
 fn least_number<T>(places: &[Option<(u32, T)>]) -> Option<u32>
+    // The result of `least_number` is the least number of the entries, or `None` if all places are empty.
     ensures { result ≡ least_of (entries_of places.now) }
 {
     let mut least = None;

@@ -1,36 +1,35 @@
-//! What the layer promises over every list of datagrams and ticks.
+//! The laws of the layer, for every list of datagrams and ticks.
 
 ghost use Rattle.red_layer.specs.Laws.{ArrivalLaw, ServiceLaw, Masking, FirstMissingLaw, BoundedLaw, OriginLaw, OneMoreLaw, PartsLaw};
 
-/// The laws of the layer's step, which do nothing when they are called: they hold of every list of
-/// datagrams and ticks from the opening.
+/// Laws of the layer's step. They hold for every list of datagrams and ticks from the opening. The function
+/// does nothing when it is called.
 pub fn order_law()
-    // What arrives with octets is exactly the number and upper part that the grammar of the redundancy PDU
-    // spells.
+    // A datagram makes a part arrive if and only if it is the encoding of a redundancy PDU, and then the
+    // part is the PDU's number and payload.
     ensures arrivals { ArrivalLaw }
 
-    // The parts that arrive with octets are octets.
+    // The payload that arrives with bytes consists of bytes.
     ensures octets { PartsLaw }
 
-    // Over every list of datagrams and ticks what goes up has strictly rising numbers, and each part has
-    // arrived by its moment.
+    // The parts passed up have strictly rising numbers, and each has arrived before or with the input at
+    // which it is passed up.
     ensures service { ServiceLaw }
 
-    // While arrivals are near and no deferral deadline falls, what goes up is one part for each number below
-    // the first missing one, in order.
-    // While arrivals are near and no deferral deadline falls, what goes up under a number is the part that came
-    // first under it.
+    // If no arrival is more than q ahead of the first missing number, and no wait reaches T_seq, the first
+    // part of each number below the first missing one is passed up, in order.
     ensures masking { Masking }
 
-    // The first missing number is the least that has not arrived, and there is no other such number.
+    // The first missing number is the least number that has not arrived, and no other number is.
     ensures missing { FirstMissingLaw }
 
-    // Over every list of datagrams and ticks at most q parts wait.
+    // At most q parts are deferred after any list of datagrams and ticks.
     ensures bounded { BoundedLaw }
 
-    // What goes up or waits after a step, of any receiver, waited before it or arrived with it.
+    // Each part that one step passes up or defers was deferred before or arrived with it, for any receiver.
     ensures origin { OriginLaw }
 
-    // One input more at the end of a list makes one step more of its state, and appends what goes up.
+    // One more input at the end of a list takes the state one step further, and appends the parts that this
+    // step passes up.
     ensures one_more { OneMoreLaw }
 {}

@@ -1,6 +1,7 @@
-//! The redundancy PDU: what the stack hands to a channel and takes from one, apart from what its
-//! upper part means. Layout in octets, least significant first: length of the whole PDU (2),
-//! reserve (2, zero), sequence number (4), upper part (0 to 1,250). There is no check code.
+//! The redundancy PDU: the stack's datagram on a channel. Its payload is not looked into.
+//!
+//! Layout in bytes, least significant first: length of the whole PDU (2), reserve (2, zero), sequence
+//! number (4), payload (0 to 1,250). There is no check code.
 //!
 //! The redundancy layer of DIN VDE V 0831-200:2015, in this project's profile.
 
@@ -11,21 +12,22 @@ ghost use Rattle.red_layer.specs.pdu.RedText.{RedText, FirstFault, red_seen, see
 use octets::limits::{RED_HEADER, RED_PDU_MAX, SAFE_PDU_MAX};
 use octets::places::{put_octets, put_u16, put_u32, u16_at, u32_at};
 
-/// Why octets are no redundancy PDU. Where several hold, the decoder names the first of this list.
+/// Why bytes are not a redundancy PDU. If more than one applies, the decoder returns the first of this
+/// list.
 #[derive(Clone, Copy, Debug, PartialEq, Eq)]
 pub enum RedFault {
-    /// Fewer than the 8 octets of a header.
+    /// There are fewer than the 8 bytes of a header.
     Short,
-    /// The length field differs from the number of octets, or there are more than 1,258.
+    /// The length field differs from the number of bytes, or there are more than 1,258.
     Length,
     /// The reserve is not zero.
     Reserve,
 }
 
 impl RedFault {
-    /// The fault's number, as it is printed: its place among the faults, from 1.
+    /// Returns the fault's number, for printing: its place in the list above, from 1.
     pub fn number(self) -> u8
-        // Each fault has its number.
+        // The result is 1 for `Short`, 2 for `Length` and 3 for `Reserve`.
         ensures { result ≡ red_number self }
     {
         match self {
@@ -35,9 +37,9 @@ impl RedFault {
         }
     }
 
-    /// The fault's name, as it is printed.
+    /// Returns the fault's name, for printing.
     pub fn name(self) -> &'static str
-        // Each fault has its name.
+        // The result is "Short", "Length" or "Reserve".
         ensures { result.now ≡ red_name self }
     {
         match self {
@@ -48,34 +50,36 @@ impl RedFault {
     }
 }
 
-/// A redundancy PDU as a view of the datagram that it was read from.
+/// A redundancy PDU. Its payload is borrowed from the datagram that it was decoded from.
 #[derive(Clone, Copy, Debug, PartialEq, Eq)]
 pub struct RedPdu<'a> {
     /// The sequence number of the redundancy layer.
     pub seq: u32,
-    /// The upper part, at most 1,250 octets; it may be empty.
+    /// The payload, at most 1,250 bytes; it may be empty.
     pub upper: &'a [u8],
 }
 
-/// Reads a datagram, of any octets. It copies none of them: the answer is a view.
+/// Decodes a datagram, which may contain any bytes. Nothing is copied: the payload is borrowed.
 ///
 /// # Errors
 ///
-/// Refused, and the first that holds is named: `Short`, `Length`, `Reserve`.
+/// - `Short` if there are fewer than 8 bytes;
+/// - `Length` if the length field differs from the number of bytes, or there are more than 1,258;
+/// - `Reserve` if the reserve is not zero.
 #[tactic(auto, using(crate::proofs::RedLemmas::red_spelled))]
 pub fn decode(octets: &[u8]) -> Result<RedPdu<'_>, RedFault>
-    // What `decode` accepts is the text, by the grammar, of the sequence number and the upper part that it
-    // answers.
+    // If `decode` succeeds, the input is exactly the encoding of the returned sequence number and payload.
     ensures found { IfOk result (λ pdu. RedText pdu.seq pdu.upper.now octets.now) }
 
-    // `decode` accepts every text of the grammar, with its sequence number and upper part.
+    // Every encoding of a redundancy PDU is accepted, and decoded as its sequence number and payload.
     ensures only { (seq : ℕ) (upper : List ℕ) → RedText seq upper octets.now
         → IsOkAnd result (λ pdu. (pdu.seq ≡ seq) × (pdu.upper.now ≡ upper)) }
 
-    // The fault that `decode` names is the first that holds.
+    // If `decode` fails, the input has the returned fault, and no fault before it in the order above.
     ensures fault { IfErr result (FirstFault octets.now) }
 
-    // What `decode` answers is what stands at the places: sequence number and upper part, or the first fault.
+    // The returned fields are those at their places in the input; otherwise the first fault is returned.
+    // Both are what `red_seen` computes.
     ensures exact { seen_of result ≡ red_seen octets.now }
 {
     if octets.len() < RED_HEADER {
@@ -94,16 +98,17 @@ pub fn decode(octets: &[u8]) -> Result<RedPdu<'_>, RedFault>
     Ok(RedPdu { seq, upper })
 }
 
-/// Writes a redundancy PDU in front of the buffer, leaves the rest of it, and answers how many
-/// octets were written. The caller keeps the upper part within 1,250 octets and room for 8 more.
+/// Encodes a redundancy PDU at the start of the buffer, and returns the number of bytes written.
+///
+/// The caller must provide a payload of at most 1,250 bytes, and room for 8 more.
 pub fn encode(seq: u32, upper: &[u8], buffer: &mut [u8]) -> usize
     requires fits { length upper.now ≤ SAFE_PDU_MAX }
     requires room { RED_HEADER + length upper.now ≤ length buffer.old }
-    // `encode` answers how many octets it wrote: 8 and those of the upper part.
+    // The returned size is 8 and the size of the payload.
     ensures size { result ≡ RED_HEADER + length upper.now }
-    // What `encode` writes in front of the buffer is the text of its sequence number and upper part.
+    // The bytes written are the encoding of the sequence number and payload.
     ensures written { RedText seq upper.now (take result buffer.new) }
-    // `encode` leaves the rest of the buffer.
+    // The bytes of the buffer after those written are unchanged.
     ensures rest { drop result buffer.new ≡ drop result buffer.old }
 {
     let size = RED_HEADER + upper.len();
@@ -114,24 +119,24 @@ pub fn encode(seq: u32, upper: &[u8], buffer: &mut [u8]) -> usize
     size
 }
 
-/// Writes a redundancy PDU and reads it again: what was written is what is read.
+/// Encodes a redundancy PDU and decodes the result.
 pub fn read_back<'a>(seq: u32, upper: &[u8], buffer: &'a mut [u8]) -> Result<RedPdu<'a>, RedFault>
     requires fits { length upper.now ≤ SAFE_PDU_MAX }
     requires room { RED_HEADER + length upper.now ≤ length buffer.old }
-    // What is encoded decodes to the same value.
+    // Decoding succeeds and returns the sequence number and payload that were encoded.
     ensures { IsOkAnd result (λ pdu. (pdu.seq ≡ seq) × (pdu.upper.now ≡ upper.now)) }
 {
     let size = encode(seq, upper, buffer);
     decode(&buffer[..size])
 }
 
-/// A law, which does nothing when it is called: an accepted text has one value, and a value one
-/// text, so encoding what was decoded gives the same octets.
+/// Laws of the encoding. The function does nothing when it is called.
 pub fn one_spelling()
-    // A text has one value.
+    // Bytes are the encoding of at most one sequence number and payload.
     ensures value { (seq other : ℕ) (upper rest octets : List ℕ) → RedText seq upper octets
         → RedText other rest octets → (seq ≡ other) × (upper ≡ rest) }
-    // A value has one text, so encoding what was decoded gives the same octets.
+    // A sequence number and payload have exactly one encoding, so encoding a decoded PDU gives the same
+    // bytes.
     ensures text { (seq : ℕ) (upper octets again : List ℕ) → RedText seq upper octets
         → RedText seq upper again → octets ≡ again }
 {}

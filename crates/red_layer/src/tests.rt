@@ -5,7 +5,7 @@ use arrayvec::ArrayVec;
 use linked_list_allocator::LocalHeap;
 use std::test::Fail;
 
-/// Keeps the numbers that go up.
+/// Keeps the numbers that are passed up.
 #[derive(Drop)]
 struct Seen {
     numbers: ArrayVec<u32, 64>,
@@ -31,7 +31,7 @@ impl Seen {
     }
 }
 
-/// A call of the layer, and what it answers.
+/// A call of the layer, with the expected result.
 #[derive(Clone, Copy)]
 enum Call {
     Arrive(u32, u64, RedEvent),
@@ -39,7 +39,7 @@ enum Call {
     Deadline(Option<u64>),
 }
 
-/// A redundancy PDU with an upper part of one octet.
+/// Returns a redundancy PDU with a payload of one byte.
 fn datagram(seq: u32) -> [u8; 9] {
     let [a, b, c, d] = seq.to_le_bytes();
     [9, 0, 0, 0, a, b, c, d, 7]
@@ -47,8 +47,8 @@ fn datagram(seq: u32) -> [u8; 9] {
 
 const CONFIG: RedConfig = RedConfig { q: 4, t_seq: 50 };
 
-// One receiving half with four places and 50 ms, over a whole life: each call, what it answers and
-// what goes up in it.
+// One receiving half with four places and 50 ms over a whole life: each call, its result and the numbers
+// passed up.
 #[test]
 fn brings_datagrams_into_order(rt: HostRuntime) -> Result<(), Fail> {
     let mut layer = RedLayer::open(rt.alloc(), CONFIG)?;
@@ -86,8 +86,8 @@ fn brings_datagrams_into_order(rt: HostRuntime) -> Result<(), Fail> {
     Ok(())
 }
 
-// Where every place is taken, a number that waits already is Again and another one is Full; a
-// datagram that is no PDU still sets the deadline off, once, and the whole run goes up.
+// If every place is taken, a number already deferred is `Again` and another one is `Full`. A datagram that
+// is not a PDU still triggers the deadline, once, and the whole run is passed up.
 #[test]
 fn any_datagram_tries_the_deadline(rt: HostRuntime) -> Result<(), Fail> {
     let mut layer = RedLayer::open(rt.alloc(), RedConfig { q: 3, t_seq: 50 })?;
@@ -111,8 +111,8 @@ fn any_datagram_tries_the_deadline(rt: HostRuntime) -> Result<(), Fail> {
     Ok(())
 }
 
-// A heap of each size in turn refuses the opening, until one just holds the places: on that full heap
-// the layer works, and takes nothing.
+// Opening fails on each smaller heap, until a heap just holds the places. On that full heap the layer works
+// and allocates nothing.
 #[test]
 fn opening_takes_the_only_memory(rt: HostRuntime) -> Result<(), Fail> {
     let mut refused = false;
@@ -137,8 +137,8 @@ fn opening_takes_the_only_memory(rt: HostRuntime) -> Result<(), Fail> {
     Err("no heap was great enough".into())
 }
 
-// The greatest number goes up, and everything is Old after it. No test has the time to come so far by
-// calls, so the receiving half is made as it would then be: every field is what its sound states have.
+// The greatest number is passed up, and everything after it is `Old`. Calls would take too long to reach
+// it, so the receiving half is made by its fields.
 #[test]
 fn everything_is_old_after_the_greatest_number(rt: HostRuntime) -> Result<(), Fail> {
     let Ok(waiting) = Deferral::new(rt.alloc(), 4) else {
@@ -180,7 +180,7 @@ fn numbers_count_from_zero(rt: HostRuntime) -> Result<(), Fail> {
     Ok(())
 }
 
-// A receiving half is opened at each q of the profile, and nothing waits in it.
+// A receiving half opens at each q of the profile and defers nothing.
 #[test]
 fn opens_at_each_q(rt: HostRuntime) -> Result<(), Fail> {
     for q in 1..9 {

@@ -1,4 +1,4 @@
--- Units in a ring of places: which stand from a place on, and what writing one place changes.
+-- Units in a ring of places: the units from a place on, and what writing one place changes.
 use Rattle.std.proofs.Common.{◌≡◌, ◌<◌, ◌≤◌, ℕ, zero, suc, ◌+◌, ◌-◌, List, [], ◌∷◌, ◌++◌, length, drop, take, None, Some, refl, ap, sym, ◌∙◌, subst, arith}
 use Rattle.std.specs.List.{slice_get, slice_set, slice_index_or}
 use Rattle.std.proofs.lemmas.List.{get_or-set_same, get_or-set_other, length-map, length-set, map-append}
@@ -15,7 +15,7 @@ length-units_from ps p (suc k) = ap suc (length-units_from ps (place_behind (len
 pub length-shown_from : (ps : List Stored) (p k : ℕ) → length (all_shown (units_from ps p k)) ≡ k
 length-shown_from ps p k = length-map (units_from ps p k) shown ∙ length-units_from ps p k
 
--- writing a place that lies behind them changes none of them
+-- Writing a place after them changes none of them.
 pub units_from-others : (ps : List Stored) (p far q : ℕ) (w : Stored) (k : ℕ) → p < length ps → far < length ps → k ≤ far
     → IsFar (length ps) p far q → units_from (slice_set ps q w) p k ≡ units_from ps p k
 units_from-others ps p far q w zero lt near le h = refl
@@ -27,7 +27,7 @@ units_from-others ps p (suc far) q w (suc k) lt near le h =
     (units_from-others ps (place_behind (length ps) p) far q w k (behind-inside (length ps) p lt) (omega arith) (omega arith)
     (far_next (length ps) p far q lt h)))
 
--- writing the place behind them adds one
+-- Writing the place after them adds one.
 pub units_from-more : (ps : List Stored) (p q : ℕ) (w : Stored) (k : ℕ) → p < length ps → k < length ps → IsFar (length ps) p k q
     → units_from (slice_set ps q w) p (suc k) ≡ units_from ps p k ++ w ∷ []
 units_from-more ps p q w zero lt near h = rw (far_none (length ps) p q lt h, get_or-set_same ps p w no_unit lt) refl
@@ -43,7 +43,7 @@ units_from-more ps p q w (suc k) lt near h =
     ≡ slice_index_or ps p no_unit ∷ (units_from ps (place_behind (length ps) p) k ++ w ∷ []))
     (sym (length-set ps q w)) all
 
--- which unit stands so far behind the first one
+-- The unit at a distance from the first one.
 pub units_from-at : (ps : List Stored) (p i q k : ℕ) → p < length ps → i < k → IsFar (length ps) p i q
     → slice_get (units_from ps p k) i ≡ Some (slice_index_or ps q no_unit)
 units_from-at ps p i q zero lt within h = absurd (omega arith)
@@ -51,7 +51,7 @@ units_from-at ps p zero q (suc k) lt within h = rw (far_none (length ps) p q lt 
 units_from-at ps p (suc i) q (suc k) lt within h =
     units_from-at ps (place_behind (length ps) p) i q k (behind-inside (length ps) p lt) (omega arith) (far_next (length ps) p i q lt h)
 
--- writing its place writes it
+-- Writing its place replaces it.
 pub units_from-set : (ps : List Stored) (p i q : ℕ) (w : Stored) (k : ℕ) → p < length ps → i < k → k ≤ length ps → IsFar (length ps) p i q
     → units_from (slice_set ps q w) p k ≡ slice_set (units_from ps p k) i w
 units_from-set ps p i q w zero lt within le h = absurd (omega arith)
@@ -81,13 +81,13 @@ units_from-set ps p (suc i) q w (suc k) lt within le h =
     ≡ slice_index_or ps p no_unit ∷ slice_set (units_from ps (place_behind (length ps) p) k) i w)
     (sym (length-set ps q w)) all
 
--- the first one, and those behind it
+-- The first unit, and the rest.
 pub units_from-front : (ps : List Stored) (p k : ℕ) → 0 < k
     → units_from ps p k ≡ slice_index_or ps p no_unit ∷ units_from ps (place_behind (length ps) p) (k - 1)
 units_from-front ps p zero some = absurd (omega arith)
 units_from-front ps p (suc k) some = let less : suc k - 1 ≡ k = omega arith in rw less refl
 
--- what a new unit adds, once it is kept behind the others
+-- What a new unit adds when it is kept after the others.
 pub shown_more : (ps : List Stored) (n p q k : ℕ) (w : Stored) → length ps ≡ n → k < n → IsRing n p k → IsFar n p k q
     → all_shown (units_from (slice_set ps q w) p (k + 1)) ≡ all_shown (units_from ps p k) ++ shown w ∷ []
 shown_more ps n p q k w long near ring h =
@@ -99,7 +99,7 @@ shown_more ps n p q k w long near ring h =
 pub ring_more : (n p k : ℕ) → k < n → IsRing n p k → IsRing n p (k + 1)
 ring_more n p k near ring = (omega arith, ring.1)
 
--- what stands for a ring, with one unit more
+-- A ring with one unit more, as a value.
 abbrev pub kept_of : ℕ → List Numbered → Kept
 kept_of n us = record { room = n; units = us }
 
@@ -107,7 +107,7 @@ pub kept_more : (n : ℕ) (us more : List Numbered) (old : Kept) (u : Numbered) 
     → kept_of n more ≡ kept_of old.room (old.units ++ u ∷ [])
 kept_more n us more old u same e = ap (kept_of n) e ∙ ap (λ (k : Kept). kept_of k.room (k.units ++ u ∷ [])) same
 
--- which unit is shown at a place
+-- The unit shown at a place.
 pub shown_at : (us : List Stored) (i : ℕ) (u : Stored) → slice_get us i ≡ Some u → slice_get (all_shown us) i ≡ Some (shown u)
 shown_at [] i u e = absurd cc
 shown_at (v ∷ us) zero u e = let same : v ≡ u = cc in rw same refl
@@ -118,7 +118,7 @@ none_past [] i le = refl
 none_past (u ∷ us) zero le = absurd (omega arith)
 none_past (u ∷ us) (suc i) le = none_past us i (omega arith)
 
--- what was read at a place is what stands there
+-- What was read at a place is the unit there.
 pub same_at : (ps : List Stored) (q : ℕ) (u : Stored) → q < length ps → u ≡ slice_index_or ps q u → slice_index_or ps q no_unit ≡ u
 same_at ps q u lt e =
     let some : Some (slice_index_or ps q no_unit) ≡ Some u =
@@ -132,11 +132,11 @@ first_at ps p k u some e = rw (units_from-front ps p k some) (ap (λ (v : Stored
 pub drop-units_from : (ps : List Stored) (p k : ℕ) → 0 < k → drop 1 (units_from ps p k) ≡ units_from ps (place_behind (length ps) p) (k - 1)
 drop-units_from ps p k some = rw (units_from-front ps p k some) refl
 
--- so many units under their new numbers, and those that are still to be written
+-- The first units under their new numbers, and the rest still to be written.
 abbrev pub left_to : ℕ → ℕ → List Stored → List Numbered
 left_to far number us = take far (all_shown us) ++ renumbered number (octets_of (drop far (all_shown us)))
 
--- one number more is written
+-- One more number is written.
 pub step_renumbered : (ps : List Stored) (p far q count number : ℕ) (u v : Stored) (all : List Numbered) → p < length ps → far < count → count ≤ length ps
     → IsFar (length ps) p far q → u ≡ slice_index_or ps q u → v ≡ u → left_to far (number + far) (units_from ps p count) ≡ all
     → left_to (far + 1) (number + (far + 1)) (units_from (slice_set ps q (number + far, v.1)) p count) ≡ all
@@ -155,7 +155,7 @@ step_renumbered ps p far q count number u v all lt within le h e same before =
     ∙ one_renumbered far (number + far) (units_from ps p count) u w at is
     ∙ before
 
--- in the end all are
+-- At the end, all numbers are written.
 pub all_renumbered : (us : List Numbered) (far number : ℕ) → length us ≤ far → us ≡ take far us ++ renumbered number (octets_of (drop far us))
 all_renumbered [] zero number le = refl
 all_renumbered [] (suc far) number le = refl

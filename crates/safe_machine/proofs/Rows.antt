@@ -1,4 +1,4 @@
--- The definitions computed on worked cases: the table, each cause of a drop, each reason of leaving.
+-- The definitions computed for worked cases: the table, each drop cause, each reason for disconnecting.
 use Rattle.safe_machine.proofs.Words.{inl, inr, Some, ◌≡◌, ℕ, List, [], ◌∷◌, drop, true, false, refl, Err, Eight, Short, Kind, ConnReq, ConnResp, RetrReq}
 use Rattle.safe_machine.proofs.Words.{RetrResp, DiscReq, Heartbeat, Data, RetrData, Pdu, kind_number, Start, Up, Requesting, RetrRun, Fault, Stranger}
 use Rattle.safe_machine.proofs.Words.{NotOpened, Number, Request, Answered, Below, Dropped, Gap, Left, Taken, NoAnswer, ClosedByUser, UnexpectedPdu}
@@ -28,14 +28,14 @@ settings = set_of false 2 1 4294901760
 client_settings : Settings
 client_settings = set_of true 1 2 4294901760
 
--- PDUs from the interlocking (1) and from the field element (2)
+-- PDUs from the interlocking (1) and from the field element (2).
 from_il : Kind → ℕ → ℕ → ℕ → List ℕ → Pdu
 from_il kind sn cs cts body = record { kind = kind; receiver = 2; sender = 1; sn = sn; cs = cs; ts = 0; cts = cts; body = body }
 
 from_fe : Kind → ℕ → ℕ → List ℕ → Pdu
 from_fe kind sn cs body = record { kind = kind; receiver = 1; sender = 2; sn = sn; cs = cs; ts = 0; cts = 0; body = body }
 
--- a server with first number 500 in Down; that took ConnReq 100; that took HB 101 as well; that saw a gap; that got its answer
+-- A server with first number 500: in Down; after ConnReq 100; after HB 101; after a gap; after its RetrResp.
 down : State
 down = opened settings 500 0
 
@@ -51,11 +51,11 @@ requesting = arrive (from_il Data 103 500 0 (7 ∷ [])) 0 up
 running : State
 running = arrive (from_il RetrResp 104 500 0 []) 0 requesting
 
--- a client in Start
+-- A client in Start.
 client : State
 client = opened client_settings 100 0
 
--- what is seen of PDUs: type, number, confirmed number
+-- PDUs as type, number and confirmed number.
 seen : List Made → List (ℕ × ℕ × ℕ)
 seen [] = []
 seen (m ∷ ms) = (kind_number m.pdu.kind, m.pdu.sn, m.pdu.cs) ∷ seen ms
@@ -65,7 +65,7 @@ opening_seen : (seen up.made ≡ (6201, 500, 100) ∷ []) × (up.connection ≡ 
 unfolding seen up starting requesting running down from_il settings sn_of ahead
 opening_seen = (refl, refl, refl, refl, refl)
 
--- A row of the table: what is decided on HB, Data, RetrData, RetrReq, RetrResp, ConnReq, ConnResp with this number.
+-- A row of the table: the decisions on HB, Data, RetrData, RetrReq, RetrResp, ConnReq and ConnResp with this number.
 row : State → ℕ → List Decision
 row s sn =
     decide (kept_of s) (from_il Heartbeat sn 500 0 []) 0 ∷ decide (kept_of s) (from_il Data sn 500 0 (7 ∷ [])) 0 ∷ decide (kept_of s)
@@ -126,7 +126,7 @@ gap_seen : (seen (drop 1 (arrive (from_il Data 302 500 0 (7 ∷ [])) 0 up).made)
 unfolding seen up starting down from_il settings sn_of ahead
 gap_seen = (refl, refl, refl, refl)
 
--- RetrData: 1; CS 501: 7, 3; CTS 1: 7, 4; at time 1800: 3, at time 1799: taken; a stranger
+-- RetrData: reason 1. CS 501: reason 7, detail 3. CTS 1: reason 7, detail 4. At time 1800: reason 3; at time 1799: taken. Then a stranger's PDU.
 one_arrival : (arrive (from_il RetrData 102 500 0 (7 ∷ [])) 0 up ≡ leave UnexpectedPdu Unspecified 0 up)
     × (arrive (from_il Heartbeat 102 501 0 []) 0 up ≡ leave ProtocolError ConfirmedNumber 0 up)
     × (arrive (from_il Heartbeat 102 500 1 []) 0 up ≡ leave ProtocolError ConfirmedTimestamp 0 up)
@@ -137,34 +137,35 @@ one_arrival : (arrive (from_il RetrData 102 500 0 (7 ∷ [])) 0 up ≡ leave Une
 unfolding up starting down from_il settings sn_of ahead
 one_arrival = (refl, refl, refl, refl, refl, refl, refl)
 
--- the server has sent two units, as 501 and 502
+-- The server has sent two units, as 501 and 502.
 sending : State
 sending = send (8 ∷ []) 0 (send (7 ∷ []) 0 up)
 
 after : Pdu → State
 after p = arrive p 0 sending
 
--- A request with the next number is answered with all units again; that one again is out of reach, CS 499 is below.
+-- A request with the next number is answered with all units again. The same request again is out of reach, and CS 499 is below the last one
+-- confirmed.
 answer_seen : (seen (drop 3 (after (from_il RetrReq 102 500 0 [])).made) ≡ (6213, 503, 102) ∷ (6241, 504, 102) ∷ (6241, 505, 102) ∷ (6220, 506, 102) ∷ [])
     × (decide (kept_of (after (from_il RetrReq 102 500 0 []))) (from_il RetrReq 102 500 0 []) 0 ≡ Drops Number)
     × (decide (kept_of sending) (from_il RetrReq 102 499 0 []) 0 ≡ Drops Below)
 unfolding seen sending after up starting down from_il settings sn_of ahead
 answer_seen = (refl, refl, refl)
 
--- CS 503 confirms what was not made: reason 6, without confirming
+-- CS 503 confirms a PDU that was not made: reason 6, and nothing is confirmed.
 beyond_seen : (seen (drop 3 (after (from_il RetrReq 102 503 0 [])).made) ≡ (6216, 503, 101) ∷ [])
     × (decide (kept_of sending) (from_il RetrReq 102 503 0 []) 0 ≡ Leaves RetransmissionImpossible Unspecified)
 unfolding seen sending after up starting down from_il settings sn_of ahead
 beyond_seen = (refl, refl)
 
--- An early request is answered with the units behind its CS, and with a request of one's own; again it is dropped.
+-- An early request is answered with the units after its CS, and with a request of the end's own; a second time it is dropped.
 early_seen : (seen (drop 3 (after (from_il RetrReq 105 501 0 [])).made) ≡ (6213, 503, 101) ∷ (6241, 504, 101) ∷ (6220, 505, 101) ∷ (6212, 506, 101) ∷ [])
     × (decide (kept_of (after (from_il RetrReq 105 501 0 []))) (from_il RetrReq 105 501 0 []) 0 ≡ Drops Answered)
     × ((after (from_il RetrReq 105 501 0 [])).connection ≡ Requesting)
 unfolding seen sending after up starting down from_il settings sn_of ahead
 early_seen = (refl, refl, refl)
 
--- A closed end answers nothing, whoever speaks to it, and octets that read as nothing meet the guard.
+-- A closed end does nothing for any sender, and bytes that do not decode cause only the timeout check.
 closed_seen : (decide (kept_of (leave ClosedByUser Unspecified 0 up))
     (record { kind = Heartbeat; receiver = 2; sender = 9; sn = 102; cs = 500; ts = 0; cts = 0; body = [] }) 0 ≡ Nothing)
     × (heard_answer (Err Short) 0 (kept_of (leave ClosedByUser Unspecified 0 up)) ≡ NoAnswer)
@@ -172,7 +173,7 @@ closed_seen : (decide (kept_of (leave ClosedByUser Unspecified 0 up))
 unfolding up starting down from_il settings sn_of ahead
 closed_seen = (refl, refl, refl, refl)
 
--- Where as many PDUs were made as may be: reason 7, detail 1. (Here the limit is one PDU.)
+-- If the limit of PDUs is reached: reason 7, detail 1. (Here the limit is one PDU.)
 short_settings : Settings
 short_settings = set_of false 2 1 1
 
@@ -188,13 +189,13 @@ numbers_seen : (leaving_body ClosedByUser Unspecified ≡ 0 ∷ 0 ∷ 0 ∷ 0 �
     × (leaving_body ProtocolError ConfirmedNumber ≡ 3 ∷ 0 ∷ 7 ∷ 0 ∷ []) × (leaving_body ProtocolError ConfirmedTimestamp ≡ 4 ∷ 0 ∷ 7 ∷ 0 ∷ [])
 numbers_seen = (refl, refl, refl, refl, refl, refl, refl, refl)
 
--- A heartbeat is due 300 ms after the last sending, and none in Start.
+-- A heartbeat is due 300 ms after the last sending, but not in Start.
 heartbeat_seen : (seen (tick 299 up).made ≡ (6201, 500, 100) ∷ []) × (seen (tick 300 up).made ≡ (6201, 500, 100) ∷ (6220, 501, 101) ∷ [])
     × (seen (tick 300 starting).made ≡ (6201, 500, 100) ∷ [])
 unfolding seen up starting down from_il settings sn_of ahead
 heartbeat_seen = (refl, refl, refl)
 
--- A genuine list of events in which a unit is taken, so that the law is not said of nothing.
+-- A genuine list of events in which a unit is taken, which shows that the law is not vacuous.
 one_unit : List Event
 one_unit =
     Open Fe settings 500 0 ∷ Open Il client_settings 100 0

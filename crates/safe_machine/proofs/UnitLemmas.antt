@@ -1,4 +1,4 @@
--- Units with rising numbers: what is sent stands behind, what is confirmed in front, and how numbers are written anew.
+-- Units with rising numbers: a sent unit is appended, confirmed units are at the front, and units are renumbered.
 use Rattle.std.proofs.Common.{◌≡◌, ◌<◌, ◌≤◌, ℕ, zero, suc, ◌+◌, true, false, Bool, List, [], ◌∷◌, ◌++◌, take, drop, nat_lt, nat_le, refl, ap, arith, Some, None}
 use Rattle.std.specs.List.{All, slice_get, slice_set}
 use Rattle.std.proofs.lemmas.Bool.{lt-ltb}
@@ -8,7 +8,7 @@ use Rattle.std.proofs.lemmas.List.Kept.{AllPairs-cons, AllPairs-filter}
 use Rattle.std.proofs.lemmas.List.Quantifiers.{all_pairs_push}
 use Rattle.safe_machine.specs.retrans.Units.{Numbered, Rises, Stored, above, all_shown, octets_of, renumbered, shown, up_to}
 
--- the numbers behind the first one rise too, and are greater
+-- The numbers after the first one rise, too, and are greater.
 pub Rises-tail : (u : Numbered) (us : List Numbered) → Rises (u ∷ us) → Rises us
 Rises-tail u us h = record { pairs = λ i j d lt within. h.pairs (suc i) (suc j) d (omega arith) (omega arith) }
 
@@ -22,7 +22,7 @@ pub Rises-above : (number : ℕ) (us : List Numbered) → Rises us → Rises (ab
 Rises-above number us h =
     record { pairs = AllPairs-filter (λ (a b : Numbered). a.number < b.number) (λ (u : Numbered). nat_lt number u.number) us h.pairs }
 
--- consecutive numbers rise
+-- Consecutive numbers rise.
 renumbered-from : (low first : ℕ) (units : List (List ℕ)) → low ≤ first → All (λ (u : Numbered). low ≤ u.number) (renumbered first units)
 renumbered-from low first [] le = All-nil (λ (u : Numbered). low ≤ u.number)
 renumbered-from low first (octets ∷ units) le =
@@ -38,12 +38,12 @@ Rises-renumbered first (octets ∷ units) =
           (λ k d within. omega (arith, renumbered-from (first + 1) (first + 1) units (omega arith) k d within)) (Rises-renumbered (first + 1) units).pairs;
     }
 
--- the units stay
+-- Renumbering keeps the units.
 pub octets-renumbered : (first : ℕ) (units : List (List ℕ)) → octets_of (renumbered first units) ≡ units
 octets-renumbered first [] = refl
 octets-renumbered first (octets ∷ units) = ap (λ rest. octets ∷ rest) (octets-renumbered (first + 1) units)
 
--- where all numbers are greater, nothing is confirmed
+-- If all numbers are greater, nothing is confirmed.
 pub above-all : (number : ℕ) (us : List Numbered) → All (λ (u : Numbered). number < u.number) us → above number us ≡ us
 above-all number [] h = refl
 above-all number (u ∷ us) h =
@@ -61,7 +61,7 @@ pub all_greater : (number : ℕ) (u : Numbered) (us : List Numbered) → Rises (
 all_greater number u us h lt =
     All-cons (λ (v : Numbered). number < v.number) u us lt (λ k d within. omega (arith, Rises-head u us h k d within))
 
--- the units that are confirmed stand in front
+-- The confirmed units are at the front.
 front_by : (number : ℕ) (u : Numbered) (us : List Numbered) → Rises (u ∷ us) → us ≡ up_to number us ++ above number us → (t : Bool) → nat_le u.number number ≡ t
     → u ∷ us ≡ up_to number (u ∷ us) ++ above number (u ∷ us)
 front_by number u us h e true le =
@@ -76,7 +76,7 @@ pub front_first : (number : ℕ) (us : List Numbered) → Rises us → us ≡ up
 front_first number [] h = refl
 front_first number (u ∷ us) h = front_by number u us h (front_first number us (Rises-tail u us h)) (nat_le u.number number) refl
 
--- one unit less: the first one is confirmed, or none is
+-- One unit less: either the first one is confirmed, or no unit is.
 pub first_dropped : (number : ℕ) (us : List Stored) (u : Stored) → slice_get us 0 ≡ Some u → u.0 ≤ number
     → above number (all_shown (drop 1 us)) ≡ above number (all_shown us)
 first_dropped number [] u e le = absurd cc
@@ -98,7 +98,7 @@ first_kept number (v ∷ us) u e lt h =
     let greater : number < v.0 = rw same lt in
     above-all number (shown v ∷ all_shown us) (all_greater number (shown v) (all_shown us) h greater)
 
--- one number more is written
+-- One more number is written.
 pub one_renumbered : (place number : ℕ) (us : List Stored) (u w : Stored) → slice_get us place ≡ Some u
     → shown w ≡ record { number = number; octets = u.1.items }
     → take (suc place) (all_shown (slice_set us place w)) ++ renumbered (number + 1) (octets_of (drop (suc place) (all_shown (slice_set us place w))))

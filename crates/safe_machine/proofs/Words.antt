@@ -1,4 +1,5 @@
--- What the lemmas of this crate name of the library, of the layers below and of the crate's own definitions; what they prove they name by its own file.
+-- Names of the library, of the layers below and of the crate's own definitions that these lemmas use. Names of lemmas are imported from their own
+-- files.
 pub use Rattle.std.proofs.Common.{Bool, Err, List, None, Ok, Option, Result, Some, [], ap, append_assoc, arith, cond, drop, false, inl, inr, length, rules}
 pub use Rattle.std.proofs.Common.{length-append, refl, subst, suc, sym, take, true, zero, ℕ, ⊎_elim, ◌%◌, ◌*◌, ◌++◌, ◌+◌, ◌-◌, ◌<◌, ◌^◌, ◌∙◌, ◌∷◌, ◌≡◌, ◌≢◌}
 pub use Rattle.std.proofs.Common.{◌≤◌, ◌⊎◌}
@@ -48,13 +49,15 @@ pub use Rattle.safe_machine.specs.Properties.{HandsIf, IsNextData, IsRecent, Sto
 pub use Rattle.safe_machine.specs.Reached.{AreRead, FewLaw, IsReached, IsRead}
 pub use Rattle.safe_machine.specs.Ring.{after_at, after_carrier, carried_again, carried_at, carriers, carriers_from, is_resent, resent, ring_of}
 pub use Rattle.safe_machine.specs.Settings.{Settings, are_two, in_range, is_coded, is_legal}
-pub use Rattle.safe_machine.specs.State.{State, ask, blank, hand_up, leave, make, move_to, next_made, note_request, opened, pass, reply, resend, unconfirmed}
-pub use Rattle.safe_machine.specs.Step.{answered_ahead, arrive, beat, carry_out, confirm_time, confirm_to, confirm_units, guard, heartbeat, may_send, respond}
-pub use Rattle.safe_machine.specs.Step.{send, set_window, take_unit, tests_passed, tick}
+pub use Rattle.safe_machine.specs.State.{State, unconfirmed}
+pub use Rattle.safe_machine.specs.Step.{arrive, follow, guard, history, leave, may_send, opened, send, tick}
+pub use Rattle.safe_machine.proofs.one.Effects.{answered_ahead, ask, beat, blank, carry_out, confirm_to, confirm_units, guarded, hand_up}
+pub use Rattle.safe_machine.proofs.one.Effects.{heartbeat, left_by, make, move_to, next_made, note_request, pass, reply, resend, respond, set_window}
+pub use Rattle.safe_machine.proofs.one.Effects.{take_unit, tests_passed}
 pub use Rattle.safe_machine.specs.Table.{cell, request_row, run_row, start_row, up_row}
 pub use Rattle.safe_machine.specs.Turned.{HasMade, MaySend, OpenedTurn, Tells, Turned, handed, turn}
 pub use Rattle.safe_machine.specs.Turns.{Out, Turn, answers_ahead, arrive_answer, arrives, asks, beats, both_confirmed, carried, carries_out, confirmed_to}
-pub use Rattle.safe_machine.specs.Turns.{counted, goes_on, guards, handed_by, hands, has_room, is_open, leaves, moved_to, opens, passed, renumbers, replies}
+pub use Rattle.safe_machine.specs.Turns.{counted, goes_on, guards, handed_by, hands, has_room, is_open, leaves, moved_to, opens, passed, renumbers, replies, ticks}
 pub use Rattle.safe_machine.specs.Turns.{requested, resends, responds, says, sends, sends_unit, still, takes_unit, units_confirmed, unsaid, windowed}
 pub use Rattle.safe_machine.specs.View.{StandsFor, View, beside, kept_of, text_of, texts, settings_of}
 pub use Rattle.safe_machine.specs.World.{Among, Event, Genuine, GenuineAt, GenuineEvent, Served, Timely, TimelyEvent, World, as_role, at_end, changed}

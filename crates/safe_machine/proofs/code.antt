@@ -1,3 +1,3 @@
--- What the functions of the crate rely on.
+-- Lemmas that the functions of the crate rely on.
 pub mod Properties
 pub mod Reaching

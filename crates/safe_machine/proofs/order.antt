@@ -1,3 +1,3 @@
--- What holds of two machines where each hears the peer's PDUs one by one in the order of their making.
+-- What holds for two machines that receive the peer's PDUs one by one, in the order in which they were made.
 pub mod OrderArrivals
 pub mod OrderLaw

@@ -1,4 +1,4 @@
--- What holds of two machines over every list of events, however often either is opened.
+-- What holds for two machines over every list of events, however often either is opened.
 pub mod Invariant
 pub mod Lone
 pub mod Status

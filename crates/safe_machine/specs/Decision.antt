@@ -1,4 +1,4 @@
--- What an end decides on an arrival, from what it keeps, the PDU and the own time.
+-- The decision of an end on an arrival, from what it keeps, the PDU and its own time.
 use Rattle.std.specs.Prelude.{ℕ, ◌+◌, ◌-◌, ◌*◌, ◌==◌, ◌&&◌, nat_lt, nat_le, Bool, true, false, List, if◌then◌else◌}
 use Rattle.octets.specs.declared.limits.TheConstants.{REACH}
 use Rattle.safe_pdu.specs.declared.Kind.{Kind}
@@ -26,57 +26,58 @@ use Rattle.safe_machine.specs.declared.arrival.Cell.TheVariants.{Take, Ask, Answ
 use Rattle.safe_pdu.specs.declared.reasons.Reason.TheVariants.{UnexpectedPdu, WrongVersion, RetransmissionImpossible, ProtocolError}
 use Rattle.safe_pdu.specs.declared.reasons.Detail.TheVariants.{Unspecified, ConfirmedNumber, ConfirmedTimestamp}
 
--- a ConnReq or ConnResp has the version of this profile
+-- The body of a ConnReq or ConnResp has the version of this profile.
 abbrev pub is_ours : List ℕ → Bool
 is_ours body = bytes_eq (version_of body) our_version
 
--- the receiver is not this end, or the sender not its peer
+-- The receiver is not this end, or the sender is not its peer.
 abbrev pub is_foreign : Settings → Pdu → Bool
 is_foreign settings p = if (p.receiver == settings.own) && (p.sender == settings.peer) then false else true
 
+-- The PDU is foreign to an end in this state.
 abbrev pub is_stranger : State → Pdu → Bool
 is_stranger s p = is_foreign s.settings p
 
--- how far the PDU lies ahead of the expected one
+-- How far the PDU is ahead of the expected one.
 abbrev pub distance : View → Pdu → ℕ
 distance v p = ahead (v.last_sn + 1) p.sn
 
--- how many PDUs it confirms beyond the last one confirmed
+-- How many PDUs it confirms after the last one confirmed.
 abbrev pub cs_step : View → Pdu → ℕ
 cs_step v p = ahead (sn_of v.first v.confirmed) p.cs
 
--- how far its confirmed timestamp lies behind the time last confirmed, in milliseconds
+-- By how many milliseconds its confirmed timestamp is after the time last confirmed.
 abbrev pub cts_step : View → Pdu → ℕ
 cts_step v p = ahead v.confirmed_at p.cts
 
--- the confirmation tests: what it confirms was made
+-- The number test: the confirmed number is that of a PDU made, and not before the last one confirmed.
 abbrev pub cs_fits : View → Pdu → Bool
 cs_fits v p = nat_lt (cs_step v p) (v.made - v.confirmed)
 
--- and the confirmed timestamp is not beyond the own time
+-- The timestamp test: the confirmed timestamp is not after the own time.
 abbrev pub cts_fits : View → Pdu → ℕ → Bool
 cts_fits v p now = nat_le (cts_step v p) (now - v.confirmed_at)
 
--- a decision under both tests: number first, then timestamp
+-- The decision if both tests pass: first the number, then the timestamp.
 abbrev pub tested : View → Pdu → ℕ → Decision → Decision
 tested v p now decision =
     if cs_fits v p then (if cts_fits v p now then decision else Leaves ProtocolError ConfirmedTimestamp) else Leaves ProtocolError ConfirmedNumber
 
--- the server before a connection
+-- The decision of a server before a connection, by PDU type.
 abbrev pub in_down : Pdu → Kind → Decision
 in_down p ConnReq = if is_ours p.body then Accepts else Rejects
 in_down p _ = Drops NotOpened
 
--- the client in Start
+-- The decision of a client in Start, by PDU type.
 abbrev pub as_client : View → Pdu → ℕ → Kind → Decision
 as_client v p now ConnResp = if is_ours p.body then tested v p now Connects else Leaves WrongVersion Unspecified
 as_client v p now _ = Leaves UnexpectedPdu Unspecified
 
--- a RetrReq that confirms nothing that awaits it
+-- The decision on a RetrReq that fails the number test: dropped if it confirms less than before, otherwise the end disconnects.
 abbrev pub unconfirming : View → Pdu → Decision
 unconfirming v p = if nat_le 0x8000_0000 (cs_step v p) then Drops Below else Leaves RetransmissionImpossible Unspecified
 
--- a RetrReq: answered before, below, beyond, the next PDU, or an early one
+-- The decision on a RetrReq, by its distance: handled before, failing the number test, the next PDU, or early.
 abbrev pub answering : View → Pdu → ℕ → ℕ → Decision
 answering v p now d =
     if nat_le (v.expected + d) v.answered then Drops Answered
@@ -86,7 +87,7 @@ answering v p now d =
     else AnswersEarly)
     else unconfirming v p
 
--- what a cell of the table says of this PDU
+-- The decision that a cell of the table leads to.
 abbrev pub by_cell : View → Pdu → ℕ → ℕ → Cell → Decision
 by_cell v p now d (Take connection) = tested v p now (Takes connection)
 by_cell v p now d Ask = Asks
@@ -95,36 +96,36 @@ by_cell v p now d Resume = tested v p now Resumes
 by_cell v p now d (Refuse reason) = Leaves reason Unspecified
 by_cell v p now d Skip = Drops Request
 
--- within reach the table decides
+-- The decision by the table, if the PDU is at most 10 times the own window ahead.
 abbrev pub by_table : View → Pdu → ℕ → ℕ → Decision
 by_table v p now d =
     if nat_le d (REACH * v.settings.n_sendmax) then by_cell v p now d (cell v.connection (d == 0) p.kind) else Drops Number
 
--- in Start the role decides
+-- The decision in Start, by the role.
 abbrev pub in_start : View → Pdu → ℕ → Decision
 in_start v p now = if v.settings.client then as_client v p now p.kind else by_table v p now (distance v p)
 
--- a DiscReq
+-- The PDU is a DiscReq.
 abbrev pub is_goodbye : Kind → Bool
 is_goodbye DiscReq = true
 is_goodbye _ = false
 
--- the state decides
+-- The decision by the state of the connection.
 abbrev pub by_connection : View → Pdu → ℕ → ConnectionState → Decision
 by_connection v p now Closed = Nothing
 by_connection v p now Down = in_down p p.kind
 by_connection v p now Start = if is_goodbye p.kind then Shuts else in_start v p now
 by_connection v p now _ = if is_goodbye p.kind then Shuts else by_table v p now (distance v p)
 
--- of a PDU that an end hears, which is one that is not closed
+-- The decision of an end that is not closed: a stranger's PDU is dropped.
 abbrev pub by_sender : View → Pdu → ℕ → Decision
 by_sender v p now = if is_foreign v.settings p then Drops Stranger else by_connection v p now v.connection
 
--- what an end decides: closed first, then stranger, then by its state
+-- The decision: closed first, then strangers, then the state.
 abbrev pub decide : View → Pdu → ℕ → Decision
 decide v p now = if is_closed v.connection then Nothing else by_sender v p now
 
--- what a decision is told as
+-- The step as which a decision is reported.
 abbrev pub answer_of : Decision → Outcome
 answer_of Nothing = NoAnswer
 answer_of (Drops cause) = Dropped cause

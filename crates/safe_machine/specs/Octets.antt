@@ -1,4 +1,4 @@
--- What a machine does with octets: it arrives with what they read as, and where they read as nothing, the guard is all.
+-- The arrival of bytes: that of the PDU that they encode, or only the timeout check if they do not encode one.
 use Rattle.std.specs.Prelude.{ℕ, ◌≢◌, List, [], Result, Ok, Err, if◌then◌else◌}
 use Rattle.safe_pdu.specs.declared.SafeFault.{SafeFault}
 use Rattle.safe_pdu.specs.Pdu.{Pdu}
@@ -15,42 +15,42 @@ use Rattle.safe_machine.specs.Moves.Move.{Guards, Hears}
 use Rattle.safe_machine.specs.Connections.{is_closed}
 use Rattle.safe_machine.specs.Properties.{IsRecent}
 
--- octets that read so, as a move of the machine
+-- The move of bytes with this result of decoding.
 abbrev pub heard : Result Pdu SafeFault → ℕ → Move
 heard (Ok p) now = Hears p now
 heard (Err fault) now = Guards now
 
--- and how it is answered: closed, guard and fault in this order
+-- The step that is reported: timeout check, closed end, fault of the bytes, or decision on the PDU.
 abbrev pub heard_answer : Result Pdu SafeFault → ℕ → View → Outcome
 heard_answer (Ok p) now v = arrive_answer p now v
 heard_answer (Err fault) now v = unless_guarded now v (if is_closed v.connection then NoAnswer else Dropped (Fault fault))
 
--- what octets read as under the end's own rule of the code
+-- The result of decoding under the end's own settings of the safety code.
 abbrev pub seen_by : State → List ℕ → Result Pdu SafeFault
 seen_by s octets = safe_seen s.settings.rule octets
 
--- octets arrive
+-- The state after the arrival of bytes.
 abbrev pub arrive_octets : List ℕ → ℕ → State → State
 arrive_octets octets now s = move (heard (seen_by s octets) now) s
 
--- and are answered
+-- The step that is reported for these bytes.
 abbrev pub octets_answer : List ℕ → ℕ → State → Outcome
 octets_answer octets now s = heard_answer (seen_by s octets) now (kept_of s)
 
--- the same by what is kept: the turn of octets
+-- The turn of received bytes, by what is kept.
 abbrev pub hears : List ℕ → ℕ → View → Turn
 hears octets now v = turn (heard (safe_seen v.settings.rule octets) now) v
 
--- and the units that they hand up
+-- The units that received bytes hand up.
 abbrev pub hears_units : List ℕ → ℕ → View → List (List ℕ)
 hears_units octets now v = handed (heard (safe_seen v.settings.rule octets) now) v
 
--- the arrival of octets, in every state
+-- In every state, the arrival of bytes takes the turn of what is kept.
 abbrev pub OctetsLaw : Type 0
 OctetsLaw =
     (octets : List ℕ) (now : ℕ) (v : View) (s : State) → StandsFor v s →
     Turned (hears octets now v) (hears_units octets now v) s (arrive_octets octets now s)
 
--- what octets hand up came with a confirmed timestamp that this end reads as recent, whatever it keeps
+-- If bytes hand up a unit, the end reads their confirmed timestamp as recent.
 abbrev pub RecentLaw : Type 0
 RecentLaw = (octets : List ℕ) (now : ℕ) (v : View) → hears_units octets now v ≢ [] → IsRecent (safe_seen v.settings.rule octets) now v

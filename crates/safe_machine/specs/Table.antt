@@ -1,4 +1,4 @@
--- What an end does with a PDU that is neither out of reach nor a DiscReq, by its state.
+-- What an end does, by its state, with a PDU that is within reach and not a DiscReq.
 use Rattle.std.specs.Prelude.{Bool, true, false}
 use Rattle.safe_pdu.specs.declared.Kind.{Kind}
 use Rattle.safe_pdu.specs.declared.Kind.TheVariants.{RetrReq, RetrResp, Heartbeat, Data, RetrData}
@@ -8,14 +8,14 @@ use Rattle.safe_machine.specs.declared.arrival.Cell.{Cell}
 use Rattle.safe_machine.specs.declared.arrival.Cell.TheVariants.{Take, Ask, Answer, Resume, Refuse, Skip}
 use Rattle.safe_pdu.specs.declared.reasons.Reason.TheVariants.{UnexpectedPdu, SequenceError}
 
--- the rows; the flag says that the PDU is the next one
+-- The row of a server in Start. The flag says that the PDU is the next one.
 abbrev pub start_row : Bool → Kind → Cell
 start_row true Heartbeat = Take Up
 start_row false Heartbeat = Refuse SequenceError
 start_row false Data = Refuse SequenceError
 start_row _ _ = Refuse UnexpectedPdu
 
--- the server and the client in Up
+-- The row of Up.
 abbrev pub up_row : Bool → Kind → Cell
 up_row true Heartbeat = Take Up
 up_row true Data = Take Up
@@ -24,7 +24,7 @@ up_row false Data = Ask
 up_row _ RetrReq = Answer
 up_row _ _ = Refuse UnexpectedPdu
 
--- while a retransmission runs
+-- The row of RetrRun, while a retransmission is running.
 abbrev pub run_row : Bool → Kind → Cell
 run_row true Heartbeat = Take Up
 run_row true Data = Take Up
@@ -35,7 +35,7 @@ run_row false RetrData = Ask
 run_row _ RetrReq = Answer
 run_row _ _ = Refuse UnexpectedPdu
 
--- while one is asked for, at any distance
+-- The row of RetrReq, while a retransmission is requested; the distance does not matter.
 abbrev pub request_row : Kind → Cell
 request_row Heartbeat = Skip
 request_row Data = Skip
@@ -44,7 +44,7 @@ request_row RetrReq = Answer
 request_row RetrResp = Resume
 request_row _ = Refuse UnexpectedPdu
 
--- the table
+-- The table.
 abbrev pub cell : ConnectionState → Bool → Kind → Cell
 cell Start next kind = start_row next kind
 cell Up next kind = up_row next kind

@@ -1,16 +1,16 @@
--- The bridge from what a machine keeps to all that ever happened to it: a history's view takes the view's turn, and the history grows by
--- what the turn made and what it handed up.
+-- The connection between what a machine keeps and its history: what is kept of a history takes the turn, and the history grows by what the turn made
+-- and handed up.
 use Rattle.std.specs.Prelude.{◌≡◌, ◌<◌, ℕ, true, List, [], ◌++◌, length}
 use Rattle.safe_machine.specs.Connections.{in_turn}
 use Rattle.safe_machine.specs.Moves.{Move, move}
 use Rattle.safe_machine.specs.Moves.Move.{Guards, Hears, Ticks, Sends, Leaves}
 use Rattle.safe_machine.specs.Settings.{Settings}
-use Rattle.safe_machine.specs.State.{State, opened, unconfirmed}
-use Rattle.safe_machine.specs.Step.{may_send}
+use Rattle.safe_machine.specs.State.{State, unconfirmed}
+use Rattle.safe_machine.specs.Step.{may_send, opened}
 use Rattle.safe_machine.specs.Turns.{Turn, arrives, guards, hands, has_room, leaves, opens, sends, ticks}
 use Rattle.safe_machine.specs.View.{View, StandsFor}
 
--- the turn of a move
+-- The turn of a move.
 abbrev pub turn : Move → View → Turn
 turn (Guards now) v = guards now v
 turn (Hears p now) v = arrives p now v
@@ -18,48 +18,55 @@ turn (Ticks now) v = ticks now v
 turn (Sends unit now) v = sends unit now v
 turn (Leaves reason detail now) v = leaves reason detail now v
 
--- the units that a move hands up
+-- The units that a move hands up.
 abbrev pub handed : Move → View → List (List ℕ)
 handed (Hears p now) v = hands p now v
 handed _ v = []
 
--- where units go out in turn, the PDU that was last confirmed was made
+-- If units are sent and taken in order, the PDU last confirmed was made.
 abbrev pub HasMade : View → Type 0
 HasMade v = in_turn v.connection ≡ true → v.confirmed < v.made
 
--- an end that sends has made the PDU that was last confirmed
+-- The condition for the turn of a move: before a send, the PDU last confirmed was made.
 abbrev pub MaySend : Move → View → Type 0
 MaySend (Sends unit now) v = HasMade v
 MaySend _ v = Unit {0}
 
--- From one history to another: what the turn left stands for the later one, which has grown by what the turn made and by these units.
+-- The history after a turn.
 pub record Turned (t : Turn) (units : List (List ℕ)) (s u : State) : Type 0 where
+  -- What the turn left is what is kept of the later history.
   pub stands : StandsFor t.left u
+  -- The history has grown by the PDUs that the turn made.
   pub made : u.made ≡ s.made ++ t.made
+  -- The history has grown by these units.
   pub taken : u.taken ≡ s.taken ++ units
 
--- every move, in every state
+-- Every move, in every state, takes the turn of what is kept.
 abbrev pub TurnsLaw : Type 0
 TurnsLaw = (m : Move) (v : View) (s : State) → MaySend m v → StandsFor v s → Turned (turn m v) (handed m v) s (move m s)
 
--- which every move keeps
+-- Every move keeps that the PDU last confirmed was made.
 abbrev pub MadeLaw : Type 0
 MadeLaw = (m : Move) (v : View) (s : State) → HasMade v → StandsFor v s → HasMade (turn m v).left
 
--- What is opened, and what it has made.
+-- The history after an opening.
 pub record OpenedTurn (settings : Settings) (first now : ℕ) : Type 0 where
+  -- What the opening left is what is kept of the history.
   pub stands : StandsFor (opens settings first now).left (opened settings first now)
+  -- The history has the PDUs that the opening made.
   pub made : (opened settings first now).made ≡ (opens settings first now).made
 
--- every opening
+-- Every opening.
 abbrev pub OpeningLaw : Type 0
 OpeningLaw = (settings : Settings) (first now : ℕ) → OpenedTurn settings first now
 
--- What is kept tells how many units are unconfirmed, and whether one more may be sent.
+-- What the view says of the unconfirmed units.
 pub record Tells (v : View) (s : State) : Type 0 where
+  -- The ring has as many units as are unconfirmed.
   pub awaiting : length v.ring ≡ length (unconfirmed s)
+  -- The view and the history agree on whether a unit may be sent.
   pub room : has_room v ≡ may_send s
 
--- every state
+-- Every state and what is kept of it.
 abbrev pub TellsLaw : Type 0
 TellsLaw = (v : View) (s : State) → StandsFor v s → Tells v s

@@ -1,4 +1,4 @@
--- What an end does by one call: what it keeps then, and the PDUs that it made, in order
+-- What an end does in one call: what it keeps afterwards, and the PDUs that it made, in order
 -- (safety and retransmission layer of DIN VDE V 0831-200:2015).
 use Rattle.std.specs.Prelude.{ℕ, ◌+◌, ◌%◌, ◌&&◌, nat_le, nat_lt, Bool, List, [], ◌∷◌, ◌++◌, length, if◌then◌else◌}
 use Rattle.std.specs.List.{FoldsTo}
@@ -27,19 +27,22 @@ use Rattle.safe_machine.specs.declared.Step.{Step as Outcome}
 use Rattle.safe_machine.specs.declared.Step.TheVariants.{Left}
 use Rattle.safe_machine.specs.View.{View, texts}
 
+-- The result of a turn.
 pub record Turn : Type 0 where
+  -- What is kept afterwards.
   pub left : View
+  -- The PDUs made, in order.
   pub made : List Made
 
--- nothing is made
+-- Nothing is made.
 abbrev pub still : View → Turn
 still v = record { left = v; made = [] }
 
--- one turn, and then another
+-- One turn, and then another.
 abbrev pub goes_on : Turn → (View → Turn) → Turn
 goes_on t next = record { left = (next t.left).left; made = t.made ++ (next t.left).made }
 
--- the PDU that is made next
+-- The next PDU.
 abbrev pub next_made : View → Kind → List ℕ → ℕ → Made
 next_made v kind body now =
     record {
@@ -58,40 +61,40 @@ next_made v kind body now =
       behind = v.expected;
     }
 
--- it is counted
+-- A PDU is counted: one more is made, at this time, and no unit is taken since.
 abbrev pub counted : ℕ → View → View
 counted now v = record v { made = v.made + 1; last_made = now; since = 0 }
 
--- a PDU is made: a sending
+-- A PDU is made: a sending.
 abbrev pub says : Kind → List ℕ → ℕ → View → Turn
 says kind body now v = record { left = counted now v; made = next_made v kind body now ∷ [] }
 
--- the connection state changes behind what was made
+-- The state of the connection changes after the PDUs were made.
 abbrev pub moved_to : ConnectionState → Turn → Turn
 moved_to connection t = record { left = record t.left { connection = connection }; made = t.made }
 
--- a DiscReq where there is a connection to leave, and closed
+-- A DiscReq if there is a connection, and Closed.
 abbrev pub leaves : Reason → Detail → ℕ → View → Turn
 leaves reason detail now v =
     moved_to Closed (if is_live v.connection then says DiscReq (leaving_body reason detail) now v else still v)
 
--- a retransmission is asked for
+-- A retransmission is requested.
 abbrev pub asks : ℕ → View → Turn
 asks now v = moved_to Requesting (says RetrReq [] now v)
 
--- the PDU at distance d is behind this end now
+-- Everything up to the PDU at distance d is passed.
 abbrev pub passed : Pdu → ℕ → View → View
 passed p d v = record v { expected = v.expected + d + 1; last_sn = p.sn; last_ts = p.ts }
 
--- the peer's window is known
+-- The peer's window is set.
 abbrev pub windowed : ℕ → View → View
 windowed window v = record v { window = window }
 
--- the confirmed number moves on, and the units up to it are let go
+-- The confirmed number moves on, and the units up to it are dropped.
 abbrev pub units_confirmed : Pdu → View → View
 units_confirmed p v = record v { confirmed = v.confirmed + cs_step v p; ring = above (v.confirmed + cs_step v p) v.ring }
 
--- both confirmations move on
+-- The confirmed number and the confirmed time move on, and the units up to that number are dropped.
 abbrev pub both_confirmed : Pdu → View → View
 both_confirmed p v =
     record v {
@@ -100,71 +103,71 @@ both_confirmed p v =
       confirmed_at = v.confirmed_at + cts_step v p;
     }
 
--- all up to the PDU with this index is confirmed, which is the last one made: no unit awaits it
+-- Everything up to the PDU with this index, the last one made, is confirmed. So no unit is unconfirmed.
 abbrev pub confirmed_to : ℕ → ℕ → Turn → Turn
 confirmed_to index now t = record { left = record t.left { confirmed = index; confirmed_at = now; ring = [] }; made = t.made }
 
--- a RetrReq at distance d was handled
+-- A RetrReq at distance d was handled.
 abbrev pub requested : ℕ → View → View
 requested d v = record v { answered = v.expected + d }
 
--- a ConnReq is refused for its version
+-- A ConnReq is rejected because of its version.
 abbrev pub rejects : Pdu → ℕ → View → Turn
 rejects p now v = moved_to Closed (says DiscReq (leaving_body WrongVersion Unspecified) now (passed p 0 v))
 
--- a ConnReq is granted
+-- A ConnReq is accepted.
 abbrev pub accepts : Pdu → ℕ → View → Turn
 accepts p now v =
     moved_to Start (confirmed_to v.made now
     (says ConnResp (opening_body v.settings.n_sendmax) now (windowed (window_of p.body) (passed p 0 v))))
 
--- the ConnResp has come
+-- The ConnResp has come.
 abbrev pub connects : Pdu → ℕ → View → Turn
 connects p now v = moved_to Up (says Heartbeat [] now (windowed (window_of p.body) (passed p 0 (both_confirmed p v))))
 
--- a unit goes up, and a heartbeat is made where it is the mwa-th since the last sending
+-- A unit is delivered, and a heartbeat is made if it is the mwa-th since the last sending.
 abbrev pub takes_unit : Pdu → ℕ → View → Turn
 takes_unit p now v =
     let u = record v { since = v.since + 1 } in
     if carries p.kind then (if nat_le v.settings.mwa u.since then says Heartbeat [] now u else still u) else still v
 
--- a PDU is taken, in that state
+-- A PDU is taken, and leads to this state.
 abbrev pub takes_next : ConnectionState → Pdu → ℕ → View → Turn
 takes_next connection p now v = takes_unit p now (record (passed p 0 (both_confirmed p v)) { connection = connection })
 
--- the answer to the own request has come
+-- The RetrResp to the own request has come.
 abbrev pub resumes : Pdu → View → View
 resumes p v = record (passed p (distance v p) (both_confirmed p v)) { connection = RetrRun }
 
--- units go out again, as RetrData
+-- Units are sent again, as RetrData.
 abbrev pub resends : List (List ℕ) → ℕ → View → Turn
 resends [] now v = still v
 resends (unit ∷ units) now v = goes_on (says RetrData unit now v) (resends units now)
 
--- the units that the ring holds have the numbers from this one on
+-- The units of the ring get the numbers from this one on.
 abbrev pub renumbers : ℕ → View → View
 renumbers first v = record v { ring = renumbered first (octets_of v.ring) }
 
--- RetrResp, each unconfirmed unit as RetrData, HB
+-- A RetrResp, each unconfirmed unit as RetrData, and a heartbeat.
 abbrev pub replies : ℕ → View → Turn
 replies now v =
     goes_on (says RetrResp [] now v)
     (λ w. goes_on (resends (octets_of w.ring) now w) (λ u. says Heartbeat [] now (renumbers w.made u)))
 
--- the answer to a RetrReq that is the next PDU
+-- The answer to a RetrReq that is the next PDU.
 abbrev pub answers_next : Pdu → ℕ → View → Turn
 answers_next p now v = replies now (passed p 0 (requested 0 (both_confirmed p v)))
 
--- what is done first with a RetrReq that is not the next PDU
+-- The answer to a RetrReq that is not the next PDU.
 abbrev pub answers_ahead : Pdu → ℕ → View → Turn
 answers_ahead p now v = replies now (requested (distance v p) (units_confirmed p v))
 
--- and what is asked for besides, by an end that takes units in turn
+-- The same answer, and then a request of its own if the end takes units in order.
 abbrev pub answers_early : Pdu → ℕ → View → Turn
 answers_early p now v =
     if in_turn v.connection then goes_on (answers_ahead p now v) (asks now) else answers_ahead p now v
 
--- what an end does by its decision
+-- What an end does by its decision.
 abbrev pub carries_out : Pdu → ℕ → Decision → View → Turn
 carries_out p now Nothing v = still v
 carries_out p now (Drops cause) v = still v
@@ -179,53 +182,53 @@ carries_out p now Resumes v = still (resumes p v)
 carries_out p now AnswersNext v = answers_next p now v
 carries_out p now AnswersEarly v = answers_early p now v
 
--- the deadline, then the limit
+-- The timeout check: T_max, then the limit of PDUs.
 abbrev pub guards : ℕ → View → Turn
 guards now v = by_guard now v (λ reason detail. leaves reason detail now v) (still v)
 
--- an arrival behind the guard
+-- An arrival after the timeout check.
 abbrev pub responds : Pdu → ℕ → View → Turn
 responds p now v = carries_out p now (decide v p now) v
 
--- an arrival
+-- An arrival.
 abbrev pub arrives : Pdu → ℕ → View → Turn
 arrives p now v = goes_on (guards now v) (responds p now)
 
--- an answer, unless the guard leaves
+-- The given step, unless the timeout check disconnects.
 abbrev pub unless_guarded : ℕ → View → Outcome → Outcome
 unless_guarded now v answer = by_guard now v Left answer
 
--- how an arrival is answered
+-- The step that is reported for an arrival.
 abbrev pub arrive_answer : Pdu → ℕ → View → Outcome
 arrive_answer p now v = unless_guarded now v (answer_of (decide v p now))
 
--- a heartbeat where one is due by time
+-- A heartbeat if one is due.
 abbrev pub beats : ℕ → View → Turn
 beats now v = if beat_due now v then says Heartbeat [] now v else still v
 
--- time passes
+-- Time passes.
 abbrev pub ticks : ℕ → View → Turn
 ticks now v = goes_on (guards now v) (beats now)
 
--- units go out in turn while fewer await their confirmation than the peer's window has places
+-- Units are sent in order, and fewer are unconfirmed than the peer's window.
 abbrev pub is_open : ConnectionState → (awaiting window : ℕ) → Bool
 is_open connection awaiting window = in_turn connection && nat_lt awaiting window
 
--- a unit may be sent
+-- A unit may be sent.
 abbrev pub has_room : View → Bool
 has_room v = is_open v.connection (length v.ring) v.window
 
--- a unit goes out, and is kept under the number of its PDU
+-- A unit is sent, and kept under the number of its PDU.
 abbrev pub sends_unit : List ℕ → ℕ → View → Turn
 sends_unit unit now v =
     let t = says Data unit now v in
     record { left = record t.left { ring = v.ring ++ record { number = v.made; octets = unit } ∷ [] }; made = t.made }
 
--- where one may go out
+-- The same if a unit may be sent, otherwise nothing.
 abbrev pub sends : List ℕ → ℕ → View → Turn
 sends unit now v = if has_room v then sends_unit unit now v else still v
 
--- an end that has made nothing
+-- An end that has made nothing.
 abbrev pub unsaid : Settings → ℕ → ℕ → ConnectionState → View
 unsaid settings first now connection =
     record {
@@ -246,26 +249,26 @@ unsaid settings first now connection =
       room = WINDOW_MAX;
     }
 
--- an opening: the client asks for the connection, the server waits
+-- An opening: the client requests the connection, the server waits.
 abbrev pub opens : Settings → ℕ → ℕ → Turn
 opens settings first now =
     if settings.client
     then says ConnReq (opening_body settings.n_sendmax) now (unsaid settings first now Start)
     else still (unsaid settings first now Down)
 
--- the unit that a PDU carries
+-- The unit that a PDU carries.
 abbrev pub carried : Pdu → List (List ℕ)
 carried p = if carries p.kind then p.body ∷ [] else []
 
--- the units that a decision hands up
+-- The units that a decision hands up.
 abbrev pub handed_by : Decision → Pdu → List (List ℕ)
 handed_by (Takes connection) p = carried p
 handed_by _ p = []
 
--- the units that an arrival hands up
+-- The units that an arrival hands up.
 abbrev pub hands : Pdu → ℕ → View → List (List ℕ)
 hands p now v = by_guard now v (λ reason detail. []) (handed_by (decide v p now) p)
 
--- what was made was handed out as texts, in order
+-- The PDUs of the turn were handed out, encoded and in order.
 abbrev pub Out : {O : Type 0} → (O → List ℕ → O → Type 0) → CodeRule → O → Turn → O → Type 0
 Out makes rule before t after = FoldsTo makes before (texts rule t.made) after

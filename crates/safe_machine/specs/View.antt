@@ -1,4 +1,4 @@
--- What a machine keeps of a state: each list as its count, and the unconfirmed units.
+-- What a machine keeps of a state: lists as their counts, and the unconfirmed units.
 use Rattle.std.specs.Prelude.{◌≡◌, ℕ, Bool, true, false, List, length, map}
 use Rattle.octets.specs.declared.limits.TheConstants.{WINDOW_MAX}
 use Rattle.safe_machine.specs.retrans.Units.{Numbered}
@@ -13,11 +13,12 @@ use Rattle.safe_machine.specs.Settings.{Settings}
 use Rattle.safe_machine.specs.State.{State}
 use Rattle.safe_machine.specs.Ring.{ring_of}
 
--- the settings of an end in a role
+-- The role is that of the client.
 abbrev pub is_client : Role → Bool
 is_client Client = true
 is_client Server = false
 
+-- The settings of an end in a role.
 abbrev pub settings_of : Role → MachineConfig → Settings
 settings_of role config =
     record {
@@ -32,25 +33,38 @@ settings_of role config =
       rule = config.rule;
     }
 
--- what a machine keeps
+-- What a machine keeps.
 pub record View : Type 0 where
   pub settings : Settings
-  pub first : ℕ  -- the sequence number of its first PDU
+  -- The sequence number of its first PDU.
+  pub first : ℕ
   pub connection : ConnectionState
-  pub made : ℕ  -- how many PDUs were made
-  pub last_made : ℕ  -- the time of the last of them, in milliseconds
-  pub since : ℕ  -- units taken since the last sending
-  pub expected : ℕ  -- the index of the peer's next PDU: SN_R without its wrap
-  pub last_sn : ℕ  -- the sequence number of the PDU that last moved `expected` (CS_T), 0 before any
-  pub last_ts : ℕ  -- its timestamp (TS_R)
-  pub confirmed : ℕ  -- the index of the last own PDU confirmed: CS_R without its wrap
-  pub confirmed_at : ℕ  -- the own time last confirmed, in milliseconds: CTS_R without its wrap
-  pub answered : ℕ  -- the index of the last RetrReq handled, 0 before any
-  pub window : ℕ  -- the peer's N_sendmax
-  pub ring : List Numbered  -- the units that it holds for another sending
-  pub room : ℕ  -- how many units the ring holds
+  -- How many PDUs were made.
+  pub made : ℕ
+  -- The time of the last of them, in milliseconds.
+  pub last_made : ℕ
+  -- How many units were taken since the last sending.
+  pub since : ℕ
+  -- The index of the peer's next PDU: SN_R without its wrap.
+  pub expected : ℕ
+  -- CS_T: the sequence number of the PDU that last moved `expected`, 0 before any.
+  pub last_sn : ℕ
+  -- TS_R: the timestamp of that PDU, 0 before any.
+  pub last_ts : ℕ
+  -- The index of the last own PDU confirmed: CS_R without its wrap.
+  pub confirmed : ℕ
+  -- The own time last confirmed, in milliseconds: CTS_R without its wrap.
+  pub confirmed_at : ℕ
+  -- The index of the last RetrReq handled, 0 before any.
+  pub answered : ℕ
+  -- The peer's N_sendmax.
+  pub window : ℕ
+  -- The units kept for a retransmission.
+  pub ring : List Numbered
+  -- How many units the ring has room for.
+  pub room : ℕ
 
--- what is kept of a state, beside these units
+-- What is kept of a state, with these units in the ring.
 abbrev pub beside : List Numbered → State → View
 beside ring s =
     record {
@@ -71,18 +85,18 @@ beside ring s =
       room = WINDOW_MAX;
     }
 
--- what is kept of a state
+-- What is kept of a state.
 abbrev pub kept_of : State → View
 kept_of s = beside (ring_of s) s
 
--- The value stands for the state: each field is what the state computes to.
+-- The view is what is kept of the state: each field is derived from it.
 abbrev pub StandsFor : View → State → Type 0
 StandsFor m s = m ≡ kept_of s
 
--- the text of a PDU made; only what writes or reads it looks inside
+-- The encoding of a PDU made. It is unfolded only where PDUs are written or read.
 unfoldable pub text_of : CodeRule → Made → List ℕ
 text_of rule m = safe_text rule m.pdu
 
--- the texts of PDUs made
+-- The encodings of PDUs made.
 abbrev pub texts : CodeRule → List Made → List (List ℕ)
 texts rule ms = map (text_of rule) ms

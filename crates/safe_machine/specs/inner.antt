@@ -1,3 +1,3 @@
--- What serves the contracts of functions inside the crate, and no promise.
+-- Definitions for the contracts of functions inside the crate; no promise uses them.
 pub mod Allows
 pub mod Sound

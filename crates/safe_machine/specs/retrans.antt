@@ -1,1 +1,2 @@
+-- The list of unconfirmed units.
 pub mod Units

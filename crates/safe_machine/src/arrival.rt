@@ -1,4 +1,4 @@
-//! What comes: it is heard behind the guard, then decided on, and then what was decided is done.
+//! Arrivals: after the timeout check, an end decides on a PDU, and then carries the decision out.
 
 ghost use Rattle.std.specs.Prelude.{◌≡◌, ◌+◌, ◌<◌, ◌≤◌, ◌^◌, [], ◌∷◌, Err};
 ghost use Rattle.std.specs.List.{FoldsTo};
@@ -25,7 +25,7 @@ use safe_pdu::{Kind, SafeFault, SafePdu, decode, read_opening};
 use std::alloc::Allocator;
 
 impl<A: Allocator> Endpoint<A> {
-    /// Takes the octets of a PDU, of any octets, after the guard.
+    /// Checks the timeouts and processes received bytes. `octets` may contain any bytes.
     pub(crate) fn arrive_octets<O: PduOut, U: UnitIn>(
         &mut self,
         octets: &[u8],
@@ -36,17 +36,32 @@ impl<A: Allocator> Endpoint<A> {
         requires reached { IsReached self.old }
         requires reach { self.old.expected < 2 ^ 62 }
         requires ready { U.ready units.old }
+        // The timeout check comes first. Then a PDU has the effect of the decision on it, and bytes that are not a
+        // PDU have none (`hears`).
         ensures left { self.new ≡ (hears octets.now now self.old).left }
+        // `arrive_octets` hands out the PDUs that the timeout check and the received PDU cause, in order (`hears`).
         ensures made { Out O.makes self.old.settings.rule out.old (hears octets.now now self.old) out.new }
+        // `arrive_octets` delivers the unit of a Data or RetrData that it takes, and no other unit (`hears_units`).
         ensures taken { FoldsTo U.takes units.old (hears_units octets.now now self.old) units.new }
+        // `arrive_octets` returns `Left` if the timeout check disconnects, otherwise the fault of the bytes or what
+        // the decision on the PDU is reported as (`heard_answer`).
         ensures answer { result ≡ heard_answer (safe_seen self.old.settings.rule octets.now) now self.old }
+        // After an arrival, the invariant of a machine holds again.
         ensures reached { IsReached self.new }
+        // The expected index rises by at most 321 (`index_step`).
         ensures near { self.new.expected ≤ self.old.expected + index_step }
+        // Units stop being unconfirmed only up to the index that the confirmed number of a PDU means
+        // (`OnlyConfirms`).
         ensures confirms { OnlyConfirms (safe_seen self.old.settings.rule octets.now) self.old self.new }
+        // If the bytes are the peer's next Data at an end in Up, and the timeout check and both tests pass, exactly
+        // its unit is delivered and the state stays Up.
         ensures passes { (p : Pdu) → IsNextData (safe_seen self.old.settings.rule octets.now) p now self.old
             → FoldsTo U.takes units.old (p.body ∷ []) units.new × (self.new.connection ≡ Up) }
+        // If a unit is delivered, the bytes are a PDU whose confirmed timestamp is less than T_max old
+        // (`IsRecent`).
         ensures recent { HandsIf U.takes units.old units.new
             (IsRecent (safe_seen self.old.settings.rule octets.now) now self.old) }
+        // After `arrive_octets`, another unit can be delivered.
         ensures ready { U.ready units.new }
     {
         match decode(octets, &self.config.rule) {
@@ -55,7 +70,7 @@ impl<A: Allocator> Endpoint<A> {
         }
     }
 
-    /// The guard, and then what a PDU brings.
+    /// Checks the timeouts and processes a PDU.
     fn arrive<O: PduOut, U: UnitIn>(
         &mut self,
         pdu: &SafePdu<'_>,
@@ -67,10 +82,18 @@ impl<A: Allocator> Endpoint<A> {
         requires body { IsBody pdu.now.kind pdu.now.body.now }
         requires reach { self.old.expected < 2 ^ 62 }
         requires ready { U.ready units.old }
+        // `arrive` closes the end if the timeout check fails; otherwise the decision on the PDU is carried out
+        // (`arrives`).
         ensures left { self.new ≡ (arrives (pdu_of pdu.now) now self.old).left }
+        // `arrive` hands out the DiscReq of the timeout check, or the PDUs of the decision (`arrives`).
         ensures made { Out O.makes self.old.settings.rule out.old (arrives (pdu_of pdu.now) now self.old) out.new }
+        // `arrive` delivers the unit of a Data or RetrData that it takes, unless the timeout check disconnects
+        // (`hands`).
         ensures taken { FoldsTo U.takes units.old (hands (pdu_of pdu.now) now self.old) units.new }
+        // `arrive` returns `Left` if the timeout check disconnects, otherwise what the decision is reported as
+        // (`arrive_answer`).
         ensures answer { result ≡ arrive_answer (pdu_of pdu.now) now self.old }
+        // After `arrive`, another unit can be delivered.
         ensures ready { U.ready units.new }
     {
         if let Some((reason, detail)) = self.overdue(now) {
@@ -80,7 +103,7 @@ impl<A: Allocator> Endpoint<A> {
         self.respond(pdu, now, out, units)
     }
 
-    /// Decides on a PDU behind the guard, and does what was decided.
+    /// Decides on a PDU, and carries the decision out. The timeout check has passed.
     fn respond<O: PduOut, U: UnitIn>(
         &mut self,
         pdu: &SafePdu<'_>,
@@ -92,11 +115,16 @@ impl<A: Allocator> Endpoint<A> {
         requires body { IsBody pdu.now.kind pdu.now.body.now }
         requires reach { self.old.expected < 2 ^ 62 }
         requires ready { U.ready units.old }
+        // After `respond`, the end keeps what the decision on the PDU leads to (`responds`).
         ensures left { self.new ≡ (responds (pdu_of pdu.now) now self.old).left }
+        // `respond` hands out the PDUs of the decision, in order (`responds`).
         ensures made { Out O.makes self.old.settings.rule out.old (responds (pdu_of pdu.now) now self.old) out.new }
+        // `respond` delivers the unit of the PDU if the decision is to take it (`handed_by`).
         ensures taken { FoldsTo U.takes units.old
             (handed_by (decide self.old (pdu_of pdu.now) now) (pdu_of pdu.now)) units.new }
+        // `respond` returns what the decision is reported as (`answer_of`).
         ensures answer { result ≡ answer_of (decide self.old (pdu_of pdu.now) now) }
+        // After `respond`, another unit can be delivered.
         ensures ready { U.ready units.new }
     {
         let decision = self.decide(pdu, now);
@@ -104,10 +132,12 @@ impl<A: Allocator> Endpoint<A> {
         decision.answer()
     }
 
-    /// What the end decides.
+    /// Decides on a PDU.
+    #[inline(always)]
     fn decide(&self, pdu: &SafePdu<'_>, now: Milliseconds) -> Decision
         requires body { IsBody pdu.now.kind pdu.now.body.now }
         requires reach { self.now.expected < 2 ^ 62 }
+        // A closed end does nothing, then a stranger's PDU is dropped, and then the state decides (`decide`).
         ensures { result ≡ decide self.now (pdu_of pdu.now) now }
     {
         if self.connection == ConnectionState::Closed {
@@ -119,17 +149,21 @@ impl<A: Allocator> Endpoint<A> {
         self.by_connection(pdu, now)
     }
 
-    /// Whether it is not of this pair of ends.
+    /// Returns whether a PDU is a stranger's.
     fn is_foreign(&self, pdu: &SafePdu<'_>) -> bool
+        // A PDU is foreign if its receiver is not this end or its sender is not the peer (`is_foreign`).
         ensures { result ≡ is_foreign self.now.settings (pdu_of pdu.now) }
     {
         pdu.receiver != self.config.own || pdu.sender != self.config.peer
     }
 
-    /// What an end decides by its state.
+    /// Decides by the state of the connection.
+    #[inline(always)]
     fn by_connection(&self, pdu: &SafePdu<'_>, now: Milliseconds) -> Decision
         requires body { IsBody pdu.now.kind pdu.now.body.now }
         requires reach { self.now.expected < 2 ^ 62 }
+        // Down accepts or rejects a ConnReq only. In Start and later states a DiscReq closes the end. A client in
+        // Start waits for its ConnResp, and in the other cases the table decides (`by_connection`).
         ensures { result ≡ by_connection self.now (pdu_of pdu.now) now self.now.connection }
     {
         let is_goodbye = matches!(pdu.kind, Kind::DiscReq);
@@ -142,9 +176,13 @@ impl<A: Allocator> Endpoint<A> {
         }
     }
 
-    /// What a client in Start decides.
+    /// Decides as a client in Start.
+    #[cold]
+    #[inline(never)]
     fn as_client(&self, pdu: &SafePdu<'_>, now: Milliseconds) -> Decision
         requires { IsBody pdu.now.kind pdu.now.body.now }
+        // A client in Start connects by a ConnResp of this version that passes both tests. It leaves with
+        // WrongVersion for another version, and with UnexpectedPdu for another type (`as_client`).
         ensures { result ≡ as_client self.now (pdu_of pdu.now) now pdu.now.kind }
     {
         match pdu.kind {
@@ -159,9 +197,12 @@ impl<A: Allocator> Endpoint<A> {
         }
     }
 
-    /// What an end with an expected number decides.
+    /// Decides by the table, if the PDU is within reach.
+    #[inline(always)]
     fn by_table(&self, pdu: &SafePdu<'_>, now: Milliseconds) -> Decision
         requires { self.now.expected < 2 ^ 62 }
+        // A PDU that is more than 10 times the own window ahead is dropped; for the others the cell of state,
+        // distance and PDU type decides (`by_table`).
         ensures { result ≡ by_table self.now (pdu_of pdu.now) now (distance self.now (pdu_of pdu.now)) }
     {
         let distance = self.distance(pdu);
@@ -172,9 +213,12 @@ impl<A: Allocator> Endpoint<A> {
         self.by_cell(pdu, now, distance, cell)
     }
 
-    /// What a cell of the table makes of a PDU.
+    /// Decides by a cell of the table.
+    #[inline(always)]
     fn by_cell(&self, pdu: &SafePdu<'_>, now: Milliseconds, distance: u32, cell: Cell) -> Decision
         requires { self.now.expected < 2 ^ 62 }
+        // The cell leads to the decision that it names; taking and resuming need both confirmation tests, and
+        // answering depends on the index of the RetrReq (`by_cell`).
         ensures { result ≡ by_cell self.now (pdu_of pdu.now) now distance cell }
     {
         match cell {
@@ -187,9 +231,13 @@ impl<A: Allocator> Endpoint<A> {
         }
     }
 
-    /// What the number of a RetrReq makes of it.
+    /// Decides on a RetrReq.
+    #[cold]
+    #[inline(never)]
     fn answering(&self, pdu: &SafePdu<'_>, now: Milliseconds, distance: u32) -> Decision
         requires { self.now.expected < 2 ^ 62 }
+        // A RetrReq handled before is dropped. One that fails the number test is dropped or refused. The next PDU
+        // of an end in Up or RetrRun must also pass the timestamp test; any other is answered early (`answering`).
         ensures { result ≡ answering self.now (pdu_of pdu.now) now distance }
     {
         if self.expected + u64::from(distance) <= self.answered {
@@ -207,8 +255,10 @@ impl<A: Allocator> Endpoint<A> {
         Decision::AnswersNext
     }
 
-    /// What becomes of a RetrReq that confirms nothing that awaits it.
+    /// Decides on a RetrReq whose confirmed number fails the test.
     fn unconfirming(&self, pdu: &SafePdu<'_>) -> Decision
+        // The RetrReq is dropped if its step is 2^31 or more, so that it confirms less than before; otherwise the
+        // end disconnects with RetransmissionImpossible (`unconfirming`).
         ensures { result ≡ unconfirming self.now (pdu_of pdu.now) }
     {
         if self.cs_step(pdu) >= 0x8000_0000 {
@@ -218,8 +268,10 @@ impl<A: Allocator> Endpoint<A> {
         }
     }
 
-    /// A decision under the confirmation tests.
+    /// Applies both confirmation tests to a decision.
     fn tested(&self, pdu: &SafePdu<'_>, now: Milliseconds, decision: Decision) -> Decision
+        // The end disconnects with ConfirmedNumber if the number test fails, then with ConfirmedTimestamp if the
+        // timestamp test fails; otherwise the decision stays (`tested`).
         ensures { result ≡ tested self.now (pdu_of pdu.now) now decision }
     {
         if !self.cs_fits(pdu) {
@@ -231,46 +283,52 @@ impl<A: Allocator> Endpoint<A> {
         decision
     }
 
-    /// How far a PDU lies ahead of the expected one.
+    /// Returns how far a PDU is ahead of the expected one.
     #[tactic(auto, unfolding(crate::specs::Numbers::ahead, crate::specs::Numbers::sn_of))]
     pub(crate) fn distance(&self, pdu: &SafePdu<'_>) -> u32
+        // The distance is counted from the sequence number after the last one passed, modulo 2^32 (`distance`).
         ensures { result ≡ distance self.now (pdu_of pdu.now) }
     {
         steps_ahead(self.last_sn.wrapping_add(1), pdu.sn)
     }
 
-    /// Whether it confirms what was made.
+    /// Returns whether the PDU passes the number test.
     fn cs_fits(&self, pdu: &SafePdu<'_>) -> bool
+        // The confirmed number means a PDU that was made, and not one before the last one confirmed (`cs_fits`).
         ensures { result ≡ cs_fits self.now (pdu_of pdu.now) }
     {
         u64::from(self.cs_step(pdu)) < self.made.saturating_sub(self.confirmed)
     }
 
-    /// How many PDUs it confirms beyond those that were confirmed.
+    /// Returns how many PDUs a PDU confirms after the last one confirmed.
     #[tactic(auto, unfolding(crate::specs::Numbers::ahead, crate::specs::Numbers::sn_of))]
     pub(crate) fn cs_step(&self, pdu: &SafePdu<'_>) -> u32
+        // The step is counted from the sequence number of the last own PDU confirmed, modulo 2^32 (`cs_step`).
         ensures { result ≡ cs_step self.now (pdu_of pdu.now) }
     {
         let confirmed = self.first.wrapping_add(low(self.confirmed));
         steps_ahead(confirmed, pdu.cs)
     }
 
-    /// Whether it confirms a time that is past.
+    /// Returns whether the PDU passes the timestamp test.
     fn cts_fits(&self, pdu: &SafePdu<'_>, now: Milliseconds) -> bool
+        // The confirmed timestamp is not later than `now`, counted from the time last confirmed (`cts_fits`).
         ensures { result ≡ cts_fits self.now (pdu_of pdu.now) now }
     {
         u64::from(self.cts_step(pdu)) <= now.saturating_sub(self.confirmed_at)
     }
 
-    /// How far it confirms the own time beyond what was confirmed.
+    /// Returns by how many milliseconds a PDU confirms a later time than the one last confirmed.
     #[tactic(auto, unfolding(crate::specs::Numbers::ahead, crate::specs::Numbers::sn_of))]
     pub(crate) fn cts_step(&self, pdu: &SafePdu<'_>) -> u32
+        // The step is counted from the own time last confirmed, modulo 2^32 (`cts_step`).
         ensures { result ≡ cts_step self.now (pdu_of pdu.now) }
     {
         steps_ahead(low(self.confirmed_at), pdu.cts)
     }
 
-    /// Does what was decided.
+    /// Carries out a decision.
+    #[inline(always)]
     fn carry_out<O: PduOut, U: UnitIn>(
         &mut self,
         decision: Decision,
@@ -283,10 +341,14 @@ impl<A: Allocator> Endpoint<A> {
         requires reach { self.old.expected < 2 ^ 62 }
         requires allows { Allows self.old (pdu_of pdu.now) now decision }
         requires ready { U.ready units.old }
+        // After `carry_out`, the end keeps what the decision leads to (`carries_out`).
         ensures left { self.new ≡ (carries_out (pdu_of pdu.now) now decision self.old).left }
+        // `carry_out` hands out the PDUs that the decision makes, in order (`carries_out`).
         ensures made { Out O.makes self.old.settings.rule out.old
             (carries_out (pdu_of pdu.now) now decision self.old) out.new }
+        // `carry_out` delivers the unit of the PDU if the decision is to take it, otherwise nothing (`handed_by`).
         ensures taken { FoldsTo U.takes units.old (handed_by decision (pdu_of pdu.now)) units.new }
+        // After `carry_out`, another unit can be delivered.
         ensures ready { U.ready units.new }
     {
         match decision {
@@ -304,11 +366,17 @@ impl<A: Allocator> Endpoint<A> {
         }
     }
 
-    /// The guard, and then what octets bring that are no PDU.
+    /// Checks the timeouts, and drops bytes that are not a PDU.
+    #[cold]
+    #[inline(never)]
     fn arrive_fault<O: PduOut>(&mut self, fault: SafeFault, now: Milliseconds, out: &mut O) -> Step
         requires few { self.old.made < 2 ^ 40 }
+        // `arrive_fault` closes the end if the timeout check fails, and otherwise changes nothing (`guards`).
         ensures left { self.new ≡ (guards now self.old).left }
+        // `arrive_fault` hands out a DiscReq if the timeout check fails, otherwise nothing (`guards`).
         ensures made { Out O.makes self.old.settings.rule out.old (guards now self.old) out.new }
+        // `arrive_fault` returns `Left` if the timeout check disconnects, `Nothing` for a closed end, otherwise the
+        // fault as the drop cause (`heard_answer`).
         ensures answer { result ≡ heard_answer (Err fault) now self.old }
     {
         match self.overdue(now) {
@@ -322,38 +390,40 @@ impl<A: Allocator> Endpoint<A> {
     }
 }
 
-/// What an end decides on an arrival.
+/// The decision of an end on an arrival.
 #[derive(Clone, Copy, Debug, PartialEq, Eq)]
 pub(crate) enum Decision {
-    /// It is closed.
+    /// The end is closed and does nothing.
     Nothing,
-    /// It drops the PDU.
+    /// The PDU is dropped.
     Drops(DropCause),
-    /// It is closed by a DiscReq.
+    /// A DiscReq closes the end.
     Shuts,
-    /// It leaves.
+    /// The end disconnects.
     Leaves(Reason, Detail),
-    /// It leaves for the version of a ConnReq.
+    /// The end disconnects because of the version of a ConnReq.
     Rejects,
-    /// It grants a ConnReq.
+    /// The server accepts a ConnReq.
     Accepts,
-    /// It has got its ConnResp.
+    /// The client accepts its ConnResp.
     Connects,
-    /// It takes the PDU, and is then in that state.
+    /// The PDU is taken, and the connection goes to this state.
     Takes(ConnectionState),
-    /// It asks for a retransmission.
+    /// The end requests a retransmission.
     Asks,
-    /// It has got the answer.
+    /// The end accepts the RetrResp to its request.
     Resumes,
-    /// It answers a RetrReq that is the next PDU.
+    /// The end answers a RetrReq that is the next PDU.
     AnswersNext,
-    /// It answers any other RetrReq.
+    /// The end answers any other RetrReq.
     AnswersEarly,
 }
 
 impl Decision {
-    /// What a decision is told as.
+    /// Returns what the decision is reported as.
     fn answer(self) -> Step
+        // `Shuts` is reported as `Nothing`, `Rejects` as `Left`, `Asks` as `Gap`, and every acceptance as `Taken`
+        // (`answer_of`).
         ensures { result ≡ answer_of self }
     {
         match self {
@@ -367,9 +437,11 @@ impl Decision {
     }
 }
 
-/// What a server that waits for a ConnReq decides.
+/// Decides as a server that waits for a ConnReq.
 fn in_down(pdu: &SafePdu<'_>) -> Decision
     requires { IsBody pdu.now.kind pdu.now.body.now }
+    // A ConnReq of this version is accepted, and one of another version rejected; any other PDU is dropped with
+    // `NotOpened` (`in_down`).
     ensures { result ≡ in_down (pdu_of pdu.now) pdu.now.kind }
 {
     match pdu.kind {
@@ -384,33 +456,35 @@ fn in_down(pdu: &SafePdu<'_>) -> Decision
     }
 }
 
-/// Whether the body of a ConnReq or ConnResp has the version of this profile.
+/// Returns whether the body of a ConnReq or ConnResp has this profile's version.
 fn is_ours(body: &[u8]) -> bool
     requires { IsBody Kind.ConnReq body.now }
+    // The version in the body is 0303 (`is_ours`).
     ensures { result ≡ is_ours body.now }
 {
     read_opening(body).version == VERSION.as_slice()
 }
 
-/// What a cell of the table says.
+/// A cell of the table.
 #[derive(Clone, Copy, Debug, PartialEq, Eq)]
 pub(crate) enum Cell {
-    /// Take it, and be in that state.
+    /// Take the PDU, and go to this state.
     Take(ConnectionState),
-    /// Ask for a retransmission.
+    /// Request a retransmission.
     Ask,
-    /// Answer a request.
+    /// Answer a RetrReq.
     Answer,
-    /// Go on after the answer to the own request.
+    /// Accept the RetrResp, and resume.
     Resume,
-    /// Leave with that reason.
+    /// Disconnect with this reason.
     Refuse(Reason),
-    /// Drop it.
+    /// Drop the PDU.
     Skip,
 }
 
-/// The table: what an end does with a PDU that is neither out of reach nor a DiscReq, by its state.
+/// Returns the cell for a state, whether the PDU is the next one, and its PDU type.
 fn cell_of(connection: ConnectionState, next: bool, kind: Kind) -> Cell
+    // The cell is that of the state's row; Closed and Down have no row, and drop the PDU (`cell`).
     ensures { result ≡ cell connection next kind }
 {
     match connection {
@@ -422,8 +496,10 @@ fn cell_of(connection: ConnectionState, next: bool, kind: Kind) -> Cell
     }
 }
 
-/// The row of a server in Start.
+/// Returns the cell of a server in Start.
 fn start_row(next: bool, kind: Kind) -> Cell
+    // In Start the next heartbeat is taken, a gap in heartbeats or Data is a sequence error, and any other PDU is
+    // unexpected (`start_row`).
     ensures { result ≡ start_row next kind }
 {
     match kind {
@@ -434,8 +510,10 @@ fn start_row(next: bool, kind: Kind) -> Cell
     }
 }
 
-/// The row of Up.
+/// Returns the cell of Up.
 fn up_row(next: bool, kind: Kind) -> Cell
+    // In Up the next heartbeat or Data is taken, a retransmission is requested at a gap, and a RetrReq is answered;
+    // the other types are unexpected (`up_row`).
     ensures { result ≡ up_row next kind }
 {
     match kind {
@@ -446,8 +524,10 @@ fn up_row(next: bool, kind: Kind) -> Cell
     }
 }
 
-/// The row of RetrRun.
+/// Returns the cell of RetrRun.
 fn run_row(next: bool, kind: Kind) -> Cell
+    // In RetrRun the next heartbeat or Data leads to Up, the next RetrData is taken, a retransmission is requested
+    // at a gap, and a RetrReq is answered (`run_row`).
     ensures { result ≡ run_row next kind }
 {
     match kind {
@@ -459,8 +539,10 @@ fn run_row(next: bool, kind: Kind) -> Cell
     }
 }
 
-/// The row of RetrReq.
+/// Returns the cell of RetrReq, where the distance does not matter.
 fn request_row(kind: Kind) -> Cell
+    // In RetrReq heartbeats and units are dropped, a RetrReq is answered, a RetrResp resumes, and the other types
+    // are unexpected (`request_row`).
     ensures { result ≡ request_row kind }
 {
     match kind {
@@ -471,9 +553,10 @@ fn request_row(kind: Kind) -> Cell
     }
 }
 
-/// How far a 32-bit number lies ahead of another.
+/// Returns how far a 32-bit number is ahead of another.
 #[tactic(auto, unfolding(crate::specs::Numbers::ahead))]
 fn steps_ahead(from: u32, to: u32) -> u32
+    // The steps are counted modulo 2^32 (`ahead`).
     ensures { result ≡ ahead from to }
 {
     to.wrapping_sub(from)

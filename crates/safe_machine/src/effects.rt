@@ -1,4 +1,4 @@
-//! What an end does by its decision, each decision apart.
+//! What an end does by its decision, one function for each decision.
 
 ghost use Rattle.std.specs.Prelude.{◌≡◌, ◌+◌, ◌-◌, ◌<◌, ◌≤◌, ◌^◌, [], length, slice_get, IfSome};
 ghost use Rattle.octets.specs.declared.limits.TheConstants.{WINDOW_MAX};
@@ -20,11 +20,15 @@ use safe_pdu::{Kind, SafePdu, read_opening};
 use std::alloc::Allocator;
 
 impl<A: Allocator> Endpoint<A> {
-    /// Refuses a ConnReq for its version.
+    /// Rejects a ConnReq with another version.
+    #[cold]
+    #[inline(never)]
     pub(crate) fn reject<O: PduOut>(&mut self, pdu: &SafePdu<'_>, now: Milliseconds, out: &mut O)
         requires few { self.old.made < 2 ^ 39 }
         requires reach { self.old.expected < 2 ^ 62 }
+        // `reject` passes the ConnReq, counts a DiscReq and closes the end (`rejects`).
         ensures left { self.new ≡ (rejects (pdu_of pdu.now) now self.old).left }
+        // `reject` hands out a DiscReq with the reason WrongVersion (`rejects`).
         ensures made { Out O.makes self.old.settings.rule out.old (rejects (pdu_of pdu.now) now self.old) out.new }
     {
         self.pass(pdu, 0);
@@ -32,14 +36,19 @@ impl<A: Allocator> Endpoint<A> {
         self.move_to(ConnectionState::Closed);
     }
 
-    /// Grants a ConnReq.
+    /// Accepts a ConnReq.
+    #[cold]
+    #[inline(never)]
     pub(crate) fn accept<O: PduOut>(&mut self, pdu: &SafePdu<'_>, now: Milliseconds, out: &mut O)
         requires few { self.old.made < 2 ^ 38 }
         requires reach { self.old.expected < 2 ^ 62 }
         requires body { IsBody Kind.ConnReq pdu.now.body.now }
         requires opening { IsBody Kind.ConnResp (opening_body self.old.settings.n_sendmax) }
         requires empty { self.old.ring ≡ [] }
+        // `accept` takes over the peer's window, counts a ConnResp that is confirmed at once, and goes to Start
+        // (`accepts`).
         ensures left { self.new ≡ (accepts (pdu_of pdu.now) now self.old).left }
+        // `accept` hands out a ConnResp with the own window (`accepts`).
         ensures made { Out O.makes self.old.settings.rule out.old (accepts (pdu_of pdu.now) now self.old) out.new }
     {
         let index = self.made;
@@ -51,14 +60,19 @@ impl<A: Allocator> Endpoint<A> {
         self.move_to(ConnectionState::Start);
     }
 
-    /// Has got its ConnResp.
+    /// Handles the ConnResp that a client waits for.
+    #[cold]
+    #[inline(never)]
     pub(crate) fn connect<O: PduOut>(&mut self, pdu: &SafePdu<'_>, now: Milliseconds, out: &mut O)
         requires body { IsBody Kind.ConnReq pdu.now.body.now }
         requires few { self.old.made < 2 ^ 39 }
         requires reach { self.old.expected < 2 ^ 62 }
         requires number { cs_step self.old (pdu_of pdu.now) < self.old.made - self.old.confirmed }
         requires time { cts_step self.old (pdu_of pdu.now) ≤ now - self.old.confirmed_at }
+        // `connect` moves both confirmations on, takes over the peer's window, counts a heartbeat and goes to Up
+        // (`connects`).
         ensures left { self.new ≡ (connects (pdu_of pdu.now) now self.old).left }
+        // `connect` hands out a heartbeat (`connects`).
         ensures made { Out O.makes self.old.settings.rule out.old (connects (pdu_of pdu.now) now self.old) out.new }
     {
         self.confirm_both(pdu, now);
@@ -68,7 +82,7 @@ impl<A: Allocator> Endpoint<A> {
         self.move_to(ConnectionState::Up);
     }
 
-    /// Takes a PDU, and is then in that state.
+    /// Takes the next PDU, and goes to the given state.
     pub(crate) fn take<O: PduOut, U: UnitIn>(
         &mut self,
         pdu: &SafePdu<'_>,
@@ -83,10 +97,16 @@ impl<A: Allocator> Endpoint<A> {
         requires number { cs_step self.old (pdu_of pdu.now) < self.old.made - self.old.confirmed }
         requires time { cts_step self.old (pdu_of pdu.now) ≤ now - self.old.confirmed_at }
         requires ready { U.ready units.old }
+        // `take` moves both confirmations and the expected index on, and counts the unit, if the PDU carries one,
+        // and a heartbeat at the mwa-th (`takes_next`).
         ensures left { self.new ≡ (takes_next connection (pdu_of pdu.now) now self.old).left }
+        // `take` hands out a heartbeat if the PDU carries the mwa-th unit since the last sending, otherwise nothing
+        // (`takes_next`).
         ensures made { Out O.makes self.old.settings.rule out.old
             (takes_next connection (pdu_of pdu.now) now self.old) out.new }
+        // `take` delivers the unit of a Data or RetrData, and nothing for another type (`carried`).
         ensures taken { FoldsTo U.takes units.old (carried (pdu_of pdu.now)) units.new }
+        // After `take`, another unit can be delivered.
         ensures ready { U.ready units.new }
     {
         self.confirm_both(pdu, now);
@@ -95,22 +115,30 @@ impl<A: Allocator> Endpoint<A> {
         self.take_unit(pdu, now, out, units);
     }
 
-    /// Asks for a retransmission.
+    /// Requests a retransmission.
+    #[cold]
+    #[inline(never)]
     pub(crate) fn ask<O: PduOut>(&mut self, now: Milliseconds, out: &mut O)
         requires few { self.old.made < 2 ^ 40 }
+        // `ask` counts a RetrReq and goes to RetrReq (`asks`).
         ensures left { self.new ≡ (asks now self.old).left }
+        // `ask` hands out a RetrReq (`asks`).
         ensures made { Out O.makes self.old.settings.rule out.old (asks now self.old) out.new }
     {
         self.make(Kind::RetrReq, &[], now, out);
         self.move_to(ConnectionState::RetrReq);
     }
 
-    /// Has got the answer to its request.
+    /// Handles the RetrResp to the own request.
+    #[cold]
+    #[inline(never)]
     pub(crate) fn resume(&mut self, pdu: &SafePdu<'_>, now: Milliseconds)
         requires few { self.old.made < 2 ^ 39 }
         requires reach { self.old.expected < 2 ^ 62 }
         requires number { cs_step self.old (pdu_of pdu.now) < self.old.made - self.old.confirmed }
         requires time { cts_step self.old (pdu_of pdu.now) ≤ now - self.old.confirmed_at }
+        // `resume` moves both confirmations on, passes everything up to the RetrResp, and goes to RetrRun
+        // (`resumes`).
         ensures { self.new ≡ resumes (pdu_of pdu.now) self.old }
     {
         let distance = self.distance(pdu);
@@ -120,6 +148,8 @@ impl<A: Allocator> Endpoint<A> {
     }
 
     /// Answers a RetrReq that is the next PDU.
+    #[cold]
+    #[inline(never)]
     pub(crate) fn answer_next<O: PduOut>(
         &mut self,
         pdu: &SafePdu<'_>,
@@ -132,7 +162,11 @@ impl<A: Allocator> Endpoint<A> {
         requires sized { AllUnits self.old.ring }
         requires number { cs_step self.old (pdu_of pdu.now) < self.old.made - self.old.confirmed }
         requires time { cts_step self.old (pdu_of pdu.now) ≤ now - self.old.confirmed_at }
+        // `answer_next` moves both confirmations on, passes the RetrReq, and counts the PDUs of the reply
+        // (`answers_next`).
         ensures left { self.new ≡ (answers_next (pdu_of pdu.now) now self.old).left }
+        // `answer_next` hands out a RetrResp, the units that are then unconfirmed, and a heartbeat
+        // (`answers_next`).
         ensures made { Out O.makes self.old.settings.rule out.old (answers_next (pdu_of pdu.now) now self.old) out.new }
     {
         self.confirm_both(pdu, now);
@@ -141,7 +175,9 @@ impl<A: Allocator> Endpoint<A> {
         self.reply(now, out);
     }
 
-    /// Answers any other RetrReq, and asks for what is missing itself.
+    /// Answers any other RetrReq. In Up or RetrRun the end misses PDUs itself, and then requests a retransmission.
+    #[cold]
+    #[inline(never)]
     pub(crate) fn answer_early<O: PduOut>(
         &mut self,
         pdu: &SafePdu<'_>,
@@ -153,7 +189,10 @@ impl<A: Allocator> Endpoint<A> {
         requires short { length self.old.ring ≤ WINDOW_MAX }
         requires sized { AllUnits self.old.ring }
         requires number { cs_step self.old (pdu_of pdu.now) < self.old.made - self.old.confirmed }
+        // `answer_early` confirms units, counts the reply, and in Up or RetrRun also counts a RetrReq and goes to
+        // RetrReq (`answers_early`).
         ensures left { self.new ≡ (answers_early (pdu_of pdu.now) now self.old).left }
+        // `answer_early` hands out the reply, and in Up or RetrRun a RetrReq after it (`answers_early`).
         ensures made { Out O.makes self.old.settings.rule out.old (answers_early (pdu_of pdu.now) now self.old) out.new }
     {
         let misses = self.connection.in_turn();
@@ -163,15 +202,20 @@ impl<A: Allocator> Endpoint<A> {
         }
     }
 
-    /// Confirms and answers a RetrReq that is not to be passed, and is not the next one.
+    /// Confirms units by a RetrReq that is not the next PDU, and answers it. The RetrReq itself is not passed.
     fn answer_ahead<O: PduOut>(&mut self, pdu: &SafePdu<'_>, now: Milliseconds, out: &mut O)
         requires few { self.old.made < 2 ^ 38 }
         requires reach { self.old.expected < 2 ^ 62 }
         requires short { length self.old.ring ≤ WINDOW_MAX }
         requires sized { AllUnits self.old.ring }
         requires number { cs_step self.old (pdu_of pdu.now) < self.old.made - self.old.confirmed }
+        // `answer_ahead` confirms units, records the index of the RetrReq as handled, and counts the reply
+        // (`answers_ahead`).
         ensures left { self.new ≡ (answers_ahead (pdu_of pdu.now) now self.old).left }
+        // `answer_ahead` hands out a RetrResp, the units that are then unconfirmed, and a heartbeat
+        // (`answers_ahead`).
         ensures made { Out O.makes self.old.settings.rule out.old (answers_ahead (pdu_of pdu.now) now self.old) out.new }
+        // After `answer_ahead`, fewer than 2^40 PDUs are made.
         ensures few { self.new.made < 2 ^ 40 }
     {
         let distance = self.distance(pdu);
@@ -180,14 +224,17 @@ impl<A: Allocator> Endpoint<A> {
         self.reply(now, out);
     }
 
-    /// Answers a request: RetrResp, each unconfirmed unit again, heartbeat.
+    /// Answers a RetrReq: a RetrResp, each unconfirmed unit as RetrData, and a heartbeat.
     fn reply<O: PduOut>(&mut self, now: Milliseconds, out: &mut O)
         requires few { self.old.made < 2 ^ 38 }
         requires short { length self.old.ring ≤ WINDOW_MAX }
         requires sized { AllUnits self.old.ring }
         requires made { self.old.confirmed < self.old.made }
+        // `reply` counts its PDUs, and gives the units of the ring the indices of their RetrData (`replies`).
         ensures left { self.new ≡ (replies now self.old).left }
+        // `reply` hands out a RetrResp, each unconfirmed unit as RetrData, in order, and a heartbeat (`replies`).
         ensures made { Out O.makes self.old.settings.rule out.old (replies now self.old) out.new }
+        // After `reply`, fewer than 2^40 PDUs are made.
         ensures few { self.new.made < 2 ^ 40 }
     {
         self.make(Kind::RetrResp, &[], now, out);
@@ -197,15 +244,19 @@ impl<A: Allocator> Endpoint<A> {
         self.beat(now, out);
     }
 
-    /// Makes each unit again, in order.
+    /// Makes a RetrData of each unconfirmed unit, in order.
     fn resend_all<O: PduOut>(&mut self, now: Milliseconds, out: &mut O)
         requires few { self.old.made < 2 ^ 39 }
         requires short { length self.old.ring ≤ WINDOW_MAX }
         requires sized { AllUnits self.old.ring }
+        // `resend_all` counts one PDU for each unit of the ring (`resends`).
         ensures left { self.new ≡ (resends (octets_of self.old.ring) now self.old).left }
+        // `resend_all` hands out a RetrData for each unit of the ring, in order (`resends`).
         ensures made { Out O.makes self.old.settings.rule out.old
             (resends (octets_of self.old.ring) now self.old) out.new }
+        // `resend_all` makes at most 32 PDUs (`WINDOW_MAX`).
         ensures few { self.new.made ≤ self.old.made + WINDOW_MAX }
+        // `resend_all` does not change the ring.
         ensures ring { self.new.ring ≡ self.old.ring }
     {
         for place in 0..self.ring.len() {
@@ -213,12 +264,14 @@ impl<A: Allocator> Endpoint<A> {
         }
     }
 
-    /// Makes the unit at a place again.
+    /// Makes a RetrData of the unit at a place.
     fn resend_at<O: PduOut>(&mut self, place: usize, now: Milliseconds, out: &mut O)
         requires few { self.old.made < 2 ^ 40 }
         requires inside { place < length self.old.ring }
         requires sized { IfSome (slice_get self.old.ring place) (λ u. IsBody Kind.RetrData u.octets) }
+        // `resend_at` counts one PDU (`counted`).
         ensures left { self.new ≡ counted now self.old }
+        // `resend_at` hands out a RetrData with the unit at this place of the ring.
         ensures made { IfSome (slice_get self.old.ring place) (λ u. O.makes out.old
             (text_of self.old.settings.rule (next_made self.old Kind.RetrData u.octets now)) out.new) }
     {
@@ -227,25 +280,30 @@ impl<A: Allocator> Endpoint<A> {
         self.count(now);
     }
 
-    /// The unit at a place.
+    /// Returns the bytes of the unit at a place.
     fn unit_at(&self, place: usize) -> &[u8]
         requires { place < length self.now.ring }
+        // `unit_at` returns the bytes of the unit at this place of the ring.
         ensures { IfSome (slice_get self.now.ring place) (λ u. result.now ≡ u.octets) }
     {
         self.ring.get(place).unwrap().1.as_slice()
     }
 
-    /// Notes that a RetrReq at a distance was handled.
+    /// Records that a RetrReq at a distance was handled.
     fn note_request(&mut self, distance: u32)
         requires { self.old.expected < 2 ^ 62 }
+        // `note_request` sets the index of the last RetrReq handled to the expected index plus the distance
+        // (`requested`).
         ensures { self.new ≡ requested distance self.old }
     {
         self.answered = self.expected + u64::from(distance);
     }
 
-    /// Has a PDU at a distance behind it.
+    /// Marks everything up to a PDU at a distance as passed.
     fn pass(&mut self, pdu: &SafePdu<'_>, distance: u32)
         requires { self.old.expected < 2 ^ 62 }
+        // `pass` moves the expected index to the one after this PDU, and keeps its sequence number and timestamp
+        // (`passed`).
         ensures { self.new ≡ passed (pdu_of pdu.now) distance self.old }
     {
         self.expected += u64::from(distance) + 1;
@@ -253,29 +311,34 @@ impl<A: Allocator> Endpoint<A> {
         self.last_ts = pdu.ts;
     }
 
-    /// Keeps the window that a ConnReq or ConnResp tells.
+    /// Keeps the window in the body of a ConnReq or ConnResp.
     fn set_window(&mut self, pdu: &SafePdu<'_>)
         requires { IsBody Kind.ConnReq pdu.now.body.now }
+        // `set_window` changes only the peer's window, to the N_sendmax in the body (`window_of`).
         ensures { self.new ≡ windowed (window_of pdu.now.body.now) self.old }
     {
         self.window = u64::from(read_opening(pdu.body).n_sendmax);
     }
 
-    /// Counts what a PDU that passed both tests confirms.
+    /// Confirms units and time by a PDU that passed both tests.
     fn confirm_both(&mut self, pdu: &SafePdu<'_>, now: Milliseconds)
         requires few { self.old.made < 2 ^ 40 }
         requires number { cs_step self.old (pdu_of pdu.now) < self.old.made - self.old.confirmed }
         requires time { cts_step self.old (pdu_of pdu.now) ≤ now - self.old.confirmed_at }
+        // `confirm_both` moves the confirmed index and the confirmed time on, and drops the units up to that index
+        // (`both_confirmed`).
         ensures { self.new ≡ both_confirmed (pdu_of pdu.now) self.old }
     {
         self.confirm_units(pdu);
         self.confirmed_at += u64::from(self.cts_step(pdu));
     }
 
-    /// Counts as confirmed what a PDU confirms.
+    /// Confirms units by the confirmed number of a PDU.
     fn confirm_units(&mut self, pdu: &SafePdu<'_>)
         requires few { self.old.made < 2 ^ 40 }
         requires fits { cs_step self.old (pdu_of pdu.now) < self.old.made - self.old.confirmed }
+        // `confirm_units` moves the confirmed index on, and drops the units up to it from the ring
+        // (`units_confirmed`).
         ensures { self.new ≡ units_confirmed (pdu_of pdu.now) self.old }
     {
         let step = self.cs_step(pdu);
@@ -283,8 +346,8 @@ impl<A: Allocator> Endpoint<A> {
         self.ring.confirm(self.confirmed);
     }
 
-    /// Hands up the unit of a PDU that was taken, if it carries one, and makes a heartbeat where `mwa` units were taken
-    /// since the last sending.
+    /// Delivers the unit of a PDU, if it carries one, and makes a heartbeat if it is the mwa-th since the last
+    /// sending.
     fn take_unit<O: PduOut, U: UnitIn>(
         &mut self,
         pdu: &SafePdu<'_>,
@@ -295,9 +358,14 @@ impl<A: Allocator> Endpoint<A> {
         requires few { self.old.made < 2 ^ 40 }
         requires since { self.old.since < 2 ^ 40 }
         requires ready { U.ready units.old }
+        // `take_unit` counts the unit, if there is one, and a heartbeat at the mwa-th (`takes_unit`).
         ensures left { self.new ≡ (takes_unit (pdu_of pdu.now) now self.old).left }
+        // `take_unit` hands out a heartbeat if this is the mwa-th unit since the last sending, otherwise nothing
+        // (`takes_unit`).
         ensures made { Out O.makes self.old.settings.rule out.old (takes_unit (pdu_of pdu.now) now self.old) out.new }
+        // `take_unit` delivers the body of a Data or RetrData, and nothing for another type (`carried`).
         ensures taken { FoldsTo U.takes units.old (carried (pdu_of pdu.now)) units.new }
+        // After `take_unit`, another unit can be delivered.
         ensures ready { U.ready units.new }
     {
         if carries(pdu.kind) {
@@ -310,8 +378,9 @@ impl<A: Allocator> Endpoint<A> {
     }
 }
 
-/// Whether a PDU of this type carries a unit.
+/// Returns whether a PDU of this type carries a unit.
 fn carries(kind: Kind) -> bool
+    // Only Data and RetrData carry a unit (`carries`).
     ensures { result ≡ carries kind }
 {
     matches!(kind, Kind::Data | Kind::RetrData)

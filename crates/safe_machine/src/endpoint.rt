@@ -1,4 +1,4 @@
-//! What a machine keeps, and the single moves on it.
+//! What a machine keeps, and single changes of it.
 
 ghost use Rattle.std.specs.Prelude.{◌≡◌, ◌+◌, ◌<◌, ◌≤◌, ◌^◌, List, [], length, true, ◌%◌};
 ghost use Rattle.safe_pdu.specs.SafeText.{code_octets};
@@ -21,14 +21,14 @@ use std::marker::Model;
 /// The version of this profile, 0303 in ASCII.
 pub(crate) const VERSION: [u8; 4] = [0x30, 0x33, 0x30, 0x33];
 
-/// A PDU of so many octets is short: its buffer costs less than a longest one's, which is cleared each time. A telegram with 20 octets of payload
-/// makes one.
+/// The size of the small buffer, in bytes. A buffer is cleared before it is written, so a PDU that fits this one
+/// costs less. A telegram with up to 20 bytes of payload makes such a PDU.
 const SHORT_PDU: usize = 128;
 
-/// The counters of one end, and the units that it holds for another sending.
+/// The counters of one end, and its unconfirmed units.
 #[derive(Drop)]
 pub(crate) struct Endpoint<A: Allocator = Global> {
-    /// With what it was opened.
+    /// The settings it was opened with.
     pub(crate) config: MachineConfig,
     /// Client or server.
     pub(crate) role: Role,
@@ -36,17 +36,17 @@ pub(crate) struct Endpoint<A: Allocator = Global> {
     pub(crate) first: u32,
     /// The state of the connection.
     pub(crate) connection: ConnectionState,
-    /// How many PDUs it has made: SN_T is `first` and this count, modulo 2^32. No wrap.
+    /// How many PDUs it has made, without wrap. SN_T is `first` plus this count, modulo 2^32.
     pub(crate) made: u64,
-    /// The own time of the last of them, in milliseconds.
+    /// The own time of the last PDU made, in milliseconds.
     pub(crate) last_made: u64,
-    /// How many units it has taken since its last sending; at mwa a heartbeat is made.
+    /// How many units it has taken since its last sending; at mwa, a heartbeat is made.
     pub(crate) since: Milliseconds,
     /// The index of the peer's next PDU: SN_R without its wrap.
     pub(crate) expected: u64,
-    /// The sequence number of the PDU that last moved `expected`: CS_T. 0 before any.
+    /// CS_T: the sequence number of the PDU that last moved `expected`, 0 before any.
     pub(crate) last_sn: u32,
-    /// The timestamp of that PDU, which the next one confirms: TS_R, modulo 2^32. 0 before any.
+    /// TS_R: the timestamp of that PDU, modulo 2^32, 0 before any. The next PDU made confirms it.
     pub(crate) last_ts: u32,
     /// The index of the last own PDU confirmed: CS_R without its wrap.
     pub(crate) confirmed: u64,
@@ -56,7 +56,7 @@ pub(crate) struct Endpoint<A: Allocator = Global> {
     pub(crate) answered: u64,
     /// How many units may be unconfirmed: the peer's N_sendmax.
     pub(crate) window: u64,
-    /// The unconfirmed units, for another sending.
+    /// The unconfirmed units, kept for a retransmission.
     pub(crate) ring: Unconfirmed<A>,
 }
 
@@ -85,7 +85,9 @@ impl<A: Allocator> Model for Endpoint<A> {
 }
 
 impl<A: Allocator> Endpoint<A> {
-    /// Leaves the connection, from any state.
+    /// Closes the end from any state, with a DiscReq if there is a connection.
+    #[cold]
+    #[inline(never)]
     pub(crate) fn leave<O: PduOut>(
         &mut self,
         reason: Reason,
@@ -94,7 +96,10 @@ impl<A: Allocator> Endpoint<A> {
         out: &mut O,
     )
         requires few { self.old.made < 2 ^ 40 }
+        // `leave` leaves the end in Closed; in Start, Up, RetrReq and RetrRun a DiscReq is counted (`leaves`).
         ensures left { self.new ≡ (leaves reason detail now self.old).left }
+        // `leave` hands out a DiscReq with this reason and detail in Start, Up, RetrReq and RetrRun, otherwise
+        // nothing (`leaves`).
         ensures made { Out O.makes self.old.settings.rule out.old (leaves reason detail now self.old) out.new }
     {
         if self.connection.is_live() {
@@ -103,7 +108,7 @@ impl<A: Allocator> Endpoint<A> {
         self.move_to(ConnectionState::Closed);
     }
 
-    /// Says that the end leaves.
+    /// Makes a DiscReq.
     pub(crate) fn goodbye<O: PduOut>(
         &mut self,
         reason: Reason,
@@ -112,7 +117,9 @@ impl<A: Allocator> Endpoint<A> {
         out: &mut O,
     )
         requires few { self.old.made < 2 ^ 40 }
+        // `goodbye` counts one PDU.
         ensures left { self.new ≡ counted now self.old }
+        // The PDU handed out is a DiscReq with this detail and reason (`leaving_body`).
         ensures made { O.makes out.old (text_of self.old.settings.rule
             (next_made self.old Kind.DiscReq (leaving_body reason detail) now)) out.new }
     {
@@ -124,7 +131,9 @@ impl<A: Allocator> Endpoint<A> {
     pub(crate) fn say_opening<O: PduOut>(&mut self, kind: Kind, now: Milliseconds, out: &mut O)
         requires few { self.old.made < 2 ^ 40 }
         requires body { IsBody kind (opening_body self.old.settings.n_sendmax) }
+        // `say_opening` counts one PDU.
         ensures left { self.new ≡ counted now self.old }
+        // The PDU handed out is of this type, with the profile's version and the own window (`opening_body`).
         ensures made { O.makes out.old (text_of self.old.settings.rule
             (next_made self.old kind (opening_body self.old.settings.n_sendmax) now)) out.new }
     {
@@ -135,7 +144,9 @@ impl<A: Allocator> Endpoint<A> {
     /// Makes a heartbeat.
     pub(crate) fn beat<O: PduOut>(&mut self, now: Milliseconds, out: &mut O)
         requires few { self.old.made < 2 ^ 40 }
+        // `beat` counts one PDU.
         ensures left { self.new ≡ counted now self.old }
+        // The PDU handed out is a heartbeat, with an empty body.
         ensures made { O.makes out.old
             (text_of self.old.settings.rule (next_made self.old Kind.Heartbeat [] now)) out.new }
     {
@@ -152,7 +163,10 @@ impl<A: Allocator> Endpoint<A> {
     )
         requires body { IsBody kind body.now }
         requires few { self.old.made < 2 ^ 40 }
+        // `make` counts one PDU: its time becomes that of the last one made, and no unit is taken since
+        // (`counted`).
         ensures left { self.new ≡ counted now self.old }
+        // The PDU handed out is the next one, with this type and body (`next_made`).
         ensures made { O.makes out.old
             (text_of self.old.settings.rule (next_made self.old kind body.now now)) out.new }
     {
@@ -160,7 +174,7 @@ impl<A: Allocator> Endpoint<A> {
         self.count(now);
     }
 
-    /// Hands out a PDU, before it is counted.
+    /// Hands out a PDU without counting it.
     pub(crate) fn hand_out<O: PduOut>(
         &self,
         kind: Kind,
@@ -169,6 +183,7 @@ impl<A: Allocator> Endpoint<A> {
         out: &mut O,
     )
         requires body { IsBody kind body.now }
+        // `hand_out` hands out the encoding of the next PDU, with this type, body and time (`next_made`).
         ensures { O.makes out.old (text_of self.now.settings.rule (next_made self.now kind body.now now)) out.new }
     {
         if SAFE_HEADER + body.len() + self.config.rule.length.octets() <= SHORT_PDU {
@@ -192,6 +207,7 @@ impl<A: Allocator> Endpoint<A> {
     )
         requires body { IsBody kind body.now }
         requires room { SAFE_HEADER + length body.now + code_octets self.now.settings.rule.length ≤ length buffer.old }
+        // `write_out` hands out the encoding of the next PDU for any earlier content of the buffer (`next_made`).
         ensures { O.makes out.old (text_of self.now.settings.rule (next_made self.now kind body.now now)) out.new }
     {
         let pdu = SafePdu {
@@ -208,9 +224,10 @@ impl<A: Allocator> Endpoint<A> {
         out.made(&buffer[..size]);
     }
 
-    /// The sequence number of the next PDU.
+    /// Returns the sequence number of the next PDU.
     #[tactic(auto, unfolding(crate::specs::Numbers::sn_of))]
     fn next_sn(&self) -> u32
+        // The sequence number of the next PDU is the first one plus the count of PDUs made, modulo 2^32 (`sn_of`).
         ensures { result ≡ sn_of self.now.first self.now.made }
     {
         self.first.wrapping_add(low(self.made))
@@ -219,6 +236,8 @@ impl<A: Allocator> Endpoint<A> {
     /// Counts a PDU that was handed out.
     pub(crate) fn count(&mut self, now: Milliseconds)
         requires few { self.old.made < 2 ^ 40 }
+        // `count` adds 1 to the PDUs made, sets the time of the last one, and resets the units taken since to 0
+        // (`counted`).
         ensures { self.new ≡ counted now self.old }
     {
         self.made += 1;
@@ -226,8 +245,9 @@ impl<A: Allocator> Endpoint<A> {
         self.since = 0;
     }
 
-    /// Goes to another state of the connection.
+    /// Changes the state of the connection.
     pub(crate) fn move_to(&mut self, connection: ConnectionState)
+        // `move_to` changes only the state of the connection.
         ensures { self.new ≡ record self.old { connection = connection } }
     {
         self.connection = connection;
@@ -235,15 +255,17 @@ impl<A: Allocator> Endpoint<A> {
 }
 
 impl ConnectionState {
-    /// An end in this state has made something, and its deadlines run.
+    /// Returns whether the timeout check applies in this state.
     pub(crate) fn is_live(self) -> bool
+        // `is_live` is `false` in Closed and Down, and `true` in the other four states.
         ensures { result ≡ is_live self }
     {
         !matches!(self, ConnectionState::Closed | ConnectionState::Down)
     }
 
-    /// The connection is there.
+    /// Returns whether heartbeats are due in this state.
     pub(crate) fn is_connected(self) -> bool
+        // `is_connected` is `true` in Up, RetrReq and RetrRun only.
         ensures { result ≡ is_connected self }
     {
         matches!(
@@ -252,23 +274,26 @@ impl ConnectionState {
         )
     }
 
-    /// Units are taken in their order.
+    /// Returns whether units are sent and taken in this state.
     pub(crate) fn in_turn(self) -> bool
+        // `in_turn` is `true` in Up and RetrRun only.
         ensures { result ≡ in_turn self }
     {
         matches!(self, ConnectionState::Up | ConnectionState::RetrRun)
     }
 }
 
-/// The number with the low 32 bits of a count.
+/// Returns the low 32 bits of a count.
 pub(crate) fn low(count: u64) -> u32
+    // The result is the `count` modulo 2^32.
     ensures { result ≡ count % 2 ^ 32 }
 {
     (count % (1 << 32)) as u32
 }
 
-/// The body of a DiscReq.
+/// Returns the body of a DiscReq.
 fn leaving_octets(reason: Reason, detail: Detail) -> [u8; 4]
+    // The body is the numbers of detail and reason, two bytes each, least significant byte first (`leaving_body`).
     ensures { result ≡ leaving_body reason detail }
 {
     let mut body = [0; 4];
@@ -277,8 +302,9 @@ fn leaving_octets(reason: Reason, detail: Detail) -> [u8; 4]
     body
 }
 
-/// The body of a ConnReq or ConnResp: the version, N_sendmax and zeros.
+/// Returns the body of a ConnReq or ConnResp.
 pub(crate) fn opening_octets(n_sendmax: u16) -> [u8; 14]
+    // The body is the version, N_sendmax in two bytes, and eight zeros (`opening_body`).
     ensures { result ≡ opening_body n_sendmax }
 {
     let [a, b, c, d] = VERSION;

@@ -1,4 +1,4 @@
-//! What the machine promises over every list of events.
+//! The laws of the machine over every list of events.
 
 ghost use Rattle.safe_machine.specs.InOrder.{OneMoreLaw, OrderLaw, StaysLaw};
 ghost use Rattle.safe_machine.specs.Law.{FreshAtLastLaw, FreshLaw, JoinedLaw, LossLaw, UnitLaw};
@@ -8,98 +8,98 @@ ghost use Rattle.safe_machine.specs.Reached.{FewLaw};
 ghost use Rattle.safe_machine.specs.Ring.{RingLaw};
 ghost use Rattle.safe_machine.specs.Turned.{MadeLaw, OpeningLaw, TellsLaw, TurnsLaw};
 
-/// The laws of the machine, which do nothing when they are called. Those of two machines hold of every genuine list of
-/// openings, sendings, closings, guards, ticks and arrivals of both ends, however often either is opened; those of one
-/// machine, which say so, of every move and of every state reached from an opening.
+/// States the laws of the machine. Calling it has no effect.
+///
+/// The laws of two machines hold over every genuine list of openings, sends, closes, timeout checks, ticks and
+/// arrivals of both ends, however often either end is opened. The laws of one machine hold for every move, or for
+/// every state that moves lead to from an opening.
 pub fn unit_law()
-    // Over every genuine list, however often either machine is opened, what an end takes is a beginning of what
-    // the end joined to it sent. Over every genuine list later incarnations of the field element are joined to
-    // later ones of the interlocking, so no end is joined to two. Over every genuine list an end that is joined
-    // to none has taken nothing. Over every genuine list each unit that an end not closed sent and that is not
-    // unconfirmed was taken.
+    // Over every genuine list, the units that an end takes are a prefix of those sent by the end joined to it.
+    // Later incarnations of the field element are joined to later ones of the interlocking, so no end is joined to
+    // two. An end that is not joined has taken nothing.
     ensures beginnings { UnitLaw }
 
-    // Where a field element starts a connection in a genuine list, the present interlocking, which it is joined
-    // to, had made the PDU that came.
+    // If a field element starts a connection in a genuine list, the present interlocking, to which it is joined,
+    // had made the PDU that came.
     ensures joined { JoinedLaw }
 
-    // Over every genuine list an end that is not closed has sent no more units than the end joined to it took
-    // and are unconfirmed. Over every genuine list each unit that an end not closed sent and that is not
-    // unconfirmed was taken.
+    // Over every genuine list, an end, closed or not, has sent at most as many units as the end joined to it took
+    // and as are unconfirmed. Since the units taken are a prefix of those sent, and the unconfirmed ones are the
+    // last, each other unit was taken.
     ensures nothing_lost { LossLaw }
 
-    // Over genuine, timely lists a PDU whose unit is taken was made upon one that this end made less than its
-    // T_max before. Over genuine, timely lists a PDU whose unit is taken confirms the number and the timestamp
-    // of the one upon which it was made.
+    // Over genuine, timely lists, the peer made each PDU whose unit is taken. Its basis is a PDU that this end made
+    // less than its T_max before, and it confirms the sequence number and the timestamp of that basis.
     ensures fresh { FreshLaw }
-    // The event that ends a genuine, timely list takes a unit only from a PDU that is fresh.
+    // The event that ends a genuine, timely list takes a unit only from a fresh PDU.
     ensures fresh_at_last { FreshAtLastLaw }
 
     // No move leads to Down from another state. A move from Down to Start is an arrival with the end's own
-    // identifiers. A move makes its PDUs at the end of the list of those made. A move sends one unit, where it
-    // is a sending and the end may send, and else none. A move takes nothing, or the unit of what arrives,
-    // behind what was taken. A move leaves a closed machine as it is.
+    // identifiers. A move appends its PDUs to those made. It sends one unit if it is a send that is allowed,
+    // otherwise none. It takes nothing, or the unit of the PDU that arrives, after those taken before. A move
+    // leaves a closed machine unchanged.
     ensures moves { MovesLaw }
 
-    // Every move leaves the settings.
+    // No move changes the settings.
     ensures settings { SettingsLaw }
-    // A stranger's PDU does no more than the guard.
+    // A PDU with other identifiers has the effect of the timeout check only.
     ensures strangers { StrangersLaw }
-    // In Down and in Start a move takes nothing.
+    // In Down and in Start, a move takes no unit.
     ensures waits { WaitsLaw }
 
-    // A move goes from Down to Start, from Start to Up or between states that are connected, or it stays or
-    // closes. A move that is no arrival leaves the state of the connection or closes it.
+    // A move goes from Down to Start, from Start to Up or between connected states, or it closes the end or keeps
+    // the state. A move that is not an arrival keeps the state or closes the end.
     ensures connections { ConnectionsLaw }
 
     // A move from Down to Start is the arrival of a ConnReq with this profile's version.
     ensures requests { RequestsLaw }
 
-    // After any moves from an opening every PDU made bears the identifiers of its end and of the peer.
+    // After any moves from an opening, every PDU made has the identifiers of its end and of the peer.
     ensures identified { IdentifiedLaw }
 
-    // Over every genuine list each unit that an end not closed sent and that is not unconfirmed was taken.
-    // After any moves from an opening the unconfirmed units are those whose carrier lies behind the last PDU
-    // confirmed. After any moves from an opening the units sent end in the unconfirmed ones.
+    // After any moves from an opening, the unconfirmed units are those whose carrier was made after the last PDU
+    // confirmed. They are the last of the units sent.
     ensures reached { ReachedLaw }
 
-    // The units that the ring of a state holds are its unconfirmed ones.
+    // The units that the ring of a state holds are its unconfirmed units.
     ensures ring { RingLaw }
 
-    // After sound moves from a legal opening every PDU made has a text under every rule of the code.
+    // After sound moves from a legal opening, every PDU made has an encoding, whatever the settings of the safety
+    // code.
     ensures texts { TextsLaw }
 
-    // After well-formed moves from a legal opening at most 32 units are unconfirmed. After well-formed moves
-    // from a legal opening one more such move makes 36 PDUs at most. After well-formed moves from a legal
-    // opening an end that may send has, after a sending, one unit more unconfirmed.
+    // After well-formed moves from a legal opening, at most 32 units are unconfirmed. One more such move makes at
+    // most 36 PDUs. A send that is allowed adds one unconfirmed unit.
     ensures few { FewLaw }
 
-    // Where what is kept stands for a history, what the turn of a move leaves stands for the history behind the
-    // move.
+    // If a view is what is kept of a history, the turn of a move leaves what is kept of the history after the move.
+    // The history grows by the PDUs that the turn makes and the units that it hands up.
     ensures turns { TurnsLaw }
-    // A turn keeps that the PDU that was last confirmed was made.
+    // A turn preserves that, in Up and RetrRun, the PDU last confirmed was made.
     ensures made { MadeLaw }
-    // A history grows by the PDUs that the turn made, and by the units that it handed up.
+    // The turn of received bytes leaves what is kept of the history after their arrival. The history grows by the
+    // PDUs made and the units handed up.
     ensures octets { OctetsLaw }
-    // What a turn hands up came with a confirmed timestamp that the end reads as less than T_max old.
+    // If received bytes hand up a unit, they are a PDU whose confirmed timestamp, as the end reads it, is less than
+    // T_max old.
     ensures recent { RecentLaw }
-    // What is kept at an opening stands for the history that begins with it.
+    // An opening leaves what is kept of the history that it begins, with the same PDUs made.
     ensures openings { OpeningLaw }
-    // What is kept of a history tells how many units are unconfirmed, and whether one more may be sent.
+    // The view of a history has the number of its unconfirmed units, and decides as the history whether one more
+    // may be sent.
     ensures tells { TellsLaw }
 
-    // Over genuine, timely lists in order (PDUs heard by index, no reopening, no guard leaves) no
-    // retransmission is asked for. Over genuine, timely lists in order an end that is not closed has the state
-    // that the number of its arrivals makes. Over genuine, timely lists in order an end that is not closed has
-    // taken exactly the units of the PDUs that arrived. Over genuine, timely lists in order, with all arrived
-    // and no end closed, both are Up and have taken all that was sent. Over genuine, timely lists in order,
-    // with all arrived and no end closed, only a full window of the peer keeps an end from sending.
+    // Over genuine, timely lists in order (PDUs arrive by index, no end is opened again, no timeout check
+    // disconnects), no retransmission is requested. An end that is not closed has the state that the number of its
+    // arrivals leads to, and has taken exactly the units of the Data that arrived. If everything has arrived and no
+    // end is closed, both are Up and have taken all that was sent. Then only a full window of the peer keeps an end
+    // from sending.
     ensures in_order { OrderLaw }
 
-    // Over genuine, timely lists in order where no caller closes an end, no end that was opened is closed.
+    // Over genuine, timely lists in order in which no caller closes an end, no end that was opened is closed.
     ensures stays { StaysLaw }
 
-    // A list with one event more at its end leads one event further, its arrival counted and its closing noted.
-    // A list that is genuine, timely or in order stays so with one more such event at its end.
+    // A list with one more event at its end leads one event further, with its arrival counted and its close noted.
+    // If a list is genuine, timely or in order, it stays so when one more such event is added.
     ensures one_more { OneMoreLaw }
 {}

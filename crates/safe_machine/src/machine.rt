@@ -1,6 +1,6 @@
 //! One end of a connection.
 
-ghost use Rattle.std.specs.Prelude.{◌≡◌, ◌≢◌, ◌+◌, ◌<◌, ◌≤◌, ◌^◌, ◌↔◌, ℕ, List, [], true, false, length, Err, ◌++◌, ◌∷◌, IfOk, IsOk, OnOk, OnErr, if◌then◌else◌};
+ghost use Rattle.std.specs.Prelude.{◌≡◌, ◌≢◌, ◌+◌, ◌<◌, ◌≤◌, ◌^◌, ◌↔◌, ℕ, List, [], true, false, length, Err, ◌++◌, ◌∷◌, IfOk, IsOk, OnOk, OnErr, if◌then◌else◌, option_map, slice_get};
 ghost use Rattle.std.specs.List.{FoldsTo};
 ghost use Rattle.octets.specs.declared.limits.TheConstants.{WINDOW_MAX};
 ghost use Rattle.safe_machine.specs.Settings.{is_legal};
@@ -13,9 +13,10 @@ ghost use Rattle.safe_pdu.specs.Places.{safe_seen};
 ghost use Rattle.safe_machine.specs.Properties.{HandsIf, IsNextData, IsRecent, OnlyConfirms, index_step};
 ghost use Rattle.safe_pdu.specs.Pdu.{Pdu};
 ghost use Rattle.safe_machine.specs.declared.ConnectionState.TheVariants.{Up};
-ghost use Rattle.safe_machine.specs.Deadlines.{IsBefore, IsReachedAt};
+ghost use Rattle.safe_machine.specs.Deadlines.{IsBefore, IsReachedAt, overdue};
 ghost use Rattle.safe_machine.specs.View.{settings_of, texts};
 ghost use Rattle.safe_machine.specs.Connections.{in_turn};
+ghost use Rattle.safe_machine.specs.retrans.Units.{octets_of};
 
 use super::endpoint::Endpoint;
 use super::opening::begin;
@@ -28,41 +29,41 @@ use octets::limits::{SAFE_PDU_MAX, WINDOW_MAX};
 use std::alloc::{Allocator, Global};
 use std::marker::Model;
 
-/// What takes the PDUs that a machine makes.
+/// The receiver of the PDUs that a machine makes, in the order of making. One call makes at most 36.
 pub trait PduOut {
-    /// What one call does to the value.
+    /// What one call of `made` does to the value.
     ghost makes: { Self → List ℕ → Self → Type 0 };
 
-    /// Takes the octets of a PDU, at most 1,250.
+    /// Takes the bytes of a PDU, at most 1,250.
     fn made(&mut self, pdu: &[u8])
         requires sized { length pdu.now ≤ SAFE_PDU_MAX }
-        // A PDU that is made does to what takes it exactly what its `makes` says.
+        // Each PDU made changes the value by `makes`.
         ensures { makes self.old pdu.now self.new };
 }
 
-/// What takes the units that go up.
+/// The receiver of the units that a machine delivers.
 pub trait UnitIn {
-    /// What one call does to the value.
+    /// What one call of `unit` does to the value.
     ghost takes: { Self → List ℕ → Self → Type 0 };
 
-    /// The value may take a unit.
+    /// The condition for a call of `unit`.
     ghost ready: { Self → Type 0 };
 
-    /// Takes a unit, and may then take another.
+    /// Takes the bytes of a unit.
     fn unit(&mut self, unit: &[u8])
         requires { ready self.old }
-        // A unit that goes up does to what takes it exactly what its `takes` says.
+        // Each unit delivered changes the value by `takes`.
         ensures taken { takes self.old unit.now self.new }
-        // What has taken a unit may then take another.
+        // After a unit, `ready` holds again, so that another may follow.
         ensures ready { ready self.new };
 }
 
 /// One end of a connection: the state machine of the safety and retransmission layer.
 ///
-/// All its memory is taken when it is opened. Times are whole milliseconds of one clock.
+/// Times are whole milliseconds of one clock.
 #[derive(Drop)]
 pub struct Machine<A: Allocator = Global> {
-    /// What it keeps.
+    /// The counters and the unconfirmed units.
     end: Endpoint<A>,
 }
 
@@ -78,11 +79,14 @@ impl<A: Allocator> Model for Machine<A> {
 }
 
 impl<A: Allocator> Machine<A> {
-    /// Opens an end. A client asks for the connection at once; a server waits. It is the only call that takes memory.
+    /// Opens an end. A client requests the connection at once; a server waits. No later call allocates.
     ///
     /// # Errors
     ///
-    /// Refused, and the first that holds is named: `BadConfig`, `Memory`.
+    /// Returns the first that applies:
+    ///
+    /// - `BadConfig` if the settings are invalid;
+    /// - `Memory` if the allocation fails.
     pub fn open<O: PduOut>(
         alloc: A,
         config: MachineConfig,
@@ -91,18 +95,17 @@ impl<A: Allocator> Machine<A> {
         now: Milliseconds,
         out: &mut O,
     ) -> Result<Self, MachineFault>
-        // `open` answers `BadConfig` exactly where no end can have the settings.
+        // `open` returns `BadConfig` if and only if the settings are not legal for this role (`is_legal`).
         ensures bad_config { (result ≡ Err BadConfig) ↔ (is_legal (settings_of role config) ≡ false) }
-        // `Machine::open`, `guard`, `arrive`, `tick`, `send` and `close` leave exactly what their turns leave
-        // (docs/SAFETY_MACHINE.md) on any octets and times.
+        // A client that was opened is in Start and has made its ConnReq; a server is in Down and has made nothing.
+        // Everything else has its initial value (`opens`).
         ensures left { IfOk result (λ machine. machine ≡ (opens (settings_of role config) first_sn now).left) }
-        // At the opening the index of the peer's next PDU is 0.
+        // After `open`, the index of the peer's next PDU is 0.
         ensures near { IfOk result (λ machine. machine.expected ≡ 0) }
-        // `Machine::open`, `guard`, `arrive`, `tick`, `send` and `close` hand out the texts of the PDUs that
-        // their turns make, in order.
+        // A successful `open` hands out the ConnReq of a client, and nothing for a server (`opens`).
         ensures made { OnOk result
             (FoldsTo O.makes out.old (texts config.rule (opens (settings_of role config) first_sn now).made) out.new) }
-        // A refused `open` or `send` makes no PDU.
+        // A failed `open` makes no PDU.
         ensures nothing_made { OnErr result (out.new ≡ out.old) }
     {
         if !config.is_legal(role) {
@@ -117,36 +120,53 @@ impl<A: Allocator> Machine<A> {
         }
     }
 
-    /// The guard alone: leaves where nothing recent was confirmed, or where as many PDUs were made as one connection
-    /// may have.
-    pub fn guard<O: PduOut>(&mut self, now: Milliseconds, out: &mut O)
-        // `Machine::open`, `guard`, `arrive`, `tick`, `send` and `close` leave exactly what their turns leave
-        // (docs/SAFETY_MACHINE.md) on any octets and times.
+    /// Begins again with the same settings, as an end that is opened. A client requests the connection at once; a
+    /// server waits. Nothing is sent on the connection that ends with it.
+    pub fn reopen<O: PduOut>(&mut self, first_sn: u32, now: Milliseconds, out: &mut O)
+        // After `reopen`, a client is in Start and has made its ConnReq, and a server is in Down. The settings are the
+        // same, and all else has its first value again (`opens`).
+        ensures left { self.new ≡ (opens self.old.settings first_sn now).left }
+        // After `reopen`, the index of the peer's next PDU is 0.
+        ensures near { self.new.expected ≡ 0 }
+        // `reopen` hands out the ConnReq of a client, and nothing for a server (`opens`).
+        ensures made { FoldsTo O.makes out.old
+            (texts self.old.settings.rule (opens self.old.settings first_sn now).made) out.new }
+    {
+        self.end.reopen(first_sn, now, out);
+    }
+
+    /// Checks the timeouts only: disconnects if the last confirmation is `t_max` old, or if the end has made as
+    /// many PDUs as a connection may have. Returns reason and detail if it disconnects.
+    pub fn guard<O: PduOut>(&mut self, now: Milliseconds, out: &mut O) -> Option<(Reason, Detail)>
+        // `guard` returns the reason and detail with which the timeout check disconnects, or `None` (`overdue`):
+        // T_max first, then the limit of PDUs.
+        ensures why { result ≡ overdue now self.old }
+        // If the timeout check fails, `guard` closes the end; otherwise nothing changes (`guards`).
         ensures left { self.new ≡ (guards now self.old).left }
-        // `guard`, `tick`, `close` and `send` leave the index of the peer's next PDU.
+        // `guard` does not change the index of the peer's next PDU.
         ensures near { self.new.expected ≡ self.old.expected }
-        // `Machine::open`, `guard`, `arrive`, `tick`, `send` and `close` hand out the texts of the PDUs that
-        // their turns make, in order.
+        // `guard` hands out a DiscReq if it disconnects, otherwise nothing (`guards`).
         ensures made { FoldsTo O.makes out.old (texts self.old.settings.rule (guards now self.old).made) out.new }
     {
-        self.end.guard(now, out);
+        self.end.guard(now, out)
     }
 
-    /// The guard, and then a heartbeat where one is due.
-    pub fn tick<O: PduOut>(&mut self, now: Milliseconds, out: &mut O)
-        // `Machine::open`, `guard`, `arrive`, `tick`, `send` and `close` leave exactly what their turns leave
-        // (docs/SAFETY_MACHINE.md) on any octets and times.
+    /// Checks the timeouts, and then makes a heartbeat if one is due. Returns reason and detail if it disconnects.
+    pub fn tick<O: PduOut>(&mut self, now: Milliseconds, out: &mut O) -> Option<(Reason, Detail)>
+        // `tick` returns the reason and detail with which its timeout check disconnects, or `None` (`overdue`).
+        ensures why { result ≡ overdue now self.old }
+        // After `tick`, the end is closed if the timeout check failed. Otherwise a heartbeat that is due is counted
+        // as made (`ticks`).
         ensures left { self.new ≡ (ticks now self.old).left }
-        // `guard`, `tick`, `close` and `send` leave the index of the peer's next PDU.
+        // `tick` does not change the index of the peer's next PDU.
         ensures near { self.new.expected ≡ self.old.expected }
-        // `Machine::open`, `guard`, `arrive`, `tick`, `send` and `close` hand out the texts of the PDUs that
-        // their turns make, in order.
+        // `tick` hands out a DiscReq if it disconnects, and otherwise a heartbeat if one is due (`ticks`).
         ensures made { FoldsTo O.makes out.old (texts self.old.settings.rule (ticks now self.old).made) out.new }
     {
-        self.end.tick(now, out);
+        self.end.tick(now, out)
     }
 
-    /// Leaves the connection, and says so, where there is one.
+    /// Closes the end, and sends a DiscReq if there is a connection.
     pub fn close<O: PduOut>(
         &mut self,
         reason: Reason,
@@ -154,63 +174,91 @@ impl<A: Allocator> Machine<A> {
         now: Milliseconds,
         out: &mut O,
     )
-        // `Machine::open`, `guard`, `arrive`, `tick`, `send` and `close` leave exactly what their turns leave
-        // (docs/SAFETY_MACHINE.md) on any octets and times.
+        // `close` leaves the end in Closed from any state; in Start, Up, RetrReq and RetrRun it also counts a
+        // DiscReq (`leaves`).
         ensures left { self.new ≡ (leaves reason detail now self.old).left }
-        // `guard`, `tick`, `close` and `send` leave the index of the peer's next PDU.
+        // `close` does not change the index of the peer's next PDU.
         ensures near { self.new.expected ≡ self.old.expected }
-        // `Machine::open`, `guard`, `arrive`, `tick`, `send` and `close` hand out the texts of the PDUs that
-        // their turns make, in order.
+        // `close` hands out a DiscReq with this reason and detail in Start, Up, RetrReq and RetrRun, otherwise
+        // nothing (`leaves`).
         ensures made { FoldsTo O.makes out.old
             (texts self.old.settings.rule (leaves reason detail now self.old).made) out.new }
     {
         self.end.leave(reason, detail, now, out);
     }
 
-    /// The earliest time at which `tick` does something, if nothing arrives and nothing is sent; `None` where no time does.
+    /// Returns the earliest time at which `tick` does something if nothing arrives and nothing is sent, or `None`
+    /// if there is no such time.
     pub fn deadline(&self) -> Option<Milliseconds>
-        // Before `deadline` a tick leaves the machine as it is and makes nothing.
+        // Before the `deadline`, a tick changes nothing and makes no PDU.
         ensures before { (now : ℕ) → IsBefore now result → ticks now self.now ≡ still self.now }
-        // From `deadline` on, up to 2^62 ms, a tick does not leave the machine as it is.
+        // From the `deadline` on, up to 2^62 ms, a tick changes the machine.
         ensures after { (now : ℕ) → now ≤ 2 ^ 62 → IsReachedAt now result → (ticks now self.now).left ≢ self.now }
     {
         self.end.deadline()
     }
 
-    /// The state of the connection.
+    /// Returns the state of the connection.
     pub fn state(&self) -> ConnectionState
-        // `state` answers the state of the connection.
+        // `state` returns the state that the machine keeps.
         ensures state { result ≡ self.now.connection }
-        // In Up and in RetrRun the PDU that was last confirmed was made.
-        ensures confirmed { in_turn result ≡ true → self.now.confirmed < self.now.made }
     {
         self.end.connection
     }
 
-    /// How many units are unconfirmed. They are never more than the peer's window has, and it has 32 at most.
-    pub fn unconfirmed(&self) -> usize
-        // `unconfirmed` answers how many units are held for another sending.
-        ensures counts { result ≡ length self.now.ring }
-        // No more units are unconfirmed than the peer's window has.
-        ensures window { result ≤ self.now.window }
-        // The peer's window has 32 units at most.
+    /// States the bounds that hold of a machine at any time. It does nothing.
+    pub fn bounds(&self)
+        // In Up and RetrRun, the PDU last confirmed is one that this end has made.
+        ensures confirmed { in_turn self.now.connection ≡ true → self.now.confirmed < self.now.made }
+        // At most as many units are unconfirmed as the peer's window allows.
+        ensures window { length self.now.ring ≤ self.now.window }
+        // The peer's window is at most 32.
         ensures room { self.now.window ≤ WINDOW_MAX }
+    {
+        let _end = &self.end;
+    }
+
+    /// Returns how many units are unconfirmed.
+    pub fn unconfirmed(&self) -> usize
+        // `unconfirmed` returns how many units the ring holds for a retransmission.
+        ensures counts { result ≡ length self.now.ring }
     {
         self.end.ring.len()
     }
 
-    /// Whether a unit may be sent: the connection is there, no answer is awaited, and the peer's window is open.
+    /// Returns the bytes of the unconfirmed unit at a place, counted from 0 for the one sent first.
+    pub fn unit(&self, place: usize) -> Option<&[u8]>
+        // `unit` returns the bytes of the unit at this place of the ring, or `None` if there are fewer units.
+        ensures { option_map (λ octets. octets.now) result ≡ slice_get (octets_of self.now.ring) place }
+    {
+        match self.end.ring.get(place) {
+            Some((_, unit)) => Some(unit.as_slice()),
+            None => None,
+        }
+    }
+
+    /// Returns the own time last confirmed, in milliseconds. A PDU is taken only if the time it confirms is less
+    /// than T_max ago.
+    pub fn confirmed_time(&self) -> Milliseconds
+        // `confirmed_time` returns the own time that the peer has confirmed last.
+        ensures { result ≡ self.now.confirmed_at }
+    {
+        self.end.confirmed_at
+    }
+
+    /// Returns whether a unit may be sent.
     pub fn may_send(&self) -> bool
-        // `may_send` tells exactly whether what is kept says that the end may send.
+        // `may_send` returns `true` if and only if the state is Up or RetrRun and fewer units are unconfirmed than
+        // the peer's window (`has_room`).
         ensures { result ≡ has_room self.now }
     {
         self.end.may_send()
     }
 
-    /// Takes the octets of a PDU, of any octets, after the guard: hands the PDUs that are made to `out` and the unit that
-    /// goes up to `units`, and tells what was done.
+    /// Checks the timeouts and processes a received PDU. `octets` may contain any bytes. PDUs that are made go to
+    /// `out`, a unit that is delivered goes to `units`.
     ///
-    /// The caller keeps the index of the peer's next PDU below 2^62; a call raises it by 321 at most.
+    /// The caller must keep the index of the peer's next PDU below 2^62. A call raises it by at most 321.
     pub fn arrive<O: PduOut, U: UnitIn>(
         &mut self,
         octets: &[u8],
@@ -220,42 +268,44 @@ impl<A: Allocator> Machine<A> {
     ) -> Step
         requires reach { self.old.expected < 2 ^ 62 }
         requires ready { U.ready units.old }
-        // `Machine::open`, `guard`, `arrive`, `tick`, `send` and `close` leave exactly what their turns leave
-        // (docs/SAFETY_MACHINE.md) on any octets and times.
+        // After `arrive`, the end keeps what the timeout check and the PDU lead to; bytes that are not a safety PDU
+        // cause only the check (`hears`).
         ensures left { self.new ≡ (hears octets.now now self.old).left }
-        // An arrival raises the index of the peer's next PDU by 321 at most.
+        // An arrival raises the index of the peer's next PDU by at most 321 (`index_step`).
         ensures near { self.new.expected ≤ self.old.expected + index_step }
-        // `Machine::open`, `guard`, `arrive`, `tick`, `send` and `close` hand out the texts of the PDUs that
-        // their turns make, in order.
+        // `arrive` hands out the PDUs that the timeout check and the received PDU cause, in order (`hears`).
         ensures made { FoldsTo O.makes out.old
             (texts self.old.settings.rule (hears octets.now now self.old).made) out.new }
-        // `arrive` hands up the units that its turn hands up, in order.
+        // `arrive` delivers the unit of a Data or RetrData that it takes, and no other unit (`hears_units`).
         ensures taken { FoldsTo U.takes units.old (hears_units octets.now now self.old) units.new }
-        // `arrive` answers what is decided of what is kept.
+        // `arrive` returns `Left` if the timeout check disconnects, `Nothing` for a closed end or for a DiscReq
+        // that closes it, and otherwise the drop cause or what was done with the PDU (`heard_answer`).
         ensures answer { result ≡ heard_answer (safe_seen self.old.settings.rule octets.now) now self.old }
-        // An arriving PDU confirms none but the units up to the index that its confirmed number stands for, and
-        // the others stay in order.
-        // Octets that arrive and are no PDU confirm no unit.
+        // Only units up to the index that the PDU's confirmed number means stop being unconfirmed, and the others
+        // stay in order. Bytes that are not a PDU confirm no unit (`OnlyConfirms`).
         ensures confirms { OnlyConfirms (safe_seen self.old.settings.rule octets.now) self.old self.new }
-        // The peer's next Data at an end in Up that passes guard and both tests goes up alone, and the end
-        // stays in Up.
+        // An end in Up takes the peer's next Data if the timeout check and both confirmation tests pass
+        // (`IsNextData`): it delivers exactly this unit, and stays in Up.
         ensures passes { (p : Pdu) → IsNextData (safe_seen self.old.settings.rule octets.now) p now self.old
             → FoldsTo U.takes units.old (p.body ∷ []) units.new × (self.new.connection ≡ Up) }
-        // What an arrival hands up came with a confirmed timestamp that the end reads as less than T_max old.
+        // If an arrival delivers anything, the confirmed timestamp of its PDU, as this end reads it, is less than
+        // T_max old (`IsRecent`).
         ensures recent { HandsIf U.takes units.old units.new
             (IsRecent (safe_seen self.old.settings.rule octets.now) now self.old) }
-        // After `arrive` the layer above may take another unit.
+        // After `arrive`, the layer above can take another unit.
         ensures ready { U.ready units.new }
     {
         self.end.arrive_octets(octets, now, out, units)
     }
 
-    /// Sends a unit of 45 to 1,206 octets.
+    /// Sends a unit of 45 to 1,206 bytes as a Data, and keeps it for a retransmission.
     ///
     /// # Errors
     ///
-    /// Refused, and the first that holds is named: `NotUp`, where the state is neither Up nor RetrRun; `Window`, where as many
-    /// units are unconfirmed as the peer's window has.
+    /// Returns the first that applies, and changes nothing:
+    ///
+    /// - `NotUp` if the state is neither Up nor RetrRun;
+    /// - `Window` if as many units are unconfirmed as the peer's window allows.
     pub fn send<O: PduOut>(
         &mut self,
         unit: &Unit,
@@ -263,28 +313,27 @@ impl<A: Allocator> Machine<A> {
         out: &mut O,
     ) -> Result<(), SendFault>
         requires size { IsUnitSized unit.now.items }
-        // `Machine::open`, `guard`, `arrive`, `tick`, `send` and `close` leave exactly what their turns leave
-        // (docs/SAFETY_MACHINE.md) on any octets and times.
+        // If the end may send, `send` counts one PDU more and adds the unit to the ring under its index; otherwise
+        // nothing changes (`sends`).
         ensures left { self.new ≡ (sends unit.now.items now self.old).left }
-        // `guard`, `tick`, `close` and `send` leave the index of the peer's next PDU.
+        // `send` does not change the index of the peer's next PDU.
         ensures near { self.new.expected ≡ self.old.expected }
-        // `Machine::open`, `guard`, `arrive`, `tick`, `send` and `close` hand out the texts of the PDUs that
-        // their turns make, in order.
+        // If the end may send, `send` hands out one Data with the unit; otherwise it hands out nothing (`sends`).
         ensures made { FoldsTo O.makes out.old
             (texts self.old.settings.rule (sends unit.now.items now self.old).made) out.new }
-        // `send` is accepted exactly where what is kept says that the end may send.
+        // `send` succeeds if and only if the state is Up or RetrRun and the peer's window is not full (`has_room`).
         ensures sent { IsOk result ↔ (has_room self.old ≡ true) }
-        // `send` answers `NotUp` exactly where the state is neither Up nor RetrRun.
+        // `send` returns `NotUp` if and only if the state is neither Up nor RetrRun.
         ensures not_up { (result ≡ Err NotUp) ↔ (in_turn self.old.connection ≡ false) }
-        // `send` answers `Window` exactly in Up or RetrRun with the peer's window full.
+        // `send` returns `Window` if and only if the state is Up or RetrRun and the peer's window is full.
         ensures window { (result ≡ Err Window)
             ↔ ((in_turn self.old.connection ≡ true) × (has_room self.old ≡ false)) }
-        // An accepted sending confirms no unit, and puts its own behind the unconfirmed ones.
+        // A successful `send` confirms no unit, and appends its own unit to the unconfirmed ones.
         ensures kept { OnOk result
             (self.new.ring ≡ self.old.ring ++ record { number = self.old.made; octets = unit.now.items } ∷ []) }
-        // A refused `send` leaves the machine as it was.
+        // A refused `send` leaves the machine unchanged.
         ensures unchanged { OnErr result (self.new ≡ self.old) }
-        // A refused `open` or `send` makes no PDU.
+        // A refused `send` makes no PDU.
         ensures nothing_made { OnErr result (out.new ≡ out.old) }
     {
         if !self.state().in_turn() {

@@ -1,4 +1,4 @@
-//! The opening of an end, and the settings that it may have.
+//! Opens an end, and checks its settings.
 
 ghost use Rattle.std.specs.Prelude.{◌≡◌, []};
 ghost use Rattle.octets.specs.declared.limits.TheConstants.{WINDOW_MAX};
@@ -20,7 +20,7 @@ use octets::limits::{
 use safe_pdu::{CodeLength, Kind};
 use std::alloc::Allocator;
 
-/// An end as it is opened: the client asks for the connection.
+/// Returns an end as it is opened. A client makes its ConnReq.
 pub(crate) fn begin<A: Allocator, O: PduOut>(
     config: MachineConfig,
     role: Role,
@@ -31,7 +31,9 @@ pub(crate) fn begin<A: Allocator, O: PduOut>(
 ) -> Endpoint<A>
     requires room { ring ≡ record { room = WINDOW_MAX; units = [] } }
     requires body { IsBody Kind.ConnReq (opening_body config.n_sendmax) }
+    // A client starts in Start with its ConnReq counted; a server starts in Down (`opens`).
     ensures left { result ≡ (opens (settings_of role config) first now).left }
+    // The ConnReq of a client is handed out; a server hands out nothing (`opens`).
     ensures made { Out O.makes config.rule out.old (opens (settings_of role config) first now) out.new }
 {
     match role {
@@ -44,7 +46,7 @@ pub(crate) fn begin<A: Allocator, O: PduOut>(
     }
 }
 
-/// An end as it is opened, before it says anything.
+/// Returns an end that has made no PDU.
 fn blank<A: Allocator>(
     config: MachineConfig,
     role: Role,
@@ -54,6 +56,7 @@ fn blank<A: Allocator>(
     ring: Unconfirmed<A>,
 ) -> Endpoint<A>
     requires room { ring ≡ record { room = WINDOW_MAX; units = [] } }
+    // Every counter of the new end is 0, its ring is empty, and the time last confirmed is `now` (`unsaid`).
     ensures { result ≡ unsaid (settings_of role config) first now connection }
 {
     Endpoint {
@@ -75,27 +78,71 @@ fn blank<A: Allocator>(
     }
 }
 
+impl<A: Allocator> Endpoint<A> {
+    /// Begins again with the same settings, as an end that is opened. A client makes its ConnReq.
+    pub(crate) fn reopen<O: PduOut>(&mut self, first: u32, now: Milliseconds, out: &mut O)
+        requires room { self.old.room ≡ WINDOW_MAX }
+        requires body { IsBody Kind.ConnReq (opening_body self.old.settings.n_sendmax) }
+        // A client is in Start with its ConnReq counted; a server is in Down. All else has its first value (`opens`).
+        ensures left { self.new ≡ (opens self.old.settings first now).left }
+        // The ConnReq of a client is handed out again; a server hands out nothing (`opens`).
+        ensures made { Out O.makes self.old.settings.rule out.old (opens self.old.settings first now) out.new }
+    {
+        match self.role {
+            Role::Client => {
+                self.forget(first, now, ConnectionState::Start);
+                self.say_opening(Kind::ConnReq, now, out);
+            }
+            Role::Server => self.forget(first, now, ConnectionState::Down),
+        }
+    }
+
+    /// Forgets all that happened since the opening, except the settings.
+    fn forget(&mut self, first: u32, now: Milliseconds, connection: ConnectionState)
+        requires room { self.old.room ≡ WINDOW_MAX }
+        // Every counter is 0 again, the ring is empty, and the time last confirmed is `now` (`unsaid`).
+        ensures { self.new ≡ unsaid self.old.settings first now connection }
+    {
+        self.first = first;
+        self.connection = connection;
+        self.made = 0;
+        self.last_made = 0;
+        self.since = 0;
+        self.expected = 0;
+        self.last_sn = 0;
+        self.last_ts = 0;
+        self.confirmed = 0;
+        self.confirmed_at = now;
+        self.answered = 0;
+        self.window = 0;
+        self.ring.clear();
+    }
+}
+
 impl MachineConfig {
-    /// Whether an end may be opened with these settings.
+    /// Returns whether an end may be opened with these settings.
     pub fn is_legal(&self, role: Role) -> bool
-        // `MachineConfig::is_legal` tells exactly the settings with which a machine is opened.
+        // `MachineConfig::is_legal` accepts settings if and only if every number is within its range, the two
+        // identifiers differ, and the safety code has 8 or 16 bytes.
         ensures { result ≡ is_legal (settings_of role self.now) }
     {
         let _role = role;
         self.in_range() && self.are_two() && is_coded(self.rule.length)
     }
 
-    /// Whether the two identifiers differ.
+    /// Returns whether the two identifiers differ.
     fn are_two(&self) -> bool
-        // The same in either role.
+        // `are_two` holds if and only if the two identifiers differ. Settings are taken in the role `Client`; the
+        // role makes no difference.
         ensures { result ≡ are_two (settings_of Client self.now) }
     {
         self.own != self.peer
     }
 
-    /// Whether each number is within its range.
+    /// Returns whether each number is within its range.
     fn in_range(&self) -> bool
-        // The same in either role.
+        // `in_range` holds if and only if window, T_max, T_h, mwa and PDU limit are within their ranges. It is the
+        // same in either role.
         ensures { result ≡ in_range (settings_of Client self.now) }
     {
         1 <= self.n_sendmax
@@ -111,8 +158,9 @@ impl MachineConfig {
     }
 }
 
-/// Whether a code of this length may be used by an end.
+/// Returns whether an end may use a safety code of this length.
 fn is_coded(length: CodeLength) -> bool
+    // Only a safety code of 8 or 16 bytes is accepted, not one of 0.
     ensures { result ≡ is_coded length }
 {
     !matches!(length, CodeLength::Zero)

@@ -1,11 +1,14 @@
-//! The units that were sent and are not confirmed yet, each with the number of the PDU that carried
-//! it last.
+//! The units that were sent and are not confirmed yet.
 //!
-//! The sending side of the safety and retransmission layer of DIN VDE V 0831-200:2015. Numbers are
-//! kept without wrap.
+//! This is the sending side of retransmission. `Unconfirmed` is a list of units. Each is kept under the number of
+//! the PDU that carried it last. Only the machine uses it.
 //!
-//! Contracts: an `Unconfirmed` is a list of units, each under the number of the PDU that carried it
-//! last.
+//! Numbers have 64 bits and no wrap, so they are compared as they are. They rise, but are not consecutive: other
+//! PDUs come between the units until the units are renumbered. The machine reads the 32 bits of a received number
+//! as a step from a known one (`Numbers.ahead`).
+//!
+//! What confirming leaves is stated as a filter (`above`). That these units are the last of the list is a law
+//! (`units_law`: `front`).
 
 mod law;
 mod unconfirmed;
@@ -14,5 +17,5 @@ pub use law::units_law;
 pub use octets::Unit;
 pub use unconfirmed::Unconfirmed;
 
-/// A unit, behind the number of the PDU that carried it last, without wrap.
+/// A unit after the number of the PDU that carried it last, without wrap.
 pub type NumberedUnit = (u64, Unit);

@@ -1,4 +1,4 @@
-//! The sending of a unit and its keeping, and what time does: the guard, the heartbeat, and when they fall due.
+//! Sending: units, and what depends on time only: the timeout check, the heartbeat and the deadline.
 
 ghost use Rattle.std.specs.Prelude.{◌≡◌, ◌+◌, ◌<◌, ◌≤◌, ◌^◌, [], ◌∷◌, ◌++◌, length, true};
 ghost use Rattle.octets.specs.declared.limits.TheConstants.{UNIT_MAX};
@@ -18,34 +18,43 @@ use std::alloc::Allocator;
 use std::cmp::min;
 
 impl<A: Allocator> Endpoint<A> {
-    /// Whether a unit may be sent: units go out in turn, and the peer's window is open.
+    /// Returns whether a unit may be sent.
     pub(crate) fn may_send(&self) -> bool
+        // A unit may be sent if and only if the state is Up or RetrRun, and fewer units are unconfirmed than the
+        // peer's window (`has_room`).
         ensures { result ≡ has_room self.now }
     {
         self.connection.in_turn() && (self.ring.len() as u64) < self.window
     }
 
-    /// Sends a unit, where one may be sent.
+    /// Sends a unit. The caller must check first that one may be sent.
     pub(crate) fn send<O: PduOut>(&mut self, unit: &[u8], now: Milliseconds, out: &mut O)
         requires reached { IsReached self.old }
         requires size { IsUnitSized unit.now }
         requires open { has_room self.old ≡ true }
+        // `send` counts one PDU and appends the unit to the ring, under its index (`sends`).
         ensures left { self.new ≡ (sends unit.now now self.old).left }
+        // `send` hands out one Data with the unit (`sends`).
         ensures made { Out O.makes self.old.settings.rule out.old (sends unit.now now self.old) out.new }
+        // After `send`, the invariant of a machine holds again.
         ensures reached { IsReached self.new }
+        // `send` does not change the expected index.
         ensures near { self.new.expected ≡ self.old.expected }
+        // The ring grows at its end by the unit sent, under the index of its PDU; the units before it stay.
         ensures kept { self.new.ring ≡ self.old.ring ++ record { number = self.old.made; octets = unit.now } ∷ [] }
     {
         self.send_unit(unit, now, out);
     }
 
-    /// Sends a unit.
+    /// Sends a unit if the ring has a place for it.
     pub(crate) fn send_unit<O: PduOut>(&mut self, unit: &[u8], now: Milliseconds, out: &mut O)
         requires body { IsBody Kind.Data unit.now }
         requires few { self.old.made < 2 ^ 40 }
         requires room { length self.old.ring < self.old.room }
         requires above { AllBelow self.old.made self.old.ring }
+        // `send_unit` counts one PDU and appends the unit to the ring, under its index (`sends_unit`).
         ensures left { self.new ≡ (sends_unit unit.now now self.old).left }
+        // `send_unit` hands out one Data with the unit (`sends_unit`).
         ensures made { Out O.makes self.old.settings.rule out.old (sends_unit unit.now now self.old) out.new }
     {
         let number = self.made;
@@ -53,40 +62,63 @@ impl<A: Allocator> Endpoint<A> {
         self.keep(number, unit);
     }
 
-    /// Keeps a copy of a unit for another sending.
+    /// Appends a copy of a unit to the ring.
     fn keep(&mut self, number: u64, unit: &[u8])
         requires size { length unit.now ≤ UNIT_MAX }
         requires room { length self.old.ring < self.old.room }
         requires above { AllBelow number self.old.ring }
+        // `keep` changes only the ring: it grows at its end by a copy of the unit, under this number.
         ensures { self.new
             ≡ record self.old { ring = self.old.ring ++ record { number = number; octets = unit.now } ∷ [] } }
     {
         self.ring.keep(number, unit);
     }
 
-    /// The guard, and then a heartbeat where one is due by time.
-    pub(crate) fn tick<O: PduOut>(&mut self, now: Milliseconds, out: &mut O)
+    /// Checks the timeouts, and then makes a heartbeat if one is due.
+    pub(crate) fn tick<O: PduOut>(
+        &mut self,
+        now: Milliseconds,
+        out: &mut O,
+    ) -> Option<(Reason, Detail)>
         requires few { self.old.made < 2 ^ 39 }
+        // `tick` returns why its timeout check disconnects, or `None` (`overdue`).
+        ensures why { result ≡ overdue now self.old }
+        // After `tick`, the end is closed if the timeout check failed; otherwise a heartbeat that is due is counted
+        // (`ticks`).
         ensures left { self.new ≡ (ticks now self.old).left }
+        // `tick` hands out a DiscReq if the timeout check fails, otherwise a heartbeat if one is due (`ticks`).
         ensures made { Out O.makes self.old.settings.rule out.old (ticks now self.old) out.new }
     {
-        self.guard(now, out);
+        let why = self.guard(now, out);
         self.beat_by_time(now, out);
+        why
     }
 
-    /// The guard.
-    pub(crate) fn guard<O: PduOut>(&mut self, now: Milliseconds, out: &mut O)
+    /// Checks the timeouts, and disconnects if the check fails.
+    pub(crate) fn guard<O: PduOut>(
+        &mut self,
+        now: Milliseconds,
+        out: &mut O,
+    ) -> Option<(Reason, Detail)>
         requires few { self.old.made < 2 ^ 40 }
+        // `guard` returns why it disconnects, or `None` (`overdue`).
+        ensures why { result ≡ overdue now self.old }
+        // `guard` closes the end if the timeout check fails, and otherwise changes nothing (`guards`).
         ensures left { self.new ≡ (guards now self.old).left }
+        // `guard` hands out a DiscReq if the timeout check fails, otherwise nothing (`guards`).
         ensures made { Out O.makes self.old.settings.rule out.old (guards now self.old) out.new }
     {
-        if let Some((reason, detail)) = self.overdue(now) {
+        let why = self.overdue(now);
+        if let Some((reason, detail)) = why {
             self.leave(reason, detail, now, out);
         }
+        why
     }
 
-    /// Why the guard leaves, if it does.
+    /// Returns why the timeout check disconnects, or `None`.
     pub(crate) fn overdue(&self, now: Milliseconds) -> Option<(Reason, Detail)>
+        // In Closed and Down the result is `None`. Otherwise T_max comes first: the last confirmation is at least
+        // T_max old; then the limit: as many PDUs are made as allowed.
         ensures { result ≡ overdue now self.now }
     {
         if !self.connection.is_live() {
@@ -101,10 +133,12 @@ impl<A: Allocator> Endpoint<A> {
         None
     }
 
-    /// Makes a heartbeat where one is due by time.
+    /// Makes a heartbeat if one is due.
     fn beat_by_time<O: PduOut>(&mut self, now: Milliseconds, out: &mut O)
         requires few { self.old.made < 2 ^ 40 }
+        // `beat_by_time` counts a heartbeat if one is due, and otherwise changes nothing (`beats`).
         ensures left { self.new ≡ (beats now self.old).left }
+        // `beat_by_time` hands out a heartbeat if one is due, otherwise nothing (`beats`).
         ensures made { Out O.makes self.old.settings.rule out.old (beats now self.old) out.new }
     {
         if self.beat_due(now) {
@@ -112,8 +146,9 @@ impl<A: Allocator> Endpoint<A> {
         }
     }
 
-    /// Whether a heartbeat is due by time.
+    /// Returns whether a heartbeat is due.
     fn beat_due(&self, now: Milliseconds) -> bool
+        // A heartbeat is due in Up, RetrReq and RetrRun, T_h and more after the last PDU made (`beat_due`).
         ensures { result ≡ beat_due now self.now }
     {
         self.connection.is_connected()
@@ -121,8 +156,10 @@ impl<A: Allocator> Endpoint<A> {
             && now - self.last_made >= self.config.t_h
     }
 
-    /// When the first of the deadlines falls.
+    /// Returns the earliest deadline.
     pub(crate) fn deadline(&self) -> Option<Milliseconds>
+        // In Closed and Down there is no deadline. Otherwise it is the time of the timeout check, or that of the
+        // next heartbeat if the end is connected and this is earlier (`deadline_of`).
         ensures { result ≡ deadline_of self.now }
     {
         if !self.connection.is_live() {
@@ -135,8 +172,10 @@ impl<A: Allocator> Endpoint<A> {
         Some(self.timeout())
     }
 
-    /// When the guard leaves.
+    /// Returns the time at which the timeout check disconnects.
     fn timeout(&self) -> u64
+        // The time is 0 if the limit of PDUs is reached, otherwise T_max after the last confirmation, and at most
+        // 2^64 - 1 (`timeout_of`).
         ensures { result ≡ timeout_of self.now }
     {
         if self.made >= self.config.pdu_limit {

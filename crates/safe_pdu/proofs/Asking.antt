@@ -1,4 +1,4 @@
--- What octets that read as a PDU are, and the test of those that an end is asked about.
+-- Bytes that read as a PDU, and the test of the bytes that pass an end's check of identifiers and safety code.
 use Rattle.std.proofs.Common.{◌≡◌, ◌+◌, ◌-◌, ℕ, length, take, drop, sym, ap, ◌∙◌}
 use Rattle.std.proofs.lemmas.Bool.Decides.{Decides-eqb, Decides-and, Decides-like}
 use Rattle.std.proofs.lemmas.Slice.Eq.{bytes_eq-Decides}

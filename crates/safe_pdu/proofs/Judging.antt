@@ -1,5 +1,4 @@
--- What the reading by places answers: a text of the grammar where it answers a PDU, else the first fault; and it answers
--- the PDU of every text.
+-- Reading field by field: if it returns a PDU, the bytes are its encoding, else they have the first fault; and it returns the PDU of every encoding.
 use Rattle.std.proofs.Common.{◌≡◌, ◌≢◌, ◌≤◌, ◌==◌, ◌+◌, ℕ, List, length, refl, sym, ap, ◌∙◌, arith, true, Option, Some, None, Result, Ok, Err, inl, inr, nat_lt, IfOk, IfErr, IsOkAnd, subst}
 use Rattle.std.proofs.lemmas.Bool.Decides.{Decides-eqb, Decides-ltb, nat_tests}
 use Rattle.std.proofs.lemmas.Slice.Eq.{bytes_eq-Decides}
@@ -18,7 +17,7 @@ use Rattle.safe_pdu.specs.SafeText.{SafeText, code_octets, code_over}
 use Rattle.safe_pdu.specs.Places.{IsSized, HasCode, FirstFault, length_field, type_field, front_of, code_of, body_of, kind_of, has_code, read_of, read_kind, safe_seen, seen_of}
 use Rattle.safe_pdu.proofs.SafeLemmas.{Reads, safe_spelled, safe_only, text_reads, text_sized, text_coded, kind_of-number, text_body}
 
--- all that is known of a PDU that was read
+-- the facts about a PDU that was read
 pub record IsRead (rule : CodeRule) (octets : List ℕ) (p : Pdu) : Type 0 where
   pub sized : IsSized rule octets
   pub coded : HasCode rule octets
@@ -30,7 +29,7 @@ Judged : CodeRule → List ℕ → Result Pdu SafeFault → Type 0
 Judged rule octets (Ok p) = IsRead rule octets p
 Judged rule octets (Err f) = FirstFault rule octets f
 
--- a test that the number passed names its type
+-- a number that passes the test for a PDU type is the number of this type
 passed : (number n : ℕ) (c : Kind) → kind_number c ≡ number → (n == number) ≡ true → (k : Kind) → Some c ≡ Some k → kind_number k ≡ n
 passed number n c is test k e =
     let same : c ≡ k = cc in
@@ -40,7 +39,7 @@ passed number n c is test k e =
 Names : ℕ → Option Kind → Type 0
 Names n found = (k : Kind) → found ≡ Some k → kind_number k ≡ n
 
--- the type that a number has
+-- the PDU type with a number has this number
 named : (n : ℕ) → Names n (kind_of n)
 unfolding Names
 named n =
@@ -57,7 +56,7 @@ kind_named : (n : ℕ) (k : Kind) → kind_of n ≡ Some k → kind_number k ≡
 unfolding Names
 kind_named n k e = named n k e
 
--- a number without a type is no type's
+-- a number without a PDU type is not the number of any type
 kind_none : (n : ℕ) → kind_of n ≡ None → (k : Kind) → kind_number k ≢ n
 kind_none n none k e =
     let found : Some k ≡ None = sym (kind_of-number k) ∙ ap kind_of e ∙ none in
@@ -79,7 +78,7 @@ judged_kind rule octets (Some kind) e sized coded =
     })
     (λ not. (sized, coded, (kind, kind_named (type_field octets) kind e, λ fits. cc)))
 
--- what the places answer is right
+-- the result of reading field by field is right
 judged : (rule : CodeRule) (octets : List ℕ) → Judged rule octets (safe_seen rule octets)
 unfolding Judged
 judged rule octets =
@@ -99,12 +98,12 @@ judged rule octets =
     (λ wrong. (sized, λ coded. let right = (bytes_eq-Decides (code_of rule octets) (code_over rule (front_of rule octets))).1 coded in cc)))
     (λ other. (long, inl (λ said. let same = (Decides-eqb (length_field octets) (length octets)).1 said in cc)))))
 
--- all that is known of what reads as a PDU
+-- the facts about bytes that read as a PDU
 pub is_read : (rule : CodeRule) (octets : List ℕ) (p : Pdu) → safe_seen rule octets ≡ Ok p → IsRead rule octets p
 unfolding Judged
 is_read rule octets p e = subst (Judged rule octets) e (judged rule octets)
 
--- a text has no fault
+-- an encoding has no fault
 text_faultless : (p : Pdu) (rule : CodeRule) (octets : List ℕ) → SafeText p rule octets → (f : SafeFault) → FirstFault rule octets f → ⊥
 text_faultless p rule octets text Short short = let sized = text_sized p rule octets text in let long = sized.long in omega arith
 text_faultless p rule octets text Length (long, inl other) = other (text_sized p rule octets text).said
@@ -122,11 +121,11 @@ unfolding Judged
 answer_of p rule octets text (Ok q) known = ap Ok (safe_only q p rule octets text known.reads known.body)
 answer_of p rule octets text (Err f) fault = absurd (text_faultless p rule octets text f fault)
 
--- what is spelled so is what the places answer
+-- an encoding reads field by field as its PDU
 pub safe_seen-text : (p : Pdu) (rule : CodeRule) (octets : List ℕ) → SafeText p rule octets → safe_seen rule octets ≡ Ok p
 safe_seen-text p rule octets text = answer_of p rule octets text (safe_seen rule octets) (judged rule octets)
 
--- the decoder's clauses, from what it answers by places
+-- the decoder's clauses, from its result field by field
 pub found_by_places : (rule : CodeRule) (octets : List ℕ) (r : Result SafePdu SafeFault) → FitOctets octets → seen_of r ≡ safe_seen rule octets
     → IfOk r (λ pdu. SafeText (pdu_of pdu) rule octets)
 unfolding Judged

@@ -1,3 +1,4 @@
 pub mod SafeLemmas
 pub mod Judging
 pub mod Asking
+pub mod Codes

@@ -1,4 +1,4 @@
--- What was read by places is spelled so, and what is spelled so is read by places.
+-- Bytes that are read field by field are the encoding of the PDU, and an encoding is read as its PDU.
 use Rattle.std.proofs.Common.{◌≡◌, ◌==◌, ◌<◌, ◌≤◌, ℕ, ◌+◌, ◌-◌, ◌^◌, List, ◌++◌, length, take, drop, refl, sym, ap, ◌∙◌, arith, Some, Bool, true, false, IsTrue, ◌&&◌, nat_le}
 use Rattle.std.proofs.lemmas.Bool.Decides.{Decides-eqb, Decides-ltb, Decides-and, Decides-like, nat_tests}
 use Rattle.std.specs.Bool.{Decides}
@@ -19,7 +19,7 @@ use Rattle.md4.specs.Digest.{digest}
 use Rattle.md4.proofs.DigestLemmas.{length-digest}
 use Rattle.safe_pdu.specs.Places.{IsSized, IsAsked, HasCode, length_field, type_field, field, front_size, front_of, body_of, kind_of}
 
--- type and numbers are those that stand at their places
+-- PDU type and numbers are those at their places
 pub record Reads (p : Pdu) (octets : List ℕ) : Type 0 where
   pub kind : kind_number p.kind ≡ type_field octets
   pub receiver : p.receiver ≡ field 4 octets
@@ -34,14 +34,14 @@ code_octets-le Zero = omega arith
 code_octets-le Eight = omega arith
 code_octets-le Sixteen = omega arith
 
--- the code has the length that its rule says
+-- the safety code has the length of its settings
 pub length-code_over : (rule : CodeRule) (front : List ℕ) → length (code_over rule front) ≡ code_octets rule.length
 length-code_over rule front =
     let whole = length-digest rule.initial_value front in
     let most = code_octets-le rule.length in
     length-take-le (code_octets rule.length) (digest rule.initial_value front) (omega arith)
 
--- the header as it was read, and what follows it
+-- the header as it was read, and the bytes after it
 header_at : (p : Pdu) (size : ℕ) (octets : List ℕ) → FitOctets octets → SAFE_HEADER ≤ length octets → size ≡ length_field octets → Reads p octets
     → Splits octets (header size p) (drop SAFE_HEADER octets)
 header_at p size octets fits long said reads =
@@ -54,7 +54,7 @@ header_at p size octets fits long said reads =
     let g = Splits-then f (field_at 4 20 p.ts octets fits (omega arith) reads.ts) in
     Splits-then g (field_at 4 24 p.cts octets fits (omega arith) reads.cts)
 
--- each number is in the range of its field
+-- each number fits its field
 numbers_read : (p : Pdu) (octets : List ℕ) → FitOctets octets → Reads p octets → HasNumbers p
 numbers_read p octets fits reads =
     record {
@@ -98,7 +98,7 @@ kind_small Heartbeat = omega arith
 kind_small Data = omega arith
 kind_small RetrData = omega arith
 
--- A text reads by places as its PDU.
+-- an encoding has the fields of its PDU at their places
 pub text_reads : (p : Pdu) (rule : CodeRule) (octets : List ℕ) → SafeText p rule octets → Reads p octets
 text_reads p rule octets text =
     let t : List ℕ = safe_text rule p in
@@ -113,7 +113,7 @@ text_reads p rule octets text =
       cts = sym (field_reads 4 p.cts (drop 24 octets) (drop 28 t) text.numbers.cts (ap (drop 24) said));
     }
 
--- the octets of a text: how many they are, and where the code begins
+-- the length of an encoding
 pub length-text : (p : Pdu) (rule : CodeRule) → length (safe_text rule p) ≡ SAFE_HEADER + length p.body + code_octets rule.length
 length-text p rule =
     let front : List ℕ = front_text rule p in
@@ -122,7 +122,7 @@ length-text p rule =
     ∙ ap (λ (n : ℕ). n + length (code_over rule front)) (length-append (header size p) p.body)
     ∙ ap (λ (n : ℕ). SAFE_HEADER + length p.body + n) (length-code_over rule front)
 
--- a text is as long as its length field says
+-- the length field of an encoding is its length
 pub text_sized : (p : Pdu) (rule : CodeRule) (octets : List ℕ) → SafeText p rule octets → IsSized rule octets
 text_sized p rule octets text =
     let t : List ℕ = safe_text rule p in
@@ -133,7 +133,7 @@ text_sized p rule octets text =
     let small : size < 256 ^ 2 = omega arith in
     record { long = omega arith; said = field_reads 2 size octets (drop 2 t) small text.spelled ∙ sym many; most = short }
 
--- a text's front and code
+-- the front and the safety code of an encoding
 text_front : (p : Pdu) (rule : CodeRule) (octets : List ℕ) → SafeText p rule octets
     → (front_size rule octets ≡ length (front_text rule p)) × (front_of rule octets ≡ front_text rule p)
 text_front p rule octets text =
@@ -146,13 +146,13 @@ text_front p rule octets text =
       ap (λ (n : ℕ). take n octets) cut ∙ ap (take (length front)) text.spelled ∙ take-append_seam front (code_over rule front),
     )
 
--- a text's body stands at its place
+-- the body of an encoding is at its place
 pub text_body : (p : Pdu) (rule : CodeRule) (octets : List ℕ) → SafeText p rule octets → p.body ≡ body_of rule octets
 text_body p rule octets text =
     let size : ℕ = SAFE_HEADER + length p.body + code_octets rule.length in
     sym (ap (drop SAFE_HEADER) (text_front p rule octets text).1 ∙ drop-append_seam (header size p) p.body)
 
--- a text has its code
+-- an encoding has a valid safety code
 pub text_coded : (p : Pdu) (rule : CodeRule) (octets : List ℕ) → SafeText p rule octets → HasCode rule octets
 text_coded p rule octets text =
     let front : List ℕ = front_text rule p in
@@ -160,7 +160,7 @@ text_coded p rule octets text =
     ap (λ (n : ℕ). drop n octets) at.0 ∙ ap (drop (length front)) text.spelled ∙ drop-append_seam front (code_over rule front)
     ∙ ap (code_over rule) (sym at.1)
 
--- a type's number leads back to it
+-- the PDU type with the number of a type is this type
 pub kind_of-number : (k : Kind) → kind_of (kind_number k) ≡ Some k
 kind_of-number ConnReq = refl
 kind_of-number ConnResp = refl
@@ -171,7 +171,7 @@ kind_of-number Heartbeat = refl
 kind_of-number Data = refl
 kind_of-number RetrData = refl
 
--- two types with one number are one
+-- two PDU types with the same number are equal
 same_kind : (k l : Kind) → kind_number k ≡ kind_number l → k ≡ l
 same_kind k l e =
     let found : Some k ≡ Some l = sym (kind_of-number k) ∙ ap kind_of e ∙ kind_of-number l in
@@ -186,19 +186,19 @@ same_made : (p q : Pdu) → p.kind ≡ q.kind → p.receiver ≡ q.receiver → 
     → made_of p.kind p.receiver p.sender p.sn p.cs p.ts p.cts p.body ≡ made_of q.kind q.receiver q.sender q.sn q.cs q.ts q.cts q.body
 same_made p q kind receiver sender sn cs ts cts body = cc
 
--- two PDUs that are read from one place are one
+-- two PDUs read from the same bytes with equal bodies are equal
 pub one_reading : (p q : Pdu) (octets : List ℕ) → Reads p octets → Reads q octets → p.body ≡ q.body → p ≡ q
 unfolding made_of
 one_reading p q octets a b body =
     same_made p q (same_kind p.kind q.kind (a.kind ∙ sym b.kind)) (a.receiver ∙ sym b.receiver) (a.sender ∙ sym b.sender) (a.sn ∙ sym b.sn)
     (a.cs ∙ sym b.cs) (a.ts ∙ sym b.ts) (a.cts ∙ sym b.cts) body
 
--- what is spelled so is what is read
+-- an encoding has the fields of only one PDU
 pub safe_only : (p q : Pdu) (rule : CodeRule) (octets : List ℕ) → SafeText q rule octets → Reads p octets → p.body ≡ body_of rule octets → p ≡ q
 safe_only p q rule octets text reads body-is =
     one_reading p q octets reads (text_reads q rule octets text) (body-is ∙ sym (text_body q rule octets text))
 
--- both tests of a pair hold
+-- both tests of a conjunction are true
 pub and_both : (a b : Bool) → IsTrue (a && b) → IsTrue a × IsTrue b
 and_both true b h = (refl, h)
 and_both false b h = cc
@@ -226,7 +226,7 @@ length-body Heartbeat body fits = no_octets body fits
 length-body Data body fits = unit_sized body fits
 length-body RetrData body fits = unit_sized body fits
 
--- header, body and code, written one after the other, are the text
+-- header, body and safety code, written in order, are the encoding
 pub safe_written : (p : Pdu) (rule : CodeRule) (headed bodied coded : List ℕ) → HasNumbers p → IsBody p.kind p.body
     → take SAFE_HEADER headed ≡ header (SAFE_HEADER + length p.body + code_octets rule.length) p
     → take (SAFE_HEADER + length p.body) bodied ≡ take SAFE_HEADER headed ++ p.body
@@ -244,14 +244,14 @@ safe_written p rule headed bodied coded fits admitted header-is body-is code-is 
     let short = length-body p.kind p.body admitted in
     record { numbers = fits; body = admitted; size = omega arith; spelled = spelled }
 
--- octets that are texts under two rules of one length of code are of one PDU
+-- bytes that encode PDUs under two settings with equal lengths of the safety code encode the same PDU
 pub by_place : (p q : Pdu) (r s : CodeRule) (octets : List ℕ) → SafeText p r octets → SafeText q s octets → r.length ≡ s.length → p ≡ q
 by_place p q r s octets a b same =
     let cut : front_size r octets ≡ front_size s octets = ap (λ (n : CodeLength). length octets - code_octets n) same in
     one_reading p q octets (text_reads p r octets a) (text_reads q s octets b)
     (text_body p r octets a ∙ ap (λ (n : ℕ). drop SAFE_HEADER (take n octets)) cut ∙ sym (text_body q s octets b))
 
--- a text that bears an end's identifiers is one that the end is asked about
+-- an encoding with an end's identifiers passes that end's check
 pub is_asked : (p : Pdu) (rule : CodeRule) (own peer : ℕ) (octets : List ℕ) → SafeText p rule octets → p.receiver ≡ own → p.sender ≡ peer
     → IsAsked rule own peer octets
 is_asked p rule own peer octets text for_own of_peer =
@@ -273,7 +273,7 @@ has_numbers-Decides p =
 pub Decides-nat_le : (a b : ℕ) → Decides (nat_le a b) (a ≤ b)
 Decides-nat_le a b = (le_by_test a b, λ le. grind (arith, nat_tests))
 
--- the test of a text tells exactly the texts
+-- the test `is_text` is true for exactly the encodings
 pub is_text-Decides : (p : Pdu) (rule : CodeRule) (octets : List ℕ) → Decides (is_text p rule octets) (SafeText p rule octets)
 is_text-Decides p rule octets =
     Decides-like (is_text p rule octets) (λ h. record { numbers = h.0; body = h.1.0; size = h.1.1.0; spelled = h.1.1.1 })

@@ -1,4 +1,4 @@
--- Why an end leaves its connection: the numbers that a DiscReq bears.
+-- The numbers of the reasons and details in a DiscReq.
 use Rattle.std.specs.Prelude.{ℕ, ◌==◌, if◌then◌else◌, Option, Some, None}
 use Rattle.safe_pdu.specs.declared.reasons.Reason.{Reason}
 use Rattle.safe_pdu.specs.declared.reasons.Reason.TheVariants.{ClosedByUser, UnexpectedPdu, SequenceError, Timeout, ServiceNotAllowed, WrongVersion, RetransmissionImpossible, ProtocolError}
@@ -16,7 +16,7 @@ reason_number WrongVersion = 5
 reason_number RetransmissionImpossible = 6
 reason_number ProtocolError = 7
 
--- the reason of a number
+-- the reason with a number, if a reason has it
 abbrev pub reason_numbered : ℕ → Option Reason
 reason_numbered number =
     if number == 0 then Some ClosedByUser
@@ -29,7 +29,7 @@ reason_numbered number =
     else if number == 7 then Some ProtocolError
     else None
 
--- the number of a detail; the first three belong to reason 4, the others to reason 7
+-- the number of a detail; the first three after `Unspecified` belong to reason 4, the others to reason 7
 abbrev pub detail_number : Detail → ℕ
 detail_number Unspecified = 0
 detail_number VersionDiffers = 1
@@ -40,7 +40,7 @@ detail_number BadUnit = 2
 detail_number ConfirmedNumber = 3
 detail_number ConfirmedTimestamp = 4
 
--- reason 4: what was wrong in the session
+-- the detail with a number beside reason 4: why the session refuses
 abbrev pub service_numbered : ℕ → Option Detail
 service_numbered number =
     if number == 1 then Some VersionDiffers
@@ -48,7 +48,7 @@ service_numbered number =
     else if number == 3 then Some NotWellFormed
     else None
 
--- reason 7: what was wrong in the protocol
+-- the detail with a number beside reason 7: the protocol error
 abbrev pub protocol_numbered : ℕ → Option Detail
 protocol_numbered number =
     if number == 1 then Some Limit
@@ -57,11 +57,12 @@ protocol_numbered number =
     else if number == 4 then Some ConfirmedTimestamp
     else None
 
+-- the detail with a number other than 0 beside a reason; only reasons 4 and 7 have details
 abbrev pub detail_beside : Reason → ℕ → Option Detail
 detail_beside ServiceNotAllowed number = service_numbered number
 detail_beside ProtocolError number = protocol_numbered number
 detail_beside _ number = None
 
--- the detail of a number beside a reason
+-- the detail with a number beside a reason, if a detail of the reason has it
 abbrev pub detail_numbered : Reason → ℕ → Option Detail
 detail_numbered reason number = if number == 0 then Some Unspecified else detail_beside reason number

@@ -1,11 +1,11 @@
--- The numbers and names of the faults, and the names of the types, as they are printed.
+-- The numbers and names of the faults, and the names of the PDU types, as they are printed.
 use Rattle.std.specs.Prelude.{ℕ, List, codes}
 use Rattle.safe_pdu.specs.declared.Kind.{Kind}
 use Rattle.safe_pdu.specs.declared.Kind.TheVariants.{ConnReq, ConnResp, RetrReq, RetrResp, DiscReq, Heartbeat, Data, RetrData}
 use Rattle.safe_pdu.specs.declared.SafeFault.{SafeFault}
 use Rattle.safe_pdu.specs.declared.SafeFault.TheVariants as safe
 
--- a fault's number is its place among the faults, from 1
+-- the number of a fault: its place among the faults, from 1
 abbrev pub safe_number : SafeFault → ℕ
 safe_number safe.Short = 1
 safe_number safe.Length = 2
@@ -13,6 +13,7 @@ safe_number safe.Code = 3
 safe_number safe.BadType = 4
 safe_number safe.Body = 5
 
+-- the printed name of a fault
 abbrev pub safe_name : SafeFault → List ℕ
 safe_name safe.Short = codes "Short"
 safe_name safe.Length = codes "Length"
@@ -20,7 +21,7 @@ safe_name safe.Code = codes "Code"
 safe_name safe.BadType = codes "Type"
 safe_name safe.Body = codes "Body"
 
--- the standard's names, a heartbeat's in short
+-- the printed name of a PDU type: the standard's name, abbreviated for a heartbeat
 abbrev pub kind_name : Kind → List ℕ
 kind_name ConnReq = codes "ConnReq"
 kind_name ConnResp = codes "ConnResp"

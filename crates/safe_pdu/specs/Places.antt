@@ -1,4 +1,4 @@
--- What the places of a safety PDU say, and the first fault of octets that are none.
+-- The fields of a safety PDU by their places, and the first fault of other bytes.
 use Rattle.std.specs.Prelude.{◌≡◌, ◌≢◌, ◌==◌, ◌&&◌, ◌⊎◌, ◌<◌, ◌≤◌, ℕ, ◌+◌, ◌-◌, Bool, List, length, take, drop, nat_le, nat_lt, if◌then◌else◌, Option, Some, None, Result, Ok, Err}
 use Rattle.std.specs.Str.{bytes_eq}
 use Rattle.byteorder.specs.Endian.{little_number}
@@ -13,40 +13,48 @@ use Rattle.safe_pdu.specs.Pdu.{Pdu, pdu_of, kind_number}
 use Rattle.safe_pdu.specs.Bodies.{IsBody, is_body}
 use Rattle.safe_pdu.specs.SafeText.{code_octets, code_over}
 
+-- the length field: the number in the first two bytes
 abbrev pub length_field : List ℕ → ℕ
 length_field octets = little_number 2 octets
 
+-- the number of the PDU type: the number in the two bytes after the length field
 abbrev pub type_field : List ℕ → ℕ
 type_field octets = little_number 2 (drop 2 octets)
 
--- the number of four octets at a place
+-- the number in four bytes at a place
 abbrev pub field : ℕ → List ℕ → ℕ
 field place octets = little_number 4 (drop place octets)
 
--- where the code begins, all before it, and the code
+-- how many bytes are before the safety code
 abbrev pub front_size : CodeRule → List ℕ → ℕ
 front_size rule octets = length octets - code_octets rule.length
 
+-- all bytes before the safety code
 abbrev pub front_of : CodeRule → List ℕ → List ℕ
 front_of rule octets = take (front_size rule octets) octets
 
+-- the safety code at the end
 abbrev pub code_of : CodeRule → List ℕ → List ℕ
 code_of rule octets = drop (front_size rule octets) octets
 
+-- the bytes between the header and the safety code
 abbrev pub body_of : CodeRule → List ℕ → List ℕ
 body_of rule octets = drop SAFE_HEADER (front_of rule octets)
 
--- the header and the code are there, and the length field says how many octets there are
+-- the size is valid
 pub record IsSized (rule : CodeRule) (octets : List ℕ) : Type 0 where
+  -- there are enough bytes for the header and the safety code
   pub long : SAFE_HEADER + code_octets rule.length ≤ length octets
+  -- the length field is the number of bytes
   pub said : length_field octets ≡ length octets
+  -- there are at most 1,234 bytes and the safety code
   pub most : length octets ≤ SAFE_FRONT_MAX + code_octets rule.length
 
--- the code is the one over all before it
+-- the safety code is that of the bytes before it
 abbrev pub HasCode : CodeRule → List ℕ → Type 0
 HasCode rule octets = code_of rule octets ≡ code_over rule (front_of rule octets)
 
--- the type of a number
+-- the PDU type with a number, if one has it
 abbrev pub kind_of : ℕ → Option Kind
 kind_of number =
     if number == 6200 then Some ConnReq
@@ -59,7 +67,7 @@ kind_of number =
     else if number == 6241 then Some RetrData
     else None
 
--- the fault is the first one that these octets have
+-- the bytes have this fault, and no earlier one of the order Short, Length, Code, BadType, Body
 abbrev pub FirstFault : CodeRule → List ℕ → SafeFault → Type 0
 FirstFault rule octets Short = length octets < SAFE_HEADER + code_octets rule.length
 FirstFault rule octets Length =
@@ -71,11 +79,11 @@ FirstFault rule octets Body =
     IsSized rule octets × HasCode rule octets
     × ((kind : Kind) × (kind_number kind ≡ type_field octets) × (¬ IsBody kind (body_of rule octets)))
 
--- the test of a code
+-- the test of `HasCode`
 abbrev pub has_code : CodeRule → List ℕ → Bool
 has_code rule octets = bytes_eq (code_of rule octets) (code_over rule (front_of rule octets))
 
--- the fields of a type and a body, by the places of the header
+-- the fields at their places in the header, with the given PDU type and body
 abbrev pub read_as : Kind → List ℕ → List ℕ → Pdu
 read_as kind octets body =
     record {
@@ -89,14 +97,16 @@ read_as kind octets body =
       body = body;
     }
 
+-- the fields at their places, with the given PDU type and the bytes between header and safety code as body
 abbrev pub read_of : Kind → CodeRule → List ℕ → Pdu
 read_of kind rule octets = read_as kind octets (body_of rule octets)
 
+-- the PDU read with this type: BadType if there is no type, Body if the body does not fit it
 abbrev pub read_kind : Option Kind → CodeRule → List ℕ → Result Pdu SafeFault
 read_kind None rule octets = Err BadType
 read_kind (Some kind) rule octets = if is_body kind (body_of rule octets) then Ok (read_of kind rule octets) else Err Body
 
--- what is read by places: the fields, or the first fault
+-- the PDU read field by field, or the first fault
 abbrev pub safe_seen : CodeRule → List ℕ → Result Pdu SafeFault
 safe_seen rule octets =
     if nat_lt (length octets) (SAFE_HEADER + code_octets rule.length) then Err Short
@@ -105,20 +115,23 @@ safe_seen rule octets =
     (if has_code rule octets then read_kind (kind_of (type_field octets)) rule octets else Err Code)
     else Err Length
 
--- an answer of the decoder, without where it lies in memory
+-- the result of the decoder, without its place in memory
 abbrev pub seen_of : Result SafePdu SafeFault → Result Pdu SafeFault
 seen_of (Ok pdu) = Ok (pdu_of pdu)
 seen_of (Err fault) = Err fault
 
--- Octets that an end is asked about: long enough, with its own and its peer's identifier at their places, and with a valid
--- code at their end, whatever else they say.
+-- the bytes pass an end's check of identifiers and safety code; other fields are not checked
 pub record IsAsked (rule : CodeRule) (own peer : ℕ) (octets : List ℕ) : Type 0 where
+  -- there are enough bytes for the header and the safety code
   pub long : SAFE_HEADER + code_octets rule.length ≤ length octets
+  -- the receiver is the end's own identifier
   pub receiver : field 4 octets ≡ own
+  -- the sender is the peer's identifier
   pub sender : field 8 octets ≡ peer
+  -- the safety code is valid
   pub coded : HasCode rule octets
 
--- the test of it
+-- the test of `IsAsked`
 abbrev pub is_asked : CodeRule → (own peer : ℕ) → List ℕ → Bool
 is_asked rule own peer octets =
     nat_le (SAFE_HEADER + code_octets rule.length) (length octets)

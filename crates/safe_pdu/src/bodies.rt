@@ -1,4 +1,4 @@
-//! The bodies that fit the types.
+//! The bodies that fit the PDU types. Whether the body of a Data unpacks into messages is not tested here.
 
 ghost use Rattle.std.specs.Prelude.{◌≡◌};
 ghost use Rattle.std.specs.List.{list_all};
@@ -8,8 +8,10 @@ use super::{Kind, Leaving, Opening};
 use octets::limits::{LEAVING_BODY, OPENING_BODY, UNIT_MAX, UNIT_MIN, WINDOW_MAX};
 use octets::places::u16_at;
 
-/// Whether a body fits a type.
+/// Returns whether a body fits a PDU type.
 pub(crate) fn fits_body(kind: Kind, body: &[u8]) -> bool
+    // The result is true if a ConnReq or ConnResp has an opening, a DiscReq 4 bytes, Data and RetrData 45
+    // to 1,206, and others an empty body; else false.
     ensures { result ≡ is_body kind body.now }
 {
     match kind {
@@ -20,8 +22,10 @@ pub(crate) fn fits_body(kind: Kind, body: &[u8]) -> bool
     }
 }
 
-/// Whether a body is a version of four digits, an N_sendmax from 1 to 32, and eight zero octets.
+/// Returns whether a body is a version of four digits, an N_sendmax from 1 to 32, and eight zero bytes.
 fn fits_opening(body: &[u8]) -> bool
+    // The result is true for exactly the bodies of 14 bytes with four digits, a number from 1 to 32 and
+    // eight zeros.
     ensures { result ≡ is_opening body.now }
 {
     if body.len() != OPENING_BODY {
@@ -36,24 +40,29 @@ fn fits_opening(body: &[u8]) -> bool
     are_digits(version) && are_zeros(reserve)
 }
 
+/// Returns whether all bytes are ASCII digits.
 fn are_digits(octets: &[u8]) -> bool
+    // The result is true if and only if each byte is an ASCII digit, 48 to 57.
     ensures { result ≡ list_all is_digit octets.now }
 {
     octets.iter().all(|c| 48 <= *c && *c <= 57)
 }
 
+/// Returns whether all bytes are zero.
 fn are_zeros(octets: &[u8]) -> bool
+    // The result is true if and only if each byte is zero.
     ensures { result ≡ list_all is_zero octets.now }
 {
     octets.iter().all(|o| *o == 0)
 }
 
-/// What the body of a ConnReq or ConnResp says.
+/// Reads the body of a ConnReq or ConnResp. The caller must provide a body that fits, as that of each
+/// decoded PDU does.
 pub fn read_opening(body: &[u8]) -> Opening<'_>
     requires { IsBody Kind.ConnReq body.now }
-    // The version in the body of an opening is its first four octets.
+    // The `version` is the first four bytes of the body.
     ensures version { result.version.now ≡ version_of body.now }
-    // The N_sendmax in the body of an opening is the number behind the version.
+    // The `n_sendmax` is the number in the two bytes after the version.
     ensures window { result.n_sendmax ≡ window_of body.now }
 {
     let (version, _) = body.split_at(4);
@@ -61,12 +70,12 @@ pub fn read_opening(body: &[u8]) -> Opening<'_>
     Opening { version, n_sendmax }
 }
 
-/// What the body of a DiscReq says.
+/// Reads the body of a DiscReq. The caller must provide a body that fits, as that of each decoded PDU does.
 pub fn read_leaving(body: &[u8]) -> Leaving
     requires { IsBody Kind.DiscReq body.now }
-    // The detail in the body of a DiscReq is its first number.
+    // The `detail` is the number in the first two bytes of the body.
     ensures detail { result.detail ≡ detail_of body.now }
-    // The reason in the body of a DiscReq is the number behind the detail.
+    // The `reason` is the number in the two bytes after the detail.
     ensures reason { result.reason ≡ reason_of body.now }
 {
     let detail = u16_at(body, 0);

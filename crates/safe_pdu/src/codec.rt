@@ -1,4 +1,4 @@
-//! Reading and writing a safety PDU.
+//! Encoding and decoding of safety PDUs.
 
 ghost use Rattle.std.specs.Prelude.{◌≡◌, ℕ, ◌+◌, ◌≤◌, List, length, take, drop, ◌↔◌, Ok, IsTrue, IfOk, IfErr, IsOkAnd};
 ghost use Rattle.safe_pdu.specs.Pdu.{Pdu, pdu_of};
@@ -12,31 +12,43 @@ use super::{CodeRule, Kind, SafeFault, SafePdu};
 use octets::limits::{SAFE_FRONT_MAX, SAFE_HEADER};
 use octets::places::{put_octets, put_u16, put_u32, u16_at, u32_at};
 
-/// Reads the upper part of a redundancy PDU, of any octets, under a rule of the code. It copies no
-/// octet: the answer is a view.
+/// Decodes the part of a redundancy PDU as a safety PDU. `octets` may contain any bytes.
+///
+/// The result borrows its body from `octets`; nothing is copied.
 ///
 /// # Errors
 ///
-/// Refused, and the first that holds is named: `Short`, `Length`, `Code`, `BadType`, `Body`.
+/// Returns the first that applies:
+///
+/// - `Short` if there are fewer bytes than a header (28) and the safety code need;
+/// - `Length` if the length field differs from the number of bytes, or there are more than 1,234 bytes and the
+///   safety code;
+/// - `Code` if the safety code is not that of the bytes before it;
+/// - `BadType` if the PDU type is not one of the eight;
+/// - `Body` if the body does not fit the PDU type.
+#[inline(always)]
 pub fn decode<'a>(octets: &'a [u8], rule: &CodeRule) -> Result<SafePdu<'a>, SafeFault>
-    // What `decode` accepts is the text, under the rule of the code, of the PDU answered: one of eight types
-    // with a body that fits.
+    // If `decode` succeeds, the input is exactly the encoding of the returned PDU, safety code included: one of
+    // the eight types with a body that fits it.
     ensures found { IfOk result (λ pdu. SafeText (pdu_of pdu) rule.now octets.now) }
 
-    // `decode` accepts every text under the rule of the code, and answers its PDU.
+    // Every encoding of a PDU is accepted, and decoded as that PDU.
     ensures only { (p : Pdu) → SafeText p rule.now octets.now → IsOkAnd result (λ pdu. pdu_of pdu ≡ p) }
 
-    // The fault that `decode` names is the first that holds under the rule of the code.
+    // If `decode` fails, it returns the first fault in the order above, and the input has that fault.
     ensures fault { IfErr result (FirstFault rule.now octets.now) }
 
-    // What `decode` answers is what stands at the places: the fields, or the first fault.
+    // The returned fields are the little-endian numbers at their places in the header; otherwise the first
+    // fault is returned. Both are what `safe_seen` computes.
     ensures exact { seen_of result ≡ safe_seen rule.now octets.now }
 {
     read_places(octets, rule)
 }
 
-/// Reads a safety PDU by the places of its fields.
+/// Decodes a safety PDU field by field.
+#[inline(always)]
 fn read_places<'a>(octets: &'a [u8], rule: &CodeRule) -> Result<SafePdu<'a>, SafeFault>
+    // The result is that of `safe_seen`: the fields by their places, or the first fault.
     ensures { seen_of result ≡ safe_seen rule.now octets.now }
 {
     let code_size = rule.length.octets();
@@ -62,9 +74,11 @@ fn read_places<'a>(octets: &'a [u8], rule: &CodeRule) -> Result<SafePdu<'a>, Saf
     Ok(view_of(kind, octets, body))
 }
 
-/// The fields of a header of at least 28 octets, with a type and a body.
+/// Returns the fields of a header of at least 28 bytes, with the given PDU type and body.
+#[inline(always)]
 fn view_of<'a>(kind: Kind, octets: &[u8], body: &'a [u8]) -> SafePdu<'a>
     requires { SAFE_HEADER ≤ length octets.now }
+    // Each field is the number at its place, and the body is the one given.
     ensures { pdu_of result ≡ read_as kind octets.now body.entry.now }
 {
     SafePdu {
@@ -79,11 +93,14 @@ fn view_of<'a>(kind: Kind, octets: &[u8], body: &'a [u8]) -> SafePdu<'a>
     }
 }
 
-/// Writes the eight fields of a header in front of the buffer, and leaves the rest.
+/// Writes the eight header fields at the start of the buffer and leaves the rest unchanged.
 fn put_header(pdu: &SafePdu<'_>, size: u16, buffer: &mut [u8])
     requires { SAFE_HEADER ≤ length buffer.old }
+    // The PDU's numbers fit their fields.
     ensures numbers { HasNumbers (pdu_of pdu.now) }
+    // The first 28 bytes are the header of the PDU, with this size.
     ensures front { take SAFE_HEADER buffer.new ≡ header size (pdu_of pdu.now) }
+    // The bytes after the header are unchanged.
     ensures rest { drop SAFE_HEADER buffer.new ≡ drop SAFE_HEADER buffer.old }
 {
     put_u16(buffer, 0, size);
@@ -96,17 +113,19 @@ fn put_header(pdu: &SafePdu<'_>, size: u16, buffer: &mut [u8])
     put_u32(buffer, 24, pdu.cts);
 }
 
-/// Writes a safety PDU with its code in front of the buffer, leaves the rest of it, and answers how
-/// many octets were written. The caller keeps a body that fits the type, and room for 28 octets
-/// more than the body and the code.
+/// Encodes a safety PDU with its safety code at the start of the buffer, and returns the number of bytes
+/// written.
+///
+/// The caller must provide a body that fits the PDU type, and room for the header (28 bytes), the body and the
+/// safety code.
 pub fn encode(pdu: &SafePdu<'_>, rule: &CodeRule, buffer: &mut [u8]) -> usize
     requires body { IsBody pdu.now.kind pdu.now.body.now }
     requires room { SAFE_HEADER + length pdu.now.body.now + code_octets rule.now.length ≤ length buffer.old }
-    // `encode` answers how many octets it wrote: 28, those of the body and those of the code.
+    // The returned size is that of the header (28 bytes), the body and the safety code.
     ensures size { result ≡ SAFE_HEADER + length pdu.now.body.now + code_octets rule.now.length }
-    // What `encode` writes in front of the buffer is the text of its PDU under the rule of the code.
+    // The bytes written are exactly the encoding of the PDU with a valid safety code.
     ensures written { SafeText (pdu_of pdu.now) rule.now (take result buffer.new) }
-    // `encode` leaves the rest of the buffer.
+    // The buffer after the bytes written is unchanged.
     ensures rest { drop result buffer.new ≡ drop result buffer.old }
 {
     let front = SAFE_HEADER + pdu.body.len();
@@ -117,7 +136,7 @@ pub fn encode(pdu: &SafePdu<'_>, rule: &CodeRule, buffer: &mut [u8]) -> usize
     size
 }
 
-/// Writes a safety PDU and reads it again under the same rule: what was written is what is read.
+/// Encodes a safety PDU and decodes the result with the same safety code settings.
 pub fn read_back<'a>(
     pdu: &SafePdu<'_>,
     rule: &CodeRule,
@@ -125,44 +144,50 @@ pub fn read_back<'a>(
 ) -> Result<SafePdu<'a>, SafeFault>
     requires body { IsBody pdu.now.kind pdu.now.body.now }
     requires room { SAFE_HEADER + length pdu.now.body.now + code_octets rule.now.length ≤ length buffer.old }
-    // What is encoded decodes, under the same rule of the code, to the same PDU.
+    // Decoding succeeds and returns the PDU that was encoded.
     ensures { IsOkAnd result (λ again. pdu_of again ≡ pdu_of pdu.now) }
 {
     let size = encode(pdu, rule, buffer);
     decode(&buffer[..size], rule)
 }
 
-/// A law of the texts, which does nothing when it is called.
+/// Laws of the encoding. The function does nothing when it is called.
 pub fn text_law()
-    // Octets that are texts under two rules of one length of code are of one PDU, whatever the initial values.
+    // If the same bytes encode one PDU under one initial value and another PDU under another, with equal
+    // lengths of the safety code, both PDUs are equal.
     ensures by_place { (p q : Pdu) (r s : CodeRule) (octets : List ℕ) → SafeText p r octets
         → SafeText q s octets → r.length ≡ s.length → p ≡ q }
 
-    // A PDU has one text under a rule of the code, so encoding what was decoded gives the same octets.
+    // A PDU has exactly one encoding under given safety code settings, so decoding and encoding again gives the
+    // same bytes.
     ensures one_text { (p : Pdu) (rule : CodeRule) (octets again : List ℕ) → SafeText p rule octets
         → SafeText p rule again → octets ≡ again }
 
-    // A text that bears an end's own and its peer's identifier is one that the end is asked about.
+    // An encoding with an end's own identifier as receiver and the peer's as sender passes that end's check of
+    // identifiers and safety code (`IsAsked`).
     ensures is_asked { (p : Pdu) (rule : CodeRule) (own peer : ℕ) (octets : List ℕ) → SafeText p rule octets
         → p.receiver ≡ own → p.sender ≡ peer → IsAsked rule own peer octets }
 
-    // A text is read, by places, as its PDU.
+    // Reading an encoding field by field (`safe_seen`) returns its PDU.
     ensures complete { (p : Pdu) (rule : CodeRule) (octets : List ℕ) → SafeText p rule octets
         → safe_seen rule octets ≡ Ok p }
 
-    // Octets that read as a PDU are its text.
+    // If reading field by field succeeds, the bytes are the encoding of the PDU returned (`ReadLaw`).
     ensures read { ReadLaw }
 
-    // Octets that read as PDUs under two rules of one length of code read as one.
+    // If the same bytes read as PDUs under two initial values, with equal lengths of the safety code, both PDUs
+    // are equal (`ReadAlikeLaw`).
     ensures read_alike { ReadAlikeLaw }
 
-    // An end is asked about octets that read as a PDU with its own and its peer's identifier.
+    // If bytes read as a PDU for an end from its peer, they pass that end's check of identifiers and safety
+    // code (`ReadAskedLaw`).
     ensures read_asked { ReadAskedLaw }
 
-    // The test of what an end is asked about tells exactly the octets that it is asked about.
+    // The test `is_asked` is true for exactly the bytes that have both identifiers at their places and end in a
+    // valid safety code (`AskedLaw`).
     ensures asked { AskedLaw }
 
-    // The test of a text tells exactly the texts of a PDU under a rule.
+    // The test `is_text` is true for exactly the encodings of a PDU under given safety code settings.
     ensures test { (p : Pdu) (rule : CodeRule) (octets : List ℕ) → IsTrue (is_text p rule octets)
         ↔ SafeText p rule octets }
 {}

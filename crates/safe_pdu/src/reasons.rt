@@ -1,14 +1,14 @@
-//! Why an end leaves a connection, as its DiscReq says it.
+//! Why an end disconnects: the reason and the detail in its DiscReq.
 
 ghost use Rattle.std.specs.Prelude.{◌≡◌};
 ghost use Rattle.safe_pdu.specs.LeavingNumbers.{detail_number, detail_numbered, protocol_numbered, reason_number, reason_numbered, service_numbered};
 
-/// Why an end leaves a connection, as its DiscReq says it.
+/// Why an end disconnects: the reason in its DiscReq.
 #[derive(Clone, Copy, Debug, PartialEq, Eq)]
 pub enum Reason {
     /// 0: closed by the user.
     ClosedByUser,
-    /// 1: a PDU that does not belong here.
+    /// 1: a PDU that is not expected in this state.
     UnexpectedPdu,
     /// 2: a sequence error while connecting.
     SequenceError,
@@ -18,16 +18,16 @@ pub enum Reason {
     ServiceNotAllowed,
     /// 5: another version of the protocol.
     WrongVersion,
-    /// 6: what is asked for can't be sent again.
+    /// 6: the requested units cannot be sent again.
     RetransmissionImpossible,
-    /// 7: an error of the protocol.
+    /// 7: a protocol error.
     ProtocolError,
 }
 
 impl Reason {
-    /// The reason with a number; `None` for a number that no reason has.
+    /// Returns the reason with a number, or `None` if no reason has it.
     pub fn of(number: u16) -> Option<Self>
-        // A number has its reason, or none.
+        // The result is the reason with this `number`, 0 to 7, or `None` for a greater number.
         ensures { result ≡ reason_numbered number }
     {
         match number {
@@ -43,9 +43,9 @@ impl Reason {
         }
     }
 
-    /// The reason's number in a DiscReq.
+    /// Returns the reason's number, as in the DiscReq.
     pub fn number(self) -> u16
-        // Each reason of a DiscReq has its number.
+        // The result is the number of the reason, 0 to 7 in the order of the variants.
         ensures { result ≡ reason_number self }
     {
         match self {
@@ -61,10 +61,10 @@ impl Reason {
     }
 }
 
-/// What a DiscReq says beside the reason.
+/// The detail beside the reason in a DiscReq.
 #[derive(Clone, Copy, Debug, PartialEq, Eq)]
 pub enum Detail {
-    /// 0: nothing more.
+    /// 0: no detail.
     Unspecified,
     /// 1, of reason 4: the version of the session differs.
     VersionDiffers,
@@ -72,20 +72,21 @@ pub enum Detail {
     OutOfOrder,
     /// 3, of reason 4: a telegram that is not well formed, or not of this pair.
     NotWellFormed,
-    /// 1, of reason 7: as many PDUs were made as one connection may have.
+    /// 1, of reason 7: the PDU limit of a connection is reached.
     Limit,
-    /// 2, of reason 7: a unit that is none.
+    /// 2, of reason 7: a body that is not a unit.
     BadUnit,
-    /// 3, of reason 7: the confirmed sequence number is not of a PDU that awaits it.
+    /// 3, of reason 7: the confirmed sequence number is not that of a PDU that awaits confirmation.
     ConfirmedNumber,
-    /// 4, of reason 7: the confirmed timestamp is not of this time.
+    /// 4, of reason 7: the confirmed timestamp is not plausible at this time.
     ConfirmedTimestamp,
 }
 
 impl Detail {
-    /// The detail with a number beside a reason; `None` for a number that no detail of this reason has.
+    /// Returns the detail with a number beside a reason, or `None` if no detail of this reason has it.
     pub fn of(reason: Reason, number: u16) -> Option<Self>
-        // A number has its detail beside each reason, or none.
+        // The result is `Unspecified` for 0, else the detail with this number among those of the reason (4
+        // or 7), or `None`.
         ensures { result ≡ detail_numbered reason number }
     {
         match number {
@@ -98,9 +99,9 @@ impl Detail {
         }
     }
 
-    /// The detail's number in a DiscReq.
+    /// Returns the detail's number, as in the DiscReq.
     pub fn number(self) -> u16
-        // Each detail of a DiscReq has its number.
+        // The result is the number of the detail: 0, or from 1 on among the details of the same reason.
         ensures { result ≡ detail_number self }
     {
         match self {
@@ -116,7 +117,10 @@ impl Detail {
     }
 }
 
+/// Returns the detail with a number beside reason 4.
 fn of_service(number: u16) -> Option<Detail>
+    // The result is `VersionDiffers` for 1, `OutOfOrder` for 2, `NotWellFormed` for 3, and `None` for any
+    // other number.
     ensures { result ≡ service_numbered number }
 {
     match number {
@@ -127,7 +131,10 @@ fn of_service(number: u16) -> Option<Detail>
     }
 }
 
+/// Returns the detail with a number beside reason 7.
 fn of_protocol(number: u16) -> Option<Detail>
+    // The result is `Limit` for 1, `BadUnit` for 2, `ConfirmedNumber` for 3, `ConfirmedTimestamp` for 4,
+    // and `None` for any other number.
     ensures { result ≡ protocol_numbered number }
 {
     match number {

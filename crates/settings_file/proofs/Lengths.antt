@@ -1,4 +1,4 @@
--- How many items a list of values has.
+-- The number of items in a list of values.
 use Rattle.std.proofs.Common.{List, [], ◌∷◌, length, ◌≡◌, suc, refl, ap}
 use Rattle.std.proofs.Common.{map, String, Global, string_bytes}
 use Rattle.toml.specs.declared.value.Value.{Value}

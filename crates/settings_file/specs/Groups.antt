@@ -17,7 +17,7 @@ use Rattle.octets.specs.declared.limits.TheConstants.{MWA_MAX, PDU_LIMIT_HIGHEST
 use Rattle.end_settings.specs.Lists.{versions_in, checksum_in}
 use Rattle.settings_file.specs.Readers.{first_number_at, number_at, wrong_at, name_at, code_at, checksum_at, initial_value_at, versions_at}
 
--- the number at the key of a limit; that of t_h is below T_max
+-- the number at the key of a limit, with its range and default; that of `t_h` is below `t_max`
 abbrev pub limit_at : Data → ℕ → Key → Result ℕ KeyFault
 limit_at d t_max key.NSendmax = number_at d key.NSendmax 1 WINDOW_MAX (Some 20)
 limit_at d t_max key.NMaxpacket = number_at d key.NMaxpacket 1 UNIT_MESSAGES (Some 3)
@@ -28,6 +28,7 @@ limit_at d t_max key.TSeq = number_at d key.TSeq T_SEQ_LOWEST T_SEQ_MAX (Some 50
 limit_at d t_max key.Mwa = number_at d key.Mwa 1 MWA_MAX (Some 10)
 limit_at d t_max k = number_at d k PDU_LIMIT_LOWEST PDU_LIMIT_HIGHEST (Some PDU_LIMIT_HIGHEST)
 
+-- the limits in a table, or the first fault
 abbrev pub limits_of : Data → Result Limits KeyFault
 limits_of d = do
   n_sendmax ← limit_at d 0 key.NSendmax
@@ -40,7 +41,7 @@ limits_of d = do
   pdu_limit ← limit_at d t_max key.PduLimit
   Ok (record { n_sendmax = n_sendmax; n_maxpacket = n_maxpacket; deferral = deferral; t_max = t_max; t_heartbeat = t_heartbeat; t_seq = t_seq; mwa = mwa; pdu_limit = pdu_limit })
 
--- who an end is, and who its peer
+-- an end and its peer, as plain values
 pub record IdentitySeen : Type 0 where
   pub id : ℕ
   pub peer_id : ℕ
@@ -48,12 +49,15 @@ pub record IdentitySeen : Type 0 where
   pub peer_name : List ℕ
   pub protocol : ℕ
 
+-- an identity as plain values
 abbrev pub identity_seen : Identity → IdentitySeen
 identity_seen i = record { id = i.id; peer_id = i.peer_id; name = owned_characters i.name; peer_name = owned_characters i.peer_name; protocol = i.protocol }
 
+-- the peer's identifier, if it differs from the end's own
 abbrev pub other_than : Data → ℕ → ℕ → Result ℕ KeyFault
 other_than d id peer = if peer == id then Err (wrong_at d key.PeerId expected.AnotherId) else Ok peer
 
+-- the identity in a table, or the first fault
 abbrev pub identity_of : Data → Result IdentitySeen KeyFault
 identity_of d = do
   id ← number_at d key.Id 0 4294967295 None
@@ -64,17 +68,20 @@ identity_of d = do
   protocol ← number_at d key.Protocol 0 255 (Some 1)
   Ok (record { id = id; peer_id = peer_id; name = name; peer_name = peer_name; protocol = protocol })
 
--- what an end begins with
+-- the values that an end uses to connect, as plain values
 pub record BeginningSeen : Type 0 where
   pub versions : List ℕ
   pub code : ℕ
   pub checksum : List ℕ
   pub initial_value : List ℕ
-  pub first_sn : Option ℕ  -- none where it is drawn
+  -- none if it is drawn at random
+  pub first_sn : Option ℕ
 
+-- these values of the type `Beginning`
 abbrev pub beginning_seen : Beginning → BeginningSeen
 beginning_seen b = record { versions = versions_in b.versions; code = b.code; checksum = checksum_in b.checksum; initial_value = b.initial_value; first_sn = b.first_sn }
 
+-- these values in a table, or the first fault
 abbrev pub beginning_of : Side → Data → Result BeginningSeen KeyFault
 beginning_of e d = do
   versions ← versions_at e d
@@ -84,5 +91,6 @@ beginning_of e d = do
   first_sn ← first_number_at d key.FirstSn
   Ok (record { versions = versions; code = code; checksum = checksum; initial_value = initial_value; first_sn = first_sn })
 
+-- a telegram as message type and payload
 abbrev pub put_seen : Put → ℕ × List ℕ
 put_seen p = (p.kind, p.payload.items)

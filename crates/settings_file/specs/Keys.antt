@@ -1,10 +1,10 @@
--- The keys of a settings file, and what is wrong at one.
+-- The keys of a settings file, and the faults of keys.
 use Rattle.std.specs.Prelude.{ℕ, List, codes, Result, Ok, Err}
 use Rattle.settings_file.specs.declared.keys.Key.{Key}
 use Rattle.settings_file.specs.declared.keys.Key.TheVariants as key
 use Rattle.settings_file.specs.declared.keys.KeyFault.{KeyFault}
 
--- the key as it stands in a file
+-- the key as it is written in a file
 abbrev pub text_of : Key → List ℕ
 text_of key.Id = codes "id"
 text_of key.PeerId = codes "peer_id"
@@ -29,7 +29,7 @@ text_of key.Mwa = codes "mwa"
 text_of key.PduLimit = codes "pdu_limit"
 text_of key.Puts = codes "puts"
 
--- the second step, if the first gave a value
+-- the second step, if the first has a value
 infixl 10 ◌>>=◌
 abbrev pub ◌>>=◌ : {A B : Type 0} → Result A KeyFault → (A → Result B KeyFault) → Result B KeyFault
 Ok x >>= f = f x

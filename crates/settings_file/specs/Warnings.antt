@@ -1,47 +1,99 @@
--- Settings that are read, and with which an end works badly or not at all.
-use Rattle.std.specs.Prelude.{ℕ, Bool, true, false, List, [], ◌∷◌, ◌+◌, ◌-◌, ◌==◌, ◌&&◌, ◌++◌, bytes_eq, nat_le, nat_lt, not, length, slice_index, if◌then◌else◌}
+-- Valid settings with which an end works badly or not at all.
+use Rattle.std.specs.Prelude.{ℕ, Bool, true, false, List, [], ◌∷◌, ◌+◌, ◌-◌, ◌*◌, ◌/◌, ◌==◌, ◌&&◌, ◌++◌, Option, Some, None, bytes_eq, nat_le, nat_lt, not, length, slice_index, if◌then◌else◌}
+use Rattle.octets.specs.declared.limits.TheConstants.{PAYLOAD_MAX}
+use Rattle.end_settings.specs.declared.Side.{Side}
+use Rattle.end_settings.specs.declared.Side.TheVariants as side
+use Rattle.end_settings.specs.EndSettings.{EndSettings}
 use Rattle.settings_file.specs.declared.keys.Key.{Key}
 use Rattle.settings_file.specs.declared.keys.Key.TheVariants as key
 use Rattle.settings_file.specs.declared.mistakes.Warning.{Warning}
 use Rattle.settings_file.specs.declared.mistakes.Warning.TheVariants as warning
+use Rattle.settings_file.specs.Whole.{SettingsSeen}
 
+-- a list of the warning, if the condition holds
 abbrev pub if_so : Bool → Warning → List Warning
 if_so b w = if b then w ∷ [] else []
 
--- An address ends in the port 0, where no datagram comes.
+-- the address ends in port 0, to which nothing can be sent
 abbrev pub names_no_port : List ℕ → Bool
 names_no_port t = nat_le 2 (length t) && slice_index t (length t - 2) == 58 && slice_index t (length t - 1) == 48
 
+-- a warning for each address with port 0, numbered from `n`
 abbrev pub ports : Key → ℕ → List (List ℕ) → List Warning
 ports k n [] = []
 ports k n (t ∷ ts) = if_so (names_no_port t) (warning.NoPort k n) ++ ports k (n + 1) ts
 
--- An address stands in a list for a second time.
+-- the text is in the list
 abbrev pub stands_before : List ℕ → List (List ℕ) → Bool
 stands_before t [] = false
 stands_before t (u ∷ us) = if bytes_eq t u then true else stands_before t us
 
+-- a warning for each address that is in the list again, numbered from `n`
 abbrev pub repeats : Key → ℕ → List (List ℕ) → List Warning
 repeats k n [] = []
 repeats k n (t ∷ ts) = if_so (stands_before t ts) (warning.Repeated k n) ++ repeats k (n + 1) ts
 
--- An address of IPv6 stands in brackets.
+-- the address begins with a bracket, so it is of IPv6
 abbrev pub is_v6 : List ℕ → Bool
 is_v6 t = nat_lt 0 (length t) && slice_index t 0 == 91
 
+-- one address is of IPv6 and one is not
 abbrev pub are_two_kinds : (t u : List ℕ) → Bool
 are_two_kinds t u = if is_v6 t then not (is_v6 u) else is_v6 u
 
--- A channel from an address to itself, and one between the two kinds of addresses.
+-- warnings of channels, numbered from `n`: both addresses are equal, or of two kinds, with that of the peer
 abbrev pub channel_warnings : ℕ → List (List ℕ) → List (List ℕ) → List Warning
 channel_warnings n [] us = []
 channel_warnings n (t ∷ ts) (u ∷ us) =
-    if_so (bytes_eq t u) (warning.ToItself n) ++ if_so (are_two_kinds t u) (warning.TwoKinds n) ++ channel_warnings (n + 1) ts us
+    if_so (bytes_eq t u) (warning.ToItself n) ++ if_so (are_two_kinds t u) (warning.TwoKinds n (is_v6 u)) ++ channel_warnings (n + 1) ts us
 channel_warnings n (t ∷ ts) [] = []
 
--- T_seq at or above T_max: a part that waits so long is too old when it goes up. mwa at or above the window: the peer waits for a heartbeat.
-abbrev pub warnings_of : (t_seq t_max mwa n_sendmax : ℕ) → (local remote : List (List ℕ)) → List Warning
-warnings_of t_seq t_max mwa n_sendmax local remote =
+-- the warnings of all addresses
+abbrev pub address_warnings : (local remote : List (List ℕ)) → List Warning
+address_warnings local remote =
+    ports key.Local 1 local ++ ports key.Remote 1 remote ++ repeats key.Local 1 local ++ repeats key.Remote 1 remote ++ channel_warnings 1 local remote
+
+-- how many heartbeats confirm the units of a full window
+abbrev pub heartbeats_of : (window mwa : ℕ) → ℕ
+heartbeats_of window mwa = if mwa == 0 then 0 else window / mwa
+
+-- what can come after one lost datagram, the other units of a window and the heartbeats that confirm units, is more than `q`
+abbrev pub overruns : (window mwa q : ℕ) → Bool
+overruns window mwa q = nat_lt q ((window - 1) + heartbeats_of window mwa)
+
+-- T_max is below three T_h and T_seq, so a single loss can end the connection
+abbrev pub ends_early : (t_max t_h t_seq : ℕ) → Bool
+ends_early t_max t_h t_seq = nat_lt t_max (t_h * 3 + t_seq)
+
+-- T_seq at or above T_max: a deferred part is too old. `mwa` at or above the window: the peer waits for a heartbeat. Then the window for `q`, and T_max.
+abbrev pub limit_warnings : (t_seq t_max t_h mwa n_sendmax q : ℕ) → List Warning
+limit_warnings t_seq t_max t_h mwa n_sendmax q =
     if_so (nat_le t_max t_seq) (warning.LongWait t_seq t_max) ++ if_so (nat_le n_sendmax mwa) (warning.RareConfirmation mwa n_sendmax)
-    ++ ports key.Local 1 local ++ ports key.Remote 1 remote ++ repeats key.Local 1 local ++ repeats key.Remote 1 remote
-    ++ channel_warnings 1 local remote
+    ++ if_so (overruns n_sendmax mwa q) (warning.WideWindow n_sendmax mwa q) ++ if_so (ends_early t_max t_h t_seq) (warning.ShortAge t_max t_h t_seq)
+
+-- an interlocking has a checksum, which only a field element sends
+abbrev pub is_unsent : Side → List ℕ → Bool
+is_unsent side.Interlocking checksum = nat_lt 0 (length checksum)
+is_unsent side.FieldElement checksum = false
+
+-- the first sequence number is fixed, and each reopening draws another
+abbrev pub number_warnings : Bool → Option ℕ → List Warning
+number_warnings keep None = []
+number_warnings keep (Some n) = if_so keep (warning.FixedNumber n)
+
+-- equal names, a checksum that is never sent, and a fixed first sequence number of an end that is reopened
+abbrev pub identity_warnings : Side → Bool → (own peer checksum : List ℕ) → Option ℕ → List Warning
+identity_warnings e keep own peer checksum first_sn =
+    if_so (bytes_eq own peer) warning.SameName ++ if_so (is_unsent e checksum) warning.UnsentChecksum ++ number_warnings keep first_sn
+
+-- a warning for each telegram whose payload is longer than that of a message, numbered from `n`
+abbrev pub long_payloads : ℕ → List (ℕ × List ℕ) → List Warning
+long_payloads n [] = []
+long_payloads n (p ∷ ps) = if_so (nat_lt PAYLOAD_MAX (length p.1)) (warning.LongPayload n (length p.1)) ++ long_payloads (n + 1) ps
+
+-- all warnings for an end of this side, which is reopened after a loss if the flag is true
+abbrev pub warnings_of : Side → Bool → SettingsSeen → List Warning
+warnings_of e keep s =
+    limit_warnings s.config.t_seq s.config.connection.t_max s.config.connection.t_h s.config.connection.mwa s.config.connection.n_sendmax s.config.q
+    ++ identity_warnings e keep s.config.addressing.own s.config.addressing.peer s.config.checksum s.first_sn
+    ++ address_warnings s.local s.remote ++ long_payloads 1 s.puts

@@ -1,4 +1,7 @@
-//! All that is wrong in a settings file, and not the first fault alone.
+//! All faults of a settings file, not only the first.
+//!
+//! Each fault is judged by itself: a key whose range depends on another key (T_h below T_max, `peer_id` other than
+//! `id`) only if that one is valid.
 
 ghost use Rattle.std.specs.Prelude.{◌≡◌, ◌+◌, ◌^◌, ◌<◌, ◌++◌, ◌∷◌, [], if◌then◌else◌, ℕ, Option, None, Some, codes, length, map, option_and_then, option_map, string_bytes, List, IfOk, OnOk};
 ghost use Rattle.toml.specs.Data.{get, table};
@@ -23,10 +26,10 @@ use std::alloc::{AllocError, Global};
 use std::fmt;
 use toml::{Table, Value};
 
-/// The longest text of a file that is told of it, in octets.
+/// The longest text of a file that is quoted, in bytes.
 pub const TEXT_MOST: usize = 80;
 
-/// The keys that are no lists, in the order in which they are read.
+/// The keys that are not lists, in the order in which they are read.
 const PLAIN_KEYS: [Key; 18] = [
     Key::Id,
     Key::PeerId,
@@ -48,35 +51,35 @@ const PLAIN_KEYS: [Key; 18] = [
     Key::PduLimit,
 ];
 
-/// What is wrong where the lists of addresses are not of one length.
+/// The fault of lists of addresses that differ in length.
 const UNEQUAL: KeyFault = KeyFault {
     key: Key::Remote,
     expected: Wanted::Addresses,
     found: Found::Other,
 };
 
-/// Something that is wrong in a file.
+/// A fault of a file.
 #[derive(Debug, Drop)]
 pub struct Finding {
-    /// What is wrong.
+    /// The fault. The TOML parser returns no places of values, so a key names its line.
     pub fault: SettingsFault,
-    /// Which entry of a list it is, from 1.
+    /// The entry of a list that has the fault, from 1.
     pub entry: Option<usize>,
-    /// The text that stands there, where one of at most 80 octets does.
+    /// The text that the file has there, if it is a text of at most 80 bytes.
     pub text: Option<String>,
 }
 
-/// All that is wrong in the text of a settings file for the ends that a word runs, each fault by itself: a text that is no TOML alone; else
-/// keys that no end has, keys in the order in which they are read, and each entry of `puts` that is no telegram; of a file for both
-/// ends `il` before `fe`. A key whose range depends on another one is judged where that is right. Whether an address is one shows when
-/// channels are opened.
+/// Returns all faults in the text of a settings file for the ends that a word runs: if it is not TOML, only that.
+/// Otherwise unknown keys come first, then keys in the order in which they are read, then each entry of `puts`
+/// that is not a telegram; in a file for both ends `il` comes before `fe`. Whether a text of `local` or `remote`
+/// is an address shows only when channels are opened.
 ///
 /// # Errors
 ///
-/// Refused where memory is.
+/// - Returns the error if an allocation fails.
 pub fn findings(alloc: Global, word: Word, text: &str) -> Result<Vec<Finding>, AllocError>
-    // `findings` answers exactly the list of all that is wrong in a file's text for the word, in its order,
-    // each with its entry of `puts` and its short text.
+    // If `findings` succeeds, it returns exactly the list of all faults in the text for the word, in its order,
+    // each with its entry of a list and its short text. The line in a text that is not TOML is not stated here.
     ensures { IfOk result (λ all. map finding_seen all.items ≡ findings_of word text.now) }
 {
     let mut list = Vec::new(alloc);
@@ -88,12 +91,14 @@ pub fn findings(alloc: Global, word: Word, text: &str) -> Result<Vec<Finding>, A
     Ok(list)
 }
 
+/// Adds the faults of a whole file.
 fn in_file(
     alloc: Global,
     word: Word,
     table: Table,
     list: &mut Vec<Finding>,
 ) -> Result<(), AllocError>
+    // If `in_file` succeeds, it has appended all faults of the file's table for the word.
     ensures { OnOk result (map finding_seen list.new.items ≡ map finding_seen list.old.items ++ members_findings word (table_view table)) }
 {
     match word {
@@ -103,7 +108,10 @@ fn in_file(
     }
 }
 
+/// Adds the faults of a file for both ends.
 fn in_pair(alloc: Global, table: Table, list: &mut Vec<Finding>) -> Result<(), AllocError>
+    // If `in_pair` succeeds, it has appended the unknown keys of the file, then the faults of table `il`, then
+    // those of `fe`.
     ensures { OnOk result (map finding_seen list.new.items ≡ map finding_seen list.old.items ++ pair_findings (table_view table)) }
 {
     find_strange(alloc, &table, list)?;
@@ -112,13 +120,14 @@ fn in_pair(alloc: Global, table: Table, list: &mut Vec<Finding>) -> Result<(), A
     in_named(alloc, Side::FieldElement, &value, list)
 }
 
-/// In the table of an end of a file for both, if it is there.
+/// Adds the faults of the table of an end in a file for both ends.
 fn in_named(
     alloc: Global,
     side: Side,
     file: &Value,
     list: &mut Vec<Finding>,
 ) -> Result<(), AllocError>
+    // If `in_named` succeeds, it has appended the faults of the side's table, or that the table is missing.
     ensures { OnOk result (map finding_seen list.new.items ≡ map finding_seen list.old.items ++ named_findings side (view file.now)) }
 {
     let found = match side {
@@ -131,6 +140,7 @@ fn in_named(
     }
 }
 
+/// Adds the faults of the keys of an end.
 fn in_end(
     alloc: Global,
     side: Side,
@@ -138,6 +148,8 @@ fn in_end(
     value: &Value,
     list: &mut Vec<Finding>,
 ) -> Result<(), AllocError>
+    // If `in_end` succeeds, it has appended the unknown keys and the faults of keys, addresses and telegrams in a
+    // table, or that the value is not a table.
     ensures { OnOk result (map finding_seen list.new.items ≡ map finding_seen list.old.items ++ end_findings side named (view value.now)) }
 {
     let Some(table) = value.as_table() else {
@@ -149,8 +161,9 @@ fn in_end(
     find_puts(alloc, named, value, list)
 }
 
-/// A fault that is all there is to say.
+/// Adds a fault without entry or text.
 fn add(fault: SettingsFault, list: &mut Vec<Finding>) -> Result<(), AllocError>
+    // If `add` succeeds, it has appended the fault, without entry and text.
     ensures { OnOk result (list.new.items ≡ list.old.items ++ record { fault = fault; entry = None; text = None } ∷ []) }
 {
     list.push(Finding {
@@ -161,13 +174,14 @@ fn add(fault: SettingsFault, list: &mut Vec<Finding>) -> Result<(), AllocError>
     Ok(())
 }
 
-/// The keys that no end has.
+/// Adds the keys that no end has.
 fn find_unknown(
     alloc: Global,
     named: Option<Side>,
     table: &Table,
     list: &mut Vec<Finding>,
 ) -> Result<(), AllocError>
+    // If `find_unknown` succeeds, it has appended each key of the table that no end has, in order.
     ensures { OnOk result (map finding_seen list.new.items ≡ map finding_seen list.old.items ++ unknown_in is_known named (table_view table.now)) }
 {
     for (key, _value) in table {
@@ -178,8 +192,9 @@ fn find_unknown(
     Ok(())
 }
 
-/// The keys of a file for both ends that are no tables of ends.
+/// Adds the keys of a file for both ends that are not tables of ends.
 fn find_strange(alloc: Global, table: &Table, list: &mut Vec<Finding>) -> Result<(), AllocError>
+    // If `find_strange` succeeds, it has appended each key of the table other than `il` and `fe`, in order.
     ensures { OnOk result (map finding_seen list.new.items ≡ map finding_seen list.old.items ++ unknown_in is_end None (table_view table.now)) }
 {
     for (key, _value) in table {
@@ -190,12 +205,14 @@ fn find_strange(alloc: Global, table: &Table, list: &mut Vec<Finding>) -> Result
     Ok(())
 }
 
+/// Adds an unknown key.
 fn add_unknown(
     alloc: Global,
     named: Option<Side>,
     key: &str,
     list: &mut Vec<Finding>,
 ) -> Result<(), AllocError>
+    // If `add_unknown` succeeds, it has appended that the key is unknown in this table.
     ensures { OnOk result (map finding_seen list.new.items ≡ map finding_seen list.old.items ++ plain (unknown named key.now) ∷ []) }
 {
     match unknown(alloc, named, key) {
@@ -204,7 +221,7 @@ fn add_unknown(
     }
 }
 
-/// The faults at keys that are no lists.
+/// Adds the faults at keys that are not lists.
 fn find_plain(
     alloc: Global,
     side: Side,
@@ -213,6 +230,7 @@ fn find_plain(
     keys: &[Key],
     list: &mut Vec<Finding>,
 ) -> Result<(), AllocError>
+    // If `find_plain` succeeds, it has appended the fault of each of these `keys` that has one, in order.
     ensures { OnOk result (map finding_seen list.new.items ≡ map finding_seen list.old.items ++ faults_at side named (view table.now) keys.now) }
 {
     let [key, others @ ..] = keys else {
@@ -222,7 +240,7 @@ fn find_plain(
     find_plain(alloc, side, named, table, others, list)
 }
 
-/// The fault at one key.
+/// Adds the fault at one key, if it has one.
 fn find_at(
     alloc: Global,
     side: Side,
@@ -231,6 +249,7 @@ fn find_at(
     key: Key,
     list: &mut Vec<Finding>,
 ) -> Result<(), AllocError>
+    // If `find_at` succeeds, it has appended the fault at the key with its text, or nothing if the key is valid.
     ensures { OnOk result (map finding_seen list.new.items
         ≡ map finding_seen list.old.items ++ if_any (at_its_key named (view table.now)) (fault_at side (view table.now) key)) }
 {
@@ -240,8 +259,10 @@ fn find_at(
     }
 }
 
-/// What is wrong at a key, whatever stands at the others.
+/// Returns the fault at a key that is not a list.
 fn fault_of(side: Side, table: &Value, key: Key) -> Option<KeyFault>
+    // `fault_of` returns the fault at the key of an end of this side, or `None`; if the key depends on another
+    // one, that must be valid.
     ensures { result ≡ fault_at side (view table.now) key }
 {
     match key {
@@ -259,7 +280,9 @@ fn fault_of(side: Side, table: &Value, key: Key) -> Option<KeyFault>
     }
 }
 
+/// Returns the fault at `peer_id`.
 fn peer_fault(table: &Value) -> Option<KeyFault>
+    // `peer_fault` returns the fault of `PeerId`: its own, or that it equals a valid own identifier.
     ensures { result ≡ fault_at side_of.Interlocking (view table.now) key_of.PeerId }
 {
     match (identifier(table, Key::Id), identifier(table, Key::PeerId)) {
@@ -269,7 +292,9 @@ fn peer_fault(table: &Value) -> Option<KeyFault>
     }
 }
 
+/// Returns the fault at `t_h`.
 fn heartbeat_fault(table: &Value) -> Option<KeyFault>
+    // `heartbeat_fault` returns the fault of T_h below a valid T_max, and `None` if T_max is not valid.
     ensures { result ≡ heartbeat_fault (view table.now) (limit_at (view table.now) 0 key_of.TMax) }
 {
     match limit(table, 0, Key::TMax) {
@@ -278,7 +303,7 @@ fn heartbeat_fault(table: &Value) -> Option<KeyFault>
     }
 }
 
-/// A fault at a key, with the text that stands there.
+/// Adds a fault at a key, with the text that the file has there.
 fn add_at(
     alloc: Global,
     named: Option<Side>,
@@ -286,6 +311,7 @@ fn add_at(
     fault: KeyFault,
     list: &mut Vec<Finding>,
 ) -> Result<(), AllocError>
+    // If `add_at` succeeds, it has appended the fault with the short text at its key.
     ensures { OnOk result (map finding_seen list.new.items ≡ map finding_seen list.old.items ++ at_its_key named (view table.now) fault ∷ []) }
 {
     let text = match table.get(fault.key.text()) {
@@ -300,8 +326,9 @@ fn add_at(
     Ok(())
 }
 
-/// A value that is a text, and not too long to be told.
+/// Copies a value that is a text and not too long to be quoted.
 fn short_text(alloc: Global, value: &Value) -> Result<Option<String>, AllocError>
+    // If `short_text` succeeds, it returns the text of the value if it has at most 80 bytes, and else `None`.
     ensures { IfOk result (λ t. option_map string_bytes t ≡ text_in (view value.now)) }
 {
     match value.as_str() {
@@ -310,13 +337,15 @@ fn short_text(alloc: Global, value: &Value) -> Result<Option<String>, AllocError
     }
 }
 
-/// The faults at the lists of addresses.
+/// Adds the faults at the lists of addresses.
 fn find_addresses(
     alloc: Global,
     named: Option<Side>,
     table: &Value,
     list: &mut Vec<Finding>,
 ) -> Result<(), AllocError>
+    // If `find_addresses` succeeds, it has appended the fault of `local`, then that of `remote`, which must have
+    // as many texts as a valid `local`.
     ensures { OnOk result (map finding_seen list.new.items ≡ map finding_seen list.old.items ++ address_faults named (view table.now)) }
 {
     let local = match addresses(alloc, table, Key::Local) {
@@ -335,13 +364,15 @@ fn find_addresses(
     }
 }
 
-/// The faults at the telegrams to be put: each entry that is none.
+/// Adds the faults at the telegrams to be put.
 fn find_puts(
     alloc: Global,
     named: Option<Side>,
     table: &Value,
     list: &mut Vec<Finding>,
 ) -> Result<(), AllocError>
+    // If `find_puts` succeeds, it has appended each entry of `puts` that is not a telegram, or that the value is
+    // not a list.
     ensures { OnOk result (map finding_seen list.new.items ≡ map finding_seen list.old.items ++ put_faults named (view table.now)) }
 {
     let Some(value) = table.get(Key::Puts.text()) else {
@@ -359,13 +390,14 @@ fn find_puts(
     }
 }
 
-/// The entries that are no telegrams, by a loop: there may be as many as a file has room for.
+/// Adds the entries that are not telegrams. A loop, since there may be as many as a file has room for.
 fn find_entries(
     alloc: Global,
     named: Option<Side>,
     items: &[Value],
     list: &mut Vec<Finding>,
 ) -> Result<(), AllocError>
+    // If `find_entries` succeeds, it has appended each item that is not a telegram, with its number from 1.
     ensures { OnOk result (map finding_seen list.new.items ≡ map finding_seen list.old.items ++ entry_faults named 1 (items_view items.now)) }
 {
     let mut place = 1;
@@ -376,6 +408,7 @@ fn find_entries(
     Ok(())
 }
 
+/// Adds an entry if it is not a telegram.
 fn find_entry(
     alloc: Global,
     named: Option<Side>,
@@ -383,6 +416,8 @@ fn find_entry(
     item: &Value,
     list: &mut Vec<Finding>,
 ) -> Result<(), AllocError>
+    // If `find_entry` succeeds, it has appended the item with its number and short text, or nothing if the item is
+    // a telegram.
     ensures { OnOk result (map finding_seen list.new.items
         ≡ map finding_seen list.old.items ++ (if is_put (view item.now) then [] else at_entry named place (view item.now) ∷ [])) }
 {
@@ -398,14 +433,16 @@ fn find_entry(
     Ok(())
 }
 
-/// What is wrong at such an entry.
+/// The fault of an entry that is not a telegram.
 const NO_TELEGRAM: KeyFault = KeyFault {
     key: Key::Puts,
     expected: Wanted::Put,
     found: Found::Other,
 };
 
+/// Returns whether an item is a telegram.
 fn is_telegram(alloc: Global, item: &Value) -> Result<bool, AllocError>
+    // If `is_telegram` succeeds, it returns whether the item is a text that spells a telegram.
     ensures { IfOk result (λ is. is ≡ is_put (view item.now)) }
 {
     match item.as_str() {
@@ -415,7 +452,7 @@ fn is_telegram(alloc: Global, item: &Value) -> Result<bool, AllocError>
 }
 
 impl fmt::Display for Finding {
-    /// As the fault is told, with the entry, and with the text that stands there in place of "another value".
+    /// Prints the fault with its entry, and with the quoted text in place of "another value".
     fn fmt<W: fmt::Write>(&self, f: &mut fmt::Formatter<W>) -> fmt::Result {
         let SettingsFault::Key(named, fault) = &self.fault else {
             return write!(f, "{}", self.fault);
@@ -427,10 +464,10 @@ impl fmt::Display for Finding {
         if let Some(entry) = self.entry {
             write!(f, "entry {entry}: ")?;
         }
-        write!(f, "{} expected, ", fault.expected)?;
+        write!(f, "expected {}, ", fault.expected)?;
         match &self.text {
-            Some(text) => write!(f, "\"{}\" found", text.as_str().escape_debug()),
-            None => write!(f, "{} found", fault.found),
+            Some(text) => write!(f, "found \"{}\"", text.as_str().escape_debug()),
+            None => write!(f, "found {}", fault.found),
         }
     }
 }

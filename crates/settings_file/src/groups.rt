@@ -17,8 +17,14 @@ use octets::limits::{
 };
 use toml::Value;
 
-/// Who the end and its peer are.
+/// Reads the identifiers, names and protocol type of the end and its peer.
+///
+/// # Errors
+///
+/// - `KeyFault` of the first key that is wrong; `peer_id` must differ from `id`.
 pub fn read_identity(table: &Value) -> Result<Identity, KeyFault>
+    // `read_identity` reads `id`, `peer_id`, `name`, `peer_name` and `protocol` in this order, with both
+    // identifiers different, and returns their values or the first fault.
     ensures { read_as identity_seen result ≡ identity_of (view table.now) }
 {
     let id = identifier(table, Key::Id)?;
@@ -38,8 +44,14 @@ pub fn read_identity(table: &Value) -> Result<Identity, KeyFault>
     })
 }
 
-/// What the end begins with.
+/// Reads the values that the end uses to connect.
+///
+/// # Errors
+///
+/// - `KeyFault` of the first key that is wrong.
 pub fn read_beginning(side: Side, table: &Value) -> Result<Beginning, KeyFault>
+    // `read_beginning` reads the versions of this side, `code`, `checksum`, the initial value and `first_sn` in
+    // this order, and returns their values or the first fault.
     ensures { read_as beginning_seen result ≡ beginning_of side (view table.now) }
 {
     let versions = versions(side, table)?;
@@ -56,8 +68,14 @@ pub fn read_beginning(side: Side, table: &Value) -> Result<Beginning, KeyFault>
     })
 }
 
-/// The numbers of the layers.
+/// Reads the limits of the end.
+///
+/// # Errors
+///
+/// - `KeyFault` of the first key that is wrong; `t_h` must be below `t_max`.
 pub fn read_limits(table: &Value) -> Result<Limits, KeyFault>
+    // `read_limits` reads the eight limits in their order, with `t_h` below the `t_max` read, and returns their
+    // values or the first fault.
     ensures { result ≡ limits_of (view table.now) }
 {
     let n_sendmax = limit(table, 0, Key::NSendmax)?;
@@ -80,8 +98,14 @@ pub fn read_limits(table: &Value) -> Result<Limits, KeyFault>
     })
 }
 
-/// The number at the key of a limit, of which `t_h` is below T_max.
+/// Reads one limit. Only `t_h` depends on T_max.
+///
+/// # Errors
+///
+/// - `KeyFault` if the number is missing and has no default, or is outside its range.
 pub fn limit(table: &Value, t_max: u64, key: Key) -> Result<u64, KeyFault>
+    // `limit` returns the number at the key, or its default, within the key's range; that of `t_h` ends below
+    // `t_max`.
     ensures { result ≡ limit_at (view table.now) t_max key }
 {
     match key {

@@ -1,4 +1,4 @@
-//! The keys of a settings file, and what is wrong at one.
+//! The keys of a settings file, and the faults of a file.
 
 ghost use Rattle.std.specs.Prelude.{◌≡◌};
 ghost use Rattle.settings_file.specs.Keys.{text_of};
@@ -11,63 +11,63 @@ use std::fmt;
 /// A key of a settings file.
 #[derive(Clone, Copy, Debug, PartialEq, Eq)]
 pub enum Key {
-    /// `id`: the own identifier.
+    /// `id`: the end's own identifier.
     Id,
     /// `peer_id`: the identifier of the peer.
     PeerId,
-    /// `name`: the own name.
+    /// `name`: the end's own name.
     Name,
     /// `peer_name`: the name of the peer.
     PeerName,
     /// `protocol`: the protocol type of the session.
     Protocol,
-    /// `version`: the one PDI version.
+    /// `version`: the only PDI version.
     Version,
     /// `versions`: the PDI versions of a field element.
     Versions,
-    /// `code`: the octets of the safety code.
+    /// `code`: the length of the safety code in bytes.
     Code,
-    /// `checksum`: what a field element answers a version check with.
+    /// `checksum`: the checksum that a field element sends in the version check.
     Checksum,
-    /// `iv`: the initial value of the safety code's digest.
+    /// `iv`: the initial value of the safety code.
     InitialValue,
     /// `first_sn`: the first sequence number.
     FirstSn,
-    /// `local`: the own addresses, one for each channel.
+    /// `local`: the end's own addresses, one for each channel.
     Local,
     /// `remote`: the addresses of the peer.
     Remote,
-    /// `n_sendmax`: how many units the peer may have unconfirmed.
+    /// `n_sendmax`: the number of units that the peer may leave unconfirmed.
     NSendmax,
-    /// `n_maxpacket`: how many messages are packed into one unit.
+    /// `n_maxpacket`: the number of messages that are packed into one unit.
     NMaxpacket,
-    /// `q`: how many early parts may wait.
+    /// `q`: the number of parts that may be deferred.
     Deferral,
-    /// `t_max`: how old what was last confirmed may get.
+    /// `t_max`: the greatest age of the last confirmation, in milliseconds.
     TMax,
-    /// `t_h`: when a heartbeat is due.
+    /// `t_h`: the time between heartbeats, in milliseconds.
     THeartbeat,
-    /// `t_seq`: how long early parts wait.
+    /// `t_seq`: the time for which a part is deferred, in milliseconds.
     TSeq,
-    /// `mwa`: after how many units taken a heartbeat is sent.
+    /// `mwa`: the number of units taken after which a heartbeat is sent.
     Mwa,
-    /// `pdu_limit`: how many PDUs one connection may have.
+    /// `pdu_limit`: the number of PDUs that one connection may have.
     PduLimit,
     /// `puts`: the telegrams to be put.
     Puts,
 }
 
-/// What a key wants.
+/// The value that a key expects.
 #[derive(Clone, Copy, Debug, PartialEq, Eq)]
 pub enum Wanted {
     /// A whole number in this range.
     Whole {
         /// The least number.
         low: u64,
-        /// The greatest.
+        /// The greatest number.
         high: u64,
     },
-    /// A number of four octets, or the text `random`.
+    /// A number of four bytes, or the text `random`.
     FirstNumber,
     /// A name.
     Name,
@@ -79,61 +79,61 @@ pub enum Wanted {
     UpToSixteenOctets,
     /// One to four different numbers from 0 to 255.
     DifferentVersions,
-    /// One to four texts, as many as those of the other list of addresses.
+    /// One to four texts, as many as in the other list of addresses.
     Addresses,
-    /// Texts of four hex digits, a colon, and hex digits.
+    /// A list of texts of four hex digits, a colon, and hex digits.
     Puts,
     /// Such a text, as an entry of `puts`.
     Put,
-    /// Another number than the own identifier.
+    /// A number other than the end's own identifier.
     AnotherId,
-    /// No such key at this end, or not beside its sibling.
+    /// Nothing: this end has no such key, or not beside its sibling.
     Absent,
 }
 
-/// What stands at a key.
+/// The value that a key has.
 #[derive(Clone, Copy, Debug, PartialEq, Eq)]
 pub enum Found {
-    /// Nothing, and the default, where the key has one, is wrong as well.
+    /// None, and the default is missing or not valid.
     Nothing,
     /// This whole number.
     Number(i64),
-    /// Something else.
+    /// Anything else.
     Other,
 }
 
-/// A key whose value is not what it wants.
+/// A key whose value is not the one it expects.
 #[derive(Clone, Copy, Debug, PartialEq, Eq)]
 pub struct KeyFault {
     /// The key.
     pub key: Key,
-    /// What it wants.
+    /// The value that it expects.
     pub expected: Wanted,
-    /// What it has.
+    /// The value that it has.
     pub found: Found,
 }
 
-/// Why a file is no settings. In a file for both ends a key is named with its table.
+/// Why a file is not a settings file. In a file for both ends a key is named with its table.
 #[derive(Debug, Drop)]
 pub enum SettingsFault {
-    /// It is no TOML document; the line, from 1, at which that shows.
+    /// It is not a TOML document; the line, from 1, in which the fault begins.
     Document(usize),
     /// The table of this end is missing.
     NoTable(Side),
-    /// A key that no end has, or, outside the tables of a file for both ends, another key than these.
+    /// No end has this key, or, in a file for both ends, it is outside the tables.
     Unknown(Option<Side>, String),
-    /// A key's value is not what it wants.
+    /// The value of a key is not the one it expects.
     Key(Option<Side>, KeyFault),
-    /// Memory was refused.
+    /// An allocation failed.
     Memory(AllocError),
 }
 
 /// Why a key was not read.
 #[derive(Clone, Copy, Debug)]
 pub enum ReadFault {
-    /// Its value is not what it wants.
+    /// Its value is not the one it expects.
     Key(KeyFault),
-    /// Memory was refused.
+    /// An allocation failed.
     Memory(AllocError),
 }
 
@@ -154,9 +154,9 @@ impl From<AllocError> for ReadFault {
 }
 
 impl Key {
-    /// The key as it stands in a file.
+    /// Returns the key as it is written in a file.
     pub fn text(self) -> &'static str
-        // Each key has its text, as it stands in a file.
+        // `text` returns the name of each key in a file, for example `peer_id` for `PeerId`.
         ensures { result.now ≡ text_of self }
     {
         match self {
@@ -190,17 +190,17 @@ impl fmt::Display for Wanted {
     fn fmt<W: fmt::Write>(&self, f: &mut fmt::Formatter<W>) -> fmt::Result {
         let text = match self {
             Wanted::Whole { low, high } => return write!(f, "{low} to {high}"),
-            Wanted::FirstNumber => "0 to 4294967295 or random",
-            Wanted::Name => "a name of 1 to 20 characters 21 to 7e, none of them 5f,",
+            Wanted::FirstNumber => "0 to 4294967295 or \"random\"",
+            Wanted::Name => "1 to 20 printable ASCII characters, no space or underscore",
             Wanted::CodeLength => "8 or 16",
             Wanted::SixteenOctets => "32 hex digits",
-            Wanted::UpToSixteenOctets => "0 to 16 octets in hex",
-            Wanted::DifferentVersions => "one to four different numbers from 0 to 255",
-            Wanted::Addresses => "one to four texts, as many in local as in remote,",
-            Wanted::Puts => "a list of texts KIND:HEX",
-            Wanted::Put => "a text KIND:HEX",
-            Wanted::AnotherId => "another number than id",
-            Wanted::Absent => "no such key here",
+            Wanted::UpToSixteenOctets => "0 to 16 bytes as hex digits",
+            Wanted::DifferentVersions => "1 to 4 different numbers from 0 to 255",
+            Wanted::Addresses => "1 to 4 texts, as many in local as in remote",
+            Wanted::Puts => "a list of texts TYPE:HEX",
+            Wanted::Put => "a text TYPE:HEX",
+            Wanted::AnotherId => "a number other than id",
+            Wanted::Absent => "not allowed here",
         };
         f.write_str(text)
     }
@@ -222,11 +222,11 @@ impl fmt::Display for KeyFault {
         if self.expected == Wanted::Absent {
             return write!(f, "{key}: {}", self.expected);
         }
-        write!(f, "{key}: {} expected, {} found", self.expected, self.found)
+        write!(f, "{key}: expected {}, found {}", self.expected, self.found)
     }
 }
 
-/// How the keys of a table are named: `il.`, `fe.`, or nothing at the top of a file.
+/// Returns the prefix of a key's name: `il.`, `fe.`, or nothing at the top of a file.
 pub(crate) fn prefix(table: Option<Side>) -> &'static str {
     match table {
         None => "",
@@ -238,16 +238,12 @@ pub(crate) fn prefix(table: Option<Side>) -> &'static str {
 impl fmt::Display for SettingsFault {
     fn fmt<W: fmt::Write>(&self, f: &mut fmt::Formatter<W>) -> fmt::Result {
         match self {
-            SettingsFault::Document(line) => write!(f, "line {line}: no TOML"),
-            SettingsFault::NoTable(Side::Interlocking) => f.write_str(
-                "il: a table expected, none found",
-            ),
-            SettingsFault::NoTable(Side::FieldElement) => f.write_str(
-                "fe: a table expected, none found",
-            ),
-            SettingsFault::Unknown(table, key) => write!(f, "{}{key}: no such key", prefix(*table)),
+            SettingsFault::Document(line) => write!(f, "line {line}: not valid TOML"),
+            SettingsFault::NoTable(Side::Interlocking) => f.write_str("table il is missing"),
+            SettingsFault::NoTable(Side::FieldElement) => f.write_str("table fe is missing"),
+            SettingsFault::Unknown(table, key) => write!(f, "{}{key}: unknown key", prefix(*table)),
             SettingsFault::Key(table, fault) => write!(f, "{}{fault}", prefix(*table)),
-            SettingsFault::Memory(_) => f.write_str("no memory"),
+            SettingsFault::Memory(_) => f.write_str("out of memory"),
         }
     }
 }

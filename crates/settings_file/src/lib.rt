@@ -1,4 +1,8 @@
-//! The settings files of the ends, in TOML: what a file says, or the key that is wrong, what it wants and what it has.
+//! Settings files of the ends, in TOML: reads one, or names each key that is wrong with what it expects and what
+//! it has.
+//!
+//! A file has at most 1,048,576 bytes, which is room for a list of 60,000 short telegrams. It is then read or
+//! rejected within a second and 200 MB; some files of 10 MB take 1.8 GB.
 #![tactic(auto)]
 
 ghost use Rattle.std.specs.Prelude.{◌≡◌, Ok, IfOk, IfErr};
@@ -21,16 +25,16 @@ pub use mistakes::{Warning, warnings};
 use std::alloc::Global;
 pub use values::{Ends, Put, Settings};
 use whole::pair;
-pub use whole::single;
+pub use whole::{single, word_of};
 
-/// The words of the program that read a settings file, each with the ends that its file is for.
+/// The subcommands of the program that read a settings file, each with the ends that its file is for.
 #[derive(Clone, Copy, Debug, PartialEq, Eq)]
 pub enum Word {
-    /// The interlocking alone: its keys stand at the top of the file.
+    /// Only the interlocking: its keys are at the top of the file.
     Il,
-    /// The field element alone: its keys stand at the top of the file.
+    /// Only the field element: its keys are at the top of the file.
     Fe,
-    /// Both ends, in one process: their keys stand in the tables `il` and `fe`.
+    /// Both ends, in one process: their keys are in the tables `il` and `fe`.
     Pair,
 }
 
@@ -38,13 +42,20 @@ pub enum Word {
 ///
 /// # Errors
 ///
-/// Refused: the first thing that is wrong, in this order: `Document`; a table of an end that is missing; a key that no
-/// end has; a key's value, in the order of the groups; of a file for both ends `il` before `fe`. `Memory`, where it was refused.
+/// Returns the first that applies; in a file for both ends all of `il` comes before all of `fe`:
+///
+/// - `Document` if the text is not a TOML document;
+/// - `Unknown` if a file for both ends has another key than `il` and `fe`;
+/// - `NoTable` if the table of an end is missing;
+/// - `Unknown` if a table has a key that no end has;
+/// - `Key` if the value of a key is not what it expects, in the order of the groups;
+/// - `Memory` if an allocation fails. That can happen only while the text is parsed, or when an unknown key or the
+///   lists of addresses and telegrams are copied.
 pub fn settings(alloc: Global, word: Word, text: &str) -> Result<Ends, SettingsFault>
-    // Where `settings` answers settings they are exactly those that the file's text has for the word.
+    // If `settings` succeeds, its result is exactly the settings that the file's text has for the word.
     ensures ok { IfOk result (λ s. ends_of word text.now ≡ Ok (ends_seen s)) }
-    // A refusal names what is wrong first: no document, no table, an unknown key, or a key, what it wants and
-    // has; or Memory (`IsWrong`).
+    // If `settings` fails, its fault is the first that the text has for the word. The line in a text that is not
+    // TOML is not stated here, and of `Memory` nothing is claimed.
     ensures err { IfErr result (IsWrong (ends_of word text.now)) }
 {
     match word {

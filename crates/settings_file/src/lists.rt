@@ -1,4 +1,4 @@
-//! Readers of lists, which take memory.
+//! Readers of lists, which allocate.
 
 ghost use Rattle.std.specs.Prelude.{◌≡◌, ◌+◌, ◌*◌, Some, Ok, Err, IfOk, IfErr, map, length, string_bytes, ◌≤◌, option_and_then, option_map};
 ghost use Rattle.toml.specs.View.{view, items_view};
@@ -14,8 +14,9 @@ use octets::limits::CHANNELS_MAX;
 use std::alloc::{AllocError, Global};
 use toml::Value;
 
-// The texts of a list, if all are texts.
+/// Copies the texts of a list; `None` if an item is not a text.
 fn texts(alloc: Global, items: &[Value]) -> Result<Option<Vec<String>>, AllocError>
+    // If `texts` succeeds, it returns the texts of all items in order, or `None` if one of them is not a text.
     ensures { IfOk result (λ r. option_map (λ v. map string_bytes v.items) r ≡ texts_of (items_view items.now)) }
 {
     let mut all = Vec::new(alloc);
@@ -28,8 +29,11 @@ fn texts(alloc: Global, items: &[Value]) -> Result<Option<Vec<String>>, AllocErr
     Ok(Some(all))
 }
 
+/// Copies one to four texts. It allocates nothing for other lists.
 #[tactic(auto, using(crate::proofs::Lengths::items_length_view))]
 fn read_texts(alloc: Global, items: &[Value]) -> Result<Option<Vec<String>>, AllocError>
+    // If `read_texts` succeeds, it returns the texts of a list of one to four texts, and `None` for any other
+    // list.
     ensures { IfOk result (λ r. option_map (λ v. map string_bytes v.items) r ≡ few_texts (items_view items.now)) }
 {
     if items.is_empty() || items.len() > CHANNELS_MAX {
@@ -38,9 +42,16 @@ fn read_texts(alloc: Global, items: &[Value]) -> Result<Option<Vec<String>>, All
     texts(alloc, items)
 }
 
-/// One to four addresses, as texts.
+/// Reads a list of one to four addresses, as texts.
+///
+/// # Errors
+///
+/// - `Key` if the key is missing or has another value;
+/// - `Memory` if an allocation fails.
 pub fn addresses(alloc: Global, table: &Value, key: Key) -> Result<Vec<String>, ReadFault>
+    // If `addresses` succeeds, its result is the list of texts at the key.
     ensures ok { IfOk result (λ v. addresses_at (view table.now) key ≡ Ok (map string_bytes v.items)) }
+    // If `addresses` fails with `Key`, it is the fault of the list at the key.
     ensures err { IfErr result (IsFaultOf (addresses_at (view table.now) key)) }
 {
     let fault = ReadFault::Key(wrong(table, key, Wanted::Addresses));
@@ -57,9 +68,15 @@ pub fn addresses(alloc: Global, table: &Value, key: Key) -> Result<Vec<String>, 
     }
 }
 
-/// The telegram that a text spells as `KIND:HEX`, if it spells one.
+/// Reads a telegram from its text: the message type in four hex digits, a colon, and the payload in hex digits.
+/// Returns `None` if the bytes are not such a text.
+///
+/// # Errors
+///
+/// - Returns the error if an allocation fails.
 pub fn put(alloc: Global, octets: &[u8]) -> Result<Option<Put>, AllocError>
-    // `put` answers exactly the telegram that a text spells as `KIND:HEX`, or none.
+    // If `put` succeeds, it returns exactly the telegram whose message type and payload the bytes spell, with a
+    // colon between them, or `None` if they spell none.
     ensures { IfOk result (λ r. option_map put_seen r ≡ put_of octets.now) }
 {
     if octets.len() < 5 || octets[4] != b':' {
@@ -79,14 +96,18 @@ pub fn put(alloc: Global, octets: &[u8]) -> Result<Option<Put>, AllocError>
     }
 }
 
+/// Returns the number of two bytes, the most significant one first.
 fn number_of(high: u8, low: u8) -> u16
+    // `number_of` returns 256 times the first byte plus the second.
     ensures { result ≡ high * 256 + low }
 {
     u16::from(high) * 256 + u16::from(low)
 }
 
-// The puts of a list, if all are.
+/// Reads the telegrams of a list; `None` if an item is not one.
 fn put_list(alloc: Global, items: &[Value]) -> Result<Option<Vec<Put>>, AllocError>
+    // If `put_list` succeeds, it returns the telegrams of all items in order, or `None` if one of them is not a
+    // telegram.
     ensures { IfOk result (λ r. option_map (λ v. map put_seen v.items) r ≡ puts_of (items_view items.now)) }
 {
     let mut all = Vec::new(alloc);
@@ -102,9 +123,16 @@ fn put_list(alloc: Global, items: &[Value]) -> Result<Option<Vec<Put>>, AllocErr
     Ok(Some(all))
 }
 
-/// What an end is to put, nothing where nothing is said.
+/// Reads the telegrams that an end is to put; an empty list if the key is missing.
+///
+/// # Errors
+///
+/// - `Key` if the value is not a list of telegrams;
+/// - `Memory` if an allocation fails.
 pub fn puts(alloc: Global, table: &Value) -> Result<Vec<Put>, ReadFault>
+    // If `puts` succeeds, its result is the list of telegrams at `puts`, empty if the key is missing.
     ensures ok { IfOk result (λ v. puts_at (view table.now) key_of.Puts ≡ Ok (map put_seen v.items)) }
+    // If `puts` fails with `Key`, it is the fault of the value at `puts`.
     ensures err { IfErr result (IsFaultOf (puts_at (view table.now) key_of.Puts)) }
 {
     let key = Key::Puts;

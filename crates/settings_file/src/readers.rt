@@ -19,8 +19,10 @@ use pdi_session::telegram::{Name, OwnedName};
 use pdi_session::{CHECKSUM_MAX, VERSIONS_MAX};
 use toml::Value;
 
-/// The fault at a key, with what the table has there.
+/// Returns the fault at a key, with the value that the table has there.
 pub fn wrong(table: &Value, key: Key, expected: Wanted) -> KeyFault
+    // `wrong` returns a fault with this key, the value it expects and the value found: nothing, a whole number, or
+    // another value.
     ensures { result ≡ wrong_at (view table.now) key expected }
 {
     let found = match table.get(key.text()) {
@@ -37,7 +39,7 @@ pub fn wrong(table: &Value, key: Key, expected: Wanted) -> KeyFault
     }
 }
 
-/// A whole number in its range. The default is tested like a written number.
+/// Reads a whole number in a range. A default is tested like a written number.
 pub fn number(
     table: &Value,
     key: Key,
@@ -45,7 +47,10 @@ pub fn number(
     high: u64,
     default: Option<u64>,
 ) -> Result<u64, KeyFault>
+    // `number` returns the whole number at the key, or the default, if it is from `low` to `high`; else the fault
+    // of this range.
     ensures read { result ≡ number_at (view table.now) key low high default }
+    // The number that `number` returns is at most `high`.
     ensures within { IfOk result (λ n. n ≤ high) }
 {
     let expected = Wanted::Whole { low, high };
@@ -70,8 +75,9 @@ pub fn number(
     }
 }
 
-/// A number of one octet.
+/// Reads a number of one byte.
 pub fn octet(table: &Value, key: Key, default: u8) -> Result<u8, KeyFault>
+    // `octet` returns the number at the key from 0 to 255, or the default, or the fault of this range.
     ensures { result ≡ number_at (view table.now) key 0 255 (Some default) }
 {
     match number(table, key, 0, 255, Some(u64::from(default))) {
@@ -80,8 +86,10 @@ pub fn octet(table: &Value, key: Key, default: u8) -> Result<u8, KeyFault>
     }
 }
 
-/// A number of four octets that has no default.
+/// Reads a number of four bytes that has no default.
 pub fn identifier(table: &Value, key: Key) -> Result<u32, KeyFault>
+    // `identifier` returns the number at the key from 0 to 4,294,967,295, or the fault of this range; the key has
+    // no default.
     ensures { result ≡ number_at (view table.now) key 0 4294967295 None }
 {
     match number(table, key, 0, 4_294_967_295, None) {
@@ -90,8 +98,10 @@ pub fn identifier(table: &Value, key: Key) -> Result<u32, KeyFault>
     }
 }
 
-/// The first sequence number, 1 where nothing is said; none where it is to be drawn.
+/// Reads the first sequence number: 1 if the key is missing, `None` if it is to be drawn at random.
 pub fn first_number(table: &Value) -> Result<Option<u32>, KeyFault>
+    // `first_number` returns the number of four bytes at `first_sn`, `None` for the text `random`, 1 without the
+    // key, and a fault for anything else.
     ensures { result ≡ first_number_at (view table.now) key_of.FirstSn }
 {
     let key = Key::FirstSn;
@@ -115,8 +125,9 @@ pub fn first_number(table: &Value) -> Result<Option<u32>, KeyFault>
     }
 }
 
-/// How many octets of safety code, 8 where nothing is said.
+/// Reads the length of the safety code in bytes; 8 if the key is missing.
 pub fn code(table: &Value) -> Result<u64, KeyFault>
+    // `code` returns 8 or 16 as the key has it, 8 without the key, and a fault for anything else.
     ensures { result ≡ code_at (view table.now) key_of.Code }
 {
     let key = Key::Code;
@@ -130,8 +141,9 @@ pub fn code(table: &Value) -> Result<u64, KeyFault>
     }
 }
 
-/// A name.
+/// Reads a name.
 pub fn name(table: &Value, key: Key) -> Result<OwnedName, KeyFault>
+    // `name` returns the characters of the text at the key if they are a name, and else a fault.
     ensures { read_as owned_characters result ≡ name_at (view table.now) key }
 {
     let fault = wrong(table, key, Wanted::Name);
@@ -147,8 +159,11 @@ pub fn name(table: &Value, key: Key) -> Result<OwnedName, KeyFault>
     }
 }
 
-/// The words of an initial value, which 32 hex digits spell, least significant octet of each word first; that of RFC 1320 where nothing is said.
+/// Reads the four words of an initial value from 32 hex digits, the least significant byte of each word first;
+/// that of RFC 1320 if the key is missing.
 pub fn initial_value(table: &Value) -> Result<[u32; 4], KeyFault>
+    // `initial_value` returns the four words that 32 hex digits at the key spell, those of RFC 1320 without the
+    // key, and a fault for anything else.
     ensures { result ≡ initial_value_at (view table.now) key_of.InitialValue }
 {
     let key = Key::InitialValue;
@@ -171,8 +186,9 @@ pub fn initial_value(table: &Value) -> Result<[u32; 4], KeyFault>
     }
 }
 
-// At most sixteen octets of hex digits.
+/// Reads at most 16 bytes of hex digits.
 fn short(text: &str) -> Option<Checksum>
+    // `short` returns the bytes that the text spells in hex digits, at most 16, and else `None`.
     ensures { option_map checksum_in result ≡ short_octets text.now }
 {
     let mut room = [0u8; CHECKSUM_MAX];
@@ -187,8 +203,10 @@ fn short(text: &str) -> Option<Checksum>
     Checksum::new(octets)
 }
 
-/// At most sixteen octets, none where nothing is said.
+/// Reads a checksum of at most 16 bytes; empty if the key is missing.
 pub fn checksum(table: &Value) -> Result<Checksum, KeyFault>
+    // `checksum` returns the at most 16 bytes that the text at the key spells, no bytes without the key, and a
+    // fault for anything else.
     ensures { read_as checksum_in result ≡ checksum_at (view table.now) key_of.Checksum }
 {
     let key = Key::Checksum;
@@ -206,8 +224,9 @@ pub fn checksum(table: &Value) -> Result<Checksum, KeyFault>
     }
 }
 
-// Whether a number stands among others.
+/// Returns whether a number is among others.
 fn stands_among(number: u8, others: &[u8]) -> bool
+    // `stands_among` is true if and only if one of the others equals the number.
     ensures { result ≡ stands_in number others.now }
 {
     match others {
@@ -216,8 +235,9 @@ fn stands_among(number: u8, others: &[u8]) -> bool
     }
 }
 
-// Whether no two numbers are equal.
+/// Returns whether no two numbers are equal.
 fn all_differ(numbers: &[u8]) -> bool
+    // `all_differ` is true if and only if no number occurs again later in the list.
     ensures { result ≡ are_different numbers.now }
 {
     match numbers {
@@ -226,9 +246,10 @@ fn all_differ(numbers: &[u8]) -> bool
     }
 }
 
-// Numbers of one octet.
+/// Reads a list of numbers of one byte.
 fn octet_list(items: &[Value]) -> Option<ArrayVec<u8, VERSIONS_MAX>>
     requires { length items.now ≤ VERSIONS_MAX }
+    // `octet_list` returns the numbers of all items in order, or `None` if one is not a number from 0 to 255.
     ensures { option_map (λ v. v.items) result ≡ octets_of (items_view items.now) }
 {
     let mut list = ArrayVec::new();
@@ -242,9 +263,11 @@ fn octet_list(items: &[Value]) -> Option<ArrayVec<u8, VERSIONS_MAX>>
     Some(list)
 }
 
-// One to four numbers of one octet.
+/// Reads one to four numbers of one byte.
 #[tactic(auto, using(crate::proofs::Lengths::items_length_view))]
 fn collect_versions(items: &[Value]) -> Option<ArrayVec<u8, VERSIONS_MAX>>
+    // `collect_versions` returns the numbers of a list of one to four items, each from 0 to 255, and `None` for
+    // any other list.
     ensures { option_map (λ v. v.items) result ≡ few_octets (items_view items.now) }
 {
     if items.is_empty() || items.len() > VERSIONS_MAX {
@@ -253,8 +276,10 @@ fn collect_versions(items: &[Value]) -> Option<ArrayVec<u8, VERSIONS_MAX>>
     octet_list(items)
 }
 
+/// Returns the versions, if no two are equal.
 fn if_differing(list: &[u8]) -> Option<Versions>
     requires { length list.now ≤ VERSIONS_MAX }
+    // `if_differing` returns the versions of the list if no two are equal, and else `None`.
     ensures { option_map versions_in result ≡ if_different list.now }
 {
     if all_differ(list) {
@@ -264,8 +289,10 @@ fn if_differing(list: &[u8]) -> Option<Versions>
     }
 }
 
-// One to four different numbers of one octet.
+/// Reads one to four different numbers of one byte.
 fn different(value: &Value) -> Option<Versions>
+    // `different` returns the versions of an array of one to four different numbers from 0 to 255, and `None` for
+    // any other value.
     ensures { option_map versions_in result ≡ option_and_then different_octets (as_array (view value.now)) }
 {
     let items = value.as_array()?;
@@ -273,14 +300,19 @@ fn different(value: &Value) -> Option<Versions>
     if_differing(list.as_slice())
 }
 
+/// Reads `version`; 1 if the key is missing.
 fn one(table: &Value) -> Result<Versions, KeyFault>
+    // `one` returns the one version at `version`, 1 without the key, or the fault of its range.
     ensures { read_as versions_in result ≡ one_version (view table.now) }
 {
     let number = octet(table, Key::Version, 1)?;
     Ok(Versions::new(&[number]).unwrap())
 }
 
+/// Reads the version of an interlocking.
 fn for_interlocking(table: &Value) -> Result<Versions, KeyFault>
+    // `for_interlocking` returns the one version, or the fault that an interlocking must not have the key
+    // `versions`.
     ensures { read_as versions_in result ≡ il_versions (view table.now) }
 {
     if table.get(Key::Versions.text()).is_some() {
@@ -289,7 +321,10 @@ fn for_interlocking(table: &Value) -> Result<Versions, KeyFault>
     one(table)
 }
 
+/// Reads the versions of a field element, from one of the two keys.
 fn for_field_element(table: &Value) -> Result<Versions, KeyFault>
+    // `for_field_element` returns the list at `versions`, beside which `version` must be absent; without that key
+    // the one version.
     ensures { read_as versions_in result ≡ fe_versions (view table.now) }
 {
     let Some(value) = table.get(Key::Versions.text()) else {
@@ -304,8 +339,9 @@ fn for_field_element(table: &Value) -> Result<Versions, KeyFault>
     }
 }
 
-/// The versions of an end: one at an interlocking, one to four at a field element.
+/// Reads the versions of an end: one for an interlocking, one to four for a field element.
 pub fn versions(side: Side, table: &Value) -> Result<Versions, KeyFault>
+    // `versions` returns the versions of an end of this side, or the fault of `version` or `versions`.
     ensures { read_as versions_in result ≡ versions_at side (view table.now) }
 {
     match side {

@@ -1,16 +1,16 @@
-//! What a settings file says.
+//! The content of a settings file.
 
 use end_settings::{Checksum, EndConfig, Versions};
 use pdi_session::telegram::OwnedName;
 
-/// Who an end is, and who its peer.
+/// An end and its peer.
 #[derive(Clone, Copy, Debug, PartialEq, Eq)]
 pub struct Identity {
-    /// The own identifier.
+    /// The end's own identifier.
     pub id: u32,
     /// The identifier of the peer.
     pub peer_id: u32,
-    /// The own name.
+    /// The end's own name.
     pub name: OwnedName,
     /// The name of the peer.
     pub peer_name: OwnedName,
@@ -18,73 +18,73 @@ pub struct Identity {
     pub protocol: u8,
 }
 
-/// What an end begins with.
+/// The values that an end uses to connect.
 #[derive(Clone, Copy, Debug, PartialEq, Eq)]
 pub struct Beginning {
     /// The PDI versions.
     pub versions: Versions,
-    /// The octets of the safety code.
+    /// The length of the safety code in bytes.
     pub code: u64,
     /// The checksum of a field element.
     pub checksum: Checksum,
-    /// The initial value of the digest.
+    /// The initial value of the safety code.
     pub initial_value: [u32; 4],
-    /// The first sequence number, or none where it is drawn.
+    /// The first sequence number; `None` if it is drawn at random.
     pub first_sn: Option<u32>,
 }
 
-/// Limits of an end.
+/// The limits of an end.
 #[derive(Clone, Copy, Debug, PartialEq, Eq)]
 pub struct Limits {
-    /// How many units may be unconfirmed.
+    /// The number of units that the peer may leave unconfirmed.
     pub n_sendmax: u64,
-    /// How many messages a unit has at most.
+    /// The greatest number of messages in a unit.
     pub n_maxpacket: u64,
-    /// How many early parts may wait.
+    /// The number of parts that may be deferred.
     pub deferral: u64,
-    /// How old what was last confirmed may get.
+    /// The greatest age of the last confirmation, in milliseconds.
     pub t_max: u64,
-    /// When a heartbeat is due.
+    /// The time between heartbeats, in milliseconds.
     pub t_heartbeat: u64,
-    /// How long early parts wait.
+    /// The time for which a part is deferred, in milliseconds.
     pub t_seq: u64,
-    /// After how many units taken a heartbeat is sent.
+    /// The number of units taken after which a heartbeat is sent.
     pub mwa: u64,
-    /// How many PDUs one connection may have.
+    /// The number of PDUs that one connection may have.
     pub pdu_limit: u64,
 }
 
 /// A telegram to be put.
 #[derive(Debug, Drop)]
 pub struct Put {
-    /// Its type.
+    /// Its message type.
     pub kind: u16,
     /// Its payload, of any length: an end refuses one that is too long.
     pub payload: Vec<u8>,
 }
 
-/// What a file says for one end.
+/// The settings of one end.
 #[derive(Debug, Drop)]
 pub struct Settings {
-    /// What the end is opened with.
+    /// The settings with which the end is opened.
     pub config: EndConfig,
-    /// Its first sequence number; none where one is to be drawn anew at each opening.
+    /// Its first sequence number; `None` if one is drawn at random for each opening.
     pub first_sn: Option<u32>,
-    /// The own addresses as texts, one for each channel. Whether each is an address shows when channels are opened.
+    /// Its own addresses as texts, one for each channel. They are parsed only when channels are opened.
     pub local: Vec<String>,
-    /// The addresses of the peer, as many.
+    /// The addresses of the peer, as many as its own.
     pub remote: Vec<String>,
-    /// What the end is to put, in order.
+    /// The telegrams that the end is to put, in order.
     pub puts: Vec<Put>,
 }
 
-/// What a file says for the ends that its word runs.
+/// The settings of the ends that a word runs.
 #[derive(Debug, Drop)]
 pub enum Ends {
-    /// For an interlocking.
+    /// Of an interlocking.
     Il(Settings),
-    /// For a field element.
+    /// Of a field element.
     Fe(Settings),
-    /// For an interlocking and a field element.
+    /// Of an interlocking and a field element.
     Pair(Settings, Settings),
 }

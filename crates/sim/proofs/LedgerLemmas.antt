@@ -1,4 +1,4 @@
--- What stays named, and the first PDU that is not.
+-- Which PDUs stay named, and the first one that is not.
 use Rattle.std.proofs.Common.{◌≡◌, ◌+◌, ◌<◌, ◌≤◌, ◌&&◌, ◌++◌, ◌∙◌, ℕ, zero, suc, Bool, true, false, not, List, [], ◌∷◌, length, take, get_or, set, map, filter, slice_get, refl, sym, ap, arith}
 use Rattle.std.specs.List.{list_all}
 use Rattle.std.proofs.lemmas.List.{take-append-le}
@@ -21,7 +21,7 @@ list_all_weaker p q weaker [] h = refl
 list_all_weaker p q weaker (x ∷ xs) h =
     rw (weaker x (both_left (p x) (list_all p xs) h)) (list_all_weaker p q weaker xs (both_right (p x) (list_all p xs) h))
 
--- naming one PDU leaves the others as they are
+-- Naming one PDU does not change the others.
 pub stays_named : (ps : List MadePdu) (j k : ℕ) → is_named_at j ps ≡ true → is_named_at j (named_at k ps) ≡ true
 stays_named [] j k h = h
 stays_named (p ∷ ps) zero zero h = refl
@@ -29,7 +29,7 @@ stays_named (p ∷ ps) zero (suc k) h = h
 stays_named (p ∷ ps) (suc j) zero h = h
 stays_named (p ∷ ps) (suc j) (suc k) h = stays_named ps j k h
 
--- and so does making one more
+-- Adding a PDU does not change the others.
 pub stays_named_before : (ps : List MadePdu) (datagram : List ℕ) (j : ℕ) → is_named_at j ps ≡ true → is_named_at j (ps ++ fresh datagram ∷ []) ≡ true
 stays_named_before [] datagram j h = cc
 stays_named_before (p ∷ ps) datagram zero h = h
@@ -41,14 +41,14 @@ side_stays : (il fe il' fe' : List MadePdu) → ((j : ℕ) → is_named_at j il 
 side_stays il fe il' fe' a b Interlocking place h = a place h
 side_stays il fe il' fe' a b FieldElement place h = b place h
 
--- The labels stay named where the PDUs of either end do.
+-- Labels stay named if the PDUs of both ends do.
 pub labels_stay : (il fe il' fe' : List MadePdu) → ((j : ℕ) → is_named_at j il ≡ true → is_named_at j il' ≡ true)
     → ((j : ℕ) → is_named_at j fe ≡ true → is_named_at j fe' ≡ true) → (xs : List Label) → list_all (named_by il fe) xs ≡ true
     → list_all (named_by il' fe') xs ≡ true
 labels_stay il fe il' fe' a b xs h =
     list_all_weaker (named_by il fe) (named_by il' fe') (λ label. side_stays il fe il' fe' a b label.side label.place) xs h
 
--- the first that is not named stands behind those that are
+-- The first element that fails the test comes after all that pass it.
 pub first_left : {X : Type 0} (p : X → Bool) (xs : List X) (i : ℕ) → list_all p (take i xs) ≡ true
     → (i < length xs → (d : X) → p (get_or xs i d) ≡ false) → slice_get xs i ≡ slice_get (filter (λ x. not (p x)) xs) 0
 first_left p [] i h last = refl
@@ -57,7 +57,7 @@ first_left p (x ∷ xs) (suc i) h last =
     let in_front : p x ≡ true = both_left (p x) (list_all p (take i xs)) h in
     rw in_front (first_left p xs i (both_right (p x) (list_all p (take i xs)) h) (λ within. last (omega arith)))
 
--- One more label behind those that are named leaves them so.
+-- One more label after the named ones leaves them named.
 pub more_made : (il fe il' fe' : List MadePdu) (order later : List Label) (label : Label) (unnamed : ℕ)
     → ((j : ℕ) → is_named_at j il ≡ true → is_named_at j il' ≡ true) → ((j : ℕ) → is_named_at j fe ≡ true → is_named_at j fe' ≡ true)
     → unnamed ≤ length order → later ≡ order ++ label ∷ [] → list_all (named_by il fe) (take unnamed order) ≡ true

@@ -1,4 +1,4 @@
--- A PDU is named where it is kept.
+-- A PDU is named in the list that is kept.
 use Rattle.std.proofs.Common.{◌≡◌, ◌<◌, ℕ, List, [], length, map, get_or, set, ◌∙◌, sym, ap, true}
 use Rattle.std.proofs.lemmas.List.{map-set, get_or-map}
 use Rattle.sim.specs.Made.{MadePdu, fresh, named_at, with_name}

@@ -1,54 +1,59 @@
--- The PDUs made over a script, under their labels, and which of them a line has named.
+-- The PDUs of both ends during a script, by their labels, and which of them a line has named.
 use Rattle.std.specs.Prelude.{ℕ, Bool, not, List, [], ◌∷◌, ◌++◌, length, Option, filter}
 use Rattle.end_settings.specs.declared.Side.{Side}
 use Rattle.end_settings.specs.declared.Side.TheVariants.{Interlocking, FieldElement}
 use Rattle.sim.specs.Made.{MadePdu, datagram_at, fresh, is_named_at, named_at}
 use Rattle.sim.specs.declared.label.Label.{Label}
 
+-- The PDUs of both ends.
 pub record Ledger : Type 0 where
   pub il : List MadePdu  -- those of the interlocking, in the order of making
-  pub fe : List MadePdu
-  pub order : List Label  -- the labels of both ends in the order of making
+  pub fe : List MadePdu  -- those of the field element, in the order of making
+  pub order : List Label  -- the labels of both ends, in the order of making
 
+-- No PDU has been made.
 abbrev pub no_pdus : Ledger
 no_pdus = record { il = []; fe = []; order = [] }
 
--- that of a side
+-- The list of an end, of two lists.
 abbrev pub chosen : Side → List MadePdu → List MadePdu → List MadePdu
 chosen Interlocking il fe = il
 chosen FieldElement il fe = fe
 
+-- The PDUs of an end.
 abbrev pub made_by : Side → Ledger → List MadePdu
 made_by side l = chosen side l.il l.fe
 
+-- The datagram of a PDU, if it has been made.
 abbrev pub datagram_of : Label → Ledger → Option (List ℕ)
 datagram_of label l = datagram_at label.place (made_by label.side l)
 
--- whether a line has named the PDU of a label among these of the interlocking and these of the field element
+-- A line has named the PDU of this label, among these of the interlocking and these of the field element.
 abbrev pub named_by : List MadePdu → List MadePdu → Label → Bool
 named_by il fe label = is_named_at label.place (chosen label.side il fe)
 
+-- A line has named the PDU of this label.
 abbrev pub is_named : Ledger → Label → Bool
 is_named l label = named_by l.il l.fe label
 
--- those that no line has named yet, in the order of making: a flow names the first
+-- The labels that no line has named yet, in the order of making; `flow` delivers the first one.
 abbrev pub unnamed_of : Ledger → List Label
 unnamed_of l = filter (λ label. not (is_named l label)) l.order
 
--- the label of an end's next PDU
+-- The label of an end's next PDU.
 abbrev pub next_label : Side → Ledger → Label
 next_label side l = record { side = side; place = length (made_by side l) }
 
--- other PDUs of one end
+-- The ledger with other PDUs of one end.
 abbrev pub with_made : Side → List MadePdu → Ledger → Ledger
 with_made Interlocking ps l = record l { il = ps }
 with_made FieldElement ps l = record l { fe = ps }
 
--- an end has made a PDU
+-- The ledger after an end made a PDU.
 abbrev pub after_making : Side → List ℕ → Ledger → Ledger
 after_making side datagram l =
     record (with_made side (made_by side l ++ fresh datagram ∷ []) l) { order = l.order ++ next_label side l ∷ [] }
 
--- a line has named a PDU; a label that is not made yet changes nothing
+-- The ledger after a line named a PDU; a label that has not been made changes nothing.
 abbrev pub after_naming : Label → Ledger → Ledger
 after_naming label l = with_made label.side (named_at label.place (made_by label.side l)) l

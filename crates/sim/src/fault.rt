@@ -1,4 +1,4 @@
-//! What stops a script, and how a run ends.
+//! The faults that stop a script, and the exit status of a run.
 
 ghost use Rattle.std.specs.Prelude.{◌≡◌};
 ghost use Rattle.sim.specs.Status.{sim_code, sim_status_of, fault_at};
@@ -6,23 +6,24 @@ ghost use Rattle.sim.specs.Status.{sim_code, sim_status_of, fault_at};
 use std::alloc::{AllocError, AllocFailed};
 use thiserror::Error;
 
-/// What stops a script at a line.
+/// The fault that stops a script at a line.
 #[derive(Clone, Copy, Debug, PartialEq, Eq)]
 pub enum ScriptLineFault {
-    /// The line has no form of a script's line, or a number that is too large for its place.
+    /// The line is not in the language, or a number is too large for its place.
     Unreadable,
-    /// The line names a PDU that is not made yet.
+    /// The line names a PDU that has not been made yet.
     NoSuchLabel,
-    /// Memory was refused.
+    /// An allocation failed.
     Memory,
     /// Standard output failed.
     Output,
 }
 
 impl ScriptLineFault {
-    /// The fault with the number of its line, from 1.
+    /// Returns the fault with the number of its line, from 1.
     pub fn at(self, line: u64) -> ScriptFault
-        // A fault of a script's line keeps the number of the line, but for want of memory and a failed output.
+        // A fault of the script keeps the number of the `line`; a failed allocation or output has no number
+        // (`fault_at`).
         ensures { result ≡ fault_at self line }
     {
         match self {
@@ -46,7 +47,7 @@ impl<T: Drop> From<AllocFailed<T>> for ScriptLineFault {
     }
 }
 
-/// Why a run stopped, as it is named on standard error.
+/// Why a run stopped; its text goes to standard error.
 #[derive(Clone, Copy, Debug, PartialEq, Eq, Error)]
 pub enum ScriptFault {
     /// See `ScriptLineFault::Unreadable`.
@@ -55,10 +56,10 @@ pub enum ScriptFault {
     /// See `ScriptLineFault::NoSuchLabel`.
     #[error("line {0}: no such label")]
     NoSuchLabel(u64),
-    /// The script can't be read, or is no UTF-8 text.
+    /// The script cannot be read, or is not a UTF-8 text.
     #[error("fault: file")]
     File,
-    /// Memory was refused.
+    /// An allocation failed.
     #[error("fault: memory")]
     Memory,
     /// Standard output failed.
@@ -67,9 +68,9 @@ pub enum ScriptFault {
 }
 
 impl ScriptFault {
-    /// How the run ends with it.
+    /// Returns the end of a run that this fault stops.
     pub fn status(self) -> SimStatus
-        // A fault of a script ends the run as refused, and one of the output as failed.
+        // A failed output ends the run as failed, any other fault as refused (`sim_status_of`).
         ensures { result ≡ sim_status_of self }
     {
         match self {
@@ -79,21 +80,21 @@ impl ScriptFault {
     }
 }
 
-/// How a run ends.
+/// How a run ended.
 #[derive(Clone, Copy, Debug, PartialEq, Eq)]
 pub enum SimStatus {
     /// The script ran to its end.
     Done,
-    /// A fault of the script, or want of memory, stopped it.
+    /// A fault of the script, or a failed allocation, stopped it.
     Refused,
     /// Standard output failed.
     Failed,
 }
 
 impl SimStatus {
-    /// The exit status.
+    /// Returns the exit status of the program.
     pub fn code(self) -> u8
-        // Each end of a run has its exit status.
+        // The status is 0 for done, 1 for refused and 3 for failed (`sim_code`).
         ensures { result ≡ sim_code self }
     {
         match self {

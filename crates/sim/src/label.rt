@@ -1,16 +1,16 @@
-//! How a script names a PDU.
+//! The label by which a script names a PDU.
 
 use end_settings::Side;
 use pdu_text::side_letter;
 use std::fmt;
 use std::fmt::{Display, Formatter};
 
-/// The label of a PDU: `i1`, `i2`, .. are those of the interlocking, `f1`, `f2`, .. those of the field element.
+/// The label of a PDU: `i1`, `i2`, .. for the interlocking, `f1`, `f2`, .. for the field element.
 #[derive(Clone, Copy, Debug, PartialEq, Eq)]
 pub struct Label {
-    /// The end that made it.
+    /// The end that made the PDU.
     pub side: Side,
-    /// Its place among the PDUs that this end made, from 0: the number in its label is one more.
+    /// Its place among the PDUs of this end, from 0; the number in the label is one more.
     pub place: usize,
 }
 

@@ -1,4 +1,4 @@
-//! The PDUs that the ends made over a whole script, under their labels.
+//! The PDUs that both ends made during a script, by their labels.
 
 ghost use Rattle.std.specs.Prelude.{◌≡◌, ◌≤◌, length, take, filter, not, true, slice_get, OnOk, OnErr};
 ghost use Rattle.std.specs.List.{list_all};
@@ -11,18 +11,18 @@ use end_settings::Side;
 use std::alloc::{AllocError, Allocator, Global};
 use std::marker::Model;
 
-/// All PDUs made, with their datagrams, and which of them no line has named yet.
+/// All PDUs with their datagrams, and the ones that no line has named yet.
 #[derive(Drop)]
 pub struct Labels<A: Allocator = Global> {
-    /// Where memory comes from.
+    /// The allocator for datagrams and labels.
     alloc: A,
     /// The PDUs of the interlocking.
     il: Made<A>,
     /// The PDUs of the field element.
     fe: Made<A>,
-    /// The labels of both ends in the order of making.
+    /// The labels of both ends in the order in which they made the PDUs.
     order: Vec<Label, A>,
-    /// Each label before this place of the order is named.
+    /// All labels before this place of the order are named.
     unnamed: usize,
 }
 
@@ -40,9 +40,9 @@ impl<A: Allocator> Model for Labels<A> {
 impl<A: Allocator + Copy> Labels<A> {
     ghost use Rattle.sim.specs.Ledger.{after_making, no_pdus};
 
-    /// No PDU is made yet.
+    /// Returns labels without PDUs.
     pub fn new(alloc: A) -> Self
-        // A script begins with no PDU made.
+        // The new labels have no PDU of either end, and an empty order.
         ensures { result ≡ no_pdus }
     {
         Labels {
@@ -54,15 +54,16 @@ impl<A: Allocator + Copy> Labels<A> {
         }
     }
 
-    /// An end made a PDU: it has the end's next label.
+    /// Adds a PDU that an end made; it gets the end's next label.
     ///
     /// # Errors
     ///
-    /// The error is that memory was refused; nothing has changed then.
+    /// An allocation failed. Nothing has changed then.
     pub fn make(&mut self, side: Side, datagram: &[u8]) -> Result<(), AllocError>
-        // A PDU that an end made has the end's next label, and is the last in the order of making.
+        // On success the PDU is the last of its end and not named, and its label is the last of the order
+        // (`after_making`).
         ensures ok { OnOk result (self.new ≡ after_making side datagram.now self.old) }
-        // Where memory is refused for a PDU nothing changes.
+        // If an allocation fails, no PDU and no label was added.
         ensures err { OnErr result (self.new ≡ self.old) }
     {
         self.order.try_reserve(1)?;
@@ -89,25 +90,26 @@ impl<A: Allocator + Copy> Labels<A> {
 impl<A: Allocator> Labels<A> {
     ghost use Rattle.sim.specs.Ledger.{after_naming, datagram_of, unnamed_of};
 
-    /// How many PDUs both ends have made.
+    /// Returns how many PDUs both ends have made.
     pub fn len(&self) -> usize
-        // The number of PDUs made is told, and the label at a place in the order of making.
+        // The number is the length of the order over both ends.
         ensures { result ≡ length self.now.order }
     {
         self.order.len()
     }
 
-    /// The label of the PDU that both ends have made at a place, from 0.
+    /// Returns the label of the PDU at a place in the order over both ends, from 0.
     pub fn label(&self, place: usize) -> Option<Label>
-        // The number of PDUs made is told, and the label at a place in the order of making.
+        // The result is the label at this `place` of the order; `None` beyond its end.
         ensures { result ≡ slice_get self.now.order place }
     {
         self.order.get(place).copied()
     }
 
-    /// The datagram of a PDU; `None` where it is not made yet.
+    /// Returns the datagram of a PDU; `None` if it has not been made yet.
     pub fn datagram(&self, label: Label) -> Option<&[u8]>
-        // The datagram found by a label is that of its PDU, and none where it is not made yet.
+        // The datagram is that of the PDU with this `label`, made by the label's end at the label's place
+        // (`datagram_of`).
         ensures { option_copied result ≡ datagram_of label self.now }
     {
         match label.side {
@@ -116,9 +118,10 @@ impl<A: Allocator> Labels<A> {
         }
     }
 
-    /// A line names a PDU; a label that is not made yet stays unnamed.
+    /// Marks a PDU as named by a line. A label that has not been made stays unnamed.
     pub fn name(&mut self, label: Label)
-        // A PDU that a line names counts as named; a label that is not made changes nothing.
+        // Only the PDU of this `label` changes, to named; a label that has not been made changes nothing
+        // (`after_naming`).
         ensures { self.new ≡ after_naming label self.old }
     {
         match label.side {
@@ -127,11 +130,11 @@ impl<A: Allocator> Labels<A> {
         }
     }
 
-    /// The PDU made first of those that no line has named.
+    /// Returns the first PDU in the order of making that no line has named. `flow` delivers that one.
     pub fn first_unnamed(&mut self) -> Option<Label>
-        // `flow` has the first PDU in the order of making that no line has named.
+        // The result is the first label of `unnamed_of`, or `None` if all are named.
         ensures first { result ≡ slice_get (unnamed_of self.old) 0 }
-        // Finding the PDU that was made first of those unnamed changes nothing.
+        // Finding a PDU names none, and leaves all PDUs as they are.
         ensures same { self.new ≡ self.old }
     {
         self.unnamed = first_from(&self.il, &self.fe, self.order.as_slice(), self.unnamed);
@@ -139,12 +142,15 @@ impl<A: Allocator> Labels<A> {
     }
 }
 
-/// The first place from this one on whose label is not named; the number of labels where all are.
+/// Returns the first place from this one on whose label is not named, or the number of labels.
 fn first_from<A: Allocator>(il: &Made<A>, fe: &Made<A>, order: &[Label], from: usize) -> usize
     requires within { from ≤ length order.now }
     requires named { list_all (named_by il.now fe.now) (take from order.now) ≡ true }
+    // The place is at most the number of labels.
     ensures within { result ≤ length order.now }
+    // All labels before the place are named.
     ensures named { list_all (named_by il.now fe.now) (take result order.now) ≡ true }
+    // The label at the place is the first one in the whole order that is not named.
     ensures first { slice_get order.now result
         ≡ slice_get (filter (λ label. not (named_by il.now fe.now label)) order.now) 0 }
 {
@@ -156,8 +162,9 @@ fn first_from<A: Allocator>(il: &Made<A>, fe: &Made<A>, order: &[Label], from: u
     order.len()
 }
 
-/// Whether a line has named a PDU.
+/// Returns `true` if a line has named a PDU.
 fn is_named<A: Allocator>(il: &Made<A>, fe: &Made<A>, label: Label) -> bool
+    // The result is that of the PDU with this `label` among those of its end (`named_by`).
     ensures { result ≡ named_by il.now fe.now label }
 {
     match label.side {

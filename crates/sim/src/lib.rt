@@ -1,7 +1,8 @@
-//! The script language of `sim`: lines of text that open two ends, put telegrams in, set clocks, and deliver, damage
-//! or lose the datagrams that the ends made. What the ends answer is printed.
+//! The script language of `rasta sim`: lines of text that open two ends in memory, put telegrams, set clocks, and
+//! deliver, damage or lose the datagrams of the ends. What the ends do is printed.
 //!
-//! docs/SIM.md is the page for those who write scripts.
+//! docs/sim.md is the page for authors of scripts. Reading a line and running a script have no contracts: worked
+//! scripts (`tests/scripts`, `examples`) and an independent model test them.
 #![tactic(auto)]
 
 mod fault;

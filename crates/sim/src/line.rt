@@ -1,4 +1,4 @@
-//! A line of a script as what it asks for.
+//! The commands of a script's lines.
 
 use crate::fault::ScriptLineFault;
 use crate::label::Label;
@@ -9,45 +9,45 @@ use end_settings::{Side, Versions};
 use pdi_session::VERSIONS_MAX;
 use std::alloc::{Allocator, Global};
 
-/// The greatest number of octets that `putlen` puts in.
+/// Largest payload of `putlen`, in bytes.
 pub const ZEROS_MAX: usize = 1000;
 
-/// What a line asks for.
+/// The command of a line.
 #[derive(Drop)]
 pub enum Command<A: Allocator = Global> {
-    /// Nothing: the line is empty.
+    /// An empty line.
     Nothing,
     /// `set KEY N`: a setting of later openings.
     Set(Setting),
-    /// `versions fe N ..`: the PDI versions of later field elements.
+    /// `versions fe N ..`: the PDI versions of field elements opened later.
     Versions(Versions),
     /// `open END`.
     Open(Side),
-    /// `close END`: its user closes it.
+    /// `close END`: the user closes the end.
     Close(Side),
-    /// `clock END MS`: the end's clock from now on.
+    /// `clock END MS`: the end's clock from now on, in milliseconds.
     Clock(Side, u64),
     /// `tick END`: a tick at the end's clock.
     Tick(Side),
-    /// `put END KIND HEX`: one telegram.
+    /// `put END KIND HEX`: puts one telegram.
     Put(Side, u16, Vec<u8, A>),
-    /// `putlen END KIND N`: one telegram with N octets of zero.
+    /// `putlen END KIND N`: puts one telegram with a payload of N zero bytes.
     PutZeros(Side, u16, usize),
-    /// `puts END N KIND`: N telegrams, the k-th with the octet k, from 0.
+    /// `puts END N KIND`: puts N telegrams; the payload of the k-th, from 0, is the byte k.
     PutCounted(Side, u64, u16),
-    /// `done`: the field element's application has put in its initial status.
+    /// `done`: the field element's application has put its initial status.
     InitDone,
     /// `give LABEL CH`: delivers a datagram on a channel.
     Give(Label, u64),
-    /// `hit LABEL CH PLACE XX`: the same, with the octet at a place exclusive-ored.
+    /// `hit LABEL CH PLACE XX`: the same, after the byte at a place is XORed with XX.
     Hit(Label, u64, u64, u8),
-    /// `lose LABEL`: names a label, and no more.
+    /// `lose LABEL`: names a label without delivering it.
     Lose(Label),
-    /// `flow CH ..`: delivers each datagram that no line has named yet on each of these channels.
+    /// `flow CH ..`: delivers each datagram that no line has named yet, on each of these channels.
     Flow(Vec<u64, A>),
-    /// `est`: opens both ends and sets a session up.
+    /// `est`: opens both ends and establishes a session.
     Establish,
-    /// `trace`, `trace off`: from now on each happening is printed, or not.
+    /// `trace`, `trace off`: from now on each step is printed, or not.
     Trace(bool),
 }
 
@@ -55,7 +55,8 @@ pub enum Command<A: Allocator = Global> {
 ///
 /// # Errors
 ///
-/// Refused: `Unreadable`, where the line has no form of the language, or a number too large for its place; `Memory`.
+/// - `Unreadable` if the line is not in the language, or a number is too large for its place;
+/// - `Memory` if an allocation fails.
 pub fn read_line<A: Allocator + Copy>(alloc: A, line: &str) -> Result<Command<A>, ScriptLineFault> {
     let mut words = Words::new(line);
     let Some(first) = words.next() else {
@@ -79,7 +80,7 @@ pub fn read_line<A: Allocator + Copy>(alloc: A, line: &str) -> Result<Command<A>
     Ok(found)
 }
 
-/// The lines that name datagrams.
+/// Reads a line that names datagrams.
 fn delivery<A: Allocator + Copy>(
     alloc: A,
     first: &str,
@@ -104,7 +105,7 @@ fn delivery<A: Allocator + Copy>(
     }
 }
 
-/// The lines that put telegrams in.
+/// Reads a line that puts telegrams.
 fn putting<A: Allocator + Copy>(
     alloc: A,
     first: &str,
@@ -125,6 +126,7 @@ fn putting<A: Allocator + Copy>(
     }
 }
 
+/// Reads a setting: a key and a number.
 fn setting(words: &mut Words<'_>) -> Result<Setting, ScriptLineFault> {
     let key = Key::of(words.word()?).ok_or(ScriptLineFault::Unreadable)?;
     let value = words.number(u64::from(key.greatest()))?;
@@ -134,7 +136,7 @@ fn setting(words: &mut Words<'_>) -> Result<Setting, ScriptLineFault> {
     })
 }
 
-/// The versions of a field element; no other end has a list.
+/// Reads the versions of a field element; the interlocking has only one.
 fn versions<A: Allocator + Copy>(
     alloc: A,
     words: &mut Words<'_>,
@@ -157,6 +159,7 @@ fn versions<A: Allocator + Copy>(
     }
 }
 
+/// Reads the rest of a `trace` line.
 fn trace(words: &mut Words<'_>) -> Result<bool, ScriptLineFault> {
     match words.next() {
         None => Ok(true),

@@ -1,4 +1,4 @@
-//! The PDUs that one end made over a whole script.
+//! The PDUs that one end made during a script.
 
 ghost use Rattle.std.specs.Prelude.{◌≡◌, ◌++◌, ◌∷◌, [], length, false, OnOk, OnErr};
 ghost use Rattle.std.specs.Option.{option_copied, option_map};
@@ -10,16 +10,16 @@ use std::marker::Model;
 /// A PDU that an end made.
 #[derive(Drop)]
 struct Pdu<A: Allocator = Global> {
-    /// Its octets.
+    /// Its datagram.
     datagram: Vec<u8, A>,
-    /// Whether a line has named it.
+    /// A line has named it.
     is_named: bool,
 }
 
-/// The PDUs that one end made, in the order of making, each with its datagram and whether a line has named it.
+/// The PDUs of one end in the order in which it made them, each with its datagram and a mark if a line has named it.
 #[derive(Drop)]
 pub struct Made<A: Allocator = Global> {
-    /// The PDUs, in the order of making.
+    /// The PDUs in the order of making.
     pdus: Vec<Pdu<A>, A>,
 }
 
@@ -34,8 +34,9 @@ impl<A: Allocator> Model for Made<A> {
 }
 
 impl<A: Allocator + Copy> Made<A> {
-    /// None is made yet.
+    /// Returns a list without PDUs.
     pub fn new(alloc: A) -> Self
+        // The new list is empty.
         ensures { result ≡ [] }
     {
         Made {
@@ -43,13 +44,15 @@ impl<A: Allocator + Copy> Made<A> {
         }
     }
 
-    /// The end made a PDU.
+    /// Adds a PDU that the end made.
     ///
     /// # Errors
     ///
-    /// The error is that memory was refused; nothing has changed then.
+    /// An allocation failed. Nothing has changed then.
     pub fn add(&mut self, alloc: A, datagram: &[u8]) -> Result<(), AllocError>
+        // On success the PDU is the last of the list, and no line has named it.
         ensures ok { OnOk result (self.new ≡ self.old ++ fresh datagram.now ∷ []) }
+        // If an allocation fails, the list has no new PDU.
         ensures err { OnErr result (self.new ≡ self.old) }
     {
         self.pdus.try_reserve(1)?;
@@ -63,15 +66,17 @@ impl<A: Allocator + Copy> Made<A> {
 }
 
 impl<A: Allocator> Made<A> {
-    /// How many there are.
+    /// Returns how many PDUs there are.
     pub fn len(&self) -> usize
+        // The number is the length of the list.
         ensures { result ≡ length self.now }
     {
         self.pdus.len()
     }
 
-    /// The datagram of the PDU at a place, from 0; `None` where it is not made yet.
+    /// Returns the datagram of the PDU at a place, from 0; `None` if it has not been made yet.
     pub fn datagram(&self, place: usize) -> Option<&[u8]>
+        // The datagram is that of the PDU at this `place` of the list (`datagram_at`).
         ensures { option_copied result ≡ datagram_at place self.now }
     {
         if place < self.pdus.len() {
@@ -81,15 +86,17 @@ impl<A: Allocator> Made<A> {
         }
     }
 
-    /// Whether a line has named the PDU at a place; one that is not made is not named.
+    /// Returns `true` if a line has named the PDU at a place; one that has not been made is not named.
     pub fn is_named(&self, place: usize) -> bool
+        // The result is the mark of the PDU at this `place`; false beyond the end of the list.
         ensures { result ≡ is_named_at place self.now }
     {
         place < self.pdus.len() && self.pdus[place].is_named
     }
 
-    /// A line names the PDU at a place; where none is made yet, nothing changes.
+    /// Marks the PDU at a place as named. If it has not been made, nothing changes.
     pub fn name(&mut self, place: usize)
+        // Only the mark of the PDU at this `place` changes, to named (`named_at`).
         ensures { self.new ≡ named_at place self.old }
     {
         if place < self.pdus.len() {

@@ -1,4 +1,4 @@
-//! Running a script, line by line.
+//! The run of a script, line by line.
 
 use crate::trace::{Trace, TracedEvent};
 use crate::{
@@ -13,15 +13,15 @@ use std::alloc::Allocator;
 use std::io;
 use std::io::{ErrorKind, Read, Write};
 
-/// How many datagrams one `flow` delivers at most.
+/// Largest number of datagrams that one `flow` delivers.
 const FLOW_MAX: usize = 1000;
 
-/// The latest time that a clock may show: 2^62 milliseconds.
+/// The latest time of a clock: 2^62 milliseconds.
 const CLOCK_MAX: u64 = 1 << 62;
 
-/// Runs the script that a reader holds, on two ends that were never opened. Its lines go to `out`, a fault to `err`.
+/// Runs the script in a reader on two ends that were never opened. Its output goes to `out`, a fault to `err`.
 ///
-/// What was printed before a fault stays printed; a report follows where the script ran to its end.
+/// What was printed before a fault stays. A report follows if the script ran to its end.
 pub fn run<R: Read + Drop, O: Write, E: Write, A: Allocator + Copy>(
     alloc: A,
     reader: R,
@@ -31,14 +31,14 @@ pub fn run<R: Read + Drop, O: Write, E: Write, A: Allocator + Copy>(
     match run_lines(alloc, reader, out) {
         Ok(()) => SimStatus::Done,
         Err(fault) => {
-            // Where this output fails too, the status alone tells.
+            // If this output fails too, only the status reports the fault.
             let _ = writeln!(err, "{fault}");
             fault.status()
         }
     }
 }
 
-/// Runs the script that a reader holds.
+/// Runs the script in a reader.
 fn run_lines<R: Read + Drop, O: Write, A: Allocator + Copy>(
     alloc: A,
     reader: R,
@@ -59,14 +59,14 @@ fn run_lines<R: Read + Drop, O: Write, A: Allocator + Copy>(
         trace,
     };
     let ended = script.lines(text.as_str());
-    // What was due is written out before a fault is told.
+    // Pending output is written before a fault is reported.
     match script.trace.flush() {
         Ok(()) => ended,
         Err(_) => Err(ScriptFault::Output),
     }
 }
 
-/// The whole text of a script.
+/// Reads the whole text of a script.
 fn read<R: Read + Drop, A: Allocator + Copy>(
     alloc: A,
     reader: R,
@@ -74,7 +74,7 @@ fn read<R: Read + Drop, A: Allocator + Copy>(
     io::read_to_string(alloc, reader).map_err(fault_of)
 }
 
-/// Why a text can't be read.
+/// Returns why a text cannot be read.
 fn fault_of(error: io::Error) -> ScriptFault {
     match error.kind() {
         ErrorKind::OutOfMemory => ScriptFault::Memory,
@@ -82,23 +82,23 @@ fn fault_of(error: io::Error) -> ScriptFault {
     }
 }
 
-/// A script that runs.
+/// A script that is running.
 #[derive(Drop)]
 struct Script<W: Write + Drop, A: Allocator + Copy> {
-    /// Where memory comes from.
+    /// The allocator.
     alloc: A,
-    /// Both ends, and all that happened to them.
+    /// Both ends with their history.
     pair: Pair<A>,
-    /// What the next opening takes.
+    /// The settings of the next opening.
     settings: ScriptSettings,
-    /// What each clock shows, in milliseconds.
+    /// The clock of each end, in milliseconds.
     clocks: Sides<u64>,
-    /// What is printed, and the PDUs under their labels.
+    /// The printer, with the PDUs by their labels.
     trace: Trace<W, A>,
 }
 
 impl<W: Write + Drop, A: Allocator + Copy> Script<W, A> {
-    /// Runs the lines of a text, and prints the report.
+    /// Runs the lines of a text and prints the report.
     fn lines(&mut self, text: &str) -> Result<(), ScriptFault> {
         let mut number = 0u64;
         for line in text.split('\n') {
@@ -114,6 +114,7 @@ impl<W: Write + Drop, A: Allocator + Copy> Script<W, A> {
         }
     }
 
+    /// Prints the state of both ends.
     fn report(&mut self) -> Result<(), ScriptLineFault> {
         for side in [Side::Interlocking, Side::FieldElement] {
             self.trace.report(side, standing(&self.pair, side))?;
@@ -121,6 +122,7 @@ impl<W: Write + Drop, A: Allocator + Copy> Script<W, A> {
         Ok(())
     }
 
+    /// Runs one line.
     fn line(&mut self, line: &str) -> Result<(), ScriptLineFault> {
         match read_line(self.alloc, line)? {
             Command::Nothing => Ok(()),
@@ -156,6 +158,7 @@ impl<W: Write + Drop, A: Allocator + Copy> Script<W, A> {
         }
     }
 
+    /// Makes a call at an end, at the end's clock.
     fn call(&mut self, side: Side, call: Call<'_>) -> Result<(), ScriptLineFault> {
         let now = *self.clocks.of(side);
         let is_tick = matches!(call, Call::Tick);
@@ -167,7 +170,7 @@ impl<W: Write + Drop, A: Allocator + Copy> Script<W, A> {
         self.happen(&event, is_tick)
     }
 
-    /// Lets an event happen, but a delivery, and prints what it did or why it is refused.
+    /// Applies an event that is not a delivery, and prints what it did or why it was refused.
     fn happen(&mut self, event: &Event<'_>, is_tick: bool) -> Result<(), ScriptLineFault> {
         match self.pair.apply(event) {
             Ok(()) => self.tell(TracedEvent {
@@ -192,6 +195,7 @@ impl<W: Write + Drop, A: Allocator + Copy> Script<W, A> {
         self.trace.finish()
     }
 
+    /// Opens an end with the current settings.
     fn open(&mut self, side: Side) -> Result<(), ScriptLineFault> {
         let event = Event {
             side,
@@ -214,10 +218,12 @@ impl<W: Write + Drop, A: Allocator + Copy> Script<W, A> {
         }
     }
 
+    /// Puts a telegram.
     fn put(&mut self, side: Side, kind: u16, payload: &[u8]) -> Result<(), ScriptLineFault> {
         self.call(side, Call::Put { kind, payload })
     }
 
+    /// Puts a telegram with a payload of zero bytes.
     fn put_zeros(&mut self, side: Side, kind: u16, length: usize) -> Result<(), ScriptLineFault> {
         let zeros = [0; ZEROS_MAX];
         match zeros.split_at_checked(length) {
@@ -226,6 +232,7 @@ impl<W: Write + Drop, A: Allocator + Copy> Script<W, A> {
         }
     }
 
+    /// Puts telegrams whose payloads count up from 0.
     fn put_counted(&mut self, side: Side, count: u64, kind: u16) -> Result<(), ScriptLineFault> {
         for place in 0..count {
             self.put(side, kind, &[(place & 0xff) as u8])?;
@@ -233,7 +240,7 @@ impl<W: Write + Drop, A: Allocator + Copy> Script<W, A> {
         Ok(())
     }
 
-    /// Opens both ends, and lets all that they make arrive until a session is set up.
+    /// Opens both ends and delivers all PDUs until a session is established.
     fn establish(&mut self) -> Result<(), ScriptLineFault> {
         self.open(Side::FieldElement)?;
         self.open(Side::Interlocking)?;
@@ -242,6 +249,7 @@ impl<W: Write + Drop, A: Allocator + Copy> Script<W, A> {
         self.flow(&[1])
     }
 
+    /// Sets the clock of an end; it must not decrease.
     fn set_clock(&mut self, side: Side, now: Milliseconds) -> Result<(), ScriptLineFault> {
         let clock = self.clocks.of_mut(side);
         if now < *clock || now > CLOCK_MAX {
@@ -251,6 +259,7 @@ impl<W: Write + Drop, A: Allocator + Copy> Script<W, A> {
         Ok(())
     }
 
+    /// Delivers a datagram.
     fn give(&mut self, label: Label, channel: u64) -> Result<(), ScriptLineFault> {
         self.check_channel(channel)?;
         self.check_label(label)?;
@@ -258,6 +267,7 @@ impl<W: Write + Drop, A: Allocator + Copy> Script<W, A> {
         self.deliver(label, channel)
     }
 
+    /// Delivers a datagram with one damaged byte.
     fn hit(
         &mut self,
         label: Label,
@@ -288,6 +298,7 @@ impl<W: Write + Drop, A: Allocator + Copy> Script<W, A> {
         self.arrived(label, arrival)
     }
 
+    /// Delivers all datagrams that no line has named.
     fn flow(&mut self, channels: &[u64]) -> Result<(), ScriptLineFault> {
         for channel in channels {
             self.check_channel(*channel)?;
@@ -304,6 +315,7 @@ impl<W: Write + Drop, A: Allocator + Copy> Script<W, A> {
         Ok(())
     }
 
+    /// Checks that there is such a channel.
     fn check_channel(&self, channel: u64) -> Result<(), ScriptLineFault> {
         if channel < 1 || channel > self.settings.channels() {
             return Err(ScriptLineFault::Unreadable);
@@ -311,13 +323,13 @@ impl<W: Write + Drop, A: Allocator + Copy> Script<W, A> {
         Ok(())
     }
 
-    /// The PDU of a label is made.
+    /// Checks that the PDU of a label has been made.
     fn check_label(&self, label: Label) -> Result<(), ScriptLineFault> {
         let _datagram = datagram(&self.trace.labels, label)?;
         Ok(())
     }
 
-    /// Delivers the datagram of a PDU to the end that did not make it.
+    /// Delivers the datagram of a PDU to the other end.
     fn deliver(&mut self, label: Label, channel: u64) -> Result<(), ScriptLineFault> {
         let side = other(label.side);
         let now = *self.clocks.of(side);
@@ -343,21 +355,21 @@ impl<W: Write + Drop, A: Allocator + Copy> Script<W, A> {
     }
 }
 
-/// The datagram of a PDU. Refused as `NoSuchLabel`, where it is not made yet.
+/// Returns the datagram of a PDU, or `NoSuchLabel` if it has not been made yet.
 fn datagram<A: Allocator>(labels: &Labels<A>, label: Label) -> Result<&[u8], ScriptLineFault> {
     labels.datagram(label).ok_or(ScriptLineFault::NoSuchLabel)
 }
 
-/// How a delivery went.
+/// The result of a delivery.
 #[derive(Clone, Copy, Debug)]
 struct Arrival {
-    /// It broke the premise that valid datagrams carry live PDUs.
+    /// It broke the premise that datagrams with a valid safety code carry live PDUs.
     is_dead: bool,
-    /// Whether the delivery was accepted.
+    /// `Ok` if the delivery was accepted.
     answer: Result<(), ApplyFault>,
 }
 
-/// Lets octets arrive at an end.
+/// Delivers bytes to an end.
 fn arrive<A: Allocator + Copy>(
     pair: &mut Pair<A>,
     side: Side,
@@ -366,7 +378,7 @@ fn arrive<A: Allocator + Copy>(
     octets: &[u8],
     is_traced: bool,
 ) -> Arrival {
-    // The question is dear, and its answer is for traces alone.
+    // The check is expensive, and only traces need it.
     let is_dead = is_traced && pair.breaks_premise(side, octets);
     let channel = channel as usize;
     let call = Call::Deliver { channel, octets };
@@ -381,7 +393,7 @@ fn arrive<A: Allocator + Copy>(
     }
 }
 
-/// How an end stands; `None` where it was never opened.
+/// Returns the state of an end; `None` if it was never opened.
 fn standing<A: Allocator + Copy>(pair: &Pair<A>, side: Side) -> Option<Standing> {
     let end = pair.end_of(side)?;
     let last = pair.incarnations(side).checked_sub(1)?;

@@ -1,40 +1,40 @@
-//! The settings of a script, which each opening takes as they are then.
+//! The settings of a script; each opening uses them as they are at that time.
 
 use crate::sides::Sides;
 use end_settings::{Checksum, EndConfig, Side, Versions};
 use pdi_session::telegram::{Name, OwnedName};
 
-/// What `set` changes.
+/// The keys of `set`.
 #[derive(Clone, Copy, Debug, PartialEq, Eq)]
 pub enum Key {
     /// N_sendmax of both ends.
     NSendmax,
-    /// How many messages both ends pack into one unit.
+    /// The most messages that both ends pack into one unit.
     NMaxpacket,
-    /// How many early parts both ends let wait.
+    /// The most parts that both ends defer.
     Q,
-    /// T_max of both ends.
+    /// T_max of both ends, in milliseconds.
     TMax,
-    /// T_h of both ends.
+    /// T_h of both ends, in milliseconds.
     TH,
-    /// T_seq of both ends.
+    /// T_seq of both ends, in milliseconds.
     TSeq,
     /// MWA of both ends.
     Mwa,
-    /// How many PDUs a connection may have.
+    /// The most PDUs of a connection.
     PduLimit,
     /// The number of channels.
     Channels,
-    /// The octets of safety code.
+    /// The length of the safety code in bytes.
     Code,
     /// The first sequence number of an end.
     FirstSn(Side),
-    /// The PDI version of an end: a list of this one.
+    /// The only PDI version of an end.
     Version(Side),
 }
 
 impl Key {
-    /// The key that a word names.
+    /// Returns the key with this name.
     pub fn of(word: &str) -> Option<Self> {
         match word {
             "n_sendmax" => Some(Key::NSendmax),
@@ -55,7 +55,7 @@ impl Key {
         }
     }
 
-    /// The greatest number that a script may set it to. Whether an end opens with it is another matter.
+    /// Returns the largest number that a script may set; an end may still refuse to open with it.
     pub fn greatest(self) -> u32 {
         match self {
             Key::Version(_) => 255,
@@ -67,23 +67,23 @@ impl Key {
 /// A key with its value.
 #[derive(Clone, Copy, Debug, PartialEq, Eq)]
 pub struct Setting {
-    /// What is changed.
+    /// The key.
     pub key: Key,
-    /// What it becomes.
+    /// The new value.
     pub value: u32,
 }
 
 /// The settings of both ends.
 #[derive(Clone, Copy, Debug)]
 pub struct ScriptSettings {
-    /// What each end is opened with.
+    /// The settings that each end is opened with.
     ends: Sides<EndConfig>,
-    /// The first sequence number of each.
+    /// The first sequence number of each end.
     first_sn: Sides<u32>,
 }
 
 impl ScriptSettings {
-    /// Those of a script's beginning; `None` would be a fault of this program.
+    /// Returns the settings at the start of a script; `None` would be a defect of this program.
     pub fn new() -> Option<Self> {
         let il = OwnedName::new(Name::new("IL1").ok()?);
         let fe = OwnedName::new(Name::new("FE1").ok()?);
@@ -113,28 +113,28 @@ impl ScriptSettings {
         }
     }
 
-    /// Gives the field element these PDI versions.
+    /// Sets the PDI versions of the field element.
     pub fn set_versions(&mut self, versions: Versions) {
         self.ends.fe.versions = versions;
     }
 
-    /// What an end is opened with.
+    /// Returns the settings that an end is opened with.
     pub fn config(&self, side: Side) -> EndConfig {
         *self.ends.of(side)
     }
 
-    /// The first sequence number that an end is opened with.
+    /// Returns the first sequence number that an end is opened with.
     pub fn first_sn(&self, side: Side) -> u32 {
         *self.first_sn.of(side)
     }
 
-    /// How many channels there are.
+    /// Returns the number of channels.
     pub fn channels(&self) -> u64 {
         self.ends.il.channels
     }
 }
 
-/// The settings of an end at a script's beginning.
+/// Returns the settings of an end at the start of a script.
 fn begin_config(id: u32, name: OwnedName, peer_id: u32, peer_name: OwnedName) -> Option<EndConfig> {
     Some(EndConfig {
         id,
@@ -158,7 +158,7 @@ fn begin_config(id: u32, name: OwnedName, peer_id: u32, peer_name: OwnedName) ->
     })
 }
 
-/// Changes a setting that both ends have in common.
+/// Changes a setting that both ends share.
 fn change(end: &mut EndConfig, key: Key, value: u64) {
     match key {
         Key::NSendmax => end.n_sendmax = value,

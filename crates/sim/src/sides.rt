@@ -1,18 +1,18 @@
-//! One thing for each end.
+//! One value for each end.
 
 use end_settings::Side;
 
-/// One thing for each end.
+/// One value for each end.
 #[derive(Clone, Copy, Debug, Drop)]
 pub struct Sides<T> {
-    /// That of the interlocking.
+    /// The value of the interlocking.
     pub il: T,
-    /// That of the field element.
+    /// The value of the field element.
     pub fe: T,
 }
 
 impl<T> Sides<T> {
-    /// That of an end.
+    /// Returns the value of an end.
     pub fn of(&self, side: Side) -> &T {
         match side {
             Side::Interlocking => &self.il,
@@ -20,7 +20,7 @@ impl<T> Sides<T> {
         }
     }
 
-    /// That of an end, to be changed.
+    /// Returns the value of an end for a change.
     pub fn of_mut(&mut self, side: Side) -> &mut T {
         match side {
             Side::Interlocking => &mut self.il,
@@ -29,7 +29,7 @@ impl<T> Sides<T> {
     }
 }
 
-/// The other end.
+/// Returns the other end.
 pub fn other(side: Side) -> Side {
     match side {
         Side::Interlocking => Side::FieldElement,

@@ -1,4 +1,4 @@
-//! What is printed of what the ends do.
+//! The printer of what the ends do.
 
 ghost use Rattle.std.specs.Prelude.{◌≡◌, MatchResult, IsOk, IsErr};
 
@@ -21,48 +21,48 @@ use std::fmt::Display;
 use std::io;
 use std::io::{BufWriter, Write};
 
-/// The parts that wait in an end's redundancy layer: number, and place of the peer's PDU that came first under it.
+/// The parts in an end's deferral queue: number, and place of the peer's PDU that came first under it.
 type Waits = ArrayVec<(u32, usize), Q_MAX>;
 
-/// The event whose doings are told.
+/// The event whose notes are printed.
 #[derive(Clone, Copy, Debug)]
 pub struct TracedEvent {
-    /// The end that it happened to.
+    /// The end of the event.
     pub side: Side,
-    /// The PDU whose datagram came; none where none came.
+    /// The PDU whose datagram was delivered, if the event is a delivery.
     pub came: Option<Label>,
-    /// Whether it is a tick.
+    /// The event is a tick.
     pub is_tick: bool,
 }
 
-/// How far the doings of an event are printed.
+/// How far the notes of an event are printed.
 #[derive(Clone, Copy, Debug)]
 struct Progress {
-    /// The place of the first PDU made that is not printed yet.
+    /// The place of the first PDU that is not printed yet.
     unprinted: usize,
-    /// Whether what a machine step handed to the session may still follow.
+    /// Notes of a machine step's effects in the session may still follow.
     in_step: bool,
-    /// Whether a machine step was told.
+    /// A machine step was noted.
     had_step: bool,
 }
 
 /// The printer, with the labels that it prints.
 #[derive(Drop)]
 pub struct Trace<W: Write + Drop, A: Allocator = Global> {
-    /// The PDUs made, under their labels.
+    /// The PDUs by their labels.
     pub labels: Labels<A>,
-    /// Whether what happens is printed.
+    /// Steps are printed.
     pub is_on: bool,
-    /// Where it is printed.
+    /// The output.
     out: BufWriter<W, A>,
-    /// Which parts wait at each end, by their numbers.
+    /// The parts that wait at each end, by their numbers.
     waits: Sides<Waits>,
     /// How far the notes of the last event are printed.
     progress: Progress,
 }
 
 impl<W: Write + Drop, A: Allocator + Copy> Trace<W, A> {
-    /// A printer that traces nothing yet; `None` where there is no memory for its buffer.
+    /// Returns a printer that prints no steps yet; `None` if its buffer cannot be allocated.
     pub fn new(alloc: A, out: W) -> Option<Self> {
         Some(Trace {
             labels: Labels::new(alloc),
@@ -80,7 +80,7 @@ impl<W: Write + Drop, A: Allocator + Copy> Trace<W, A> {
         })
     }
 
-    /// Begins to tell of an event.
+    /// Starts the notes of an event.
     pub fn begin(&mut self) {
         self.progress = Progress {
             unprinted: self.labels.len(),
@@ -89,9 +89,9 @@ impl<W: Write + Drop, A: Allocator + Copy> Trace<W, A> {
         };
     }
 
-    /// Tells the next thing that an event did.
+    /// Handles the next note of an event.
     ///
-    /// A PDU is printed behind what its machine step drops and hands up, so it is held back until the step is told.
+    /// A PDU is printed after what its machine step drops and delivers, so it is held back until the step is noted.
     pub fn tell(&mut self, event: TracedEvent, told: NoteView<'_>) -> Result<(), ScriptLineFault> {
         match told {
             NoteView::Made(datagram) => {
@@ -124,12 +124,12 @@ impl<W: Write + Drop, A: Allocator + Copy> Trace<W, A> {
         }
     }
 
-    /// Ends to tell of an event.
+    /// Ends the notes of an event.
     pub fn finish(&mut self) -> Result<(), ScriptLineFault> {
         self.catch_up()
     }
 
-    /// An end was opened anew: nothing waits there.
+    /// Forgets the waiting parts of an end that was opened again.
     pub fn forget_waiting(&mut self, side: Side) {
         self.waits.of_mut(side).clear();
     }
@@ -144,7 +144,7 @@ impl<W: Write + Drop, A: Allocator + Copy> Trace<W, A> {
         check_written(write_refusal(&mut self.out, name))
     }
 
-    /// Prints how an end stands at the end of a script.
+    /// Prints the state of an end at the end of a script.
     pub fn report(
         &mut self,
         side: Side,
@@ -153,12 +153,12 @@ impl<W: Write + Drop, A: Allocator + Copy> Trace<W, A> {
         check_written(write_report(&mut self.out, side, standing))
     }
 
-    /// Writes out all that was printed.
+    /// Writes out everything that was printed.
     pub fn flush(&mut self) -> Result<(), ScriptLineFault> {
         check_written(self.out.flush())
     }
 
-    /// The machine step of a part: what it drops comes before all that it hands up and makes.
+    /// Prints the machine step of a part: what it drops comes before all that it delivers and makes.
     fn step(&mut self, event: TracedEvent, number: u32, step: Step) -> Result<(), ScriptLineFault> {
         if self.progress.in_step {
             self.catch_up()?;
@@ -175,7 +175,7 @@ impl<W: Write + Drop, A: Allocator + Copy> Trace<W, A> {
         }
     }
 
-    /// The PDU of the part that goes up under a number: the one that waited under it, or the one that came.
+    /// Returns the PDU of the part with this number: the one that waited, or the one that came.
     fn part(&mut self, event: TracedEvent, number: u32) -> Option<Label> {
         let waits = self.waits.of_mut(event.side);
         match waits.iter().position(|(waiting, _)| *waiting == number) {
@@ -190,9 +190,9 @@ impl<W: Write + Drop, A: Allocator + Copy> Trace<W, A> {
         }
     }
 
-    /// Prints the heartbeat that a tick makes on its own, before the first step of a part that a deadline lets through.
+    /// Prints the heartbeat that a tick makes on its own, before the first step of a part that a deadline releases.
     ///
-    /// It confirms what was taken before that part; one that the step makes confirms the part.
+    /// This heartbeat confirms what was taken before that part; one that the step makes confirms the part.
     fn own_heartbeat(&mut self, part: Option<Label>, step: Step) -> Result<(), ScriptLineFault> {
         let first = self.progress.unprinted;
         let (Some(label), Some(part)) = (self.labels.label(first), part) else {
@@ -210,7 +210,7 @@ impl<W: Write + Drop, A: Allocator + Copy> Trace<W, A> {
         self.made(label)
     }
 
-    /// What the redundancy layer did with the datagram that came.
+    /// Prints what the redundancy layer did with the datagram that came.
     fn redundancy(
         &mut self,
         event: TracedEvent,
@@ -222,7 +222,7 @@ impl<W: Write + Drop, A: Allocator + Copy> Trace<W, A> {
             return Ok(());
         };
         if let (RedEvent::Wait, Some(number)) = (answer, number) {
-            // No more wait than there is room for.
+            // At most as many parts wait as there is room for.
             let _ = self
                 .waits
                 .of_mut(event.side)
@@ -235,7 +235,7 @@ impl<W: Write + Drop, A: Allocator + Copy> Trace<W, A> {
         }
     }
 
-    /// Something that a part's unit did in the session follows.
+    /// Prepares for a note of what a unit did in the session.
     fn hand_up(&mut self) -> Result<(), ScriptLineFault> {
         if self.progress.in_step {
             return Ok(());
@@ -259,6 +259,7 @@ impl<W: Write + Drop, A: Allocator + Copy> Trace<W, A> {
         Ok(())
     }
 
+    /// Prints a PDU with its numbers.
     fn made(&mut self, label: Label) -> Result<(), ScriptLineFault> {
         let Some(header) = self.header(label) else {
             return Ok(());
@@ -274,6 +275,7 @@ impl<W: Write + Drop, A: Allocator + Copy> Trace<W, A> {
         }
     }
 
+    /// Prints a telegram that was taken.
     fn take(&mut self, side: Side, kind: u16, payload: &[u8]) -> Result<(), ScriptLineFault> {
         if self.is_on {
             check_written(write_take(&mut self.out, side, kind, payload))
@@ -282,21 +284,24 @@ impl<W: Write + Drop, A: Allocator + Copy> Trace<W, A> {
         }
     }
 
+    /// Prints that a PDU was dropped, and why.
     fn dropped(&mut self, side: Side, label: Label, cause: &str) -> Result<(), ScriptLineFault> {
         let side = side_name(side);
         self.traced(format_args!("{side} drop {label} {cause}"))
     }
 
+    /// Prints that a part waits.
     fn waiting(&mut self, side: Side, label: Label) -> Result<(), ScriptLineFault> {
         let side = side_name(side);
         self.traced(format_args!("{side} wait {label}"))
     }
 
+    /// Returns the header of a PDU.
     fn header(&self, label: Label) -> Option<Header> {
         Header::of(self.labels.datagram(label)?)
     }
 
-    /// Prints a line, where lines are traced.
+    /// Prints a line if steps are printed.
     fn traced(&mut self, line: impl Display + Drop) -> Result<(), ScriptLineFault> {
         if self.is_on {
             check_written(writeln!(self.out, "{line}"))
@@ -306,8 +311,9 @@ impl<W: Write + Drop, A: Allocator + Copy> Trace<W, A> {
     }
 }
 
-/// What an output answered: all that it can say is that it failed.
+/// Returns `Output` if a writer failed.
 fn check_written(answer: io::Result<()>) -> Result<(), ScriptLineFault>
+    // The result is an error exactly if the `answer` of the writer is one, and then it is `Output`.
     ensures { MatchResult result (λ _. IsOk answer) (λ fault. (fault ≡ ScriptLineFault.Output) × IsErr answer) }
 {
     match answer {
@@ -316,21 +322,21 @@ fn check_written(answer: io::Result<()>) -> Result<(), ScriptLineFault>
     }
 }
 
-/// What a line tells of a PDU.
+/// The values of a PDU that a line has.
 #[derive(Clone, Copy, Debug)]
 struct Header {
-    /// The type.
+    /// The PDU type.
     kind: Kind,
     /// The sequence number.
     sn: u32,
     /// The confirmed sequence number.
     cs: u32,
-    /// Detail and reason, where the end leaves.
+    /// Detail and reason, if it is a DiscReq.
     leaving: Option<(u16, u16)>,
 }
 
 impl Header {
-    /// That of a datagram, which an end made.
+    /// Reads the values from the datagram of an end.
     fn of(datagram: &[u8]) -> Option<Self> {
         let (_, pdu) = datagram.split_at_checked(RED_HEADER)?;
         let (header, body) = pdu.split_at_checked(SAFE_HEADER)?;
@@ -344,7 +350,7 @@ impl Header {
     }
 }
 
-/// Detail and reason of a DiscReq; none of any other type.
+/// Returns detail and reason of a DiscReq; `None` for any other type.
 fn leaving(kind: Kind, body: &[u8]) -> Option<(u16, u16)> {
     if kind != Kind::DiscReq {
         return None;

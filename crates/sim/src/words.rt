@@ -1,4 +1,4 @@
-//! The words of a line: numbers, hex digits, ends and labels.
+//! The words of a line: numbers, hexadecimal digits, ends and labels.
 
 ghost use Rattle.std.specs.Prelude.{◌≡◌, ◌≤◌, IfSome, true};
 ghost use Rattle.std.specs.List.{list_all};
@@ -11,32 +11,32 @@ use end_settings::Side;
 use hex::FromHexError;
 use std::alloc::Allocator;
 
-/// The words of a line, which are parted by one or more spaces.
+/// The words of a line, separated by one or more spaces.
 #[derive(Drop)]
 pub struct Words<'a> {
-    /// What spaces part, the empty parts too.
+    /// The pieces between spaces; empty ones are skipped.
     parts: std::str::Split<'a, char>,
 }
 
 impl<'a> Words<'a> {
-    /// The words of a line, from its first on.
+    /// Returns the words of a line, from the first one.
     pub fn new(line: &'a str) -> Self {
         Words {
             parts: line.split(' '),
         }
     }
 
-    /// The next word, where there is one.
+    /// Returns the next word, if there is one.
     pub fn next(&mut self) -> Option<&'a str> {
         self.parts.find(|part| !part.is_empty())
     }
 
-    /// The next word, which the line must have.
+    /// Returns the next word, which the line must have.
     pub fn word(&mut self) -> Result<&'a str, ScriptLineFault> {
         self.next().ok_or(ScriptLineFault::Unreadable)
     }
 
-    /// The end that the next word names.
+    /// Reads the next word as an end.
     pub fn side(&mut self) -> Result<Side, ScriptLineFault> {
         match self.word()? {
             "il" => Ok(Side::Interlocking),
@@ -45,12 +45,12 @@ impl<'a> Words<'a> {
         }
     }
 
-    /// The next word as a number of at most `most`.
+    /// Reads the next word as a number of at most `most`.
     pub fn number(&mut self, most: u64) -> Result<u64, ScriptLineFault> {
         number(self.word()?, most).ok_or(ScriptLineFault::Unreadable)
     }
 
-    /// The next word as the kind of a telegram: four hex digits.
+    /// Reads the next word as a message type: four hexadecimal digits.
     pub fn kind(&mut self) -> Result<u16, ScriptLineFault> {
         let mut octets = [0; 2];
         match hex::decode_to_slice(self.word()?, &mut octets) {
@@ -59,7 +59,7 @@ impl<'a> Words<'a> {
         }
     }
 
-    /// The next word as one octet: two hex digits.
+    /// Reads the next word as one byte: two hexadecimal digits.
     pub fn octet(&mut self) -> Result<u8, ScriptLineFault> {
         let mut octets = [0; 1];
         match hex::decode_to_slice(self.word()?, &mut octets) {
@@ -68,7 +68,7 @@ impl<'a> Words<'a> {
         }
     }
 
-    /// The next word as octets: hex digits, two for each, or `-` for none.
+    /// Reads the next word as bytes: two hexadecimal digits for each, or `-` for none.
     pub fn octets<A: Allocator + Copy>(&mut self, alloc: A) -> Result<Vec<u8, A>, ScriptLineFault> {
         let word = self.word()?;
         if word == "-" {
@@ -81,7 +81,7 @@ impl<'a> Words<'a> {
         }
     }
 
-    /// The next word as a label: `i` or `f`, and digits.
+    /// Reads the next word as a label: `i` or `f`, and digits.
     pub fn label(&mut self) -> Result<Label, ScriptLineFault> {
         let word = self.word()?;
         let (side, digits) = if let Some(digits) = word.strip_prefix('i') {
@@ -100,7 +100,7 @@ impl<'a> Words<'a> {
         })
     }
 
-    /// All further words as numbers, each of at most `most`.
+    /// Reads all further words as numbers of at most `most`.
     pub fn numbers<A: Allocator + Copy>(
         &mut self,
         alloc: A,
@@ -115,7 +115,7 @@ impl<'a> Words<'a> {
         Ok(numbers)
     }
 
-    /// The line has no further word.
+    /// Checks that the line has no further word.
     pub fn end(&mut self) -> Result<(), ScriptLineFault> {
         match self.next() {
             None => Ok(()),
@@ -124,9 +124,11 @@ impl<'a> Words<'a> {
     }
 }
 
-/// The number that decimal digits spell, where it is at most `most`.
+/// Reads a decimal number of at most `most`.
 pub fn number(word: &str, most: u64) -> Option<u64>
+    // If a number is returned, the word has only decimal digits, and the number is their value.
     ensures found { IfSome result (λ n. (list_all is_ascii_digit word.now ≡ true) × (digits_value 10 word.now ≡ n)) }
+    // The returned number is at most `most`.
     ensures bound { IfSome result (λ n. n ≤ most) }
 {
     if !is_digits(word) {
@@ -138,7 +140,7 @@ pub fn number(word: &str, most: u64) -> Option<u64>
     }
 }
 
-/// The place of a label's PDU; where no PDU has a label of these digits, one that no PDU has.
+/// Returns the place of a label's PDU. If no PDU can have a label of these digits, the place is one that no PDU has.
 fn label_place(digits: &str) -> usize {
     if digits.starts_with('0') {
         return usize::MAX;
@@ -149,13 +151,17 @@ fn label_place(digits: &str) -> usize {
     }
 }
 
+/// Returns `true` if a word has only decimal digits.
 fn is_digits(word: &str) -> bool
+    // The result is true exactly if each byte of the `word` is an ASCII digit; an empty word counts.
     ensures { result ≡ list_all is_ascii_digit word.now }
 {
     word.as_bytes().iter().all(|octet| is_digit(*octet))
 }
 
+/// Returns `true` for a decimal digit.
 fn is_digit(octet: u8) -> bool
+    // The result is true exactly for the bytes of the digits 0 to 9.
     ensures { result ≡ is_ascii_digit octet }
 {
     octet.is_ascii_digit()

@@ -5,19 +5,34 @@ use Rattle.stack_end.proofs.Words.{is_closed, is_over, Item, judge_messages, jud
 use Rattle.stack_end.proofs.Words.{length, length-append, List, machine_turn, MachineTurn, Made, meets, next_number, None, number_behind, Ok, on_channels}
 use Rattle.stack_end.proofs.Words.{Option, PackFault, Part, part, parts, passed_by, Receiver, receives, red_after, red_text, refl, Result, RetrReq, RetrRun}
 use Rattle.stack_end.proofs.Words.{SendsOne, session_in, session_turn, Some, Speaks, Start, still, subst, suc, sym, taken_by, Tele, tele_seen, TeleFault}
-use Rattle.stack_end.proofs.Words.{text_of, Told, true, Turn, unit_seen, unless_leaving, Up, View, WentAlone, zero, ℕ, ◌%◌, ◌++◌, ◌+◌, ◌<◌, ◌^◌, ◌∙◌, ◌∷◌, ◌≡◌}
+use Rattle.stack_end.proofs.Words.{text_of, Told, Turn, unit_seen, unless_leaving, Up, View, WentAlone, zero, ℕ, ◌%◌, ◌++◌, ◌+◌, ◌<◌, ◌^◌, ◌∙◌, ◌∷◌, ◌≡◌}
 use Rattle.stack_end.proofs.Words.{◌≤◌}
+use Rattle.byteorder.specs.Endian.{little_bytes, little_number}
 use Rattle.channels.specs.Told.{Sending}
 use Rattle.octets.proofs.Steps.{FoldsTo-append}
+use Rattle.octets.specs.declared.limits.TheConstants.{SAFE_HEADER}
+use Rattle.pdi_session.specs.Histories.{put_by}
 use Rattle.pdi_session.specs.SessionStep.{SessionState, texts as session_texts, texts as texts_of}
+use Rattle.red_layer.specs.declared.RedEvent.{RedEvent}
 use Rattle.safe_machine.specs.View.{texts}
+use Rattle.safe_pdu.specs.Pdu.{kind_number}
+use Rattle.safe_pdu.specs.Places.{kind_of}
+use Rattle.safe_pdu.specs.SafeText.{code_octets, code_over, front_text}
 use Rattle.safe_pdu.specs.declared.CodeRule.{CodeRule}
+use Rattle.safe_pdu.specs.declared.Kind.{Kind}
+use Rattle.safe_pdu.specs.declared.Kind.TheVariants as kind
 use Rattle.stack_end.specs.Dialogue.{for_message, for_unit}
+use Rattle.stack_end.specs.Statistics.{with_kind, with_known, with_made, with_pdu}
 use Rattle.stack_end.specs.Talk.{judge_next, Spoke, Talk, texts_of as talk_texts, Took}
-use Rattle.stack_end.specs.Turns.{Went}
+use Rattle.stack_end.specs.Turns.{accepts, put_answer, Went}
+use Rattle.stack_end.specs.declared.statistics.MadeCounts.{MadeCounts}
 use Rattle.stack_end.specs.declared.upper.Upper.{Upper}
 use Rattle.std.proofs.Common.{add-one, get_or}
+use Rattle.std.proofs.lemmas.Bool.Decides.{nat_tests}
+use Rattle.std.specs.Prelude.{nat_lt}
 use Rattle.std.specs.Borrow.{Bor}
+use Rattle.std.specs.Prelude.{is_none, min, ◌-◌}
+use Rattle.stack_end.proofs.Words.{Puts}
 
 -- one turn, and then another
 pub went-then : {V T : Type 0} (takes : T → Item → T → Type 0) (t : Turn V) (next : V → Turn V) (a b c : Told) (x y z : T) (v w : V) → Went takes t a x v b y
@@ -64,6 +79,17 @@ pub event-went : (event : Event) (v : Fields) (session : SessionState) (waiting 
     → WentAlone (session_turn (meets event (dialogue_of v)) v) a (record v { session = session; waiting = waiting }) a
 event-went event v session waiting a left added none = record { left = λ i. record v { session = left i; waiting = added i }; sent = refl; none = none }
 
+-- the telegram that is put, and its count
+pub put-went : (kind : ℕ) (payload : List ℕ) (v : Fields) (session : SessionState) (waiting : List (List ℕ)) (n : ℕ) (a : Told)
+    → put_answer kind payload v ≡ None → session ≡ after (Puts kind payload (length v.waiting)) v.session
+    → waiting ≡ v.waiting ++ texts_of (added_by (Puts kind payload (length v.waiting)) v.session) → n ≡ min (v.accepted + 1) (2 ^ 64 - 1)
+    → let d = meets (Puts kind payload (length v.waiting)) (dialogue_of v) in
+    WentAlone (session_turn d (accepts d v)) a (record v { session = session; waiting = waiting; accepted = n }) a
+put-went kind payload v session waiting n a answer left added more =
+    let count : n ≡ min (v.accepted + length (put_by (Puts kind payload (length v.waiting)) v.session)) (2 ^ 64 - 1) =
+    more ∙ ap (λ r. min (v.accepted + length {A = Item} (if is_none r then (kind, payload) ∷ [] else [])) (2 ^ 64 - 1)) (sym answer) in
+    record { left = λ i. record v { session = left i; waiting = added i; accepted = count i }; sent = refl; none = refl }
+
 -- the session goes on to the end of a dialogue that began here
 pub session-went : {T : Type 0} (takes : T → Item → T → Type 0) (d e : Dialogue) (v : Fields) (a : Told) (s t : Talk T) → d.history.taken ≡ []
     → Spoke takes d e s t
@@ -75,7 +101,7 @@ session-went takes d e v a s t none h =
       taken = subst (λ xs. FoldsTo takes s.taker xs t.taker) (sym (h.took.grown ∙ ap (λ xs. xs ++ h.took.more) none)) h.took.handed;
     }
 
--- notes leave what the channels tell
+-- notes change nothing that the channels show
 pub went-told : {V T : Type 0} (takes : T → Item → T → Type 0) (t : Turn V) (a b c : Told) (x y : T) (v : V) → c ≡ b → Went takes t a x v b y
     → Went takes t a x v c y
 went-told takes t a b c x y v e h = subst (λ q. Went takes t a x v q y) (sym e) h
@@ -83,31 +109,64 @@ went-told takes t a b c x y v e h = subst (λ q. Went takes t a x v q y) (sym e)
 pub alone-told : {V : Type 0} (t : Turn V) (a b c : Told) (v : V) → c ≡ b → WentAlone t a v b → WentAlone t a v c
 alone-told t a b c v e h = subst (λ q. WentAlone t a v q) (sym e) h
 
--- The octets of PDUs, handed one by one to what gives them numbers and sends them on all channels.
-module _ {S : Type 0} (channels : S → Told) (numbers count : S → ℕ) (R : S → List ℕ → S → Type 0)
-    (step : (s : S) (pdu : List ℕ) (t : S) → R s pdu t → (count t ≡ count s) × (numbers t ≡ (numbers s + 1) % 2 ^ 32)
-    × FoldsTo SendsOne (channels s) (on_channels (count s) (red_text (numbers s) pdu)) (channels t)) where
+-- a PDU that was made is counted by its type
+type-known : (type : Kind) (size : ℕ) (rest : List ℕ) (c : MadeCounts)
+    → with_known (kind_of (little_number 2 (drop 2 (little_bytes 2 size ++ little_bytes 2 (kind_number type) ++ rest)))) c ≡ with_kind type c
+type-known kind.ConnReq size rest c = refl
+type-known kind.ConnResp size rest c = refl
+type-known kind.RetrReq size rest c = refl
+type-known kind.RetrResp size rest c = refl
+type-known kind.DiscReq size rest c = refl
+type-known kind.Heartbeat size rest c = refl
+type-known kind.Data size rest c = refl
+type-known kind.RetrData size rest c = refl
+
+counts-known : (type : Kind) (size : ℕ) (rest : List ℕ) (c : MadeCounts)
+    → with_pdu (little_bytes 2 size ++ little_bytes 2 (kind_number type) ++ rest) c ≡ with_kind type c
+counts-known type size rest c =
+    let octets = little_bytes 2 size ++ little_bytes 2 (kind_number type) ++ rest in
+    let long : nat_lt (length octets) 4 ≡ false = grind (arith, nat_tests) in
+    ap (λ b. with_known (kind_of (if b then 0 else little_number 2 (drop 2 octets))) c) long ∙ type-known type size rest c
+
+counts-kind : (rule : CodeRule) (m : Made) (c : MadeCounts) → with_pdu (text_of rule m) c ≡ with_kind m.pdu.kind c
+unfolding text_of
+counts-kind rule m c =
+    let p = m.pdu in
+    let numbers = little_bytes 4 p.receiver ++ little_bytes 4 p.sender ++ little_bytes 4 p.sn ++ little_bytes 4 p.cs ++ little_bytes 4 p.ts ++ little_bytes 4 p.cts in
+    counts-known p.kind (SAFE_HEADER + length p.body + code_octets rule.length) ((numbers ++ p.body) ++ code_over rule (front_text rule p)) c
+
+-- The PDUs' bytes, passed one by one to the part that numbers them and sends them on all channels.
+module _ {S : Type 0} (channels : S → Told) (numbers count : S → ℕ) (counts : S → MadeCounts) (R : S → List ℕ → S → Type 0)
+    (step : (s : S) (pdu : List ℕ) (t : S) → R s pdu t → (count t ≡ count s) × (counts t ≡ with_pdu pdu (counts s))
+    × (numbers t ≡ (numbers s + 1) % 2 ^ 32) × FoldsTo SendsOne (channels s) (on_channels (count s) (red_text (numbers s) pdu)) (channels t)) where
   pub datagrams-out : (rule : CodeRule) (ms : List Made) (s t : S) → FoldsTo R s (texts rule ms) t
       → FoldsTo SendsOne (channels s) (datagrams rule (count s) (numbers s) ms) (channels t) × (numbers t ≡ number_behind (numbers s) ms)
-  datagrams-out rule [] s t e = (ap channels e, sym (ap numbers e))
+      × (counts t ≡ with_made ms (counts s))
+  datagrams-out rule [] s t e = (ap channels e, sym (ap numbers e), sym (ap counts e))
   datagrams-out rule (m ∷ ms) s t (j, h, rest) =
       let a = step s (text_of rule m) j h in
       let b = datagrams-out rule ms j t rest in
-      let later = subst (λ n. FoldsTo SendsOne (channels j) (datagrams rule (count s) n ms) (channels t)) a.1
+      let later = subst (λ n. FoldsTo SendsOne (channels j) (datagrams rule (count s) n ms) (channels t)) a.2
       (subst (λ k. FoldsTo SendsOne (channels j) (datagrams rule k (numbers j) ms) (channels t)) a.0 b.0) in (
         FoldsTo-append SendsOne (on_channels (count s) (red_text (numbers s) (text_of rule m))) (datagrams rule (count s) (next_number (numbers s)) ms)
-            (channels s) (channels j) (channels t) a.2 later,
-        b.1 ∙ ap (λ n. number_behind n ms) a.1,
+            (channels s) (channels j) (channels t) a.3 later,
+        b.1 ∙ ap (λ n. number_behind n ms) a.2,
+        b.2 ∙ ap (with_made ms) (a.1 ∙ counts-kind rule m (counts s)),
       )
 
   -- a turn of the machine
-  pub machine-went : (t : MachineTurn) (v : Fields) (m : View) (s u : S) → m ≡ t.left → count s ≡ v.count → numbers s ≡ v.numbers
+  pub machine-went : (t : MachineTurn) (v : Fields) (m : View) (s u : S) → m ≡ t.left → count s ≡ v.count → numbers s ≡ v.numbers → counts s ≡ v.made
       → FoldsTo R s (texts v.machine.settings.rule t.made) u
-      → WentAlone (machine_turn t v) (channels s) (record v { numbers = numbers u; machine = m }) (channels u)
-  machine-went t v m s u left count_is numbers_are made =
+      → WentAlone (machine_turn t v) (channels s) (record v { numbers = numbers u; machine = m; made = counts u }) (channels u)
+  machine-went t v m s u left count_is numbers_are counts_are made =
       let out = datagrams-out v.machine.settings.rule t.made s u made in
       record {
-        left = λ i. record v { numbers = (out.1 ∙ ap (λ n. number_behind n t.made) numbers_are) i; machine = left i };
+        left = λ i.
+            record v {
+              numbers = (out.1 ∙ ap (λ n. number_behind n t.made) numbers_are) i;
+              machine = left i;
+              made = (out.2 ∙ ap (with_made t.made) counts_are) i;
+            };
         sent =
             subst (λ n. FoldsTo SendsOne (channels s) (datagrams v.machine.settings.rule v.count n t.made) (channels u)) numbers_are
             (subst (λ k. FoldsTo SendsOne (channels s) (datagrams v.machine.settings.rule k (numbers s) t.made) (channels u)) count_is out.0);
@@ -172,6 +231,10 @@ pub open-went : {T : Type 0} (takes : T → Item → T → Type 0) (v : Inside) 
 open-went takes v turn c a b t u w e is h =
     subst (λ (q : Bool). Went takes (if q then still v else turn) a t w b u) (sym (ap is_closed (sym e) ∙ not-closed c is)) h
 
+pub open-event : (v : Inside) (c : ConnectionState) (e : Option RedEvent) → c ≡ v.upper.machine.connection → (c ≡ Closed → ⊥)
+    → e ≡ (if is_over v then None else e)
+open-event v c e is alive = sym (ap (λ (q : Bool). if q then None else e) (ap is_closed (sym is) ∙ not-closed c alive))
+
 pub took-none : {T : Type 0} (takes : T → Item → T → Type 0) (t : T) (d : Dialogue) → Took takes t d d t
 took-none takes t d = record { more = []; grown = sym (append-nil d.history.taken); handed = refl }
 
@@ -226,7 +289,7 @@ Along takes all rest s t =
 pub along-start : {T : Type 0} (takes : T → Item → T → Type 0) (all : List (List ℕ)) (s : Talk T) → Along takes all all s s
 along-start takes all s d h = (d, (spoke-none takes d s h, refl))
 
--- the message is judged, and the end is not to leave
+-- the message is judged, and the end does not have to disconnect
 pub along-more : {T : Type 0} (takes : T → Item → T → Type 0) (all : List (List ℕ)) (m : List ℕ) (rest : List (List ℕ)) (s t u : Talk T)
     (asked : Option Leaving) → Along takes all (m ∷ rest) s t → Judges takes (judge_read (tele_seen m)) t u asked → asked ≡ None → Along takes all rest s u
 along-more takes all m rest s t u asked h k none d start =
@@ -240,7 +303,7 @@ along-more takes all m rest s t u asked h k none d start =
       ),
     )
 
--- the message is judged, and the end is to leave
+-- the message is judged, and the end has to disconnect
 pub along-stop : {T : Type 0} (takes : T → Item → T → Type 0) (all : List (List ℕ)) (m : List ℕ) (rest : List (List ℕ)) (s t u : Talk T)
     (asked : Option Leaving) (why : Leaving) → Along takes all (m ∷ rest) s t → Judges takes (judge_read (tele_seen m)) t u asked → asked ≡ Some why
     → Judges takes (judge_messages all) s u (Some why)
@@ -253,14 +316,14 @@ along-stop takes all m rest s t u asked why h k some d start =
       sym some ∙ (b.1 ∙ ap (λ (j : Judged). j.leaving) (sym is)),
     )
 
--- none is left
+-- no message is left
 pub along-end : {T : Type 0} (takes : T → Item → T → Type 0) (all : List (List ℕ)) (s t : Talk T) → Along takes all [] s t
     → Judges takes (judge_messages all) s t None
 along-end takes all s t h d start =
     let a = h d start in
     (subst (λ (j : Judged). Spoke takes d j.left s t) (sym a.1.1) a.1.0, ap (λ (j : Judged). j.leaving) (sym a.1.1))
 
--- the messages of a list behind a place
+-- the messages of a list after a place
 texts-drop : (xs : List (Bor (List ℕ))) (i : ℕ) (d : Bor (List ℕ)) → i < length xs → drop i (talk_texts xs) ≡ (get_or xs i d).now ∷ drop (suc i) (talk_texts xs)
 texts-drop [] i d h = absurd (omega (arith, h))
 texts-drop (x ∷ xs) zero d h = refl
@@ -298,13 +361,13 @@ pub judged-unit : {T : Type 0} (takes : T → Item → T → Type 0) (r : Result
     (asked : Option Leaving) → Ok ms ≡ r → Judges takes (judge_messages ms) s t asked → Judges takes (judge_unpacked r) s t asked
 judged-unit takes r ms s t asked is h = subst (λ (q : Result (List (List ℕ)) PackFault). Judges takes (judge_unpacked q) s t asked) is h
 
--- and is none
+-- and there is no unit
 pub judged-no_unit : {T : Type 0} (takes : T → Item → T → Type 0) (r : Result (List (List ℕ)) PackFault) (fault : PackFault) (s : Talk T) → Err fault ≡ r
     → Judges takes (judge_unpacked r) s s (Some for_unit)
 judged-no_unit takes r fault s is =
     subst (λ (q : Result (List (List ℕ)) PackFault). Judges takes (judge_unpacked q) s s (Some for_unit)) is (λ d h. (spoke-none takes d s h, refl))
 
--- Units that a receiver takes one by one, which judges none behind one for which the end is to leave.
+-- Units that a receiver takes one by one; it judges no unit after one for which the end has to disconnect.
 module _ {S T : Type 0} (takes : T → Item → T → Type 0) (talk_of : S → Talk T) (asked : S → Option Leaving) (R : S → List ℕ → S → Type 0)
     (step : (s : S) (u : List ℕ) (t : S) → R s u t → Judges takes (judge_next (asked s) u) (talk_of s) (talk_of t) (asked t)) where
   judges-stay : (us : List (List ℕ)) (s t : S) (why : Leaving) → FoldsTo R s us t → asked s ≡ Some why → (d : Dialogue)
@@ -315,7 +378,7 @@ module _ {S T : Type 0} (takes : T → Item → T → Type 0) (talk_of : S → T
       let b = judges-stay us j t why rest a.1 d a.0.speaks in
       (spoke-then takes d d d (talk_of s) (talk_of j) (talk_of t) a.0 b.0, b.1)
 
-  -- the first unit is judged, and what is behind it comes to this
+  -- the first unit is judged, and the units after it come to this
   units-then : (u : List ℕ) (us : List (List ℕ)) (s j t : S) (w : Option Leaving) → asked j ≡ w
       → Judges takes (judge_unpacked (unit_seen u)) (talk_of s) (talk_of j) (asked j)
       → (w ≡ None → Judges takes (judge_units us) (talk_of j) (talk_of t) (asked t))

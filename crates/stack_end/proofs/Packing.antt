@@ -1,8 +1,8 @@
--- Messages that go out in units, unit by unit, and what an arrival and a tick hand out.
+-- Messages that go out in units, unit by unit, and what an arrival and a tick deliver.
 use Rattle.stack_end.proofs.Words.{[], above, ap, append-nil, append_assoc, arith, arrives, Bool, by_cond, can_pack, Closed, Closes, comes_up, Completes}
-use Rattle.stack_end.proofs.Words.{completes, ConnectionState, Datagram, DatagramRecent, Dialogue, dialogue_of, Down, drop, false, Fields, FoldsTo, followed}
+use Rattle.stack_end.proofs.Words.{completes, ConnectionState, Datagram, DatagramRecent, dialogue_of, Down, drop, false, Fields, FoldsTo, followed}
 use Rattle.stack_end.proofs.Words.{goes_on, goes_up, guards, has_room, HasHeard, hears, hears_units, if◌then◌else◌, inl, Input, inr, Inside, is_closed, is_nil}
-use Rattle.stack_end.proofs.Words.{is_none, is_over, Item, judge_units, judged_at, leaves, Leaving, length, List, machine_still, MachineTurn, meets, None, not}
+use Rattle.stack_end.proofs.Words.{is_none, is_over, Item, judge_units, judged_at, leaves, Leaving, length, List, machine_still, meets, None, not}
 use Rattle.stack_end.proofs.Words.{notes, Option, packs, packs_once, packs_up_to, Part, part, parts, passed_by, passes, PutOut, Puts, puts, receives, RedTick}
 use Rattle.stack_end.proofs.Words.{refl, RetrReq, RetrRun, rises, sends, session_turn, settles, Some, Start, still, subst, suc, sym, take, TakesPart, texts}
 use Rattle.stack_end.proofs.Words.{TickRecent, Told, true, true≢false, Turn, unit_text, Up, WentAlone, zero, ℕ, ◌&&◌, ◌++◌, ◌+◌, ◌<◌, ◌∙◌, ◌∷◌, ◌≡◌, ◌≢◌, ◌≤◌}
@@ -10,14 +10,19 @@ use Rattle.stack_end.proofs.Words.{◌⊎◌}
 use Rattle.pdi_session.specs.packing.UnitText.{UnitText}
 use Rattle.pdi_session.specs.Telegrams.{telegram}
 use Rattle.pdi_session.specs.declared.PutFault.{PutFault}
-use Rattle.red_layer.specs.Redundancy.{after}
 use Rattle.safe_machine.proofs.code.Properties.{recent_law_holds}
 use Rattle.safe_machine.specs.Connections.{in_turn}
-use Rattle.safe_machine.specs.Turns.{is_open, sends_unit}
+use Rattle.safe_machine.specs.Turns.{sends_unit}
+use Rattle.safe_machine.specs.Turns.{guards as machine_guards, ticks as machine_ticks}
+use Rattle.stack_end.proofs.Words.{machine_turn}
 use Rattle.stack_end.specs.Hearing.{Listens}
 use Rattle.stack_end.specs.Outstanding.{each, GoesOut, put_message, units_in}
 use Rattle.stack_end.specs.Recent.{InputRecent, RecentAt, TakesRecent}
-use Rattle.stack_end.specs.Turns.{put_answer, ticks}
+use Rattle.stack_end.specs.Turns.{accepts, closing, departs, put_answer, ticks}
+use Rattle.stack_end.specs.Certain.{items_in_units}
+use Rattle.pdi_session.specs.Counted.{items_in_unit}
+use Rattle.std.specs.Borrow.{Bor}
+use Rattle.std.specs.Prelude.{option_map, slice_get}
 use Rattle.std.proofs.Common.{map}
 use Rattle.std.proofs.lemmas.Bool.{and_parts}
 use Rattle.std.proofs.lemmas.List.Concat.{flat_map-append}
@@ -96,7 +101,7 @@ none-nil (m ∷ w) h = absurd (omega (arith, h))
 none-packs : (v : Fields) → length v.waiting ≤ 0 → can_pack v ≡ false
 none-packs v h = ap (λ b. not b && has_room v.machine) (none-nil v.waiting h)
 
--- a turn behind one
+-- a turn after another
 abbrev behind : Turn Fields → Turn Fields → Turn Fields
 behind t u = record { left = u.left; sent = t.sent ++ u.sent; taken = t.taken ++ u.taken }
 
@@ -137,7 +142,7 @@ followed-assoc t f g = λ i.
       taken = sym (append_assoc t.taken (f t.left).taken (g (f t.left).left).taken) i;
     }
 
--- one unit more behind those that went out
+-- one unit more after those that went out
 pub sends-more : (now : ℕ) (t all : Turn Fields) (v : Fields) (p b : Bool) → 1 ≤ v.max → v ≡ t.left → p ≡ true → b ≡ can_pack v
     → all ≡ (if p then followed t (sends now) else t)
     → all ≡ (if b then followed (followed t (packs_once now)) (sends now) else followed t (packs_once now))
@@ -166,7 +171,8 @@ pub sends-empties : (now : ℕ) (v : Fields) → 1 ≤ v.max → can_pack (sends
 sends-empties now v k = up_to-empties (length v.waiting) now v k (omega arith)
 
 pub puts-empties : (kind : ℕ) (payload : List ℕ) (now : ℕ) (v : Fields) → 1 ≤ v.max → can_pack (puts kind payload now v).left ≡ false
-puts-empties kind payload now v k = sends-empties now (session_turn (meets (Puts kind payload (length v.waiting)) (dialogue_of v)) v).left k
+puts-empties kind payload now v k =
+    let d = meets (Puts kind payload (length v.waiting)) (dialogue_of v) in sends-empties now (session_turn d (accepts d v)).left k
 
 pub completes-empties : (now : ℕ) (v : Fields) → 1 ≤ v.max → can_pack (completes now v).left ≡ false
 completes-empties now v k = sends-empties now (session_turn (meets (Completes (length v.waiting)) (dialogue_of v)) v).left k
@@ -188,10 +194,11 @@ up_to-out (suc n) now v =
     by_cond (λ (t : Turn Fields). GoesOut v v.waiting t.left) (can_pack v) (followed (packs now v) (packs_up_to n now)) (still v)
     (λ e. goes-then v next (packs_up_to n now next).left v.waiting (packs-out now v e) (up_to-out n now next)) (λ _. goes-none v)
 
--- what is put in goes out, or waits last
+-- a telegram that is put goes out, or waits last
 pub puts-out : (kind : ℕ) (payload : List ℕ) (now : ℕ) (v : Fields) → put_answer kind payload v ≡ None → PutOut kind payload v (puts kind payload now v).left
 puts-out kind payload now v accepted =
-    let w = (session_turn (meets (Puts kind payload (length v.waiting)) (dialogue_of v)) v).left in
+    let d = meets (Puts kind payload (length v.waiting)) (dialogue_of v) in
+    let w = (session_turn d (accepts d v)).left in
     let out = up_to-out (length w.waiting) now w in
     let one = telegram v.session.addressing kind payload in
     let waits : w.waiting ≡ v.waiting ++ put_message v.session.addressing kind payload ∷ [] =
@@ -234,7 +241,8 @@ part-taken now octets v =
     let up : t2.taken ≡ taken =
     ap (λ xs. (taken ++ []) ++ xs) (rises-none (comes_up before t1.left.machine.connection) t1.left) ∙ (append-nil (taken ++ []) ∙ append-nil taken) in
     let left : t3.taken ≡ taken = ap (λ xs. t2.taken ++ xs) (leaves-none now why t2.left) ∙ (append-nil t2.taken ∙ up) in
-    ap (λ xs. t3.taken ++ xs) (settles-none t3.left) ∙ (append-nil t3.taken ∙ left)
+    append-nil (followed (followed t3 settles) (departs (closing now octets v))).taken
+    ∙ append-nil (followed t3 settles).taken ∙ (ap (λ xs. t3.taken ++ xs) (settles-none t3.left) ∙ (append-nil t3.taken ∙ left))
 
 -- steps along two lists
 split : {S A : Type 0} (R : S → A → S → Type 0) (xs ys : List A) (s t : S) → FoldsTo R s (xs ++ ys) t → (mid : S) × FoldsTo R s xs mid × FoldsTo R mid ys t
@@ -246,15 +254,13 @@ split R (x ∷ xs) ys s t (next, first, rest) =
 some-none : {X : Type 0} (x : X) (xs : List X) → (x ∷ xs) ≢ []
 some-none x xs e = cc
 
--- At a part who takes is as before, or the part is recent.
-part-recent : {T : Type 0} (takes : T → Item → T → Type 0) (now : ℕ) (octets : List ℕ) (v : Fields) (t mid : T) → FoldsTo takes t (part now octets v).taken mid
-    → (mid ≡ t) ⊎ RecentAt now octets v
-part-recent {T} takes now octets v t mid h = by-units (hears_units octets now v.machine) refl (subst (λ xs. FoldsTo takes t xs mid) (part-taken now octets v) h)
+-- At a part nothing is taken, or the part is recent.
+part-recent : (now : ℕ) (octets : List ℕ) (v : Fields) → ((part now octets v).taken ≡ []) ⊎ RecentAt now octets v
+part-recent now octets v = by-units (hears_units octets now v.machine) refl
   where
-    by-units : (us : List (List ℕ)) → hears_units octets now v.machine ≡ us
-        → FoldsTo takes t (judge_units (hears_units octets now v.machine) (dialogue_of v)).left.history.taken mid → (mid ≡ t) ⊎ RecentAt now octets v
-    by-units [] e k = inl (sym (subst (λ us. FoldsTo takes t (judge_units us (dialogue_of v)).left.history.taken mid) e k))
-    by-units (u ∷ us) e k = inr (recent_law_holds octets now v.machine (λ none. some-none u us (sym e ∙ none)))
+    by-units : (us : List (List ℕ)) → hears_units octets now v.machine ≡ us → ((part now octets v).taken ≡ []) ⊎ RecentAt now octets v
+    by-units [] e = inl (part-taken now octets v ∙ ap (λ us. (judge_units us (dialogue_of v)).left.history.taken) e)
+    by-units (u ∷ us) e = inr (recent_law_holds octets now v.machine (λ none. some-none u us (sym e ∙ none)))
 
 parts-recent : {T : Type 0} (takes : T → Item → T → Type 0) (now : ℕ) (ps : List Part) (v : Fields) (t u : T) → FoldsTo takes t (parts now ps v).taken u
     → TakesRecent takes now ps v t u
@@ -262,9 +268,9 @@ parts-recent takes now [] v t u h = h
 parts-recent takes now (p ∷ ps) v t u h =
     let one = part now p.1 v in
     let k = split takes one.taken (parts now ps one.left).taken t u h in
-    (k.0, k.1, part-recent takes now p.1 v t k.0 k.1, parts-recent takes now ps one.left k.0 u k.2)
+    (k.0, k.1, part-recent now p.1 v, parts-recent takes now ps one.left k.0 u k.2)
 
--- behind it
+-- after it
 input-recent : {T : Type 0} (takes : T → Item → T → Type 0) (now : ℕ) (i : Input) (v : Inside) (t u : T) → FoldsTo takes t (goes_on now i v).taken u
     → InputRecent takes now i v t u
 input-recent {T} takes now i v t u h = (
@@ -279,6 +285,14 @@ input-recent {T} takes now i v t u h = (
     gone k =
         let first = (parts now (passed_by i v.red) v.upper).taken in
         subst (λ xs. FoldsTo takes t xs u) (ap (λ xs. first ++ xs) (sends-none now (receives now i v).left.upper) ∙ append-nil first) k
+
+guards-none : (now : ℕ) (v : Fields) → (guards now v).taken ≡ []
+guards-none now v =
+    let t = machine_turn (machine_guards now v.machine) v in append-nil (settles t.left).taken ∙ settles-none t.left
+
+ticks-none : (now : ℕ) (v : Fields) → (ticks now v).taken ≡ []
+ticks-none now v =
+    let t = machine_turn (machine_ticks now v.machine) v in append-nil (settles t.left).taken ∙ settles-none t.left
 
 -- the machine first
 first-recent : {T : Type 0} (takes : T → Item → T → Type 0) (now : ℕ) (i : Input) (next : Fields → Turn Fields) (v : Inside) (t u : T)
@@ -295,11 +309,11 @@ first-recent takes now i next v t u none h =
 
 pub datagram-recent : {T : Type 0} (takes : T → Item → T → Type 0) (now : ℕ) (octets : List ℕ) (v : Inside) (t u : T)
     → FoldsTo takes t (arrives now octets v).taken u → DatagramRecent takes now octets v t u
-datagram-recent takes now octets v t u h = first-recent takes now (Datagram octets now) (guards now) v t u (settles-none _) h
+datagram-recent takes now octets v t u h = first-recent takes now (Datagram octets now) (guards now) v t u (guards-none now v.upper) h
 
 pub tick-recent : {T : Type 0} (takes : T → Item → T → Type 0) (now : ℕ) (v : Inside) (t u : T) → FoldsTo takes t (passes now v).taken u
     → TickRecent takes now v t u
-tick-recent takes now v t u h = first-recent takes now (RedTick now) (ticks now) v t u (settles-none _) h
+tick-recent takes now v t u h = first-recent takes now (RedTick now) (ticks now) v t u (ticks-none now v.upper) h
 
 -- an end that listens
 listening : (now : ℕ) (octets : List ℕ) (v : Inside) → Listens now v
@@ -324,7 +338,7 @@ takes-part {T} takes now octets v t u h number upper listens passed =
     let one = (part now upper w.upper).taken in
     let all : (arrives now octets v).taken ≡ (judged_at now upper w.upper).left.history.taken =
     ap (λ (q : Turn Inside). q.taken) (listening now octets v listens)
-    ∙ (ap (λ xs. xs ++ ((parts now (passed_by i w.red) w.upper).taken ++ rest)) (settles-none _)
+    ∙ (ap (λ xs. xs ++ ((parts now (passed_by i w.red) w.upper).taken ++ rest)) (guards-none now v.upper)
     ∙ (ap (λ xs. (parts now (passed_by i w.red) w.upper).taken ++ xs) (sends-none now (receives now i w).left.upper)
     ∙ (append-nil (parts now (passed_by i w.red) w.upper).taken
     ∙ (ap (λ ps. (parts now ps w.upper).taken) passed ∙ (append-nil one ∙ part-taken now upper w.upper))))) in
@@ -387,3 +401,22 @@ arrives-empties now octets v k = first-empties now (Datagram octets now) (guards
 
 pub passes-empties : (now : ℕ) (v : Inside) → 1 ≤ v.upper.max → can_pack (passes now v).left.upper ≡ false
 passes-empties now v k = first-empties now (RedTick now) (ticks now) v (settles-max _) k
+
+drop-none : (n : ℕ) → drop {A = List ℕ} n [] ≡ []
+drop-none zero = refl
+drop-none (suc n) = refl
+
+-- the unit at a place is counted, and then those after it
+pub units-next : (us : List (List ℕ)) (place : ℕ) (o : Option (Bor (List ℕ))) (u : Bor (List ℕ)) → option_map (λ octets. octets.now) o ≡ slice_get us place
+    → o ≡ Some u → items_in_units (drop place us) ≡ items_in_unit u.now + items_in_units (drop (place + 1) us)
+units-next us place o u h is = at us place (sym (ap (option_map (λ octets. octets.now)) is) ∙ h)
+  where
+    at : (us : List (List ℕ)) (place : ℕ) → Some u.now ≡ slice_get us place → items_in_units (drop place us) ≡ items_in_unit u.now + items_in_units (drop (place + 1) us)
+    at [] place e = cc
+    at (v ∷ vs) zero e = let same : u.now ≡ v = cc in ap (λ w. items_in_unit w + items_in_units vs) (sym same)
+    at (v ∷ vs) (suc n) e = let more : suc n + 1 ≡ suc (n + 1) = omega arith in rw more (at vs n e)
+
+pub units-past : (us : List (List ℕ)) (place : ℕ) → slice_get us place ≡ None → items_in_units (drop place us) ≡ items_in_units (drop (place + 1) us)
+units-past [] place e = rw (drop-none place, drop-none (place + 1)) refl
+units-past (v ∷ vs) zero e = cc
+units-past (v ∷ vs) (suc n) e = let more : suc n + 1 ≡ suc (n + 1) = omega arith in rw more (units-past vs n e)

@@ -11,25 +11,33 @@ use Rattle.stack_end.proofs.Words.{Some, Speaks, Start, subst, suc, sym, take, t
 use Rattle.stack_end.proofs.Words.{true≢false, turn, unit_seen, unit_text, unless_leaving, Unspecified, View, zero, ℕ, ◌%◌, ◌&&◌, ◌++◌, ◌+◌, ◌^◌, ◌∙◌, ◌∷◌, ◌≡◌}
 use Rattle.stack_end.proofs.Words.{◌≢◌, ◌≤◌, ◌⊎◌}
 use Rattle.byteorder.specs.Endian.{little_bytes}
-use Rattle.pdi_session.specs.Histories.{History}
-use Rattle.pdi_session.specs.SessionStep.{put_refusal}
+use Rattle.pdi_session.specs.Counted.{is_item, items_in, items_read}
+use Rattle.pdi_session.specs.Histories.{History, put_by}
+use Rattle.pdi_session.specs.Laws.{items_of}
+use Rattle.pdi_session.specs.Telegrams.{is_reserved}
+use Rattle.pdi_session.specs.SessionStep.{item_of, put_refusal}
 use Rattle.red_layer.specs.Redundancy.{deadline_of, is_due}
 use Rattle.safe_machine.proofs.one.Confirming.{made_law_holds}
 use Rattle.safe_machine.proofs.one.Identified.{settings_law_holds}
+use Rattle.safe_machine.proofs.one.Runs.{ring_of-units}
 use Rattle.safe_machine.proofs.one.Turning.{octets_law_holds, tells_law_holds as machine_tells, tells_law_holds as machine_tells_hold}
 use Rattle.safe_machine.proofs.one.Turning.{turns_law_holds as machine_turns}
 use Rattle.safe_machine.specs.Made.{opening_body}
 use Rattle.safe_machine.specs.Moves.{Move, move}
 use Rattle.safe_machine.specs.Moves.Move.{Guards, Leaves, Sends, Ticks}
-use Rattle.safe_machine.specs.Octets.{arrive_octets, heard as heard_move, seen_by}
+use Rattle.safe_machine.specs.Octets.{arrive_octets, heard as heard_move, heard_answer, seen_by}
+use Rattle.safe_machine.specs.declared.Step.{Step as Outcome}
 use Rattle.safe_machine.specs.State.{State, unconfirmed}
 use Rattle.safe_machine.specs.Step.{may_send, send, tick}
 use Rattle.safe_machine.specs.Turned.{MaySend, turn as machine_move, Turned as MachineTurned}
 use Rattle.safe_machine.specs.Turns.{says, still, Turn, unsaid}
 use Rattle.safe_machine.specs.View.{StandsFor}
+use Rattle.safe_machine.specs.retrans.Units.{octets_of}
 use Rattle.safe_machine.specs.World.{joins}
 use Rattle.safe_pdu.specs.Places.{safe_seen}
 use Rattle.safe_pdu.specs.declared.Kind.TheVariants.{ConnReq}
+use Rattle.stack_end.specs.Certain.{confirmed_in, confirmed_of, counted, found_messages, found_telegram, items_in_units, items_waiting, messages_in}
+use Rattle.stack_end.specs.Certain.{telegrams_in}
 use Rattle.stack_end.specs.Datagrams.{upper_of}
 use Rattle.stack_end.specs.Deadlines.{earliest}
 use Rattle.stack_end.specs.EndValue.{EndTurns, EndValue}
@@ -37,13 +45,21 @@ use Rattle.stack_end.specs.Ends.{Call, Close, did, EndState, goes_on as end_goes
 use Rattle.stack_end.specs.Ends.{packed_up_to, part as end_part, parts as end_parts, Put, receives as end_receives, sends as end_sends, settle, Tick, time_of}
 use Rattle.stack_end.specs.Ends.{with_input, with_machine, with_session}
 use Rattle.stack_end.specs.Fields.{BothDo, BothStand, Stands}
-use Rattle.stack_end.specs.Turned.{Grew, LastLaw, TellsLaw, Turned, TurnsLaw}
-use Rattle.stack_end.specs.Turns.{closes, still as end_still, Turn as EndTurn}
+use Rattle.stack_end.specs.Departures.{known_departure}
+use Rattle.stack_end.specs.Statistics.{none_made, with_kind, with_made, with_step}
+use Rattle.stack_end.specs.declared.statistics.MadeCounts.{MadeCounts}
+use Rattle.stack_end.specs.declared.statistics.PartCounts.{PartCounts}
+use Rattle.stack_end.specs.declared.statistics.ReceptionCounts.{ReceptionCounts}
+use Rattle.stack_end.specs.Turned.{AnyChannelLaw, Grew, LastLaw, TellsLaw, Turned, TurnsLaw}
+use Rattle.stack_end.specs.Departures.{own_departure}
+use Rattle.stack_end.specs.Turns.{closes, closing, counts, departs, still as end_still, Turn as EndTurn, waited}
+use Rattle.stack_end.specs.declared.departure.Departure.{Departure}
+use Rattle.safe_machine.specs.Deadlines.{overdue}
 use Rattle.stack_end.specs.declared.layers.Layers.{Layers}
 use Rattle.std.proofs.Common.{◌/◌}
 use Rattle.std.proofs.Math.Seq.{drop-append_seam}
 use Rattle.std.proofs.lemmas.Bool.{le-leb, leb-false, leb-true}
-use Rattle.std.specs.Prelude.{nat_le}
+use Rattle.std.specs.Prelude.{min, nat_le, ◌-◌}
 
 pub record Rides (before : List Item) (d e : Dialogue) : Type 0 where
   pub speaks : Speaks (session_in d) d.waiting e
@@ -130,7 +146,7 @@ same-state s t kept made taken = λ i.
       window = (kept i).window;
     }
 
--- a tick does nothing to a history where it does nothing to what is kept of it, and something where it does
+-- a tick changes a history if and only if it changes what is kept of it
 pub quiet-tick : (now : ℕ) (v : View) (s : State) → StandsFor v s → ticks now v ≡ still v → tick now s ≡ s
 quiet-tick now v s h quiet =
     let one = machine_turns (Ticks now) v s tt h in
@@ -184,7 +200,7 @@ puts-last kind payload now x accepted =
     ap (λ (h : History). h.put) (sends-history (length y.session.waiting) now y)
     ∙ ap (λ r. x.session.history.put ++ (if is_none r then (kind, payload) ∷ [] else [])) accepted
 
--- four octets tell a number modulo 2^32
+-- four bytes give a number modulo 2^32
 little-wrap : (n : ℕ) → little_bytes 4 (n % 2 ^ 32) ≡ little_bytes 4 n
 little-wrap n =
     let a : n % 2 ^ 32 % 256 ≡ n % 256 = omega arith in
@@ -218,6 +234,11 @@ sendings-append s index (m ∷ ms) ns =
     let first = on_channels s.channels (red_text index (upper_of (rule_of s) m)) in
     ap (λ xs. first ++ xs) (sendings-append s (index + 1) ms ns ∙ ap (λ n. sendings s (index + 1) ms ++ sendings s n ns) (omega arith))
     ∙ sym (append_assoc first (sendings s (index + 1) ms) (sendings s (index + length (m ∷ ms)) ns))
+
+-- more that was made is counted after what was made before
+made-append : (ms ns : List Made) (c : MadeCounts) → with_made (ms ++ ns) c ≡ with_made ns (with_made ms c)
+made-append [] ns c = refl
+made-append (m ∷ ms) ns c = made-append ms ns (with_kind m.pdu.kind c)
 
 -- who is opened sends nothing in turn
 pub opens-made : (settings : Settings) (first now : ℕ) → HasMade (opens settings first now).left
@@ -287,6 +308,10 @@ upper-machine m units v x s one has_made kept h =
                 ∙ (behind-wrap start m.made ∙ ap (λ n. n % 2 ^ 32) (sym (ap length one.made ∙ length-append x.machine.made m.made)));
             count = h.count;
             max = h.max;
+            accepted = h.accepted;
+            made =
+                ap (with_made m.made) h.made
+                ∙ (sym (made-append x.machine.made m.made none_made) ∙ ap (λ ms. with_made ms none_made) (sym one.made));
             rule = ap (λ (q : Settings). q.rule) kept ∙ h.rule;
           };
       red = refl;
@@ -310,10 +335,45 @@ upper-move m v x may h =
     (made_law_holds m v.machine x.machine h.has_made h.machine)
     (settings_law_holds m x.machine) h
 
+-- what is judged puts nothing in, and neither does going up
+put-unless : (put : List Item) (a : Option Leaving) (first rest : Judged) → first.left.history.put ≡ put → rest.left.history.put ≡ put
+    → (unless_leaving a first rest).left.history.put ≡ put
+put-unless put None first rest h k = k
+put-unless put (Some why) first rest h k = h
+
+put-read : (r : Result Tele TeleFault) (d : Dialogue) → (judge_read r d).left.history.put ≡ d.history.put
+put-read (Ok t) d = append-nil d.history.put
+put-read (Err fault) d = refl
+
+put-messages : (ms : List (List ℕ)) (d : Dialogue) → (judge_messages ms d).left.history.put ≡ d.history.put
+put-messages [] d = refl
+put-messages (m ∷ ms) d =
+    let first = judge_read (tele_seen m) d in
+    put-unless d.history.put first.leaving first (judge_messages ms first.left) (put-read (tele_seen m) d)
+    (put-messages ms first.left ∙ put-read (tele_seen m) d)
+
+put-unpacked : (r : Result (List (List ℕ)) PackFault) (d : Dialogue) → (judge_unpacked r d).left.history.put ≡ d.history.put
+put-unpacked (Ok ms) d = put-messages ms d
+put-unpacked (Err fault) d = refl
+
+put-units : (us : List (List ℕ)) (d : Dialogue) → (judge_units us d).left.history.put ≡ d.history.put
+put-units [] d = refl
+put-units (u ∷ us) d =
+    let first = judge_unpacked (unit_seen u) d in
+    put-unless d.history.put first.leaving first (judge_units us first.left) (put-unpacked (unit_seen u) d)
+    (put-units us first.left ∙ put-unpacked (unit_seen u) d)
+
+put-rises : (b : Bool) (d : Dialogue) → (rises b d).history.put ≡ d.history.put
+put-rises true d = append-nil d.history.put
+put-rises false d = refl
+
+counted-more : (n m : ℕ) → min (min n (2 ^ 64 - 1) + m) (2 ^ 64 - 1) ≡ min (n + m) (2 ^ 64 - 1)
+counted-more n m = omega arith
+
 -- the session goes on
-upper-session : (d e : Dialogue) (v : Fields) (x : EndState) → Rides x.session.history.taken d e → Stands v x
-    → UpperTurned (session_turn d v) x (with_session e x)
-upper-session d e v x r h =
+upper-counted : (n : ℕ) (d e : Dialogue) (v : Fields) (x : EndState) → n ≡ counted (length e.history.put) → Rides x.session.history.taken d e → Stands v x
+    → UpperTurned (session_turn d (record v { accepted = n })) x (with_session e x)
+upper-counted n d e v x c r h =
     record {
       stands = record {
         machine = h.machine;
@@ -323,11 +383,18 @@ upper-session d e v x r h =
         numbers = h.numbers;
         count = h.count;
         max = h.max;
+        accepted = c;
+        made = h.made;
         rule = h.rule;
       };
       red = refl;
       grew = record { settings = refl; more = []; made = sym (append-nil x.machine.made); sent = refl; taken = r.taken };
     }
+
+-- if nothing is put
+upper-session : (d e : Dialogue) (v : Fields) (x : EndState) → e.history.put ≡ x.session.history.put → Rides x.session.history.taken d e → Stands v x
+    → UpperTurned (session_turn d v) x (with_session e x)
+upper-session d e v x put r h = upper-counted v.accepted d e v x (h.accepted ∙ ap (λ (is : List Item). counted (length is)) (sym put)) r h
 
 rides-here : (v : Fields) (x : EndState) → Stands v x → Rides x.session.history.taken (dialogue_of v) x.session
 rides-here v x h = record { speaks = h.speaks; taken = sym (append-nil x.session.history.taken) }
@@ -337,7 +404,7 @@ upper-settles v x h =
     choose (λ t y. UpperTurned t x y) (is_closed v.machine.connection) (is_shut x) (session_turn (meets Closes (dialogue_of v)) v) (end_still v)
     (with_session (meets Closes x.session) x) x
     (ap (λ (m : View). is_closed m.connection) h.machine)
-    (upper-session (meets Closes (dialogue_of v)) (meets Closes x.session) v x
+    (upper-session (meets Closes (dialogue_of v)) (meets Closes x.session) v x (append-nil x.session.history.put)
     (rides-meets Closes x.session.history.taken (dialogue_of v) x.session (rides-here v x h)) h) (upper-still v x h)
 
 upper-moved : (m : Move) (v : Fields) (x : EndState) → MaySend m v.machine → Stands v x
@@ -355,7 +422,7 @@ upper-leaves now a b v x same h = subst (λ q. UpperTurned (leaves now a v) x (e
     both None = upper-still v x h
     both (Some why) = upper-move (Leaves why.0 why.1 now) v x tt h
 
--- A part, step by step: it is heard; the request is noted; the session goes up.
+-- A part, step by step: it is processed; the request is kept; the session goes up.
 abbrev heard_alone : ℕ → List ℕ → EndState → EndState
 heard_alone now octets x =
     let s = arrive_octets octets now x.machine in
@@ -380,8 +447,8 @@ upper-hears now octets v x h =
     let before = x.session.history.taken in
     let both = subst (λ us. RidesJudged before (judged_at now octets v) (judge_units us x.session)) up
     (rides-units before units (dialogue_of v) x.session (rides-here v x h)) in
-    let second = upper-session (judged_at now octets v).left (judge_units (handed_up x s) x.session).left (machine_turn m v).left (with_machine s x) both.left
-    first.stands in
+    let second = upper-session (judged_at now octets v).left (judge_units (handed_up x s) x.session).left (machine_turn m v).left (with_machine s x)
+    (put-units (handed_up x s) x.session) both.left first.stands in
     (upper-then (machine_turn m v) (session_turn (judged_at now octets v).left) x (with_machine s x) (heard_alone now octets x) first second, both.leaving)
 
 upper-notes : (before : ConnectionState) (octets : List ℕ) (v : Fields) (x : EndState) → Stands v x
@@ -398,17 +465,60 @@ upper-notes before octets v x h =
         numbers = h.numbers;
         count = h.count;
         max = h.max;
+        accepted = h.accepted;
+        made = h.made;
         rule = h.rule;
       };
       red = refl;
       grew = record { settings = refl; more = []; made = sym (append-nil x.machine.made); sent = refl; taken = sym (append-nil x.session.history.taken) };
     }
 
+-- what is kept next to what represents the state
+upper-beside : (t : EndTurn Fields) (next : Fields → Fields) (x y : EndState) → Stands (next t.left) y → UpperTurned t x y
+    → UpperTurned (followed t (λ v. end_still (next v))) x y
+upper-beside t next x y s h =
+    upper-then t (λ v. end_still (next v)) x y y h
+    (record {
+      stands = s;
+      red = refl;
+      grew = record { settings = refl; more = []; made = sym (append-nil y.machine.made); sent = refl; taken = sym (append-nil y.session.history.taken) };
+    })
+
+-- departure and counts of parts are no part of what represents the state
+beside-stands : (v : Fields) (y : EndState) (departed : Option Departure) (parts : PartCounts) → Stands v y
+    → Stands (record v { departed = departed; parts = parts }) y
+beside-stands v y departed parts s =
+    record {
+      machine = s.machine;
+      has_made = s.has_made;
+      speaks = s.speaks;
+      request = s.request;
+      numbers = s.numbers;
+      count = s.count;
+      max = s.max;
+      accepted = s.accepted;
+      made = s.made;
+      rule = s.rule;
+    }
+
+-- the recorded departure is kept next to it
+upper-departs : (cause : Option Departure) (t : EndTurn Fields) (x y : EndState) → UpperTurned t x y → UpperTurned (followed t (departs cause)) x y
+upper-departs cause t x y h =
+    upper-beside t (λ v. record v { departed = known_departure cause v.departed }) x y
+    (beside-stands t.left y (known_departure cause t.left.departed) t.left.parts h.stands) h
+
+-- and so are the counts of parts
+upper-counts : (answer : Outcome) (long now : ℕ) (t : EndTurn Fields) (x y : EndState) → UpperTurned t x y
+    → UpperTurned (followed t (counts answer long now)) x y
+upper-counts answer long now t x y h =
+    upper-beside t (λ v. record v { parts = with_step answer long (now - v.machine.confirmed_at) v.parts }) x y
+    (beside-stands t.left y t.left.departed (with_step answer long (now - t.left.machine.confirmed_at) t.left.parts) h.stands) h
+
 upper-goes_up : (before : ConnectionState) (v : Fields) (x : EndState) → Stands v x → UpperTurned (goes_up before v) x (rises_from before x)
 upper-goes_up before v x h =
     let a = comes_up before v.machine.connection in
     let b = comes_up before x.machine.connection in
-    upper-session (rises a (dialogue_of v)) (rises b x.session) v x
+    upper-session (rises a (dialogue_of v)) (rises b x.session) v x (put-rises b x.session)
     (rides-rises a b x.session.history.taken (dialogue_of v) x.session (ap (λ (m : View). comes_up before m.connection) h.machine) (rides-here v x h)) h
 
 upper-part : (now : ℕ) (octets : List ℕ) (v : Fields) (x : EndState) → Stands v x → UpperTurned (part now octets v) x (end_part now octets x)
@@ -430,7 +540,10 @@ upper-part now octets v x h =
     let h3 = upper-then t2 (leaves now why) x x2 x3 h2 (upper-leaves now why asked t2.left x2 heard.1 h2.stands) in
     let h4 = upper-then t3 settles x x3 (settle x3) h3 (upper-settles t3.left x3 h3.stands) in
     subst (UpperTurned (part now octets v) x)
-    (ap (λ (q : ConnectionState). settle (end_leaves now asked (rises_from q (noted_from q octets x0)))) (ap (λ (m : View). m.connection) h.machine)) h4
+    (ap (λ (q : ConnectionState). settle (end_leaves now asked (rises_from q (noted_from q octets x0)))) (ap (λ (m : View). m.connection) h.machine))
+    (upper-counts (heard_answer (safe_seen v.machine.settings.rule octets) now v.machine) (waited now v) now
+    (followed (followed t3 settles) (departs (closing now octets v))) x (settle x3)
+    (upper-departs (closing now octets v) (followed t3 settles) x (settle x3) h4))
 
 upper-parts : (now : ℕ) (ps : List Part) (v : Fields) (x : EndState) → Stands v x → UpperTurned (parts now ps v) x (end_parts now ps x)
 upper-parts now [] v x h = upper-still v x h
@@ -463,6 +576,8 @@ upper-packs now v x h =
         numbers = s.numbers;
         count = s.count;
         max = s.max;
+        accepted = s.accepted;
+        made = s.made;
         rule = s.rule;
       };
       red = refl;
@@ -497,10 +612,11 @@ upper-sends : (now : ℕ) (v : Fields) (x : EndState) → Stands v x → UpperTu
 upper-sends now v x h = subst (λ ws. UpperTurned (sends now v) x (packed_up_to (length ws) now x)) h.speaks.waits (upper-up_to (length v.waiting) now v x h)
 
 -- an event of the session that knows how many messages wait, and then sending
-upper-event : (event : ℕ → Event) (now : ℕ) (v : Fields) (x : EndState) → Stands v x
-    → UpperTurned (followed (session_turn (meets (event (length v.waiting)) (dialogue_of v)) v) (sends now)) x
+upper-event : (event : ℕ → Event) (n now : ℕ) (v : Fields) (x : EndState)
+    → n ≡ counted (length (meets (event (length x.session.waiting)) x.session).history.put) → Stands v x
+    → UpperTurned (followed (session_turn (meets (event (length v.waiting)) (dialogue_of v)) (record v { accepted = n })) (sends now)) x
     (end_sends now (with_session (meets (event (length x.session.waiting)) x.session) x))
-upper-event event now v x h =
+upper-event event n now v x c h =
     let d = meets (event (length v.waiting)) (dialogue_of v) in
     let e = meets (event (length x.session.waiting)) x.session in
     let before = x.session.history.taken in
@@ -508,8 +624,22 @@ upper-event event now v x h =
     subst (λ ws. Rides before d (meets (event (length ws)) x.session)) h.speaks.waits
     (rides-meets (event (length v.waiting)) before (dialogue_of v) x.session (rides-here v x h)) in
     let y : EndState = with_session e x in
-    let one = upper-session d e v x rides h in
-    upper-then (session_turn d v) (sends now) x y (end_sends now y) one (upper-sends now (session_turn d v).left y one.stands)
+    let one = upper-counted n d e v x c rides h in
+    let t = session_turn d (record v { accepted = n }) in
+    upper-then t (sends now) x y (end_sends now y) one (upper-sends now t.left y one.stands)
+
+-- a telegram that is put is counted
+puts-counted : (kind : ℕ) (payload : List ℕ) (v : Fields) (x : EndState) → Stands v x
+    → min (v.accepted + length (put_by (Puts kind payload (length v.waiting)) v.session)) (2 ^ 64 - 1)
+    ≡ counted (length (meets (Puts kind payload (length x.session.waiting)) x.session).history.put)
+puts-counted kind payload v x h =
+    let before = x.session.history.put in
+    let more = put_by (Puts kind payload (length x.session.waiting)) (session_in x.session) in
+    ap (λ (n : ℕ). min (n + length (put_by (Puts kind payload (length v.waiting)) v.session)) (2 ^ 64 - 1)) h.accepted
+    ∙ ap (λ s. min (counted (length before) + length (put_by (Puts kind payload (length v.waiting)) s)) (2 ^ 64 - 1)) h.speaks.state
+    ∙ ap (λ (ws : List (List ℕ)). min (counted (length before) + length (put_by (Puts kind payload (length ws)) (session_in x.session))) (2 ^ 64 - 1))
+    h.speaks.waits
+    ∙ counted-more (length before) (length more) ∙ ap counted (sym (length-append before more))
 
 -- All layers.
 whole-still : (v : Inside) (x : EndState) → BothStand v x → Turned (end_still v) x x
@@ -538,6 +668,8 @@ whole-receives now i v x h =
       numbers = s.numbers;
       count = s.count;
       max = s.max;
+      accepted = s.accepted;
+      made = s.made;
       rule = s.rule;
     } in
     let k = subst (λ (r : Receiver). UpperTurned (parts now (passed_by i v.red) v.upper) y (end_parts now (passed_by i r) y)) h.red
@@ -562,26 +694,32 @@ whole-goes_on now i v x h =
 
 -- the machine first, and then what follows
 whole-first : (m : Move) (now : ℕ) (i : Input) (v : Inside) (x : EndState) → MaySend m v.upper.machine → BothStand v x
-    → Turned (if is_over v then end_still v else followed (above (λ w. followed (machine_turn (machine_move m w.machine) w) settles) v) (goes_on now i)) x
+    → Turned
+    (if is_over v then end_still v else followed
+    (above (λ w. followed (followed (machine_turn (machine_move m w.machine) w) settles) (departs (own_departure (overdue now w.machine) now))) v)
+    (goes_on now i)) x
     (if is_shut x then x else end_goes_on now i (moved m x))
 whole-first m now i v x may h =
-    let next = λ (w : Fields). followed (machine_turn (machine_move m w.machine) w) settles in
+    let cause = own_departure (overdue now v.upper.machine) now in
+    let next = λ (w : Fields). followed (followed (machine_turn (machine_move m w.machine) w) settles) (departs (own_departure (overdue now w.machine) now)) in
     let t = above next v in
     let y : EndState = moved m x in
-    let one = whole-above next v x y h (upper-moved m v.upper x may h.upper) in
+    let one = whole-above next v x y h (upper-departs cause _ x y (upper-moved m v.upper x may h.upper)) in
     choose (λ q w. Turned q x w) (is_over v) (is_shut x) (end_still v) (followed t (goes_on now i)) x (end_goes_on now i y) (over-is v x h) (whole-still v x h)
     (whole-then t (goes_on now i) x y (end_goes_on now i y) one (whole-goes_on now i t.left y one.stands))
 
 pub turns_did : (c : Call) (v : Inside) (x : EndState) → BothStand v x → Turned (turn c v) x (did c x)
 turns_did (Close now) v x h = whole-above (closes now) v x (moved (Leaves ClosedByUser Unspecified now) x) h
-    (upper-moved (Leaves ClosedByUser Unspecified now) v.upper x tt h.upper)
+    (upper-departs _ _ x (moved (Leaves ClosedByUser Unspecified now) x) (upper-moved (Leaves ClosedByUser Unspecified now) v.upper x tt h.upper))
 turns_did (Put kind payload now) v x h =
-    whole-above (puts kind payload now) v x (did (Put kind payload now) x) h (upper-event (λ n. Puts kind payload n) now v.upper x h.upper)
-turns_did (InitDone now) v x h = whole-above (completes now) v x (did (InitDone now) x) h (upper-event (λ n. Completes n) now v.upper x h.upper)
+    whole-above (puts kind payload now) v x (did (Put kind payload now) x) h (upper-event (λ n. Puts kind payload n) _ now v.upper x
+    (puts-counted kind payload v.upper x h.upper) h.upper)
+turns_did (InitDone now) v x h = whole-above (completes now) v x (did (InitDone now) x) h (upper-event (λ n. Completes n) v.upper.accepted now v.upper x
+    (h.upper.accepted ∙ ap (λ (is : List Item). counted (length is)) (sym (append-nil x.session.history.put))) h.upper)
 turns_did (Tick now) v x h = whole-first (Ticks now) now (RedTick now) v x tt h
 turns_did (Deliver channel octets now) v x h = whole-first (Guards now) now (Datagram octets now) v x tt h
 
--- the time of a call changes nothing of what the layers stand for
+-- the time of a call does not change what the layers represent
 timed : (v : Inside) (x : EndState) (time : ℕ) → BothStand v x → BothStand v (record x { time = time })
 timed v x time h =
     let u = h.upper in
@@ -595,6 +733,8 @@ timed v x time h =
         numbers = u.numbers;
         count = u.count;
         max = u.max;
+        accepted = u.accepted;
+        made = u.made;
         rule = u.rule;
       };
     }
@@ -615,6 +755,44 @@ nil-alike [] (y ∷ ys) e = absurd (omega (arith, e))
 nil-alike (x ∷ xs) [] e = absurd (omega (arith, e))
 nil-alike (x ∷ xs) (y ∷ ys) e = refl
 
+-- the commands or status counted are those found
+items-append : (ms ns : List (List ℕ)) → items_in (ms ++ ns) ≡ items_in ms + items_in ns
+items-append [] ns = omega arith
+items-append (m ∷ ms) ns = let k = items-append ms ns in omega (arith, k)
+
+items-found : (r : Result Tele TeleFault) (ts : List Tele) → length (items_of (found_telegram r ++ ts)) ≡ (if is_item r then 1 else 0) + length (items_of ts)
+items-found (Ok t) ts = by_kind (is_reserved t.kind)
+  where
+    by_kind : (b : Bool) → length (if b then items_of ts else item_of t ∷ items_of ts) ≡ (if not b then 1 else 0) + length (items_of ts)
+    by_kind true = omega arith
+    by_kind false = omega arith
+items-found (Err fault) ts = omega arith
+
+items-counted : (ms : List (List ℕ)) → items_in ms ≡ length (items_of (telegrams_in ms))
+items-counted [] = refl
+items-counted (m ∷ ms) =
+    ap (λ n. (if is_item (tele_seen m) then 1 else 0) + n) (items-counted ms) ∙ sym (items-found (tele_seen m) (telegrams_in ms))
+
+items-read : (r : Result (List (List ℕ)) PackFault) → items_read r ≡ items_in (found_messages r)
+items-read (Ok ms) = refl
+items-read (Err fault) = refl
+
+units-counted : (us : List (List ℕ)) → items_in_units us ≡ items_in (messages_in us)
+units-counted [] = refl
+units-counted (u ∷ us) =
+    ap (λ n. n + items_in_units us) (items-read (unit_seen u))
+    ∙ ap (λ n. items_in (found_messages (unit_seen u)) + n) (units-counted us)
+    ∙ sym (items-append (found_messages (unit_seen u)) (messages_in us))
+
+confirmed-tells : (v : Fields) (x : EndState) → Stands v x → confirmed_in v ≡ confirmed_of x
+confirmed-tells v x h =
+    let held : octets_of v.machine.ring ≡ unconfirmed x.machine = ap (λ (m : View). octets_of m.ring) h.machine ∙ ring_of-units x.machine in
+    let units = ap items_in_units held ∙ units-counted (unconfirmed x.machine) ∙ items-counted (messages_in (unconfirmed x.machine)) in
+    let waits = ap items_in h.speaks.waits ∙ items-counted x.session.waiting in
+    ap (λ n. n - (items_in v.waiting + items_in_units (octets_of v.machine.ring))) h.accepted
+    ∙ ap (λ n. counted (length x.session.history.put) - (n + items_in_units (octets_of v.machine.ring))) waits
+    ∙ ap (λ n. counted (length x.session.history.put) - (length (items_waiting x) + n)) units
+
 pub tells_law_holds : TellsLaw
 tells_law_holds v x h =
     let u = h.upper in
@@ -627,6 +805,7 @@ tells_law_holds v x h =
           ∙ (ap (λ (ws : List (List ℕ)). not (is_shut x) && (is_nil ws && is_nil ring)) u.speaks.waits
           ∙ ap (λ (b : Bool). not (is_shut x) && (is_nil x.session.waiting && b)) (nil-alike ring (unconfirmed x.machine) count));
       unconfirmed = count;
+      confirmed = confirmed-tells v.upper x u;
       quiet = λ now. quiet-tick now v.upper.machine x.machine u.machine;
       fallen = λ now. fallen-tick now v.upper.machine x.machine u.machine;
     }
@@ -634,10 +813,13 @@ tells_law_holds v x h =
 pub last_law_holds : LastLaw
 last_law_holds kind payload now x accepted = puts-last kind payload now x accepted
 
+pub any_channel_law_holds : AnyChannelLaw
+any_channel_law_holds channel other octets now v = refl
+
 -- a turn of the layers of an end is its turn
 pub layers-turn : {C A T : Type 0} (told : C → Told) (takes : T → Item → T → Type 0) (next : Inside → EndTurn Inside) (l m : Layers C A) (time now : ℕ)
-    (v : EndValue C A) (t u : T) → record { layers = l; time = time } ≡ v → BothDo told takes next l t m u
-    → EndTurns told takes next v t (record { layers = m; time = now }) u
-layers-turn {C} {A} told takes next l m time now v t u e h =
-    let w : EndValue C A = record { layers = m; time = now } in
+    (r s : List ReceptionCounts) (v : EndValue C A) (t u : T) → record { layers = l; time = time; receptions = r } ≡ v → BothDo told takes next l t m u
+    → EndTurns told takes next v t (record { layers = m; time = now; receptions = s }) u
+layers-turn {C} {A} told takes next l m time now r s v t u e h =
+    let w : EndValue C A = record { layers = m; time = now; receptions = s } in
     subst (λ q. EndTurns told takes next q t w u) e h

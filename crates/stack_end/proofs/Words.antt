@@ -1,4 +1,4 @@
--- What the proofs of this crate name of the library, of the layers below and of the crate's own definitions, where two files or more name it.
+-- The names of the library, of the layers below and of the crate's own definitions that at least two proof files use.
 pub use Rattle.std.proofs.Common.{[], ap, append-nil, append_assoc, arith, Bool, drop, Err, false, inl, inr, length, length-append, List, None, not, Ok, refl}
 pub use Rattle.std.proofs.Common.{Result, rules, Some, subst, suc, sym, take, true, zero, ℕ, ◌%◌, ◌&&◌, ◌++◌, ◌+◌, ◌<◌, ◌^◌, ◌∙◌, ◌∷◌, ◌≡◌, ◌≢◌, ◌≤◌, ◌⊎◌}
 pub use Rattle.std.proofs.lemmas.Bool.{true≢false}

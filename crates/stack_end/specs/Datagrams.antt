@@ -8,23 +8,24 @@ use Rattle.channels.specs.Told.{Sending}
 use Rattle.end_settings.specs.EndSettings.{EndSettings, rule_of}
 use Rattle.stack_end.specs.Ends.{EndState}
 
+-- these bytes on channels 1 to n, in order
 abbrev pub on_channels : ℕ → List ℕ → List Sending
 on_channels zero octets = []
 on_channels (suc n) octets = on_channels n octets ++ (suc n, octets) ∷ []
 
--- the octets of a PDU, as the upper part of its datagram
+-- the bytes of a PDU, as the payload of its datagram
 abbrev pub upper_of : CodeRule → Made → List ℕ
 upper_of rule m = safe_text rule m.pdu
 
--- PDUs, the first of which has this index
+-- the datagrams of PDUs, the first of which has this index
 abbrev pub sendings : EndSettings → ℕ → List Made → List Sending
 sendings s index [] = []
 sendings s index (m ∷ ms) = on_channels s.channels (red_text index (upper_of (rule_of s) m)) ++ sendings s (index + 1) ms
 
--- what goes out while an end comes from one state to another
+-- the datagrams that an end sends while it changes from one state to another
 abbrev pub sent_between : EndState → EndState → List Sending
 sent_between before after = sendings before.settings (length before.machine.made) (drop (length before.machine.made) after.machine.made)
 
--- what goes out when it is opened
+-- the datagrams that an end sends when it is opened
 abbrev pub sent_at_opening : EndState → List Sending
 sent_at_opening x = sendings x.settings 0 x.machine.made

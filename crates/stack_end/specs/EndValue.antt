@@ -1,33 +1,43 @@
--- What contracts see of an end: what it stands for, and what a call of it does.
-use Rattle.std.specs.Prelude.{◌≡◌, ℕ}
+-- What contracts see of an end: its value, the state that it represents, and what a call of it does.
+use Rattle.std.specs.Prelude.{◌≡◌, ◌-◌, ℕ, List, length}
 use Rattle.pdi_session.specs.SessionStep.{Item}
 use Rattle.channels.specs.Told.{Told}
 use Rattle.stack_end.specs.declared.layers.Layers.{Layers}
+use Rattle.stack_end.specs.declared.statistics.ReceptionCounts.{ReceptionCounts}
+use Rattle.stack_end.specs.declared.statistics.Statistics.{Statistics}
 use Rattle.stack_end.specs.Ends.{EndState}
 use Rattle.stack_end.specs.Fields.{BothStand, inside_of}
 use Rattle.stack_end.specs.Turns.{Inside, Turn, Went, WentAlone}
 
--- an end over channels C, with memory of A
+-- an end over channels C, with memory of allocator A
 pub record EndValue (C A : Type 0) : Type 0 where
-  pub layers : Layers C A
-  pub time : ℕ  -- of the last accepted call
+  pub layers : Layers C A  -- the layers of the end, with its channels
+  pub time : ℕ  -- of the last accepted call, in milliseconds
+  pub receptions : List ReceptionCounts  -- the datagrams that came, counted by channel
 
+-- the channels of an end
 abbrev pub channels_of : {C A : Type 0} → EndValue C A → C
 channels_of v = v.layers.upper.channels
 
--- what it keeps of its layers
+-- what the end keeps of its layers, without the channels
 abbrev pub inside : {C A : Type 0} → EndValue C A → Inside
 inside v = inside_of v.layers
 
--- a call takes this turn, and who takes takes what it hands out
+-- all that the end has counted; confirmed are the units made that are not unconfirmed
+abbrev pub statistics_of : {C A : Type 0} → EndValue C A → Statistics
+statistics_of v =
+    let u = (inside v).upper in
+    record { channels = v.receptions; parts = u.parts; made = u.made; confirmed = u.made.units - length u.machine.ring }
+
+-- a call takes this turn: the end changes by it, its datagrams are sent or counted as failed, and the taker gets what it delivers
 abbrev pub EndTurns : {C A T : Type 0} → (C → Told) → (T → Item → T → Type 0) → (Inside → Turn Inside) → EndValue C A → T → EndValue C A → T → Type 0
 EndTurns told takes turn v before w after = Went takes (turn (inside v)) (told (channels_of v)) before (inside w) (told (channels_of w)) after
 
--- the same where nothing is handed out
+-- a call takes this turn and delivers nothing
 abbrev pub EndTurnsAlone : {C A : Type 0} → (C → Told) → (Inside → Turn Inside) → EndValue C A → EndValue C A → Type 0
 EndTurnsAlone told turn v w = WentAlone (turn (inside v)) (told (channels_of v)) (inside w) (told (channels_of w))
 
--- on channels that tell this of themselves it stands for the state
+-- the end, over channels that show this of themselves, represents the state
 pub record EndStands {C A : Type 0} (told : C → Told) (v : EndValue C A) (x : EndState) : Type 0 where
-  pub both : BothStand (inside v) x
-  pub time : v.time ≡ x.time
+  pub both : BothStand (inside v) x  -- its layers represent those of the state
+  pub time : v.time ≡ x.time  -- it has the time of the state

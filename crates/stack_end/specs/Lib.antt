@@ -2,7 +2,9 @@ pub mod Dialogue
 pub mod Ends
 pub mod Datagrams
 pub mod Talk
+pub mod Departures
 pub mod Turns
+pub mod Certain
 pub mod Fields
 pub mod Turned
 pub mod Later
@@ -13,5 +15,8 @@ pub mod Hearing
 pub mod Polling
 pub mod Bounds
 pub mod Deadlines
+pub mod Stale
+pub mod Statistics
 pub mod Lending
 pub mod Outstanding
+pub mod Reopening

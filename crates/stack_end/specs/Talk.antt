@@ -1,4 +1,4 @@
--- What the code of a session and of the messages that wait stands for.
+-- The dialogue that the code's session, with its waiting messages, represents.
 use Rattle.std.specs.Prelude.{◌≡◌, ℕ, Option, Some, None, List, ◌++◌, map}
 use Rattle.std.specs.Borrow.{Bor}
 use Rattle.std.specs.List.{FoldsTo}
@@ -6,45 +6,46 @@ use Rattle.pdi_session.specs.packing.Places.{unit_seen}
 use Rattle.pdi_session.specs.SessionStep.{Item, SessionState}
 use Rattle.stack_end.specs.Dialogue.{Dialogue, Judged, Leaving, judge_unpacked, judged_as, session_in}
 
--- a session, the messages that wait, and who takes
+-- a session, its waiting messages, and the taker
 pub record Talk (T : Type 0) : Type 0 where
-  pub session : SessionState
-  pub waiting : List (List ℕ)
-  pub taker : T
+  pub session : SessionState  -- the state of the session
+  pub waiting : List (List ℕ)  -- the messages that wait to be sent
+  pub taker : T  -- the application
 
+-- the three together
 abbrev pub talk : {T : Type 0} → SessionState → List (List ℕ) → T → Talk T
 talk session waiting taker = record { session = session; waiting = waiting; taker = taker }
 
--- they stand for the dialogue
+-- the session and its waiting messages represent the dialogue
 pub record Speaks (session : SessionState) (waiting : List (List ℕ)) (d : Dialogue) : Type 0 where
-  pub state : session ≡ session_in d
-  pub waits : waiting ≡ d.waiting
+  pub state : session ≡ session_in d  -- its present state
+  pub waits : waiting ≡ d.waiting  -- its waiting messages
 
--- what the application takes between two dialogues was handed to it, in order
+-- the taker got, in order, what the application takes between two dialogues
 pub record Took {T : Type 0} (takes : T → Item → T → Type 0) (before : T) (d e : Dialogue) (after : T) : Type 0 where
-  pub more : List Item
-  pub grown : e.history.taken ≡ d.history.taken ++ more
-  pub handed : FoldsTo takes before more after
+  pub more : List Item  -- what it takes
+  pub grown : e.history.taken ≡ d.history.taken ++ more  -- the history has grown by it
+  pub handed : FoldsTo takes before more after  -- the taker got each of it
 
--- from one dialogue to the other
+-- from one dialogue to another, for the session and for its taker
 pub record Spoke {T : Type 0} (takes : T → Item → T → Type 0) (d e : Dialogue) (s t : Talk T) : Type 0 where
-  pub speaks : Speaks t.session t.waiting e
-  pub took : Took takes s.taker d e t.taker
+  pub speaks : Speaks t.session t.waiting e  -- the session represents the second
+  pub took : Took takes s.taker d e t.taker  -- the taker got what was taken between them
 
--- for each dialogue that they stood for, they now stand for what is judged of it, with this answer
+-- of any dialogue that they represented, they now represent what judging leaves, with this reason to disconnect
 abbrev pub Judges : {T : Type 0} → (T → Item → T → Type 0) → (Dialogue → Judged) → Talk T → Talk T → Option Leaving → Type 0
 Judges takes judge s t asked =
     (d : Dialogue) → Speaks s.session s.waiting d → Spoke takes d (judge d).left s t × (asked ≡ (judge d).leaving)
 
--- for each dialogue that they stood for, they now stand for its step
+-- of any dialogue that they represented, they now represent its step
 abbrev pub Meets : {T : Type 0} → (T → Item → T → Type 0) → (Dialogue → Dialogue) → Talk T → Talk T → Type 0
 Meets takes step s t = (d : Dialogue) → Speaks s.session s.waiting d → Spoke takes d (step d) s t
 
--- a unit, where the end was not asked to leave before
+-- a unit is judged only if the end did not have to disconnect before
 abbrev pub judge_next : Option Leaving → List ℕ → Dialogue → Judged
 judge_next (Some why) unit d = judged_as why d
 judge_next None unit d = judge_unpacked (unit_seen unit) d
 
--- messages, without where they lie in memory
+-- the bytes of messages, without their places in memory
 abbrev pub texts_of : List (Bor (List ℕ)) → List (List ℕ)
 texts_of messages = map (λ (m : Bor (List ℕ)). m.now) messages

@@ -1,5 +1,7 @@
--- What an end does by one call: what it keeps then, what it sends, and what its application takes, each in order.
-use Rattle.std.specs.Prelude.{◌≡◌, ℕ, zero, suc, ◌+◌, ◌%◌, ◌^◌, Bool, not, ◌&&◌, Option, Some, None, List, [], ◌∷◌, ◌++◌, take, drop, length}
+-- One call of an end: its new contents, the datagrams that it sends, and the telegrams that its application takes, each in order.
+--
+-- A turn depends only on what is kept. The states with the whole history take the same step: Turned.TurnsLaw is the only place that says so.
+use Rattle.std.specs.Prelude.{◌≡◌, ℕ, zero, suc, ◌+◌, ◌-◌, min, ◌%◌, ◌^◌, Bool, not, ◌&&◌, Option, Some, None, List, [], ◌∷◌, ◌++◌, take, drop, length}
 use Rattle.std.specs.Prelude.{if◌then◌else◌}
 use Rattle.std.specs.List.{FoldsTo}
 use Rattle.channels.specs.Told.{Sending, SendsOne, Told}
@@ -8,19 +10,28 @@ use Rattle.pdi_session.specs.declared.InitFault.{InitFault}
 use Rattle.pdi_session.specs.declared.PutFault.{PutFault}
 use Rattle.pdi_session.specs.SessionStep.{Closes, InitDone as Completes, Item, Puts, SessionState, init_refusal, put_refusal}
 use Rattle.red_layer.specs.Parts.{Part, is_nil}
-use Rattle.red_layer.specs.Redundancy.{Datagram, Input, Receiver, Tick as RedTick, after, passed_by}
+use Rattle.red_layer.specs.Redundancy.{Datagram, Input, Receiver, Tick as RedTick, after, judged as red_judged, passed_by}
+use Rattle.red_layer.specs.declared.RedEvent.{RedEvent}
 use Rattle.red_layer.specs.pdu.RedText.{red_text}
 use Rattle.safe_pdu.specs.declared.CodeRule.{CodeRule}
 use Rattle.safe_machine.specs.declared.ConnectionState.{ConnectionState}
+use Rattle.safe_machine.specs.declared.Step.{Step as Outcome}
 use Rattle.safe_pdu.specs.declared.reasons.Reason.TheVariants.{ClosedByUser}
 use Rattle.safe_pdu.specs.declared.reasons.Detail.TheVariants.{Unspecified}
-use Rattle.safe_machine.specs.Connections.{is_closed}
+use Rattle.safe_machine.specs.Connections.{is_closed, is_live}
 use Rattle.safe_machine.specs.Made.{Made}
-use Rattle.safe_machine.specs.Octets.{hears as machine_hears, hears_units}
+use Rattle.safe_pdu.specs.Places.{safe_seen}
+use Rattle.safe_machine.specs.Deadlines.{overdue}
+use Rattle.safe_machine.specs.Octets.{heard_answer, hears as machine_hears, hears_units}
 use Rattle.safe_machine.specs.Turns.{Turn as MachineTurn, guards as machine_guards, has_room, leaves as machine_leaves, sends as machine_sends}
 use Rattle.safe_machine.specs.Turns.{ticks as machine_ticks}
 use Rattle.safe_machine.specs.View.{View, text_of}
 use Rattle.safe_machine.specs.World.{joins}
+use Rattle.stack_end.specs.Departures.{known_departure, own_departure, part_departure}
+use Rattle.stack_end.specs.Statistics.{with_made, with_step}
+use Rattle.stack_end.specs.declared.departure.Departure.{Departure}
+use Rattle.stack_end.specs.declared.statistics.MadeCounts.{MadeCounts}
+use Rattle.stack_end.specs.declared.statistics.PartCounts.{PartCounts}
 use Rattle.stack_end.specs.Datagrams.{on_channels}
 use Rattle.stack_end.specs.Dialogue.{Dialogue, Judged, Leaving, judge_units, meets, session_in}
 use Rattle.stack_end.specs.Ends.{Call, Close, Deliver, InitDone, Put, Tick, comes_up, noted, rises}
@@ -28,36 +39,41 @@ use Rattle.stack_end.specs.Ends.{Call, Close, Deliver, InitDone, Put, Tick, come
 -- what an end keeps above its redundancy layer
 pub record Fields : Type 0 where
   pub numbers : ℕ  -- the next redundancy number
-  pub machine : View
-  pub session : SessionState
-  pub waiting : List (List ℕ)
-  pub request : Option (List ℕ)  -- the octets of the ConnReq that it took
+  pub machine : View  -- the safety machine
+  pub session : SessionState  -- the session, without its past
+  pub waiting : List (List ℕ)  -- the messages that wait to be sent
+  pub request : Option (List ℕ)  -- the bytes of the ConnReq that it accepted
   pub count : ℕ  -- of its channels
   pub max : ℕ  -- messages packed into one unit
+  pub accepted : ℕ  -- commands and status put, up to 2^64 - 1
+  pub departed : Option Departure  -- how the end came to be closed
+  pub made : MadeCounts  -- the PDUs made, counted by type
+  pub parts : PartCounts  -- the parts that went up, counted by what the machine did
 
--- and with that layer
+-- what an end keeps of all layers
 pub record Inside : Type 0 where
-  pub red : Receiver
-  pub upper : Fields
+  pub red : Receiver  -- the receiving half of the redundancy layer
+  pub upper : Fields  -- the layers above
 
+-- a turn of V
 pub record Turn (V : Type 0) : Type 0 where
-  pub left : V
-  pub sent : List Sending
-  pub taken : List Item
+  pub left : V  -- what is kept afterwards
+  pub sent : List Sending  -- the datagrams sent, with their channels, in order
+  pub taken : List Item  -- the commands or status that the application takes, in order
 
--- From what was there, and from who takes, to what is there now: what was sent went out, and what was taken was handed over.
+-- a turn was taken: it left this, its datagrams were sent or counted as failed, and the taker got what it delivers
 pub record Went {V T : Type 0} (takes : T → Item → T → Type 0) (t : Turn V) (told : Told) (taker : T) (now : V) (told_now : Told) (taker_now : T) : Type 0 where
-  pub left : now ≡ t.left
-  pub sent : FoldsTo SendsOne told t.sent told_now
-  pub taken : FoldsTo takes taker t.taken taker_now
+  pub left : now ≡ t.left  -- what is there now
+  pub sent : FoldsTo SendsOne told t.sent told_now  -- what became of the channels
+  pub taken : FoldsTo takes taker t.taken taker_now  -- what became of the taker
 
--- the same of a turn in which nothing is taken
+-- a turn was taken that delivers nothing
 pub record WentAlone {V : Type 0} (t : Turn V) (told : Told) (now : V) (told_now : Told) : Type 0 where
-  pub left : now ≡ t.left
-  pub sent : FoldsTo SendsOne told t.sent told_now
-  pub none : t.taken ≡ []
+  pub left : now ≡ t.left  -- what is there now
+  pub sent : FoldsTo SendsOne told t.sent told_now  -- what became of the channels
+  pub none : t.taken ≡ []  -- nothing is taken
 
--- nothing is done
+-- a turn that does nothing
 abbrev pub still : {V : Type 0} → V → Turn V
 still v = record { left = v; sent = []; taken = [] }
 
@@ -65,10 +81,11 @@ still v = record { left = v; sent = []; taken = [] }
 abbrev pub followed : {V : Type 0} → Turn V → (V → Turn V) → Turn V
 followed t next = record { left = (next t.left).left; sent = t.sent ++ (next t.left).sent; taken = t.taken ++ (next t.left).taken }
 
--- the redundancy number behind one, and behind those of PDUs
+-- the redundancy number after this one
 abbrev pub next_number : ℕ → ℕ
 next_number number = (number + 1) % 2 ^ 32
 
+-- the redundancy number after those of PDUs
 abbrev pub number_behind : ℕ → List Made → ℕ
 number_behind number [] = number
 number_behind number (m ∷ ms) = number_behind (next_number number) ms
@@ -78,55 +95,74 @@ abbrev pub datagrams : CodeRule → (channels number : ℕ) → List Made → Li
 datagrams rule channels number [] = []
 datagrams rule channels number (m ∷ ms) = on_channels channels (red_text number (text_of rule m)) ++ datagrams rule channels (next_number number) ms
 
--- the machine takes a turn, and what it makes is sent
+-- the machine takes a turn, and the PDUs that it makes are sent
 abbrev pub machine_turn : MachineTurn → Fields → Turn Fields
 machine_turn t v =
     record {
-      left = record v { numbers = number_behind v.numbers t.made; machine = t.left };
+      left = record v { numbers = number_behind v.numbers t.made; machine = t.left; made = with_made t.made v.made };
       sent = datagrams v.machine.settings.rule v.count v.numbers t.made;
       taken = [];
     }
 
--- the dialogue of the session from now on
+-- a dialogue that begins here, without a past: one with a past goes on in the same way
 abbrev pub from_here : SessionState → List (List ℕ) → Dialogue
 from_here session waiting =
     record { history = record { state = session; phases = []; queue = []; judged = []; put = []; taken = []; ended_in = None }; waiting = waiting }
 
+-- the dialogue of what an end keeps
 abbrev pub dialogue_of : Fields → Dialogue
 dialogue_of v = from_here v.session v.waiting
 
--- the session goes on to the end of that dialogue
+-- the session changes to the end of that dialogue, and the application takes what it took there
 abbrev pub session_turn : Dialogue → Fields → Turn Fields
 session_turn d v = record { left = record v { session = session_in d; waiting = d.waiting }; sent = []; taken = d.history.taken }
 
--- where the machine is closed the session ends
+-- if the machine is closed, the session ends
 abbrev pub settles : Fields → Turn Fields
 settles v = if is_closed v.machine.connection then session_turn (meets Closes (dialogue_of v)) v else still v
 
--- the machine alone
+-- the cause of the closing is recorded, if it is known
+abbrev pub departs : Option Departure → Fields → Turn Fields
+departs cause v = still (record v { departed = known_departure cause v.departed })
+
+-- for how long nothing was confirmed, or 0 without a connection
+abbrev pub waited : ℕ → Fields → ℕ
+waited now v = if is_live v.machine.connection then now - v.machine.confirmed_at else 0
+
+-- a part is counted, by the step that is reported for it
+abbrev pub counts : Outcome → (waited now : ℕ) → Fields → Turn Fields
+counts answer waited now v = still (record v { parts = with_step answer waited (now - v.machine.confirmed_at) v.parts })
+
+-- the timeout check of the machine; a closed machine ends the session, and the departure is recorded
 abbrev pub guards : ℕ → Fields → Turn Fields
-guards now v = followed (machine_turn (machine_guards now v.machine) v) settles
+guards now v =
+    followed (followed (machine_turn (machine_guards now v.machine) v) settles) (departs (own_departure (overdue now v.machine) now))
 
+-- the timers of the machine; a closed machine ends the session, and the departure is recorded
 abbrev pub ticks : ℕ → Fields → Turn Fields
-ticks now v = followed (machine_turn (machine_ticks now v.machine) v) settles
+ticks now v =
+    followed (followed (machine_turn (machine_ticks now v.machine) v) settles) (departs (own_departure (overdue now v.machine) now))
 
--- the end leaves where it is asked to
+-- the end disconnects if it is asked to
 abbrev pub leaves : ℕ → Option Leaving → Fields → Turn Fields
 leaves now None v = still v
 leaves now (Some why) v = machine_turn (machine_leaves why.0 why.1 now v.machine) v
 
+-- the user closes: an open end disconnects with reason 0, the session ends, and the departure is recorded
 abbrev pub closes : ℕ → Fields → Turn Fields
-closes now v = followed (leaves now (Some (ClosedByUser, Unspecified)) v) settles
+closes now v =
+    followed (followed (leaves now (Some (ClosedByUser, Unspecified)) v) settles)
+    (departs (own_departure (if is_closed v.machine.connection then None else Some (ClosedByUser, Unspecified)) now))
 
--- what the session makes of the units that the octets of a part hand up
+-- what the session makes of the units that the machine delivers of a part
 abbrev pub judged_at : ℕ → List ℕ → Fields → Judged
 judged_at now octets v = judge_units (hears_units octets now v.machine) (dialogue_of v)
 
--- the machine hears a part, and the session judges what it hands up
+-- the machine processes a part, and the session judges the units that it delivers
 abbrev pub hears : ℕ → List ℕ → Fields → Turn Fields
 hears now octets v = followed (machine_turn (machine_hears octets now v.machine) v) (session_turn (judged_at now octets v).left)
 
--- the octets of a ConnReq that was taken are noted, by the state before
+-- the bytes of an accepted ConnReq are kept, by the state before the part
 abbrev pub notes : ConnectionState → List ℕ → Fields → Turn Fields
 notes before octets v = still (record v { request = noted (joins before v.machine.connection) octets v.request })
 
@@ -134,50 +170,69 @@ notes before octets v = still (record v { request = noted (joins before v.machin
 abbrev pub goes_up : ConnectionState → Fields → Turn Fields
 goes_up before v = session_turn (rises (comes_up before v.machine.connection) (dialogue_of v)) v
 
--- a part that goes up: machine and session, and leaving where it is asked for
+-- how a part closes an end that was open before it
+abbrev pub closing : ℕ → List ℕ → Fields → Option Departure
+closing now octets v =
+    part_departure (heard_answer (safe_seen v.machine.settings.rule octets) now v.machine) (judged_at now octets v).leaving
+    (not (is_closed v.machine.connection) && is_closed (machine_hears octets now v.machine).left.connection) octets now
+
+-- a part that goes up: machine and session, the kept request, going up, disconnecting if asked, the end of the session, the departure, and the count, in
+-- this order
 abbrev pub part : ℕ → List ℕ → Fields → Turn Fields
 part now octets v =
     let before = v.machine.connection in
-    followed (followed (followed (followed (hears now octets v) (notes before octets)) (goes_up before)) (leaves now (judged_at now octets v).leaving)) settles
+    followed
+    (followed
+    (followed (followed (followed (followed (hears now octets v) (notes before octets)) (goes_up before)) (leaves now (judged_at now octets v).leaving)) settles)
+    (departs (closing now octets v)))
+    (counts (heard_answer (safe_seen v.machine.settings.rule octets) now v.machine) (waited now v) now)
 
--- the parts that go up, in order
+-- the parts that go up, in order, each wholly before the next
 abbrev pub parts : ℕ → List Part → Fields → Turn Fields
 parts now [] v = still v
 parts now (p ∷ ps) v = followed (part now p.1 v) (parts now ps)
 
--- messages wait, and the machine may send
+-- a message waits, and the machine may send
 abbrev pub can_pack : Fields → Bool
 can_pack v = not (is_nil v.waiting) && has_room v.machine
 
--- one unit of the first messages that wait is sent
+-- one unit of the first waiting messages is sent
 abbrev pub packs : ℕ → Fields → Turn Fields
 packs now v =
     followed (machine_turn (machine_sends (unit_text (take v.max v.waiting)) now v.machine) v) (λ w. still (record w { waiting = drop v.max v.waiting }))
 
+-- one unit is sent if that is possible
 abbrev pub packs_once : ℕ → Fields → Turn Fields
 packs_once now v = if can_pack v then packs now v else still v
 
--- packing and sending, a bounded number of times
+-- packing and sending while that is possible, at most this many units
 abbrev pub packs_up_to : ℕ → ℕ → Fields → Turn Fields
 packs_up_to zero now v = still v
 packs_up_to (suc n) now v = if can_pack v then followed (packs now v) (packs_up_to n now) else still v
 
--- each unit takes a message out, so no more are sent than messages wait
+-- packing and sending until no message waits or the machine may not send: each unit takes at least one message, so this many units suffice
 abbrev pub sends : ℕ → Fields → Turn Fields
 sends now v = packs_up_to (length v.waiting) now v
 
--- why a command or status is not put in
+-- why a command or status is refused, if it is
 abbrev pub put_answer : (kind : ℕ) → List ℕ → Fields → Option PutFault
 put_answer kind payload v = put_refusal v.session kind payload (length v.waiting)
 
--- and the end of the initialisation
+-- why the end of the initialisation is refused, if it is
 abbrev pub init_answer : Fields → Option InitFault
 init_answer v = init_refusal v.session (length v.waiting)
 
--- a command or status is put in, and the end of the initialisation; both are accepted ones
-abbrev pub puts : (kind : ℕ) → List ℕ → (now : ℕ) → Fields → Turn Fields
-puts kind payload now v = followed (session_turn (meets (Puts kind payload (length v.waiting)) (dialogue_of v)) v) (sends now)
+-- the telegrams put in this dialogue are counted
+abbrev pub accepts : Dialogue → Fields → Fields
+accepts d v = record v { accepted = min (v.accepted + length d.history.put) (2 ^ 64 - 1) }
 
+-- an accepted command or status is queued and counted, then waiting messages are sent
+abbrev pub puts : (kind : ℕ) → List ℕ → (now : ℕ) → Fields → Turn Fields
+puts kind payload now v =
+    let d = meets (Puts kind payload (length v.waiting)) (dialogue_of v) in
+    followed (session_turn d (accepts d v)) (sends now)
+
+-- an accepted end of the initialisation queues its telegram, then waiting messages are sent
 abbrev pub completes : ℕ → Fields → Turn Fields
 completes now v = followed (session_turn (meets (Completes (length v.waiting)) (dialogue_of v)) v) (sends now)
 
@@ -185,32 +240,41 @@ completes now v = followed (session_turn (meets (Completes (length v.waiting)) (
 abbrev pub above : (Fields → Turn Fields) → Inside → Turn Inside
 above next v = let t = next v.upper in record { left = record { red = v.red; upper = t.left }; sent = t.sent; taken = t.taken }
 
--- what comes to the redundancy layer, and the parts that go up of it
+-- the redundancy layer processes an input, and each part that goes up is processed
 abbrev pub receives : ℕ → Input → Inside → Turn Inside
 receives now i v =
     let t = parts now (passed_by i v.red) v.upper in
     record { left = record { red = after i v.red; upper = t.left }; sent = t.sent; taken = t.taken }
 
+-- the end is closed
 abbrev pub is_over : Inside → Bool
 is_over v = is_closed v.upper.machine.connection
 
--- all that was put in is done with: it is not closed, no message waits, and no unit is unconfirmed
+-- everything put is confirmed: the end is not closed, no message waits, and no unit is unconfirmed
 abbrev pub is_settled : Inside → Bool
 is_settled v = not (is_over v) && (is_nil v.upper.waiting && is_nil v.upper.machine.ring)
 
--- what follows the guard or the machine's tick, where these have not left
+-- what follows the machine's timers if they leave the end open: the redundancy layer's input, then sending
 abbrev pub goes_on : ℕ → Input → Inside → Turn Inside
 goes_on now i v = if is_over v then still v else followed (receives now i v) (above (sends now))
 
--- a datagram comes
+-- a datagram comes: the timeout check, then the layers, then sending
 abbrev pub arrives : ℕ → List ℕ → Inside → Turn Inside
 arrives now octets v = if is_over v then still v else followed (above (guards now) v) (goes_on now (Datagram octets now))
 
--- time passes
+-- what the redundancy layer does with a datagram, or None at a closed end
+abbrev pub red_event : (now : ℕ) → List ℕ → Inside → Option RedEvent
+red_event now octets v = if is_over v then None else Some (red_judged now octets v.red).event
+
+-- the same after the timeout check, which may close the end
+abbrev pub event_of : (now : ℕ) → List ℕ → Inside → Option RedEvent
+event_of now octets v = if is_over v then None else red_event now octets (above (guards now) v).left
+
+-- time passes: the machine's timers, then that of the redundancy layer, then sending
 abbrev pub passes : ℕ → Inside → Turn Inside
 passes now v = if is_over v then still v else followed (above (ticks now) v) (goes_on now (RedTick now))
 
--- the turn of a call; the channel of a datagram plays no part
+-- the turn of each call; the channel of a datagram has no effect
 abbrev pub turn : Call → Inside → Turn Inside
 turn (Close now) v = above (closes now) v
 turn (Put kind payload now) v = above (puts kind payload now) v

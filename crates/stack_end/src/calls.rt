@@ -1,48 +1,55 @@
-//! Two calls of an end by its layers, with the time of each. They stand apart from what an application calls, so that there a property can be
-//! left alone to refuse a wrong body.
+//! Two calls of an end with all their clauses. They are separate from `end.rt` so that a wrong-body test can drop
+//! clauses there and keep a single one.
 
-ghost use Rattle.std.specs.Prelude.{◌≡◌, ◌≤◌, ◌^◌, ℕ, false, Some, None, OnOk, OnErr, MatchResult};
-ghost use Rattle.stack_end.specs.Ends.{Deliver};
+ghost use Rattle.std.specs.Prelude.{◌≡◌, ◌≤◌, ◌^◌, false, Some, None, OnOk, OnErr, MatchResult};
 ghost use Rattle.stack_end.specs.EndValue.{EndTurns, EndTurnsAlone, inside};
 ghost use Rattle.stack_end.specs.Outstanding.{PutOut};
 ghost use Rattle.stack_end.specs.Hearing.{HasHeard, TakesPart};
 ghost use Rattle.stack_end.specs.Recent.{DatagramRecent};
-ghost use Rattle.stack_end.specs.Turns.{above, arrives, can_pack, put_answer, puts, turn};
+ghost use Rattle.stack_end.specs.Statistics.{received};
+ghost use Rattle.stack_end.specs.Turns.{above, arrives, can_pack, event_of, put_answer, puts};
 
 use crate::End;
 use crate::note::Listener;
+use crate::statistics::count_reception;
 use octets::Milliseconds;
 use pdi_session::{PutFault, Taker};
 use std::alloc::Allocator;
 
 impl<C: Listener, A: Allocator> End<C, A> {
-    /// The layers take a datagram: what `arrive` does.
+    /// Does the work of `arrive`: passes a datagram to the layers.
     pub(crate) fn take_datagram<T: Taker>(
         &mut self,
+        channel: usize,
         octets: &[u8],
         now: Milliseconds,
         taker: &mut T,
     )
         requires now { now ≤ 2 ^ 62 }
         requires later { self.old.time ≤ now }
+        // The datagram passes the timeout check, then redundancy layer, safety machine and session; then waiting
+        // messages are sent. State, datagrams and telegrams are those of `arrives`.
         ensures turns { EndTurns C.told T.takes (arrives now octets.now) self.old taker.old self.new taker.new }
-        // Nothing waits then, or the machine may not send.
+        // After a datagram, no message waits that the machine could send.
         ensures packs { can_pack (inside self.new).upper ≡ false }
-        // What is taken is recent.
+        // Each part that goes up delivers what the session takes of it. If that is anything, the part's confirmed
+        // timestamp, as this end reads it, is less than T_max old.
         ensures recent { DatagramRecent T.takes now octets.now (inside self.old) taker.old taker.new }
-        // Whatever came: the redundancy layer has heard it, unless the guard leaves.
+        // If the end is open and stays so in the timeout check, the redundancy layer has processed the datagram.
         ensures hears { HasHeard now octets.now (inside self.old) (inside self.new) }
-        // What the machine hands up of a part reaches the application.
+        // If exactly one part goes up, the taker gets what the session takes of that part's units.
         ensures passes { TakesPart T.takes now octets.now (inside self.old) taker.old taker.new }
-        // The end is left as any channel would leave it.
-        ensures any_channel { (other : ℕ) → inside self.new ≡ (turn (Deliver other octets.now now) (inside self.old)).left }
+        // The time of the end becomes that of the datagram.
         ensures time { self.new.time ≡ now }
+        // What came is counted at its channel with the redundancy layer's event.
+        ensures received { self.new.receptions ≡ received channel (event_of now octets.now (inside self.old)) now self.old.receptions }
     {
-        self.layers.arrive(octets, now, taker);
+        let event = self.layers.arrive(octets, now, taker);
+        count_reception(&mut self.receptions, channel, event, now);
         self.time = now;
     }
 
-    /// The layers take what is put in: what `put` does.
+    /// Does the work of `put`: queues a telegram after all waiting messages, and sends what the peer's window allows.
     pub(crate) fn put_behind(
         &mut self,
         kind: u16,
@@ -51,16 +58,24 @@ impl<C: Listener, A: Allocator> End<C, A> {
     ) -> Result<(), PutFault>
         requires now { now ≤ 2 ^ 62 }
         requires later { self.old.time ≤ now }
+        // The telegram is queued last, then waiting messages are sent while the machine may send. State and datagrams
+        // are those of `puts`; nothing is taken.
         ensures turns { OnOk result (EndTurnsAlone C.told (above (puts kind payload.now now)) self.old self.new) }
-        // Nothing waits then, or the machine may not send.
+        // After the telegram is queued, no message waits that the machine could send.
         ensures packs { OnOk result (can_pack (inside self.new).upper ≡ false) }
-        // It waits, or stands in an unconfirmed unit, and so does all that waited.
+        // The messages that waited, and then the new one, are now in newly unconfirmed units or still wait, in this
+        // order.
         ensures kept { OnOk result (PutOut kind payload.now (inside self.old).upper (inside self.new).upper) }
+        // The time of the end becomes that of the accepted put.
         ensures time { OnOk result (self.new.time ≡ now) }
+        // A refused telegram leaves the end as it was.
         ensures refused { OnErr result (self.new ≡ self.old) }
+        // The put is accepted if and only if `put_answer` has no refusal; if it has one, that is returned.
         ensures answer { MatchResult result
             (λ _. put_answer kind payload.now (inside self.old).upper ≡ None)
             (λ fault. put_answer kind payload.now (inside self.old).upper ≡ Some fault) }
+        // A put counts no datagram.
+        ensures received { self.new.receptions ≡ self.old.receptions }
     {
         self.layers.put(kind, payload, now)?;
         self.time = now;

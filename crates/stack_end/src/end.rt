@@ -1,47 +1,60 @@
-//! One end of a connection, as an application opens it.
+//! One end of a connection: the type that an application opens.
 
-ghost use Rattle.std.specs.Prelude.{◌≡◌, ◌≤◌, ◌^◌, ◌↔◌, ℕ, true, false, length, Option, option_map, Some, None, Ok, Err, IfOk, IfSome};
+ghost use Rattle.std.specs.Prelude.{◌≡◌, ◌≤◌, ◌^◌, ◌↔◌, ℕ, replicate, true, false, length, Option, option_map, Some, None, Ok, Err, IfOk, IfSome};
 ghost use Rattle.std.specs.Prelude.{OnOk, OnErr, IfErr, IsErrAnd, MatchResult, if◌then◌else◌};
 ghost use Rattle.std.specs.List.{FoldsTo};
 ghost use Rattle.std.specs.Borrow.{sem};
 ghost use Rattle.channels.specs.Told.{SendsOne};
 ghost use Rattle.end_settings.specs.EndSettings.{are_fit};
 ghost use Rattle.end_settings.specs.Configured.{settings_of, side_of};
-ghost use Rattle.stack_end.specs.Ends.{Deliver, opened_end};
+ghost use Rattle.stack_end.specs.Ends.{opened_end};
 ghost use Rattle.stack_end.specs.Datagrams.{sent_at_opening};
-ghost use Rattle.stack_end.specs.EndValue.{EndStands, EndTurns, EndTurnsAlone, channels_of, inside};
-ghost use Rattle.stack_end.specs.Turns.{above, arrives, can_pack, closes, completes, init_answer, is_over, is_settled, passes, put_answer, puts, turn};
+ghost use Rattle.stack_end.specs.EndValue.{EndStands, EndTurns, EndTurnsAlone, channels_of, inside, statistics_of};
+ghost use Rattle.stack_end.specs.Turns.{above, arrives, can_pack, closes, completes, init_answer, is_over, event_of, is_settled, passes, put_answer, puts};
 ghost use Rattle.stack_end.specs.Outstanding.{PutOut};
 ghost use Rattle.stack_end.specs.Hearing.{HasHeard, TakesPart};
 ghost use Rattle.stack_end.specs.Recent.{DatagramRecent, TickRecent};
 ghost use Rattle.stack_end.specs.Bounds.{IsBounded};
+ghost use Rattle.stack_end.specs.Certain.{confirmed_in};
+ghost use Rattle.stack_end.specs.Stale.{is_stale};
+ghost use Rattle.stack_end.specs.Reopening.{reopens};
+ghost use Rattle.stack_end.specs.Statistics.{none_received, received};
+ghost use Rattle.octets.specs.declared.limits.TheConstants.{CHANNELS_MAX};
 ghost use Rattle.safe_machine.specs.Deadlines.{IsBefore, IsReachedAt};
 ghost use Rattle.stack_end.specs.Deadlines.{HasFallen, IsQuiet, earliest};
 ghost use Rattle.stack_end.specs.Polling.{Asked, AskedOnce, HeardAll, HeardNext, HeardUntilFault, Polled, buffer_size, most_datagrams};
 ghost use Rattle.stack_end.specs.declared.OpenFault.TheVariants.{BadConfig};
 
+use crate::departure::Departure;
 use crate::layers::Layers;
 use crate::note::Listener;
+use crate::statistics::{ReceptionCounts, Statistics};
 use crate::{OpenFault, POLL_BUFFER, POLL_DATAGRAMS, PollFault, opening};
 use channels::ChannelFault;
 use end_settings::{EndConfig, Side};
 use octets::Milliseconds;
+use octets::limits::CHANNELS_MAX;
 use pdi_session::{InitFault, Phase, PutFault, Taker};
 use safe_machine::ConnectionState;
 use std::alloc::{Allocator, Global};
 use std::cmp::min;
 use std::marker::Model;
 
-/// One end of a connection over channels `C`: what an application opens.
+/// One end of a connection over the channels `C`.
 ///
-/// Datagrams, deadlines and telegrams go in, datagrams and telegrams in order come out. All its memory is taken when it is opened. Times
-/// are whole milliseconds of one clock, which never falls and is at most 2^62; beyond that a caller keeps nothing.
+/// Datagrams, times and the application's telegrams go in; datagrams and telegrams in order come out. An end
+/// allocates only in `open`.
+///
+/// The caller must pass times from one clock, in whole milliseconds, that never decreases and stays at or below
+/// 2^62. Nothing else is required of it.
 #[derive(Drop)]
 pub struct End<C, A: Allocator = Global> {
-    /// Its layers, one above the other.
+    /// The protocol layers, from the redundancy layer up.
     pub(crate) layers: Layers<C, A>,
     /// The time of the last call, in milliseconds.
     pub(crate) time: u64,
+    /// The counts of what came, by channel.
+    pub(crate) receptions: [ReceptionCounts; CHANNELS_MAX],
 }
 
 impl<C, A: Allocator> Model for End<C, A> {
@@ -50,20 +63,24 @@ impl<C, A: Allocator> Model for End<C, A> {
 
     ghost Value = { EndValue C A };
 
-    ghost view = { λ e. record { layers = e.layers; time = e.time } };
+    ghost view = { λ e. record { layers = e.layers; time = e.time; receptions = e.receptions } };
 
     ghost invariant = { λ e. IsKept e.layers };
 }
 
 impl<C: Listener, A: Allocator + Copy> End<C, A> {
-    /// Opens an end on one side of a connection. An interlocking asks for the connection at once, under the first sequence number
-    /// told; a field element waits for that. It is the only call that takes memory. A send on a channel that `channels` does not
-    /// have fails like any other.
+    /// Opens one side of a connection.
+    ///
+    /// An interlocking sends its ConnReq at once, numbered `first_sn`. A field element sends nothing and waits
+    /// for a ConnReq. No other call allocates. If the settings name more channels than `channels` has, every
+    /// send on the missing ones fails, and a failed send is a lost datagram.
     ///
     /// # Errors
     ///
-    /// Refused, and the first that holds is named: `BadConfig`, where the settings are none of an end; `Memory`. The channels
-    /// come back then.
+    /// Returns the first that applies, together with the unchanged `channels`:
+    ///
+    /// - `BadConfig` if the settings are invalid for this side;
+    /// - `Memory` if an allocation fails.
     pub fn open(
         alloc: A,
         channels: C,
@@ -72,20 +89,27 @@ impl<C: Listener, A: Allocator + Copy> End<C, A> {
         first_sn: u32,
         now: Milliseconds,
     ) -> Result<Self, (OpenFault, C)>
-        // `open` answers BadConfig exactly where the settings are not fit for the side.
+        // `open` fails with `BadConfig` if and only if the settings are invalid for this side.
         ensures bad_config { IsErrAnd result (λ e. e.0 ≡ BadConfig)
             ↔ (are_fit (side_of side) (settings_of config) ≡ false) }
-        // Where `open` is refused it hands its channels back as they were.
+        // If `open` fails, it returns the channels unchanged.
         ensures back { IfErr result (λ e. e.1 ≡ channels) }
-        // An opened end stands for the new end of its settings, side, first sequence number and time.
+        // The new end is in the initial state for its settings, side, first sequence number and time: an
+        // interlocking in Start, a field element in Down.
         ensures stands { IfOk result (λ end. EndStands C.told end (opened_end side config first_sn now)) }
-        // Each PDU made at the opening is sent under its index on every channel in order, or the sending is
-        // counted as failed.
+        // The ConnReq of an interlocking is sent with redundancy number 0 on every channel in order; a send
+        // that fails is counted. A field element sends nothing.
         ensures sent { IfOk result (λ end. FoldsTo SendsOne (C.told channels)
             (sent_at_opening (opened_end side config first_sn now)) (C.told (channels_of end))) }
+        // Nothing has come on any channel.
+        ensures received { IfOk result (λ end. end.receptions ≡ replicate CHANNELS_MAX none_received) }
     {
         match opening::open(alloc, channels, config, side, first_sn, now) {
-            Ok(layers) => Ok(End { layers, time: now }),
+            Ok(layers) => Ok(End {
+                layers,
+                time: now,
+                receptions: [ReceptionCounts::none(); CHANNELS_MAX],
+            }),
             Err(refused) => Err(refused),
         }
     }
@@ -94,8 +118,10 @@ impl<C: Listener, A: Allocator + Copy> End<C, A> {
 impl<C: Listener, A: Allocator> End<C, A> {
     ghost use Rattle.stack_end.specs.Lending.{lends_channels};
 
-    /// Takes a datagram that came on a channel, of any octets. What the application takes goes to the taker in order, and what waits is sent
-    /// while the peer's window is open. A closed end does nothing.
+    /// Processes a received datagram, which may contain any bytes.
+    ///
+    /// Telegrams for the application go to `taker` in order. Messages that wait are then sent while the peer's
+    /// window is open. A closed end ignores the datagram.
     pub fn arrive<T: Taker>(
         &mut self,
         channel: usize,
@@ -105,146 +131,189 @@ impl<C: Listener, A: Allocator> End<C, A> {
     )
         requires now { now ≤ 2 ^ 62 }
         requires later { self.old.time ≤ now }
-        // An arrival is the turn `arrives`: it leaves what that leaves, sends what that sends, each datagram on
-        // every channel in order, and the application takes what that takes.
+        // `arrive` checks T_max and the PDU limit, then passes the datagram up: redundancy layer, safety
+        // machine and session. It then sends waiting messages. Each PDU goes out on every channel in order, and
+        // a send that fails is counted. The new state, the datagrams sent and the telegrams delivered are
+        // exactly those of `arrives`.
         ensures turns { EndTurns C.told T.takes (arrives now octets.now) self.old taker.old self.new taker.new }
-        // After an arrival, a tick, a poll that is not refused, an accepted put or end of the initialisation no
-        // message waits, or the machine may not send.
+        // After `arrive`, no message waits that the safety machine could send.
         ensures packs { can_pack (inside self.new).upper ≡ false }
-        // Parts of an arrival or a tick go up one by one; at each the application takes what the session takes
-        // there, and it is as before or the end reads the part's confirmed timestamp as less than T_max old.
+        // The parts that the datagram releases go up one at a time, and the taker receives what the session
+        // accepts from each. If a part changes the taker, its PDU's confirmed timestamp, as this end reads it,
+        // is less than T_max old.
         ensures recent { DatagramRecent T.takes now octets.now (inside self.old) taker.old taker.new }
-        // Where an end is not closed and its guard does not leave, its redundancy layer has heard what arrived,
-        // on whatever channel it came.
+        // If the end is open, and neither T_max nor the PDU limit closes it first, the redundancy layer
+        // processes the datagram, whatever its channel.
         ensures hears { HasHeard now octets.now (inside self.old) (inside self.new) }
-        // Where an arrival lets one part up, the application takes what the session takes of the units that the
-        // machine hands up of it.
+        // If the datagram releases exactly one part, the taker receives everything that the session accepts
+        // from that part's unit, and nothing else.
         ensures passes { TakesPart T.takes now octets.now (inside self.old) taker.old taker.new }
-        // An arrival leaves the end as it would on any other channel.
-        ensures any_channel { (other : ℕ) → inside self.new ≡ (turn (Deliver other octets.now now) (inside self.old)).left }
-        // The time of an end is that of its last accepted call.
+        // The datagram is counted at its channel, by what the redundancy layer did with it.
+        ensures received { self.new.receptions ≡ received channel (event_of now octets.now (inside self.old)) now self.old.receptions }
+        // `arrive` sets the end's time to `now`.
         ensures time { self.new.time ≡ now }
     {
-        self.take_datagram(octets, now, taker);
+        self.take_datagram(channel, octets, now, taker);
     }
 
-    /// Time passes: the deadlines of the safety machine and of the redundancy layer.
+    /// Lets time pass: closes the end if T_max or the PDU limit is reached, sends a heartbeat if T_h has
+    /// passed, and releases deferred parts if T_seq has passed.
+    ///
+    /// Telegrams for the application go to `taker` in order. A closed end ignores the call.
     pub fn tick<T: Taker>(&mut self, now: Milliseconds, taker: &mut T)
         requires now { now ≤ 2 ^ 62 }
         requires later { self.old.time ≤ now }
-        // A tick is the turn `passes`: it leaves what that leaves, sends what that sends, and the application
-        // takes what that takes.
+        // `tick` runs the timers of the safety machine, and unless that closes the end, the timer of the
+        // redundancy layer. It then sends waiting messages. The new state, the datagrams sent (or counted as
+        // failed) and the telegrams delivered are exactly those of `passes`.
         ensures turns { EndTurns C.told T.takes (passes now) self.old taker.old self.new taker.new }
-        // After an arrival, a tick, a poll that is not refused, an accepted put or end of the initialisation no
-        // message waits, or the machine may not send.
+        // After `tick`, no message waits that the safety machine could send.
         ensures packs { can_pack (inside self.new).upper ≡ false }
-        // Parts of an arrival or a tick go up one by one; at each the application takes what the session takes
-        // there, and it is as before or the end reads the part's confirmed timestamp as less than T_max old.
+        // Deferred parts that `tick` releases go up one at a time, and the taker receives what the session
+        // accepts from each. If such a part changes the taker, its PDU's confirmed timestamp, as this end reads
+        // it, is less than T_max old.
         ensures recent { TickRecent T.takes now (inside self.old) taker.old taker.new }
-        // The time of an end is that of its last accepted call.
+        // `tick` sets the end's time to `now`.
         ensures time { self.new.time ≡ now }
+        // `tick` counts no datagram.
+        ensures received { self.new.receptions ≡ self.old.receptions }
     {
         self.layers.tick(now, taker);
         self.time = now;
     }
 
-    /// Puts in a command or status of this kind and payload (0 to 357 octets), behind all that waits.
+    /// Queues a command or status with message type `kind` and a payload of 0 to 357 bytes, after all messages
+    /// that wait, and sends what the peer's window allows.
     ///
     /// # Errors
     ///
-    /// Refused, and the first that holds is named; nothing changes then: `NotEstablished`, `Full`, `ReservedType`, `TooLong`.
+    /// Returns the first that applies, and changes nothing:
+    ///
+    /// - `NotEstablished` if this end may not put in the present phase of the session;
+    /// - `Full` if 64 messages wait;
+    /// - `ReservedType` if `kind` is one of the five message types that set up the session;
+    /// - `TooLong` if the payload is longer than 357 bytes.
     pub fn put(&mut self, kind: u16, payload: &[u8], now: Milliseconds) -> Result<(), PutFault>
         requires now { now ≤ 2 ^ 62 }
         requires later { self.old.time ≤ now }
-        // An accepted put is the turn `puts`: it leaves what that leaves and sends what that sends, and the
-        // application takes nothing.
+        // An accepted put queues the telegram last and sends waiting messages while the safety machine may
+        // send. The new state and the datagrams sent (or counted as failed) are exactly those of `puts`;
+        // nothing is delivered to the application.
         ensures turns { OnOk result (EndTurnsAlone C.told (above (puts kind payload.now now)) self.old self.new) }
-        // After an arrival, a tick, a poll that is not refused, an accepted put or end of the initialisation no
-        // message waits, or the machine may not send.
+        // After an accepted put, no message waits that the safety machine could send.
         ensures packs { OnOk result (can_pack (inside self.new).upper ≡ false) }
-        // Behind an accepted put, what waited and then its telegram stand in units added to the unconfirmed
-        // ones, or wait, in order.
+        // An accepted put loses no message: those that waited, followed by the new telegram, are now in newly
+        // unconfirmed units or still wait, in this order.
         ensures kept { OnOk result (PutOut kind payload.now (inside self.old).upper (inside self.new).upper) }
-        // The time of an end is that of its last accepted call.
+        // An accepted put sets the end's time to `now`.
         ensures time { OnOk result (self.new.time ≡ now) }
-        // A refused put or end of the initialisation changes nothing.
+        // A refused put changes nothing.
         ensures refused { OnErr result (self.new ≡ self.old) }
-        // A put is accepted exactly where the session does not refuse it, and else its refusal is named.
+        // A put is accepted if and only if none of the four refusals applies; otherwise the first that applies
+        // is returned.
         ensures answer { MatchResult result
             (λ _. put_answer kind payload.now (inside self.old).upper ≡ None)
             (λ fault. put_answer kind payload.now (inside self.old).upper ≡ Some fault) }
+        // `put` counts no datagram.
+        ensures received { self.new.receptions ≡ self.old.receptions }
     {
         self.put_behind(kind, payload, now)
     }
 
-    /// The application of a field element has put in its initial status: the end of the initialisation is sent behind it.
+    /// Ends the initialisation: the application of a field element has put its initial status. The end sends
+    /// the closing telegram after it.
     ///
     /// # Errors
     ///
-    /// Refused, and the first that holds is named; nothing changes then: `NotInitialising`, `Full`.
+    /// Returns the first that applies, and changes nothing:
+    ///
+    /// - `NotInitialising` if this is not a field element in phase Initialising;
+    /// - `Full` if 64 messages wait.
     pub fn init_done(&mut self, now: Milliseconds) -> Result<(), InitFault>
         requires now { now ≤ 2 ^ 62 }
         requires later { self.old.time ≤ now }
-        // An accepted end of the initialisation is the turn `completes`: it leaves what that leaves and sends
-        // what that sends, and the application takes nothing.
+        // An accepted end of the initialisation queues its telegram last and sends waiting messages while the
+        // safety machine may send. The new state and the datagrams sent (or counted as failed) are exactly
+        // those of `completes`; nothing is delivered to the application.
         ensures turns { OnOk result (EndTurnsAlone C.told (above (completes now)) self.old self.new) }
-        // After an arrival, a tick, a poll that is not refused, an accepted put or end of the initialisation no
-        // message waits, or the machine may not send.
+        // After an accepted end of the initialisation, no message waits that the safety machine could send.
         ensures packs { OnOk result (can_pack (inside self.new).upper ≡ false) }
-        // The time of an end is that of its last accepted call.
+        // An accepted end of the initialisation sets the end's time to `now`.
         ensures time { OnOk result (self.new.time ≡ now) }
-        // A refused put or end of the initialisation changes nothing.
+        // A refused end of the initialisation changes nothing.
         ensures refused { OnErr result (self.new ≡ self.old) }
-        // An end of the initialisation is accepted exactly where the session does not refuse it, and else its
-        // refusal is named.
+        // The end of the initialisation is accepted if and only if neither refusal applies; otherwise the first
+        // that applies is returned.
         ensures answer { MatchResult result
             (λ _. init_answer (inside self.old).upper ≡ None)
             (λ fault. init_answer (inside self.old).upper ≡ Some fault) }
+        // `init_done` counts no datagram.
+        ensures received { self.new.receptions ≡ self.old.receptions }
     {
         self.layers.init_done(now)?;
         self.time = now;
         Ok(())
     }
 
-    /// Leaves the connection, with reason 0 (closed by the user), where there is one; the session ends.
+    /// Disconnects with reason 0 (closed by the user) if there is a connection, and ends the session.
     pub fn close(&mut self, now: Milliseconds)
         requires now { now ≤ 2 ^ 62 }
         requires later { self.old.time ≤ now }
-        // A closing is the turn `closes`: it leaves what that leaves and sends what that sends, and the
-        // application takes nothing.
+        // If there is a connection, the end sends a DiscReq with reason 0. Connection and session are then
+        // over. The new state and the datagrams sent (or counted as failed) are exactly those of `closes`;
+        // nothing is delivered to the application.
         ensures turns { EndTurnsAlone C.told (above (closes now)) self.old self.new }
-        // The time of an end is that of its last accepted call.
+        // `close` sets the end's time to `now`.
         ensures time { self.new.time ≡ now }
+        // `close` counts no datagram.
+        ensures received { self.new.receptions ≡ self.old.receptions }
     {
         self.layers.close(now);
         self.time = now;
     }
 
-    /// Hands in the datagrams that the channels answer, at most 64 of up to 2,048 octets, each before the next is asked for; then
-    /// time passes.
+    /// Opens this end again with the settings, side and channels that it has, as `open` does, without allocating. An
+    /// interlocking sends its ConnReq at once, numbered `first_sn`; a field element waits for one. Nothing is sent on
+    /// the connection that there was: to inform the peer, close the end first. All counts begin anew.
+    pub fn reopen(&mut self, first_sn: u32, now: Milliseconds)
+        requires now { now ≤ 2 ^ 62 }
+        requires later { self.old.time ≤ now }
+        // Every layer is as newly opened with the settings that it has. The new state, and the ConnReq sent (or
+        // counted as failed), are exactly those of `reopens`; nothing is delivered to the application.
+        ensures turns { EndTurnsAlone C.told (reopens first_sn now) self.old self.new }
+        // `reopen` sets the end's time to `now`.
+        ensures time { self.new.time ≡ now }
+        // Nothing has come on any channel since.
+        ensures received { self.new.receptions ≡ replicate CHANNELS_MAX none_received }
+    {
+        self.layers.reopen(first_sn, now);
+        self.receptions = [ReceptionCounts::none(); CHANNELS_MAX];
+        self.time = now;
+    }
+
+    /// Processes the datagrams that the channels have received, at most 64 of up to 2,048 bytes, then lets time
+    /// pass as `tick` does.
     ///
     /// # Errors
     ///
-    /// Refused as `Channel` where a reception fails: what came before stays handed in, and time does not pass.
+    /// - `Channel` if a reception fails. Datagrams received before it have been processed; time has not passed,
+    ///   so the caller must still call `tick`.
     pub fn poll<T: Taker>(&mut self, now: Milliseconds, taker: &mut T) -> Result<(), PollFault>
         requires now { now ≤ 2 ^ 62 }
         requires later { self.old.time ≤ now }
-        // A poll that is not refused is `arrive` of what the channels answered, in order, each before the next
-        // is asked for, and then `tick` (`Polled`). It hands in at most 64 datagrams, and fewer only where
-        // nothing more had come (`HeardAll`). What is taken at each is recent, as at an arrival (`Hears`,
-        // `Polled`). It asks its channels with room for 2,048 octets, no fewer than the longest datagram has
-        // (`Asked`).
+        // A successful poll processes up to 64 datagrams in the order received, each as a delivery and before it
+        // requests the next, then ticks once; everything that it delivers is recent. It stops before 64 only if
+        // nothing more has come. Each request offers a buffer of 2,048 bytes, more than the longest datagram
+        // (1,258).
         ensures done { OnOk result
             (Polled C.told T.takes most_datagrams now (self.old, taker.old) (self.new, taker.new)) }
-        // A refused poll has handed in fewer than 64 datagrams, in order, until a reception failed, and makes
-        // no tick. What is taken at each is recent, as at an arrival (`Hears`). It asks its channels with room
-        // for 2,048 octets, no fewer than the longest datagram has (`Asked`).
+        // A failed poll has processed fewer than 64 datagrams in order, each as a delivery, until a reception
+        // failed. It has not ticked.
         ensures failed { OnErr result
             (HeardUntilFault C.told T.takes most_datagrams now (self.old, taker.old) (self.new, taker.new)) }
-        // After an arrival, a tick, a poll that is not refused, an accepted put or end of the initialisation no
-        // message waits, or the machine may not send.
+        // After a successful poll, no message waits that the safety machine could send.
         ensures packs { OnOk result (can_pack (inside self.new).upper ≡ false) }
-        // No poll leaves an end with a later time than that of the poll.
+        // A poll never sets the end's time later than `now`, even if it fails.
         ensures time { self.new.time ≤ now }
     {
         let mut buffer = [0; POLL_BUFFER];
@@ -257,7 +326,7 @@ impl<C: Listener, A: Allocator> End<C, A> {
         }
     }
 
-    /// Hands in what the channels answer, up to the most datagrams of one poll.
+    /// Processes received datagrams, up to the limit of one poll.
     fn hear_all<T: Taker>(
         &mut self,
         buffer: &mut [u8],
@@ -267,10 +336,13 @@ impl<C: Listener, A: Allocator> End<C, A> {
         requires now { now ≤ 2 ^ 62 }
         requires room { length buffer.old ≡ buffer_size }
         requires later { self.old.time ≤ now }
+        // Up to 64 datagrams have been processed in order, and fewer only if nothing more has come.
         ensures done { OnOk result
             (HeardAll C.told T.takes most_datagrams now (self.old, taker.old) (self.new, taker.new)) }
+        // Fewer than 64 datagrams have been processed, in order, before a reception failed.
         ensures failed { OnErr result
             (HeardUntilFault C.told T.takes most_datagrams now (self.old, taker.old) (self.new, taker.new)) }
+        // The end's time is not later than `now`.
         ensures time { self.new.time ≤ now }
     {
         for _ in 0..POLL_DATAGRAMS {
@@ -283,7 +355,7 @@ impl<C: Listener, A: Allocator> End<C, A> {
         Ok(())
     }
 
-    /// Hands in the next datagram, and tells whether one came.
+    /// Processes the next received datagram. Returns `false` if none has come.
     fn hear_next<T: Taker>(
         &mut self,
         buffer: &mut [u8],
@@ -293,9 +365,12 @@ impl<C: Listener, A: Allocator> End<C, A> {
         requires now { now ≤ 2 ^ 62 }
         requires room { length buffer.old ≡ buffer_size }
         requires later { self.old.time ≤ now }
+        // Either one datagram was received and processed, or nothing had come, or the reception failed and
+        // nothing else has changed.
         ensures heard { MatchResult result
             (λ came. HeardNext C.told T.takes now came (self.old, taker.old) (self.new, taker.new))
             (λ fault. AskedOnce C.told (Err fault) (self.old, taker.old) (self.new, taker.new)) }
+        // The end's time is at most `now`, whether or not a datagram came.
         ensures time { self.new.time ≤ now }
     {
         match self.ask(buffer) {
@@ -308,29 +383,31 @@ impl<C: Listener, A: Allocator> End<C, A> {
         }
     }
 
-    /// Asks the channels for a datagram.
+    /// Requests a datagram from the channels.
     fn ask(&mut self, buffer: &mut [u8]) -> Result<Option<(usize, usize)>, ChannelFault>
         requires { length buffer.old ≡ buffer_size }
+        // The channels were asked once with the whole buffer; nothing else of the end has changed.
         ensures asked { Asked C.told result buffer.new self.old self.new }
+        // A received datagram fits the buffer.
         ensures fits { IfOk result (λ came. IfSome came (λ p. p.1 ≤ length buffer.new)) }
     {
         self.layers.upper.channels.receive(buffer)
     }
 
-    /// The earliest time at which `tick` does something, if nothing arrives and nothing is put in: a deadline of the safety machine (T_max,
-    /// T_h, the limit of PDUs) or of the redundancy layer (T_seq). It may be past; `None` where no time does, as in a closed end.
+    /// Returns the earliest time at which `tick` has something to do if no datagram arrives and nothing is put:
+    /// T_max, T_h or the PDU limit of the safety machine, or T_seq of the redundancy layer.
+    ///
+    /// The time may be in the past. Returns `None` if no timer runs, as in a closed end.
     pub fn next_deadline(&self) -> Option<Milliseconds>
-        // Before `next_deadline` a tick leaves machine and redundancy layer of an end that is not closed as
-        // they are, and nothing goes up.
+        // Before the returned time, a tick of an open end changes neither the safety machine nor the redundancy
+        // layer, and no part goes up.
         ensures before { is_over (inside self.now) ≡ false → (now : ℕ) → IsBefore now result
             → IsQuiet now (inside self.now) }
-        // From `next_deadline` on, up to 2^62 ms, a tick changes the machine, or the deferral deadline has
-        // fallen.
+        // At or after the returned time (up to 2^62 ms), a tick changes the safety machine, or T_seq of the
+        // redundancy layer has passed.
         ensures after { (now : ℕ) → now ≤ 2 ^ 62 → IsReachedAt now result → HasFallen now (inside self.now) }
         // A closed end has no deadline.
         ensures closed { is_over (inside self.now) ≡ true → result ≡ None }
-        // At most q parts are deferred.
-        ensures deferred { length (inside self.now).red.waiting ≤ (inside self.now).red.q }
     {
         let deferral = self.layers.red.deadline();
         match self.state() {
@@ -339,12 +416,12 @@ impl<C: Listener, A: Allocator> End<C, A> {
         }
     }
 
-    /// The channels, to be looked at or changed by their owner.
+    /// Borrows the channels, so that their owner can inspect or change them.
     pub fn channels(&mut self) -> &mut C
-        // Behind a loan of its channels an end has them as their owner left them, and nothing else of it
+        // When the borrow ends, the end has the channels as their owner left them; nothing else of the end has
         // changed.
         ensures* writes_back { sem 𝓛 (lends_channels C.row A.row A.Allocator self.entry result) }
-        // The channels that `channels` lends are those of the end.
+        // `channels` lends the end's own channels as they are at the call.
         ensures now { result.now ≡ channels_of self.old }
     {
         let layers = &mut self.layers;
@@ -352,36 +429,35 @@ impl<C: Listener, A: Allocator> End<C, A> {
         &mut upper.channels
     }
 
-    /// The channels, to be looked at.
+    /// Returns the channels for inspection.
     pub fn channels_seen(&self) -> &C
-        // `channels_seen` shows the channels of the end.
+        // `channels_seen` returns the end's own channels.
         ensures { result.now ≡ channels_of self.now }
     {
         &self.layers.upper.channels
     }
 
-    /// The state of the connection.
+    /// Returns the state of the connection.
     pub fn state(&self) -> ConnectionState
-        // `state` answers the state of the connection.
+        // `state` is the connection state of the safety machine.
         ensures { result ≡ (inside self.now).upper.machine.connection }
     {
         self.layers.upper.machine.state()
     }
 
-    /// The phase of the session.
+    /// Returns the phase of the session.
     pub fn phase(&self) -> Phase
-        // `phase` answers the phase of the session.
+        // `phase` is the present phase of the session.
         ensures { result ≡ (inside self.now).upper.session.phase }
     {
         self.layers.upper.session.phase()
     }
 
-    /// Whether all that was put in is done with: the end is not closed, no message waits, and no unit is unconfirmed.
+    /// Returns true if everything put has been confirmed: the end is not closed, no message waits, and no unit
+    /// is unconfirmed.
     pub fn settled(&self) -> bool
-        // `settled` tells exactly whether the end is not closed, no message waits and no unit is unconfirmed.
-        ensures settled { result ≡ is_settled (inside self.now) }
-        // At most 64 messages wait, and no more units are unconfirmed than the peer's window has, nor than 32.
-        ensures bounded { IsBounded (inside self.now) }
+        // `settled` is true if and only if the end is not closed, no message waits and no unit is unconfirmed.
+        ensures { result ≡ is_settled (inside self.now) }
     {
         let unconfirmed = self.layers.upper.machine.unconfirmed();
         self.state() != ConnectionState::Closed
@@ -389,9 +465,82 @@ impl<C: Listener, A: Allocator> End<C, A> {
             && unconfirmed == 0
     }
 
-    /// The octets of the ConnReq that a field element took, with which it joined a connection.
+    /// States the bounds that hold of an end at any time. It does nothing.
+    pub fn bounds(&self)
+        // The redundancy layer defers at most q parts.
+        ensures deferred { length (inside self.now).red.waiting ≤ (inside self.now).red.q }
+        // At most 64 messages wait. At most as many units are unconfirmed as the peer's window allows, and that
+        // is at most 32.
+        ensures bounded { IsBounded (inside self.now) }
+    {
+        self.layers.red.bounds();
+        self.layers.upper.machine.bounds();
+        let _waiting = self.layers.upper.waiting.len();
+    }
+
+    /// Returns how many of the telegrams put since the opening are confirmed: neither waiting nor in an unconfirmed
+    /// unit.
+    ///
+    /// The peer has certainly taken the first ones, as many as this; the others are in doubt. The number stays
+    /// readable after the end has closed, until the next opening. It does not count beyond 2^64 - 1.
+    pub fn confirmed(&self) -> u64
+        // The result is the number of telegrams put, less those that wait and those in unconfirmed units.
+        ensures { result ≡ confirmed_in (inside self.now).upper }
+    {
+        self.layers.upper.confirmed()
+    }
+
+    /// Returns the own time last confirmed by the peer, in milliseconds. A telegram taken came in a PDU that confirms
+    /// a PDU which this end made at that time or later.
+    pub fn confirmed_time(&self) -> Milliseconds
+        // The result is the confirmed timestamp that the safety machine keeps.
+        ensures { result ≡ (inside self.now).upper.machine.confirmed_at }
+    {
+        self.layers.upper.machine.confirmed_time()
+    }
+
+    /// Returns who ended the connection, why and when, or `None` while the end is open. It stays until the end is
+    /// opened again.
+    pub fn departure(&self) -> Option<Departure>
+        // The result is the departure that the turns of this end's calls have recorded.
+        ensures { result ≡ (inside self.now).upper.departed }
+    {
+        self.layers.upper.departed
+    }
+
+    /// Returns what the end has counted of its own work since its opening.
+    pub fn statistics(&self) -> Statistics
+        // The counts are those that the calls of this end have added to. Confirmed are the units made that are not
+        // unconfirmed now.
+        ensures { result ≡ statistics_of self.now }
+    {
+        let upper = &self.layers.upper;
+        let unconfirmed = upper.machine.unconfirmed();
+        Statistics {
+            channels: self.receptions,
+            parts: upper.parts,
+            made: upper.made,
+            confirmed: upper.made.units.saturating_sub(unconfirmed as u64),
+        }
+    }
+
+    /// Returns true if the end must be opened again before it can take part in a new connection: it is closed, or it
+    /// is a field element in Down that can miss the next ConnReq, since its redundancy layer has accepted something.
+    pub fn is_stale(&self) -> bool
+        // `is_stale` is true if and only if the end is closed, or it is in Down and either number 0 is no longer
+        // expected or a part is deferred.
+        ensures { result ≡ is_stale (inside self.now) }
+    {
+        match self.state() {
+            ConnectionState::Closed => true,
+            ConnectionState::Down => self.layers.red.has_begun(),
+            _ => false,
+        }
+    }
+
+    /// Returns the bytes of the ConnReq that this field element accepted, or `None` if it has accepted none.
     pub fn request(&self) -> Option<&[u8]>
-        // `request` answers the octets of the ConnReq that the end took, where it took one.
+        // `request` is exactly the ConnReq that this end accepted, if it accepted one.
         ensures { option_map (λ octets. octets.now) result ≡ (inside self.now).upper.request }
     {
         match &self.layers.upper.request {
@@ -401,8 +550,9 @@ impl<C: Listener, A: Allocator> End<C, A> {
     }
 }
 
-/// The earlier of two deadlines.
+/// Returns the earlier of two deadlines.
 fn earliest(one: Option<u64>, other: Option<u64>) -> Option<u64>
+    // The result is the smaller of both deadlines, or the only one.
     ensures { result ≡ earliest one other }
 {
     match (one, other) {

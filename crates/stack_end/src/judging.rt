@@ -1,4 +1,4 @@
-//! The units that go up: their messages are judged by the session, in order.
+//! Judging units: the session processes the messages of each unit that the safety machine delivers, in order.
 
 ghost use Rattle.std.specs.Prelude.{◌≡◌};
 ghost use Rattle.pdi_session.specs.packing.Places.{unit_seen};
@@ -9,22 +9,22 @@ ghost use Rattle.stack_end.specs.Talk.{Judges, judge_next, talk, texts_of};
 
 use octets::limits::UNIT_MESSAGES;
 use pdi_session::packing::{Waiting, unpack};
-use pdi_session::telegram::KnownPair;
+use pdi_session::telegram::decode;
 use pdi_session::{Phase, Session, Taker};
 use safe_machine::{Detail, Reason, UnitIn};
 use std::alloc::Allocator;
 
-/// The phases of a session after each message of a unit, in order, for notes.
+/// The phases of a session after each message of a unit, in order. Used for notes only.
 #[derive(Clone, Copy)]
 pub(crate) struct Phases {
     /// The phases, the first one first.
     list: [Phase; UNIT_MESSAGES],
-    /// How many there are.
+    /// The number of phases that are set.
     count: usize,
 }
 
 impl Phases {
-    /// No message was judged.
+    /// Returns an empty list: no message has been judged.
     pub(crate) fn new() -> Self {
         Phases {
             list: [Phase::Idle; UNIT_MESSAGES],
@@ -32,7 +32,7 @@ impl Phases {
         }
     }
 
-    /// After another message. A unit has no more than there is room for.
+    /// Adds the phase after another message. A unit has no more messages than there is room for.
     fn push(&mut self, phase: Phase) {
         if let Some(place) = self.list.get_mut(self.count) {
             *place = phase;
@@ -40,42 +40,40 @@ impl Phases {
         }
     }
 
-    /// The phases so far.
+    /// Returns the phases added so far.
     pub(crate) fn as_slice(&self) -> &[Phase] {
         self.list.get(..self.count).unwrap_or(&self.list)
     }
 }
 
-/// Hands the units that go up to the session.
+/// Receives the units that a machine delivers, and passes them to the session.
 #[derive(Drop)]
-pub(crate) struct ToSession<'a, 'b, 'c, 'd, A: Allocator, T> {
+pub(crate) struct ToSession<'a, 'b, 'c, A: Allocator, T> {
     /// The session of the end.
     pub(crate) session: &'a mut Session,
-    /// The names that telegrams from the peer have.
-    pub(crate) pair: &'d KnownPair,
     /// The messages that wait to be sent.
     pub(crate) waiting: &'b mut Waiting<A>,
     /// The application.
     pub(crate) taker: &'c mut T,
-    /// Why the end is to leave its connection, if it is.
+    /// Why the end has to disconnect, or `None`.
     pub(crate) asked: Option<(Reason, Detail)>,
-    /// The phases of the session, for notes.
+    /// The phases of the session after each message, for notes.
     pub(crate) phases: Phases,
 }
 
-impl<'a, 'b, 'c, 'd, A: Allocator, T: Taker> UnitIn for ToSession<'a, 'b, 'c, 'd, A, T> {
+impl<'a, 'b, 'c, A: Allocator, T: Taker> UnitIn for ToSession<'a, 'b, 'c, A, T> {
     ghost takes = { λ s unit t.
         (t.session.ghost_name ≡ s.session.ghost_name) × (t.waiting.ghost_name ≡ s.waiting.ghost_name)
         × (t.taker.ghost_name ≡ s.taker.ghost_name)
         × Judges T.takes (judge_next s.asked unit) (talk s.session.now s.waiting.now s.taker.now)
         (talk t.session.now t.waiting.now t.taker.now) t.asked };
 
+    // A unit may make the session queue a message, so there must be room for one.
     ghost ready = { λ s. FewWait s.session.now s.waiting.now };
 
     fn unit(&mut self, unit: &[u8]) {
         if self.asked.is_none() {
             self.asked = judge_unit(
-                self.pair,
                 self.session,
                 self.waiting,
                 self.taker,
@@ -86,9 +84,8 @@ impl<'a, 'b, 'c, 'd, A: Allocator, T: Taker> UnitIn for ToSession<'a, 'b, 'c, 'd
     }
 }
 
-/// Judges a unit, and answers why the end is to leave, if it is.
+/// Judges the messages of a unit. Returns why the end has to disconnect, or `None`.
 fn judge_unit<A: Allocator, T: Taker>(
-    pair: &KnownPair,
     session: &mut Session,
     waiting: &mut Waiting<A>,
     taker: &mut T,
@@ -96,19 +93,21 @@ fn judge_unit<A: Allocator, T: Taker>(
     phases: &mut Phases,
 ) -> Option<(Reason, Detail)>
     requires few { FewWait session.old waiting.old }
+    // A unit that unpacks has its messages judged in order; one that does not changes nothing and disconnects with
+    // reason 7, detail 2. The application gets what the session takes.
     ensures judged { Judges T.takes (judge_unpacked (unit_seen unit.now)) (talk session.old waiting.old taker.old)
         (talk session.new waiting.new taker.new) result }
+    // After the unit, there is still room among the waiting messages for the session's next one.
     ensures few { FewWait session.new waiting.new }
 {
     match unpack(unit) {
-        Ok(messages) => judge_messages(pair, session, waiting, taker, &messages, phases),
+        Ok(messages) => judge_messages(session, waiting, taker, &messages, phases),
         Err(_) => Some((Reason::ProtocolError, Detail::BadUnit)),
     }
 }
 
-/// Judges messages in order, up to one for which the end is to leave.
+/// Judges messages in order, up to the first that makes the end disconnect.
 fn judge_messages<A: Allocator, T: Taker>(
-    pair: &KnownPair,
     session: &mut Session,
     waiting: &mut Waiting<A>,
     taker: &mut T,
@@ -116,12 +115,15 @@ fn judge_messages<A: Allocator, T: Taker>(
     phases: &mut Phases,
 ) -> Option<(Reason, Detail)>
     requires few { FewWait session.old waiting.old }
+    // The messages are judged in order. At the first one for which the end has to disconnect, its reason is returned
+    // and the rest is not judged.
     ensures judged { Judges T.takes (judge_messages (texts_of messages.now)) (talk session.old waiting.old taker.old)
         (talk session.new waiting.new taker.new) result }
+    // After these messages, there is still room among the waiting ones for the session's next message.
     ensures few { FewWait session.new waiting.new }
 {
     for message in messages {
-        let asked = judge_message(pair, session, waiting, taker, message);
+        let asked = judge_message(session, waiting, taker, message);
         phases.push(session.phase());
         if let Some(leaving) = asked {
             return Some(leaving);
@@ -130,20 +132,49 @@ fn judge_messages<A: Allocator, T: Taker>(
     None
 }
 
-/// Judges a message, and answers why the end is to leave, if it is.
+/// Judges one message. Returns why the end has to disconnect, or `None`.
 fn judge_message<A: Allocator, T: Taker>(
-    pair: &KnownPair,
     session: &mut Session,
     waiting: &mut Waiting<A>,
     taker: &mut T,
     message: &[u8],
 ) -> Option<(Reason, Detail)>
     requires few { FewWait session.old waiting.old }
+    // The session processes a message that is a telegram, and the result says whether that ended it. Any other
+    // message changes nothing and disconnects with reason 4, detail 3.
     ensures judged { Judges T.takes (judge_read (tele_seen message.now)) (talk session.old waiting.old taker.old)
         (talk session.new waiting.new taker.new) result }
+    // After one message, there is room among the waiting messages for the session's next.
     ensures few { FewWait session.new waiting.new }
 {
-    match pair.decode(message) {
+    if let Some(telegram) = session.known(message) {
+        return match session.arrive_known(&telegram, waiting, taker) {
+            Ok(()) => None,
+            Err(end) => Some(for_session(end.detail)),
+        };
+    }
+    judge_other(session, waiting, taker, message)
+}
+
+/// Judges a message that is not a telegram from the peer to this end. Such messages are rare, so they are judged in a
+/// function of their own.
+#[cold]
+#[inline(never)]
+fn judge_other<A: Allocator, T: Taker>(
+    session: &mut Session,
+    waiting: &mut Waiting<A>,
+    taker: &mut T,
+    message: &[u8],
+) -> Option<(Reason, Detail)>
+    requires few { FewWait session.old waiting.old }
+    // A message that is not a telegram changes nothing and disconnects with reason 4, detail 3; a telegram goes to
+    // the session, and the result says whether that ended it.
+    ensures judged { Judges T.takes (judge_read (tele_seen message.now)) (talk session.old waiting.old taker.old)
+        (talk session.new waiting.new taker.new) result }
+    // After such a message, there is room among the waiting messages for the session's next.
+    ensures few { FewWait session.new waiting.new }
+{
+    match decode(message) {
         Ok(telegram) => match session.arrive(&telegram, waiting, taker) {
             Ok(()) => None,
             Err(end) => Some(for_session(end.detail)),
@@ -152,8 +183,10 @@ fn judge_message<A: Allocator, T: Taker>(
     }
 }
 
-/// Why an end leaves where its session ends.
+/// Returns the reason and detail with which an end disconnects when its session ends.
 fn for_session(detail: pdi_session::SessionDetail) -> (Reason, Detail)
+    // The reason is 4 (service not allowed), with the detail of the session; a telegram of another pair counts as not
+    // well formed.
     ensures { result ≡ for_session detail }
 {
     match detail {

@@ -1,16 +1,37 @@
-//! What ties an end, as its calls tell of it, to all that ever happened to it.
+//! Laws that link what an end keeps to the whole history of the end.
 
-ghost use Rattle.stack_end.specs.Turned.{LastLaw, TellsLaw, TurnsLaw};
+ghost use Rattle.stack_end.specs.Reopening.{AgainLaw};
+ghost use Rattle.stack_end.specs.Stale.{FreshLaw, TakesRequestLaw};
+ghost use Rattle.stack_end.specs.Turned.{AnyChannelLaw, LastLaw, TellsLaw, TurnsLaw};
 
-/// The laws of an end, which do nothing when they are called: they hold of what any end keeps, and of every state that it stands for.
+/// The laws of an end. They hold of anything that an end can keep, and of every state (with the whole history) that
+/// it represents. A call does nothing.
 pub fn end_law()
-    // Where what an end keeps stands for a state, what the turn of a call leaves stands for the state after the
-    // call's step (docs/END.md). The state has made the PDUs that the turn sends, each under its index on every
-    // channel in order, and its application has taken what the turn hands out.
+    // If the contents of an end represent a state, the turn of a call leaves contents that represent the state after
+    // that call's step. That state has made exactly the PDUs that the turn sends, each under its index on every
+    // channel in order. Its application has taken the telegrams that the turn delivers.
     ensures turns { TurnsLaw }
-    // What an end keeps tells of the state whether all is settled, how many units are unconfirmed, and whether a
-    // tick of the machine does something.
+    // On which channel a datagram comes has no effect: the turn is that of the same datagram on any other channel.
+    ensures any_channel { AnyChannelLaw }
+    // From what an end keeps follows whether the state is settled, how many units are unconfirmed, how many telegrams
+    // are confirmed, and whether a tick changes the machine.
     ensures tells { TellsLaw }
-    // An accepted telegram stands last among what was put in.
+    // An accepted telegram is the last of all that were put.
     ensures last { LastLaw }
+{}
+
+/// The laws of stale ends: when an end that waits for a connection need not be opened again. A call does nothing.
+pub fn stale_law()
+    // An end that is not stale and is in Down takes the ConnReq of a peer that was just opened, at any time and on any
+    // channel: it is then in Start, and keeps the bytes of that request.
+    ensures takes { TakesRequestLaw }
+    // A newly opened end is not stale.
+    ensures fresh { FreshLaw }
+{}
+
+/// The law of an end that is opened again. A call does nothing.
+pub fn reopening_law()
+    // Whatever calls an end has made since it was opened: if it is opened again, it keeps what an end newly opened with
+    // the same settings on the same side keeps, and sends the same datagrams.
+    ensures again { AgainLaw }
 {}

@@ -1,18 +1,19 @@
-//! The layers of an end together: what comes goes up through them, and what waits goes out.
+//! The layers of an end together: datagrams go up through them, and waiting messages go out.
 
 ghost use Rattle.std.specs.Prelude.{◌≡◌, ◌≤◌, ◌^◌, length, Some, None, MatchResult, OnOk, OnErr};
 ghost use Rattle.pdi_session.specs.SessionStep.{init_refusal, put_refusal};
 ghost use Rattle.red_layer.specs.Redundancy.{Datagram, Tick as RedTick};
-ghost use Rattle.stack_end.specs.Fields.{BothDo, BothDoAlone};
+ghost use Rattle.stack_end.specs.Fields.{BothDo, BothDoAlone, inside_of};
 ghost use Rattle.stack_end.specs.Kept.{IsKept};
-ghost use Rattle.stack_end.specs.Turns.{above, arrives, closes, completes, goes_on, passes, puts};
+ghost use Rattle.stack_end.specs.Reopening.{reopens};
+ghost use Rattle.stack_end.specs.Turns.{above, arrives, closes, completes, event_of, goes_on, passes, puts, red_event};
 
 use crate::note::Listener;
-use crate::telling::tell_change;
+use crate::telling::{tell_change, tell_opened};
 use crate::upper::Upper;
 use octets::Milliseconds;
 use pdi_session::{InitFault, PutFault, Taker};
-use red_layer::RedLayer;
+use red_layer::{RedEvent, RedLayer};
 use safe_machine::ConnectionState;
 use std::alloc::{Allocator, Global};
 
@@ -21,52 +22,77 @@ use std::alloc::{Allocator, Global};
 pub(crate) struct Layers<C, A: Allocator = Global> {
     /// The receiving half of the redundancy layer.
     pub(crate) red: RedLayer<A>,
-    /// All above it, and the sending half.
+    /// All layers above it, and the sending half.
     pub(crate) upper: Upper<C, A>,
 }
 
 impl<C: Listener, A: Allocator> Layers<C, A> {
-    /// Takes a datagram: the guard, and what follows where it has not left.
-    pub(crate) fn arrive<T: Taker>(&mut self, octets: &[u8], now: Milliseconds, taker: &mut T)
+    /// Processes a datagram: the timeout check, and if that leaves the end open, the layers.
+    pub(crate) fn arrive<T: Taker>(
+        &mut self,
+        octets: &[u8],
+        now: Milliseconds,
+        taker: &mut T,
+    ) -> Option<RedEvent>
         requires now { now ≤ 2 ^ 62 }
         requires kept { IsKept self.old }
-        // The channel plays no part.
+        // The result is what the redundancy layer did with the datagram, or `None` if the end is closed, or the timeout
+        // check closes it.
+        ensures event { result ≡ event_of now octets.now (inside_of self.old) }
+        // The timeout check comes first, then the datagram goes up, then waiting messages are sent, exactly as in
+        // `arrives`. The channel has no effect.
         ensures does { BothDo C.told T.takes (arrives now octets.now) self.old taker.old self.new taker.new }
+        // The bounds between the layers hold after a datagram.
         ensures kept { IsKept self.new }
     {
         match self.upper.machine.state() {
-            ConnectionState::Closed => {}
+            ConnectionState::Closed => None,
             _ => {
                 let seen = self.upper.seen();
                 self.upper.guard(now);
                 let after = self.upper.seen();
                 tell_change(&mut self.upper.channels, seen, after);
-                self.deliver(octets, now, taker);
+                self.deliver(octets, now, taker)
             }
         }
     }
 
-    /// What follows the guard: the datagram reaches the layers, and what waits is sent.
-    fn deliver<T: Taker>(&mut self, octets: &[u8], now: Milliseconds, taker: &mut T)
+    /// Passes a datagram to the layers after the timeout check, then sends waiting messages. Does nothing if the end
+    /// is closed.
+    fn deliver<T: Taker>(
+        &mut self,
+        octets: &[u8],
+        now: Milliseconds,
+        taker: &mut T,
+    ) -> Option<RedEvent>
         requires now { now ≤ 2 ^ 62 }
         requires kept { IsKept self.old }
+        // The result is what the redundancy layer did with the datagram, or `None` if the end is closed.
+        ensures event { result ≡ red_event now octets.now (inside_of self.old) }
+        // If the end is open, the redundancy layer takes the datagram, each part that goes up passes the machine and
+        // the session, and waiting messages are sent.
         ensures does { BothDo C.told T.takes (goes_on now (Datagram octets.now now)) self.old taker.old self.new taker.new }
+        // The bounds between the layers hold after the delivery.
         ensures kept { IsKept self.new }
     {
         match self.upper.machine.state() {
-            ConnectionState::Closed => {}
+            ConnectionState::Closed => None,
             _ => {
-                self.upper.receive(&mut self.red, octets, now, taker);
+                let event = self.upper.receive(&mut self.red, octets, now, taker);
                 self.upper.send_waiting(now);
+                Some(event)
             }
         }
     }
 
-    /// Time passes: the machine's deadlines, and what follows where it has not left.
+    /// Lets time pass: the timers of the machine, and if they leave the end open, that of the redundancy layer.
     pub(crate) fn tick<T: Taker>(&mut self, now: Milliseconds, taker: &mut T)
         requires now { now ≤ 2 ^ 62 }
         requires kept { IsKept self.old }
+        // The machine's timers come first. If the end is open then, the T_seq timer follows, with the parts that it
+        // releases, and then waiting messages are sent.
         ensures does { BothDo C.told T.takes (passes now) self.old taker.old self.new taker.new }
+        // The bounds between the layers hold after a tick.
         ensures kept { IsKept self.new }
     {
         match self.upper.machine.state() {
@@ -81,11 +107,15 @@ impl<C: Listener, A: Allocator> Layers<C, A> {
         }
     }
 
-    /// What follows the machine's deadlines: that of the redundancy layer, and what waits is sent.
+    /// Tries the timer of the redundancy layer after those of the machine, then sends waiting messages. Does nothing
+    /// if the end is closed.
     fn wait<T: Taker>(&mut self, now: Milliseconds, taker: &mut T)
         requires now { now ≤ 2 ^ 62 }
         requires kept { IsKept self.old }
+        // If the end is open, the redundancy layer tries its timer, each part that it releases goes up, and waiting
+        // messages are sent.
         ensures does { BothDo C.told T.takes (goes_on now (RedTick now)) self.old taker.old self.new taker.new }
+        // The bounds between the layers hold after the redundancy layer's timer.
         ensures kept { IsKept self.new }
     {
         match self.upper.machine.state() {
@@ -97,7 +127,22 @@ impl<C: Listener, A: Allocator> Layers<C, A> {
         }
     }
 
-    /// Puts in a command or status, which is sent where the machine may send.
+    /// Opens all layers again with the settings that they have.
+    pub(crate) fn reopen(&mut self, first_sn: u32, now: Milliseconds)
+        requires kept { IsKept self.old }
+        // Each layer is as newly opened with the settings that it has, and an interlocking sends its ConnReq (`reopens`).
+        // Nothing is taken.
+        ensures does { BothDoAlone C.told (reopens first_sn now) self.old self.new }
+        // The bounds between the layers hold of layers that were just opened.
+        ensures kept { IsKept self.new }
+    {
+        self.red.reopen();
+        self.upper.reopen(first_sn, now);
+        let state = self.upper.machine.state();
+        tell_opened(&mut self.upper.channels, state);
+    }
+
+    /// Queues a command or status, and sends what the peer's window allows.
     pub(crate) fn put(
         &mut self,
         kind: u16,
@@ -105,34 +150,49 @@ impl<C: Listener, A: Allocator> Layers<C, A> {
         now: Milliseconds,
     ) -> Result<(), PutFault>
         requires kept { IsKept self.old }
+        // An accepted telegram is queued last and sent while the machine may send, exactly as in `puts`; nothing is
+        // taken.
         ensures does { OnOk result (BothDoAlone C.told (above (puts kind payload.now now)) self.old self.new) }
+        // A refused telegram leaves all layers as they were.
         ensures refused { OnErr result (self.new ≡ self.old) }
+        // The telegram is accepted if and only if the session, with this many messages waiting, has no refusal for
+        // it; otherwise that refusal is returned.
         ensures answer { MatchResult result
             (λ _. put_refusal self.old.upper.session kind payload.now (length self.old.upper.waiting) ≡ None)
             (λ fault. put_refusal self.old.upper.session kind payload.now (length self.old.upper.waiting)
             ≡ Some fault) }
+        // The bounds between the layers hold after a put, accepted or not.
         ensures kept { IsKept self.new }
     {
         self.upper.put(kind, payload, now)
     }
 
-    /// The end of the initialisation is sent behind the status put in.
+    /// Queues the end of the initialisation after the status that was put, and sends what the peer's window allows.
     pub(crate) fn init_done(&mut self, now: Milliseconds) -> Result<(), InitFault>
         requires kept { IsKept self.old }
+        // The closing telegram of the initialisation is queued last and sent while the machine may send, exactly as
+        // in `completes`; nothing is taken.
         ensures does { OnOk result (BothDoAlone C.told (above (completes now)) self.old self.new) }
+        // A refused end of the initialisation leaves all layers as they were.
         ensures refused { OnErr result (self.new ≡ self.old) }
+        // It is accepted if and only if the session, with this many messages waiting, has no refusal for it;
+        // otherwise that refusal is returned.
         ensures answer { MatchResult result
             (λ _. init_refusal self.old.upper.session (length self.old.upper.waiting) ≡ None)
             (λ fault. init_refusal self.old.upper.session (length self.old.upper.waiting) ≡ Some fault) }
+        // The bounds between the layers hold after the end of the initialisation, accepted or not.
         ensures kept { IsKept self.new }
     {
         self.upper.init_done(now)
     }
 
-    /// The user closes the connection.
+    /// Disconnects for the user, and ends the session.
     pub(crate) fn close(&mut self, now: Milliseconds)
         requires kept { IsKept self.old }
+        // An open end sends its DiscReq with reason 0; the session is over; and the departure is recorded, exactly as
+        // in `closes`. Nothing is taken.
         ensures does { BothDoAlone C.told (above (closes now)) self.old self.new }
+        // The bounds between the layers hold after a close.
         ensures kept { IsKept self.new }
     {
         let seen = self.upper.seen();

@@ -1,9 +1,10 @@
-//! One end of a connection over its layers: what an application opens on its channels.
+//! One end of a connection with all its protocol layers: the type that an application opens on its channels.
 //!
 //! RaSTA after DIN VDE V 0831-200:2015 with an SCI session above it, in this project's profile.
 #![tactic(auto)]
 
 mod calls;
+mod departure;
 mod end;
 mod judging;
 mod law;
@@ -11,31 +12,34 @@ mod layers;
 mod note;
 mod opening;
 mod sending;
+mod statistics;
 mod telling;
 mod upper;
 
+pub use departure::{Departure, Leaver};
 pub use end::End;
-pub use law::end_law;
+pub use law::{end_law, stale_law};
 pub use note::{Listener, Note};
+pub use statistics::{MadeCounts, PartCounts, ReceptionCounts, Statistics};
 
-/// How many octets a datagram may have that a poll takes; a longer one is cut.
+/// The length in bytes of the buffer into which a poll receives; a longer datagram is cut.
 pub const POLL_BUFFER: usize = 2_048;
 
-/// How many datagrams one poll takes at most.
+/// The most datagrams that one poll receives.
 pub const POLL_DATAGRAMS: usize = 64;
 
-/// Why an end was not opened. Where both hold, the first is named.
+/// Why an end was not opened: the first reason that applies.
 #[derive(Clone, Copy, Debug, PartialEq, Eq)]
 pub enum OpenFault {
-    /// The settings are none with which an end is opened.
+    /// The settings are invalid for this side.
     BadConfig,
-    /// There was no memory for the end.
+    /// An allocation failed.
     Memory,
 }
 
-/// Why a poll stopped.
+/// Why a poll failed.
 #[derive(Clone, Copy, Debug, PartialEq, Eq)]
 pub enum PollFault {
-    /// A reception failed. What came before stays handed in.
+    /// A reception failed. The datagrams received before it have been processed.
     Channel,
 }

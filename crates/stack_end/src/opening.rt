@@ -1,4 +1,4 @@
-//! Opening an end: the test of its settings, the memory of all its layers, and what it sends at once.
+//! Opening an end: tests the settings, allocates all layers, and sends what is due at once.
 
 ghost use Rattle.std.specs.Prelude.{◌≡◌, ◌≤◌, ◌↔◌, ◌%◌, ◌^◌, false, true, length, IfOk, IfErr, IsErrAnd, OnOk, OnErr};
 ghost use Rattle.octets.specs.declared.limits.TheConstants.{CHANNELS_MAX, WINDOW_MAX};
@@ -15,25 +15,26 @@ ghost use Rattle.stack_end.specs.Datagrams.{sent_at_opening};
 ghost use Rattle.stack_end.specs.Ends.{opened_end};
 ghost use Rattle.stack_end.specs.Fields.{BothStand, inside_of};
 ghost use Rattle.stack_end.specs.Kept.{IsKept};
+ghost use Rattle.stack_end.specs.Statistics.{none_made, with_made};
 ghost use Rattle.stack_end.specs.declared.OpenFault.TheVariants.{BadConfig};
 
 use crate::OpenFault;
 use crate::layers::Layers;
 use crate::note::Listener;
 use crate::sending::ToChannels;
+use crate::statistics::{MadeCounts, PartCounts};
 use crate::telling::tell_opened;
 use crate::upper::Upper;
 use arrayvec::ArrayVec;
 use end_settings::{EndConfig, Side};
 use octets::{Milliseconds, copy_of};
 use pdi_session::packing::{Unit, Waiting};
-use pdi_session::telegram::KnownPair;
 use pdi_session::{FieldConfig, InterlockingConfig, Parties, Session};
 use red_layer::{Numbers, RedConfig, RedLayer};
 use safe_machine::{Machine, MachineFault};
 use std::alloc::Allocator;
 
-/// The layers of an end as it is opened; the channels come back where it is not.
+/// Opens the layers of an end. On failure, the channels are returned.
 pub(crate) fn open<C: Listener, A: Allocator + Copy>(
     alloc: A,
     channels: C,
@@ -42,12 +43,18 @@ pub(crate) fn open<C: Listener, A: Allocator + Copy>(
     first_sn: u32,
     now: Milliseconds,
 ) -> Result<Layers<C, A>, (OpenFault, C)>
+    // `BadConfig` is returned if and only if the settings are invalid for the side.
     ensures bad_config { IsErrAnd result (λ e. e.0 ≡ BadConfig)
         ↔ (are_fit (side_of side) (settings_of config) ≡ false) }
+    // A refused opening returns the channels as they came.
     ensures back { IfErr result (λ e. e.1 ≡ channels) }
+    // The layers are in the state of a newly opened end with these settings, side, first sequence number and time.
     ensures stands { IfOk result (λ layers. BothStand (inside_of layers) (opened_end side config first_sn now)) }
+    // The PDUs of the opening are sent from redundancy number 0 on, each on every channel; a field element sends
+    // none.
     ensures sent { IfOk result (λ layers. FoldsTo SendsOne (C.told channels)
         (sent_at_opening (opened_end side config first_sn now)) (C.told layers.upper.channels)) }
+    // The new layers meet the bounds that every later call needs (`IsKept`).
     ensures kept { IfOk result (λ layers. IsKept layers) }
 {
     if !config.is_fit(side) {
@@ -65,6 +72,7 @@ pub(crate) fn open<C: Listener, A: Allocator + Copy>(
     };
     let mut channels = channels;
     let mut numbers = Numbers::new();
+    let mut made = MadeCounts::none();
     let Ok(machine) = open_machine(
         alloc,
         &config,
@@ -73,6 +81,7 @@ pub(crate) fn open<C: Listener, A: Allocator + Copy>(
         now,
         &mut channels,
         &mut numbers,
+        &mut made,
     ) else {
         return Err((OpenFault::Memory, channels));
     };
@@ -82,23 +91,21 @@ pub(crate) fn open<C: Listener, A: Allocator + Copy>(
         numbers,
         machine,
         session: session(&config, side),
-        pair: names_of(&config),
         waiting,
         unit: Unit::new(),
         request: None,
         count: config.channels as usize,
         max: config.n_maxpacket as usize,
+        accepted: 0,
+        departed: None,
+        made,
+        parts: PartCounts::none(),
         code: config.code_length().octets(),
     };
     Ok(Layers { red, upper })
 }
 
-/// The names that telegrams from the peer of an end with these settings have.
-fn names_of(config: &EndConfig) -> KnownPair {
-    KnownPair::new(config.peer_name.name(), config.name.name())
-}
-
-/// The machine of an end with these settings; what it makes is sent.
+/// Opens the safety machine of an end and sends the PDU that it makes, if any.
 fn open_machine<C: Listener, A: Allocator>(
     alloc: A,
     config: &EndConfig,
@@ -107,23 +114,34 @@ fn open_machine<C: Listener, A: Allocator>(
     now: Milliseconds,
     channels: &mut C,
     numbers: &mut Numbers,
+    made: &mut MadeCounts,
 ) -> Result<Machine<A>, MachineFault>
     requires fit { are_fit (side_of side) (settings_of config.now) ≡ true }
     requires counted { config.now.channels ≤ CHANNELS_MAX }
     requires window { config.now.n_sendmax ≤ WINDOW_MAX }
     requires first { numbers.old ≡ 0 }
+    requires none { made.old ≡ none_made }
+    // The machine is in the state of a newly opened one with these settings.
     ensures stands { IfOk result (λ machine. StandsFor machine (opened_end side config.now first_sn now).machine) }
+    // If the machine sends units in its present state, it has made the PDU that was last confirmed.
     ensures has_made { IfOk result (λ machine. HasMade machine) }
+    // A new machine expects the PDU of the peer with index 0.
     ensures near { IfOk result (λ machine. machine.expected ≡ 0) }
+    // The PDUs that the machine makes when it is opened are sent from redundancy number 0 on, each on every channel.
     ensures sent { OnOk result (FoldsTo SendsOne (C.told channels.old)
         (sent_at_opening (opened_end side config.now first_sn now)) (C.told channels.new)) }
+    // The next redundancy number is the number of PDUs made so far, modulo 2^32.
     ensures numbered { OnOk result
         (numbers.new ≡ length (opened_end side config.now first_sn now).machine.made % 2 ^ 32) }
+    // The PDUs made so far are counted.
+    ensures made { OnOk result (made.new ≡ with_made (opened_end side config.now first_sn now).machine.made none_made) }
+    // If the machine cannot be opened, the channels are unchanged.
     ensures nothing { OnErr result (channels.new ≡ channels.old) }
 {
     let mut out = ToChannels {
         channels,
         numbers,
+        made,
         count: config.channels as usize,
     };
     let role = side.role();
@@ -133,9 +151,10 @@ fn open_machine<C: Listener, A: Allocator>(
     }
 }
 
-/// The session of an end with these settings.
+/// Creates the session of an end with these settings.
 fn session(config: &EndConfig, side: Side) -> Session
     requires { has_versions (side_of side) (settings_of config.now) ≡ true }
+    // The session is in its first phase, for the names, protocol type, versions and checksum of the settings.
     ensures { result ≡ session_opened (settings_of config.now).addressing
         (session_of (side_of side) (settings_of config.now)) }
 {
@@ -154,8 +173,9 @@ fn session(config: &EndConfig, side: Side) -> Session
     }
 }
 
-/// The session of an interlocking, which has its first version.
+/// Creates the session of an interlocking, which uses the first of its versions.
 fn interlocking(parties: Parties, versions: &[u8]) -> Session
+    // The session is that of an interlocking with these names that asks for the first of `versions`.
     ensures { result ≡ session_opened (addressing_of parties) (Interlocking (first_version versions.now)) }
 {
     let version = match versions {
@@ -165,11 +185,12 @@ fn interlocking(parties: Parties, versions: &[u8]) -> Session
     Session::interlocking(InterlockingConfig { parties, version })
 }
 
-/// The session of a field element.
+/// Creates the session of a field element.
 fn field(parties: Parties, versions: &[u8], checksum: &[u8]) -> Session
     requires versions { AreVersions versions.now }
     requires few { length versions.now ≤ VERSIONS_MAX }
     requires short { length checksum.now ≤ CHECKSUM_MAX }
+    // The session is that of a field element with these names, which accepts `versions` and has this `checksum`.
     ensures { result ≡ session_opened (addressing_of parties) (Field versions.now checksum.now) }
 {
     Session::field(FieldConfig {

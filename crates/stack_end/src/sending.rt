@@ -1,4 +1,4 @@
-//! The PDUs that go out: each gets its number, and is sent on every channel.
+//! Sending PDUs: each gets the next redundancy number and goes out on every channel.
 
 ghost use Rattle.std.specs.Prelude.{◌≡◌, ◌+◌, ◌≤◌, ◌%◌, ◌^◌, length};
 ghost use Rattle.octets.specs.declared.limits.TheConstants.{SAFE_PDU_MAX};
@@ -6,36 +6,43 @@ ghost use Rattle.std.specs.List.{FoldsTo};
 ghost use Rattle.red_layer.specs.pdu.RedText.{red_text};
 ghost use Rattle.channels.specs.Told.{SendsOne};
 ghost use Rattle.stack_end.specs.Datagrams.{on_channels};
+ghost use Rattle.stack_end.specs.Statistics.{with_pdu};
 
+use crate::statistics::MadeCounts;
 use channels::Channels;
 use octets::limits::{RED_HEADER, RED_PDU_MAX};
 use red_layer::Numbers;
 use safe_machine::PduOut;
 
-/// A datagram of so many octets is short: its buffer costs less than a longest one's, which is cleared each time.
+/// The size of the short buffer. A buffer is cleared before each use, and most datagrams fit this one.
 const SHORT_DATAGRAM: usize = 136;
 
-/// Gives the PDUs that a machine makes their numbers, and sends each on every channel.
+/// Receives the PDUs that a machine makes, numbers them, and sends each on every channel.
 #[derive(Drop)]
-pub(crate) struct ToChannels<'a, 'b, C> {
+pub(crate) struct ToChannels<'a, 'b, 'c, C> {
     /// The channels of the end.
     pub(crate) channels: &'a mut C,
     /// The redundancy numbers of this incarnation.
     pub(crate) numbers: &'b mut Numbers,
-    /// How many channels there are.
+    /// The counts of what was made.
+    pub(crate) made: &'c mut MadeCounts,
+    /// The number of channels.
     pub(crate) count: usize,
 }
 
-impl<'a, 'b, C: Channels> PduOut for ToChannels<'a, 'b, C> {
+impl<'a, 'b, 'c, C: Channels> PduOut for ToChannels<'a, 'b, 'c, C> {
     ghost makes = { λ s pdu t.
         (t.channels.ghost_name ≡ s.channels.ghost_name) × (t.numbers.ghost_name ≡ s.numbers.ghost_name)
+        × (t.made.ghost_name ≡ s.made.ghost_name)
         × (t.count ≡ s.count)
+        × (t.made.now ≡ with_pdu pdu s.made.now)
         × (t.numbers.now ≡ (s.numbers.now + 1) % 2 ^ 32)
         × FoldsTo SendsOne (C.told s.channels.now) (on_channels s.count (red_text s.numbers.now pdu))
         (C.told t.channels.now) };
 
     fn made(&mut self, pdu: &[u8]) {
         let number = self.numbers.next();
+        *self.made = self.made.with_pdu(pdu);
         if RED_HEADER + pdu.len() <= SHORT_DATAGRAM {
             let mut buffer = [0; SHORT_DATAGRAM];
             send_by(self.channels, self.count, number, pdu, &mut buffer);
@@ -46,18 +53,21 @@ impl<'a, 'b, C: Channels> PduOut for ToChannels<'a, 'b, C> {
     }
 }
 
-/// Writes a redundancy PDU into a buffer, and sends it on every channel.
+/// Encodes a redundancy PDU in a buffer and sends it on every channel.
 fn send_by<C: Channels>(channels: &mut C, count: usize, number: u32, pdu: &[u8], buffer: &mut [u8])
     requires fits { length pdu.now ≤ SAFE_PDU_MAX }
     requires room { RED_HEADER + length pdu.now ≤ length buffer.old }
+    // The PDU goes out under its redundancy number on channels 1 to `count`, in this order; a send that fails is
+    // counted.
     ensures { FoldsTo SendsOne (C.told channels.old) (on_channels count (red_text number pdu.now)) (C.told channels.new) }
 {
     let size = red_layer::pdu::encode(number, pdu, buffer);
     send_on_all(channels, count, &buffer[..size]);
 }
 
-/// Sends a datagram on every channel in order. A channel that does not take it has lost it.
+/// Sends a datagram on every channel in order. A failed send is a lost copy, and sending goes on.
 fn send_on_all<C: Channels>(channels: &mut C, count: usize, datagram: &[u8])
+    // Exactly this datagram is sent on channels 1 to `count`, in this order, also after a send that failed.
     ensures { FoldsTo SendsOne (C.told channels.old) (on_channels count datagram.now) (C.told channels.new) }
 {
     for channel in 0..count {

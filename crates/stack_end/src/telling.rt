@@ -1,4 +1,4 @@
-//! What channels are told of an end's doings, for traces and logs.
+//! Making notes of an end's work and passing them to its channels.
 
 ghost use Rattle.std.specs.Prelude.{◌≡◌};
 
@@ -19,15 +19,17 @@ pub(crate) struct Seen {
     pub(crate) phase: Phase,
 }
 
-/// Tells the state of an end that was opened.
+/// Notes the state of an end that was opened.
 pub(crate) fn tell_opened<C: Listener>(channels: &mut C, state: ConnectionState)
+    // The note of an opening changes nothing that `told` shows of the channels.
     ensures { C.told channels.new ≡ C.told channels.old }
 {
     channels.note(&Note::State(state));
 }
 
-/// Tells what the redundancy layer did with a datagram.
+/// Notes what the redundancy layer did with a datagram.
 pub(crate) fn tell_event<C: Listener>(channels: &mut C, octets: &[u8], event: RedEvent)
+    // The note of a datagram changes nothing that `told` shows of the channels.
     ensures { C.told channels.new ≡ C.told channels.old }
 {
     if !channels.hears_notes() {
@@ -40,8 +42,8 @@ pub(crate) fn tell_event<C: Listener>(channels: &mut C, octets: &[u8], event: Re
     channels.note(&Note::Redundancy(number, event));
 }
 
-/// Tells what the machine did with a part, and then what its unit did in the session: a message after which the phase is
-/// the same was taken, if it did not end the session.
+/// Notes the machine's result for a part, then the session's result for each message of its unit. A message that
+/// leaves the phase as it was has been taken, unless it ended the session.
 pub(crate) fn tell_step<C: Listener>(
     channels: &mut C,
     number: u32,
@@ -52,6 +54,7 @@ pub(crate) fn tell_step<C: Listener>(
     phases: &Phases,
     ended: bool,
 )
+    // The notes of a part and its messages change nothing that `told` shows of the channels.
     ensures { C.told channels.new ≡ C.told channels.old }
 {
     if !channels.hears_notes() {
@@ -82,8 +85,9 @@ pub(crate) fn tell_step<C: Listener>(
     }
 }
 
-/// Tells a telegram that was taken.
+/// Notes a telegram that was taken.
 fn tell_take<C: Listener>(channels: &mut C, message: &[u8])
+    // The note of a taken telegram changes nothing that `told` shows of the channels.
     ensures { C.told channels.new ≡ C.told channels.old }
 {
     if let Ok(telegram) = pdi_session::telegram::decode(message) {
@@ -91,8 +95,9 @@ fn tell_take<C: Listener>(channels: &mut C, message: &[u8])
     }
 }
 
-/// Tells state and phase, where they are others than before.
+/// Notes state and phase, each if it has changed.
 pub(crate) fn tell_change<C: Listener>(channels: &mut C, before: Seen, after: Seen)
+    // The notes of a new state and phase change nothing that `told` shows of the channels.
     ensures { C.told channels.new ≡ C.told channels.old }
 {
     if !channels.hears_notes() {

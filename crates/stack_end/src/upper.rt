@@ -1,29 +1,35 @@
-//! All of an end but its redundancy layer.
+//! All layers of an end above the redundancy layer's receiving half, with the channels.
 
 ghost use Rattle.std.specs.Prelude.{◌≡◌, ◌+◌, ◌*◌, ◌<◌, ◌≤◌, ◌^◌, length, if◌then◌else◌, OnOk, OnErr, MatchResult, Some, None};
-ghost use Rattle.octets.specs.declared.limits.TheConstants.{SAFE_PDU_MAX, UNIT_MESSAGES};
+ghost use Rattle.octets.specs.declared.limits.TheConstants.{SAFE_PDU_MAX, UNIT_MESSAGES, WINDOW_MAX};
 ghost use Rattle.pdi_session.specs.SessionStep.{FewWait, init_refusal, put_refusal};
 ghost use Rattle.safe_machine.specs.Properties.{index_step};
-ghost use Rattle.red_layer.specs.Redundancy.{Datagram, Tick as RedTick, after, passed_by};
+ghost use Rattle.safe_machine.specs.retrans.Units.{octets_of};
+ghost use Rattle.stack_end.specs.Certain.{confirmed_in, items_in_units};
+ghost use Rattle.red_layer.specs.Redundancy.{Datagram, Tick as RedTick, after, judged, passed_by};
 ghost use Rattle.stack_end.specs.Fields.{Does, DoesAlone, Keeps, fields_of};
-ghost use Rattle.stack_end.specs.Turns.{can_pack, closes, completes, goes_up, guards, hears, judged_at, leaves, notes, packs_once, part, parts, puts, sends};
-ghost use Rattle.stack_end.specs.Turns.{settles, ticks};
+ghost use Rattle.safe_pdu.specs.Places.{safe_seen};
+ghost use Rattle.safe_machine.specs.Octets.{heard_answer};
+ghost use Rattle.stack_end.specs.Turns.{can_pack, closes, completes, counts, departs, goes_up, guards, hears, judged_at, leaves, notes, packs_once, part, parts, puts, sends};
+ghost use Rattle.stack_end.specs.Turns.{settles, ticks, waited};
+ghost use Rattle.stack_end.specs.Reopening.{emptied, machine_reopens};
 
+use crate::departure::{Departure, closes, own_departure, part_departure, user_leaves};
 use crate::judging::{Phases, ToSession};
 use crate::note::Listener;
 use crate::sending::ToChannels;
+use crate::statistics::{MadeCounts, PartCounts};
 use crate::telling::{Seen, tell_change, tell_event, tell_step};
 use arrayvec::ArrayVec;
 use octets::limits::{SAFE_PDU_MAX, UNIT_MESSAGES};
 use octets::{Milliseconds, copy_of};
 use pdi_session::packing::{Unit, Waiting, pack_into};
-use pdi_session::telegram::KnownPair;
-use pdi_session::{InitFault, PutFault, Session, Taker};
-use red_layer::{Numbers, RedLayer, Upward};
+use pdi_session::{InitFault, PutFault, Session, Taker, items_in_unit};
+use red_layer::{Numbers, RedEvent, RedLayer, Upward};
 use safe_machine::{ConnectionState, Detail, Machine, Reason, Step};
 use std::alloc::{Allocator, Global};
 
-/// All of an end but its redundancy layer.
+/// All of an end except the receiving half of its redundancy layer.
 #[derive(Drop)]
 pub(crate) struct Upper<C, A: Allocator = Global> {
     /// The channels of the end.
@@ -34,53 +40,67 @@ pub(crate) struct Upper<C, A: Allocator = Global> {
     pub(crate) machine: Machine<A>,
     /// The session.
     pub(crate) session: Session,
-    /// The names that telegrams from the peer have.
-    pub(crate) pair: KnownPair,
     /// The messages that wait to be sent.
     pub(crate) waiting: Waiting<A>,
     /// The unit that was packed last. Its storage is kept, so that no call clears and moves one.
     pub(crate) unit: Unit,
-    /// The octets of the ConnReq that a field element took.
+    /// The bytes of the ConnReq that a field element accepted. They identify the incarnation that it is joined to.
     pub(crate) request: Option<Part>,
-    /// How many channels there are.
+    /// The number of channels.
     pub(crate) count: usize,
-    /// How many messages are packed into one unit at most.
+    /// The most messages packed into one unit.
     pub(crate) max: usize,
-    /// How many octets of safety code a PDU ends with.
+    /// The number of commands or status put, up to 2^64 - 1.
+    pub(crate) accepted: u64,
+    /// How the end came to be closed, if it is.
+    pub(crate) departed: Option<Departure>,
+    /// The counts of the PDUs made.
+    pub(crate) made: MadeCounts,
+    /// The counts of the parts that went up.
+    pub(crate) parts: PartCounts,
+    /// The length of the safety code in bytes.
     pub(crate) code: usize,
 }
 
-/// The octets of an upper part.
+/// The bytes of a part.
 type Part = ArrayVec<u8, SAFE_PDU_MAX>;
 
 /// What the machine did with a part, and the session with its unit.
 #[derive(Drop)]
 struct Heard {
-    /// The answer of the machine.
+    /// The result of the machine.
     step: Step,
-    /// Why the end is to leave its connection, if it is.
+    /// Why the end has to disconnect, or `None`.
     asked: Option<(Reason, Detail)>,
     /// The phase of the session after each message.
     phases: Phases,
 }
 
 impl<C: Listener, A: Allocator> Upper<C, A> {
-    /// The machine takes a part, and the session the unit that goes up. Answers why the end is to leave, if it is.
+    /// Passes a part to the machine, and the unit that it delivers to the session.
     fn hear<T: Taker>(&mut self, octets: &[u8], now: Milliseconds, taker: &mut T) -> Heard
         requires reach { self.old.machine.expected < 2 ^ 62 }
         requires few { FewWait self.old.session self.old.waiting }
+        // The machine processes the part and sends the PDUs that it makes; then the session judges the units
+        // delivered, and the taker gets what the session takes.
         ensures does { Does C.told T.takes (hears now octets.now) self.old taker.old self.new taker.new }
+        // The result says why the end has to disconnect because of the unit, if it has to.
         ensures asks { result.asked ≡ (judged_at now octets.now (fields_of self.old)).leaving }
+        // The step is the machine's result for the part: closed, timeout check, fault of the PDU or what it did, the
+        // first that applies.
+        ensures answer { result.step ≡ heard_answer (safe_seen self.old.machine.settings.rule octets.now) now self.old.machine }
+        // Processing a part moves the index of the peer's next PDU by at most 321; the unit size is unchanged, and
+        // there is still room for the session's next message.
         ensures keeps { Keeps index_step self.old self.new }
     {
         let mut out = ToChannels {
             channels: &mut self.channels,
             numbers: &mut self.numbers,
+            made: &mut self.made,
             count: self.count,
         };
         let mut units = ToSession {
             session: &mut self.session,
-            pair: &self.pair,
             waiting: &mut self.waiting,
             taker,
             asked: None,
@@ -94,10 +114,15 @@ impl<C: Listener, A: Allocator> Upper<C, A> {
         }
     }
 
-    /// The session goes up with the connection.
+    /// Establishes the session when the connection comes up.
+    #[inline(always)]
     fn rise(&mut self, before: ConnectionState)
         requires few { FewWait self.old.session self.old.waiting }
+        // If the state has changed from Start to Up, the session goes up too, and an interlocking queues its first
+        // message; if not, nothing happens.
         ensures does { DoesAlone C.told (goes_up before) self.old self.new }
+        // Going up changes neither unit size nor the peer's next index, and there is still room for the session's
+        // next message.
         ensures keeps { Keeps 0 self.old self.new }
     {
         match (before, self.machine.state()) {
@@ -106,24 +131,33 @@ impl<C: Listener, A: Allocator> Upper<C, A> {
         }
     }
 
-    /// Leaves the connection, where this is asked for.
+    /// Disconnects if it is asked to.
+    #[inline(always)]
     fn leave(&mut self, asked: Option<(Reason, Detail)>, now: Milliseconds)
+        // With a reason, the machine sends a DiscReq, if there is a connection, and closes; without one, nothing
+        // happens.
         ensures does { DoesAlone C.told (leaves now asked) self.old self.new }
+        // Disconnecting changes neither unit size nor the peer's next index, and there is still room for the
+        // session's next message.
         ensures keeps { Keeps 0 self.old self.new }
     {
         if let Some((reason, detail)) = asked {
             let mut out = ToChannels {
                 channels: &mut self.channels,
                 numbers: &mut self.numbers,
+                made: &mut self.made,
                 count: self.count,
             };
             self.machine.close(reason, detail, now, &mut out);
         }
     }
 
-    /// Where the machine is closed the session ends.
+    /// Ends the session if the machine is closed.
     fn settle(&mut self)
+        // If the machine is closed, the session is over; if not, nothing happens.
         ensures does { DoesAlone C.told settles self.old self.new }
+        // Ending the session changes neither unit size nor the peer's next index, and there is still room for the
+        // session's next message.
         ensures keeps { Keeps 0 self.old self.new }
     {
         if self.machine.state() == ConnectionState::Closed {
@@ -131,7 +165,45 @@ impl<C: Listener, A: Allocator> Upper<C, A> {
         }
     }
 
-    /// Takes a part that goes up.
+    /// Records how the end came to be closed, if that is known.
+    fn depart(&mut self, cause: Option<Departure>)
+        // A known cause replaces the recorded departure; without a cause, the record stays.
+        ensures does { DoesAlone C.told (departs cause) self.old self.new }
+        // Recording a departure changes neither unit size nor the peer's next index, and there is still room for the
+        // session's next message.
+        ensures keeps { Keeps 0 self.old self.new }
+    {
+        if cause.is_some() {
+            self.departed = cause;
+        }
+    }
+
+    /// Returns for how long nothing was confirmed, in milliseconds, or 0 without a connection.
+    fn waited(&self, now: Milliseconds) -> Milliseconds
+        // The result is the time since the last confirmed timestamp; it is 0 in Down and Closed.
+        ensures { result ≡ waited now (fields_of self.now) }
+    {
+        match self.machine.state() {
+            ConnectionState::Down | ConnectionState::Closed => 0,
+            _ => now.saturating_sub(self.machine.confirmed_time()),
+        }
+    }
+
+    /// Counts a part that went up.
+    fn count(&mut self, step: Step, waited: Milliseconds, now: Milliseconds)
+        // The part is counted by the machine's step, with the time waited before it and the age of the last confirmed
+        // timestamp after it.
+        ensures does { DoesAlone C.told (counts step waited now) self.old self.new }
+        // Counting changes neither unit size nor the peer's next index, and there is still room for the session's next
+        // message.
+        ensures keeps { Keeps 0 self.old self.new }
+    {
+        let age = now.saturating_sub(self.machine.confirmed_time());
+        self.parts = self.parts.with_step(step, waited, age);
+    }
+
+    /// Processes a part that goes up: machine and session, then the session goes up with the connection, and the end
+    /// disconnects if it is asked to.
     pub(crate) fn part<T: Taker>(
         &mut self,
         number: u32,
@@ -142,32 +214,49 @@ impl<C: Listener, A: Allocator> Upper<C, A> {
         requires reach { self.old.machine.expected < 2 ^ 62 }
         requires sized { length octets.now ≤ SAFE_PDU_MAX }
         requires few { FewWait self.old.session self.old.waiting }
+        // In this order: the machine processes the part and the session its units; an accepted ConnReq is kept; the
+        // session goes up with the connection; the end disconnects if asked. A closed machine ends the session, the
+        // departure is recorded, and the part is counted.
         ensures does { Does C.told T.takes (part now octets.now) self.old taker.old self.new taker.new }
+        // One part moves the index of the peer's next PDU by at most 321. The unit size is unchanged, and there is
+        // still room for the session's next message.
         ensures keeps { Keeps index_step self.old self.new }
     {
         let before = self.machine.state();
-        let asked = self.hear_and_tell(number, octets, now, taker);
+        let waited = self.waited(now);
+        let (step, asked) = self.hear_and_tell(number, octets, now, taker);
         let seen = self.seen();
+        let after = self.machine.state();
+        let shut = closes(before, after);
         self.note_request(before, octets);
         self.rise(before);
         self.leave(asked, now);
         self.settle();
+        self.depart(part_departure(step, asked, shut, octets, now));
+        self.count(step, waited, now);
         let after = self.seen();
         tell_change(&mut self.channels, seen, after);
     }
 
-    /// The machine takes a part, and the session the unit that goes up; both are told. Answers why the end is to leave, if it is.
+    /// Passes a part to machine and session, and makes the notes of it. Returns the machine's result, and why the end
+    /// has to disconnect.
     fn hear_and_tell<T: Taker>(
         &mut self,
         number: u32,
         octets: &[u8],
         now: Milliseconds,
         taker: &mut T,
-    ) -> Option<(Reason, Detail)>
+    ) -> (Step, Option<(Reason, Detail)>)
         requires reach { self.old.machine.expected < 2 ^ 62 }
         requires few { FewWait self.old.session self.old.waiting }
+        // The machine processes the part and the session its units. The notes of it change nothing.
         ensures does { Does C.told T.takes (hears now octets.now) self.old taker.old self.new taker.new }
-        ensures asks { result ≡ (judged_at now octets.now (fields_of self.old)).leaving }
+        // The second result says why the end has to disconnect because of the part's unit, if it has to.
+        ensures asks { result.1 ≡ (judged_at now octets.now (fields_of self.old)).leaving }
+        // The first result is what the machine did with the part.
+        ensures answer { result.0 ≡ heard_answer (safe_seen self.old.machine.settings.rule octets.now) now self.old.machine }
+        // A part that is noted moves the peer's next index by at most 321; the unit size is unchanged, and there is
+        // still room for the session's next message.
         ensures keeps { Keeps index_step self.old self.new }
     {
         let before = self.seen();
@@ -189,10 +278,10 @@ impl<C: Listener, A: Allocator> Upper<C, A> {
         };
         let after = self.seen();
         tell_change(&mut self.channels, seen, after);
-        heard.asked
+        (heard.step, heard.asked)
     }
 
-    /// State and phase, for notes.
+    /// Returns state and phase, for notes.
     pub(crate) fn seen(&self) -> Seen {
         Seen {
             state: self.machine.state(),
@@ -200,10 +289,15 @@ impl<C: Listener, A: Allocator> Upper<C, A> {
         }
     }
 
-    /// The octets are kept, where the connection started with them.
+    /// Keeps the bytes of a ConnReq if the connection has started with it.
+    #[inline(always)]
     fn note_request(&mut self, before: ConnectionState, octets: &[u8])
         requires sized { length octets.now ≤ SAFE_PDU_MAX }
+        // If the state has changed from Down to Start, these bytes become the `request` of the end; if not, nothing
+        // happens.
         ensures does { DoesAlone C.told (notes before octets.now) self.old self.new }
+        // Keeping a ConnReq changes neither unit size nor the peer's next index, and there is still room for the
+        // session's next message.
         ensures keeps { Keeps 0 self.old self.new }
     {
         match (before, self.machine.state()) {
@@ -212,44 +306,110 @@ impl<C: Listener, A: Allocator> Upper<C, A> {
         }
     }
 
-    /// The guard alone.
+    /// Opens these layers again with the settings that they have.
+    pub(crate) fn reopen(&mut self, first_sn: u32, now: Milliseconds)
+        // Everything is forgotten except the settings, and then the machine opens: an interlocking sends its ConnReq.
+        ensures does { DoesAlone C.told (λ v. machine_reopens first_sn now (emptied v)) self.old self.new }
+        // A machine that was just opened expects the peer's first PDU.
+        ensures near { self.new.machine.expected ≡ 0 }
+        // No message waits, so there is room for the session's first one.
+        ensures few { FewWait self.new.session self.new.waiting }
+        // The unit size is a setting, and stays.
+        ensures same { self.new.max ≡ self.old.max }
+    {
+        self.forget();
+        self.open_machine(first_sn, now);
+    }
+
+    /// Forgets everything except the settings, the machine and the channels.
+    fn forget(&mut self)
+        // Only the settings and the machine are left (`emptied`).
+        ensures left { fields_of self.new ≡ emptied (fields_of self.old) }
+        // Nothing is sent.
+        ensures channels { self.new.channels ≡ self.old.channels }
+    {
+        self.numbers = Numbers::new();
+        self.session.reopen();
+        self.waiting.clear();
+        self.request = None;
+        self.accepted = 0;
+        self.departed = None;
+        self.made = MadeCounts::none();
+        self.parts = PartCounts::none();
+    }
+
+    /// Opens the machine again, and sends the PDU that it makes, if any.
+    fn open_machine(&mut self, first_sn: u32, now: Milliseconds)
+        // The machine opens with its settings, and the ConnReq of an interlocking is sent.
+        ensures does { DoesAlone C.told (machine_reopens first_sn now) self.old self.new }
+        // The machine expects the peer's first PDU.
+        ensures near { self.new.machine.expected ≡ 0 }
+    {
+        let mut out = ToChannels {
+            channels: &mut self.channels,
+            numbers: &mut self.numbers,
+            made: &mut self.made,
+            count: self.count,
+        };
+        self.machine.reopen(first_sn, now, &mut out);
+    }
+
+    /// Runs the timeout check: T_max and the PDU limit.
     pub(crate) fn guard(&mut self, now: Milliseconds)
+        // If T_max or the PDU limit is reached, the end sends a DiscReq, the session is over, and the departure is
+        // recorded. If not, nothing happens.
         ensures does { DoesAlone C.told (guards now) self.old self.new }
+        // The timeout check changes neither unit size nor the peer's next index, and there is still room for the
+        // session's next message.
         ensures keeps { Keeps 0 self.old self.new }
     {
         let mut out = ToChannels {
             channels: &mut self.channels,
             numbers: &mut self.numbers,
+            made: &mut self.made,
             count: self.count,
         };
-        self.machine.guard(now, &mut out);
+        let why = self.machine.guard(now, &mut out);
         self.settle();
+        self.depart(own_departure(why, now));
     }
 
-    /// The guard, and a heartbeat where one is due.
+    /// Runs the timeout check, and sends a heartbeat if one is due.
     pub(crate) fn tick(&mut self, now: Milliseconds)
+        // The machine's timers run: the timeout check, and if that leaves the end open, the heartbeat. A closed
+        // machine ends the session, and the departure is recorded.
         ensures does { DoesAlone C.told (ticks now) self.old self.new }
+        // The machine's timers change neither unit size nor the peer's next index, and there is still room for the
+        // session's next message.
         ensures keeps { Keeps 0 self.old self.new }
     {
         let mut out = ToChannels {
             channels: &mut self.channels,
             numbers: &mut self.numbers,
+            made: &mut self.made,
             count: self.count,
         };
-        self.machine.tick(now, &mut out);
+        let why = self.machine.tick(now, &mut out);
         self.settle();
+        self.depart(own_departure(why, now));
     }
 
-    /// The user closes the connection.
+    /// Disconnects for the user, with reason 0.
     pub(crate) fn close(&mut self, now: Milliseconds)
+        // The end sends a DiscReq with reason 0, if there is a connection, and the session is over. The departure is
+        // recorded, unless the end was closed before.
         ensures does { DoesAlone C.told (closes now) self.old self.new }
+        // Closing changes neither unit size nor the peer's next index, and there is still room for the session's next
+        // message.
         ensures keeps { Keeps 0 self.old self.new }
     {
+        let why = user_leaves(self.machine.state());
         self.leave(Some((Reason::ClosedByUser, Detail::Unspecified)), now);
         self.settle();
+        self.depart(own_departure(why, now));
     }
 
-    /// Puts in a command or status, which is sent where the machine may send.
+    /// Queues a command or status, and sends what the peer's window allows.
     pub(crate) fn put(
         &mut self,
         kind: u16,
@@ -258,15 +418,22 @@ impl<C: Listener, A: Allocator> Upper<C, A> {
     ) -> Result<(), PutFault>
         requires some { 1 ≤ self.old.max }
         requires most { self.old.max ≤ UNIT_MESSAGES }
+        // An accepted telegram is queued last and counted. Waiting messages are then packed and sent while the
+        // machine may send.
         ensures does { OnOk result (DoesAlone C.told (puts kind payload.now now) self.old self.new) }
+        // A refused telegram changes nothing above the redundancy layer.
         ensures refused { OnErr result (self.new ≡ self.old) }
+        // The session decides: the telegram is accepted, or the first refusal that applies is returned.
         ensures answer { MatchResult result
             (λ _. put_refusal self.old.session kind payload.now (length self.old.waiting) ≡ None)
             (λ fault. put_refusal self.old.session kind payload.now (length self.old.waiting) ≡ Some fault) }
+        // A put changes neither unit size nor the peer's next index, and there is still room for the session's next
+        // message.
         ensures keeps { Keeps 0 self.old self.new }
     {
         match self.session.put(kind, payload, &mut self.waiting) {
             Ok(()) => {
+                self.accepted = self.accepted.saturating_add(1);
                 self.send_waiting(now);
                 Ok(())
             }
@@ -274,14 +441,48 @@ impl<C: Listener, A: Allocator> Upper<C, A> {
         }
     }
 
-    /// The application of a field element has put its initial status in: its end is sent behind it.
+    /// Returns how many commands or status are in unconfirmed units.
+    fn items_unconfirmed(&self) -> usize
+        // The result is the number of commands and status in all unconfirmed units together.
+        ensures count { result ≡ items_in_units (octets_of self.now.machine.ring) }
+        // The number is at most 96: 3 messages in each of 32 units.
+        ensures few { result ≤ UNIT_MESSAGES * WINDOW_MAX }
+    {
+        self.machine.bounds();
+        let mut items = 0;
+        for place in 0..self.machine.unconfirmed() {
+            if let Some(unit) = self.machine.unit(place) {
+                items += items_in_unit(unit);
+            }
+        }
+        items
+    }
+
+    /// Returns how many of the telegrams put are confirmed: neither waiting nor in an unconfirmed unit.
+    pub(crate) fn confirmed(&self) -> u64
+        // The result is the number of accepted telegrams, less those that wait and those in unconfirmed units.
+        ensures { result ≡ confirmed_in (fields_of self.now) }
+    {
+        let outstanding = self.waiting.items() + self.items_unconfirmed();
+        self.accepted.saturating_sub(outstanding as u64)
+    }
+
+    /// Queues the end of the initialisation after the initial status of a field element, and sends what the peer's
+    /// window allows.
     pub(crate) fn init_done(&mut self, now: Milliseconds) -> Result<(), InitFault>
         requires some { 1 ≤ self.old.max }
         requires most { self.old.max ≤ UNIT_MESSAGES }
+        // The session completes the initialisation and queues its closing telegram. Waiting messages are then packed
+        // and sent while the machine may send.
         ensures does { OnOk result (DoesAlone C.told (completes now) self.old self.new) }
+        // A refused end of the initialisation changes nothing above the redundancy layer.
         ensures refused { OnErr result (self.new ≡ self.old) }
+        // The session decides: the end of the initialisation is accepted, or the first refusal that applies is
+        // returned.
         ensures answer { MatchResult result (λ _. init_refusal self.old.session (length self.old.waiting) ≡ None)
             (λ fault. init_refusal self.old.session (length self.old.waiting) ≡ Some fault) }
+        // The end of the initialisation changes neither unit size nor the peer's next index, and there is still room
+        // for the session's next message.
         ensures keeps { Keeps 0 self.old self.new }
     {
         let seen = self.seen();
@@ -296,13 +497,20 @@ impl<C: Listener, A: Allocator> Upper<C, A> {
         }
     }
 
-    /// Packs a unit and sends it, where messages wait and the machine may send; answers whether it did.
+    /// Packs a unit and sends it, if messages wait and the machine may send. Returns true if it did.
+    #[inline(never)]
     fn pack_one(&mut self, now: Milliseconds) -> bool
         requires some { 1 ≤ self.old.max }
         requires most { self.old.max ≤ UNIT_MESSAGES }
+        // If messages wait and the machine may send, one unit of the first of them is sent, and these no longer wait.
+        // If not, nothing happens.
         ensures does { DoesAlone C.told (packs_once now) self.old self.new }
+        // The result is true if and only if a message waited and the machine could send before.
         ensures packs { result ≡ can_pack (fields_of self.old) }
+        // After a unit was sent, at least one message less waits; no call makes more wait.
         ensures fewer { length self.new.waiting + (if result then 1 else 0) ≤ length self.old.waiting }
+        // Sending a unit changes neither unit size nor the peer's next index, and there is still room for the
+        // session's next message.
         ensures keeps { Keeps 0 self.old self.new }
     {
         if !self.machine.may_send() {
@@ -314,17 +522,23 @@ impl<C: Listener, A: Allocator> Upper<C, A> {
         let mut out = ToChannels {
             channels: &mut self.channels,
             numbers: &mut self.numbers,
+            made: &mut self.made,
             count: self.count,
         };
         let _sent = self.machine.send(&self.unit, now, &mut out);
         true
     }
 
-    /// Packs and sends while messages wait and the machine may send.
+    /// Packs and sends units while messages wait and the machine may send.
+    #[inline(always)]
     pub(crate) fn send_waiting(&mut self, now: Milliseconds)
         requires some { 1 ≤ self.old.max }
         requires most { self.old.max ≤ UNIT_MESSAGES }
+        // Units of the first waiting messages are sent, each as large as the settings allow, until none waits or the
+        // machine may not send.
         ensures does { DoesAlone C.told (sends now) self.old self.new }
+        // Sending all units changes neither unit size nor the peer's next index, and there is still room for the
+        // session's next message.
         ensures keeps { Keeps 0 self.old self.new }
     {
         let mut packs = true;
@@ -334,12 +548,12 @@ impl<C: Listener, A: Allocator> Upper<C, A> {
     }
 }
 
-/// Hands the parts that go up to what is above the redundancy layer.
+/// Receives the parts that the redundancy layer lets up, and passes them to the layers above.
 #[derive(Drop)]
 struct ToUpper<'a, 'b, C, A: Allocator, T> {
     /// The layers above the redundancy layer.
     upper: &'a mut Upper<C, A>,
-    /// What takes telegrams.
+    /// The application.
     taker: &'b mut T,
     /// The own time, in milliseconds.
     now: Milliseconds,
@@ -354,6 +568,8 @@ impl<'a, 'b, C: Listener, A: Allocator, T: Taker> Upward for ToUpper<'a, 'b, C, 
         × (t.upper.now.max ≡ s.upper.now.max)
         × Does C.told T.takes (part s.now p.1) s.upper.now s.taker.now t.upper.now t.taker.now };
 
+    // Each part moves the index by at most 321, and may make the session queue a message, for which there must be
+    // room.
     ghost ready = { λ s n. (s.upper.now.machine.expected ≤ 321 * n) × FewWait s.upper.now.session s.upper.now.waiting };
 
     fn up(&mut self, seq: u32, upper: &[u8]) {
@@ -364,21 +580,31 @@ impl<'a, 'b, C: Listener, A: Allocator, T: Taker> Upward for ToUpper<'a, 'b, C, 
 }
 
 impl<C: Listener, A: Allocator> Upper<C, A> {
-    /// The redundancy layer takes a datagram, and what is above it each part that goes up.
+    /// Passes a datagram to the redundancy layer, and each part that goes up to the layers above.
     pub(crate) fn receive<B: Allocator, T: Taker>(
         &mut self,
         red: &mut RedLayer<B>,
         octets: &[u8],
         now: Milliseconds,
         taker: &mut T,
-    )
+    ) -> RedEvent
         requires now { now ≤ 2 ^ 62 }
         requires reach { self.old.machine.expected ≤ 321 * red.old.expected }
         requires few { FewWait self.old.session self.old.waiting }
+        // The result is what the redundancy layer did with the datagram.
+        ensures event { result ≡ (judged now octets.now red.old).event }
+        // The redundancy layer first tries its timer, then judges the datagram: its part is dropped, is deferred, or
+        // goes up with the parts that waited for it.
         ensures layer { red.new ≡ after (Datagram octets.now now) red.old }
+        // The parts that go up at the datagram, those that the timer releases first, pass machine and session in
+        // order, each one wholly before the next.
         ensures does { Does C.told T.takes (parts now (passed_by (Datagram octets.now now) red.old)) self.old taker.old self.new taker.new }
+        // After the datagram, the index of the peer's next PDU is still at most 321 times the number that the
+        // redundancy layer expects.
         ensures reach { self.new.machine.expected ≤ 321 * red.new.expected }
+        // A datagram does not change the unit size.
         ensures same { self.new.max ≡ self.old.max }
+        // After the datagram, there is still room among the waiting messages for the session's next one.
         ensures few { FewWait self.new.session self.new.waiting }
     {
         let mut up = ToUpper {
@@ -388,9 +614,10 @@ impl<C: Listener, A: Allocator> Upper<C, A> {
         };
         let event = red.arrive(octets, now, &mut up);
         tell_event(&mut self.channels, octets, event);
+        event
     }
 
-    /// The redundancy layer tries its deadline, and what is above it takes each part that goes up.
+    /// Tries the timer of the redundancy layer, and passes each part that goes up to the layers above.
     pub(crate) fn pass_time<B: Allocator, T: Taker>(
         &mut self,
         red: &mut RedLayer<B>,
@@ -400,10 +627,17 @@ impl<C: Listener, A: Allocator> Upper<C, A> {
         requires now { now ≤ 2 ^ 62 }
         requires reach { self.old.machine.expected ≤ 321 * red.old.expected }
         requires few { FewWait self.old.session self.old.waiting }
+        // If T_seq has passed for a deferred part, the redundancy layer lets parts up over the gap; if not, it stays
+        // as it is.
         ensures layer { red.new ≡ after (RedTick now) red.old }
+        // The parts that the timer lets up pass machine and session in order, each one wholly before the next.
         ensures does { Does C.told T.takes (parts now (passed_by (RedTick now) red.old)) self.old taker.old self.new taker.new }
+        // After the timer, the index of the peer's next PDU is still at most 321 times the number that the redundancy
+        // layer expects.
         ensures reach { self.new.machine.expected ≤ 321 * red.new.expected }
+        // The timer does not change the unit size.
         ensures same { self.new.max ≡ self.old.max }
+        // After the timer, there is still room among the waiting messages for the session's next one.
         ensures few { FewWait self.new.session self.new.waiting }
     {
         let mut up = ToUpper {

@@ -64,8 +64,10 @@ pub use Rattle.safe_machine.specs.Moves.Move.{Guards, Hears, Leaves, Sends, Tick
 pub use Rattle.safe_machine.specs.Octets.{arrive_octets, heard as heard_as, seen_by}
 pub use Rattle.safe_machine.specs.Reached.{AreRead, FewLaw, FewMade, IsRead}
 pub use Rattle.safe_machine.specs.Settings.{Settings, is_legal}
-pub use Rattle.safe_machine.specs.State.{State, leave, make, move_to, next_made, opened, says_goodbye, unconfirmed}
-pub use Rattle.safe_machine.specs.Step.{guard, heartbeat, is_connected, is_live as is_alive, may_send, send, tick}
+pub use Rattle.safe_machine.specs.State.{State, unconfirmed}
+pub use Rattle.safe_machine.specs.Connections.{is_live as says_goodbye}
+pub use Rattle.safe_machine.proofs.one.Effects.{heartbeat, make, move_to, next_made}
+pub use Rattle.safe_machine.specs.Step.{guard, is_connected, is_live as is_alive, leave, may_send, opened, send, tick}
 pub use Rattle.safe_machine.specs.World.{Among, GenuineAt, Side, Timely, TimelyEvent, joins}
 pub use Rattle.safe_machine.specs.World.Event.{Arrive, Guard, Open as OpenMachine, Send}
 pub use Rattle.safe_machine.specs.World.Side.{Fe, Il}

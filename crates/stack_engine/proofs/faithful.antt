@@ -1,4 +1,4 @@
--- What holds over faithful lists: machines hear one another in order, and nothing is lost.
+-- Faithful lists: machines receive each other's PDUs in order, and nothing is lost.
 pub mod Ordering
 pub mod Faithfuls
 pub mod NothingLost

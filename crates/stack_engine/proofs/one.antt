@@ -1,3 +1,3 @@
--- What one end keeps, call by call, whatever comes to it.
+-- What one end keeps, call by call, for any input.
 pub mod Speaking
 pub mod Heeding

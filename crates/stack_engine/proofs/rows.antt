@@ -1,8 +1,10 @@
--- Lists of events that are computed, and worlds in which one clause of a promise alone is false.
+-- Lists of events that are computed, and worlds in which only one clause of a promise is false.
 pub mod RowSettings
 pub mod FaithfulTests
 pub mod FaithfulRow
 pub mod GenuineRow
+pub mod RoughRow
+pub mod FarRow
 pub mod Drops
 pub mod Forged
 pub mod Instances

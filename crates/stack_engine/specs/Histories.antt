@@ -7,18 +7,20 @@ use Rattle.stack_engine.specs.declared.event.Doing.TheVariants as doing
 use Rattle.stack_engine.specs.declared.event.Event.{Event as CodeEvent}
 use Rattle.stack_engine.specs.Pairs.{Event}
 
+-- the value of a history
 pub record Events : Type 0 where
-  pub events : List Event  -- the first one first
-  pub places : ℕ  -- how many more events there is room for
-  pub octets : ℕ  -- how many octets they may have together
-  pub openings : ℕ  -- how many openings may be among them
+  pub events : List Event  -- the events, the first one first
+  pub places : ℕ  -- for how many more events there is room
+  pub octets : ℕ  -- for how many of their bytes there is room
+  pub openings : ℕ  -- for how many openings there is room
 
--- the octets that a call brings: of a telegram, or of a datagram
+-- the bytes that a call brings: of a payload or of a datagram
 abbrev pub call_octets : Call → List ℕ
 call_octets (call.Put kind payload) = payload.now
 call_octets (call.Deliver channel octets) = octets.now
 call_octets _ = []
 
+-- there is room for what an event does
 abbrev pub HasPlaceFor : Doing → Events → Type 0
 HasPlaceFor (doing.Open config first_sn) h = (1 ≤ h.places) × (1 ≤ h.openings)
 HasPlaceFor (doing.Call c) h = (1 ≤ h.places) × (length (call_octets c) ≤ h.octets)

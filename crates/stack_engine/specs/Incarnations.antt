@@ -1,4 +1,4 @@
--- One incarnation of an end, with all that it made, and all that was put in and taken.
+-- One incarnation of an end, with all PDUs that it made, and all telegrams put and taken.
 use Rattle.std.specs.Prelude.{◌≡◌, ℕ, ◌+◌, ◌≤◌, ◌/◌, min, Option, None, List, [], ◌∷◌, ◌++◌, length}
 use Rattle.std.specs.Option.{option_map}
 use Rattle.octets.specs.declared.limits.TheConstants.{PAYLOAD_MAX}
@@ -29,27 +29,27 @@ datagrams_of s index (m ∷ ms) = red_text index (upper_of (rule_of s) m) ∷ da
 abbrev pub sure_items : Shelf ℕ → ℕ
 sure_items s = min s.places (s.octets / PAYLOAD_MAX)
 
--- a telegram is put behind the others, where there is room for it
+-- a telegram is added after the others if there is room for it
 abbrev pub TakesItem : Shelf ℕ → Item → Shelf ℕ → Type 0
 TakesItem s item t = length item.1 ≤ PAYLOAD_MAX → 1 ≤ sure_items s → (t.texts ≡ s.texts ++ item ∷ []) × (sure_items s ≤ sure_items t + 1)
 
--- The end stands for its state, each PDU that it made was kept, and so was all that was put in and taken.
+-- the incarnation represents the state: its end does, and all that was made, put and taken is kept
 pub record IncStands {A : Type 0} (i : Incarnation A) (x : EndState) : Type 0 where
-  pub end : EndStands told_of i.end x
-  pub config : settings_of i.config ≡ x.settings
-  pub kept : (channels_of i.end).datagrams ≡ datagrams_of x.settings 0 x.machine.made
-  pub put : i.put.texts ≡ x.session.history.put
-  pub taken : i.taken.texts ≡ x.session.history.taken
+  pub end : EndStands told_of i.end x  -- the end represents the state
+  pub config : settings_of i.config ≡ x.settings  -- it was opened with the settings of the state
+  pub kept : (channels_of i.end).datagrams ≡ datagrams_of x.settings 0 x.machine.made  -- the kept datagrams are those of all PDUs made
+  pub put : i.put.texts ≡ x.session.history.put  -- the telegrams put
+  pub taken : i.taken.texts ≡ x.session.history.taken  -- the telegrams taken
 
--- there is room for all that a call makes and takes
+-- there is room for all PDUs that a call makes and all telegrams that it takes
 abbrev pub HasRoom : {A : Type 0} → Incarnation A → Type 0
 HasRoom i = (most_pdus ≤ sure_room (channels_of i.end)) × (most_taken ≤ sure_items i.taken)
 
--- and for the telegram that it puts in
+-- and for the telegram that it puts
 abbrev pub HasRoomFor : {A : Type 0} → CodeCall → Incarnation A → Type 0
 HasRoomFor c i = HasRoom i × (1 ≤ i.put.places) × (put_size c ≤ i.put.octets)
 
--- what an accepted call puts in
+-- the telegram that an accepted call puts
 abbrev pub puts_in : Call → List Item
 puts_in (Put kind payload now) = (kind, payload) ∷ []
 puts_in _ = []
@@ -60,20 +60,20 @@ inc_refusal (Put kind payload now) i = option_map PutRefused (put_answer kind pa
 inc_refusal (InitDone now) i = option_map InitRefused (init_answer (inside i.end).upper)
 inc_refusal _ i = None
 
--- its end took the turn of the call; what it handed out is kept, and so is what was put in
+-- the end took the turn of the call, and its telegrams are kept
 pub record IncTurns {A : Type 0} (c : Call) (i j : Incarnation A) : Type 0 where
-  pub end : EndTurns told_of TakesItem (turn c) i.end i.taken j.end j.taken
-  pub time : j.end.time ≡ time_of c
-  pub put : j.put.texts ≡ i.put.texts ++ puts_in c
-  pub config : j.config ≡ i.config
+  pub end : EndTurns told_of TakesItem (turn c) i.end i.taken j.end j.taken  -- the turn, with the telegrams that it delivers
+  pub time : j.end.time ≡ time_of c  -- the end has the time of the call
+  pub put : j.put.texts ≡ i.put.texts ++ puts_in c  -- a telegram that was put is added
+  pub config : j.config ≡ i.config  -- the settings are unchanged
 
--- a refused call leaves all that it stands by
+-- a refused call leaves everything that represents the state
 pub record IncSame {A : Type 0} (i j : Incarnation A) : Type 0 where
-  pub end : j.end ≡ i.end
-  pub put : j.put ≡ i.put
-  pub taken : j.taken ≡ i.taken
-  pub config : j.config ≡ i.config
+  pub end : j.end ≡ i.end  -- the end
+  pub put : j.put ≡ i.put  -- the telegrams put
+  pub taken : j.taken ≡ i.taken  -- the telegrams taken
+  pub config : j.config ≡ i.config  -- the settings
 
--- for each state that it stood for it now stands for the state after the call
+-- of each state that it represented it now represents the one after the call, if that makes no more than the bounds allow
 abbrev pub IncDoes : {A : Type 0} → Call → Incarnation A → Incarnation A → Type 0
 IncDoes c i j = (x : EndState) → IncStands i x → FewMore x (call c x) → IncStands j (call c x)

@@ -1,24 +1,26 @@
--- What a keeper of datagrams has, and what it tells as channels.
+-- The value of a keeper of datagrams, and what it shows as channels.
 use Rattle.std.specs.Prelude.{ℕ, ◌/◌, ◌==◌, min, Bool, Some, None, List, map, drop, if◌then◌else◌}
 use Rattle.std.specs.List.{list_any}
 use Rattle.std.specs.Str.{bytes_eq}
 use Rattle.octets.specs.declared.limits.TheConstants.{RED_HEADER, RED_PDU_MAX}
 use Rattle.channels.specs.Told.{Told, Sending}
 
+-- the value of a keeper
 pub record Keeping : Type 0 where
-  pub datagrams : List (List ℕ)
-  pub places : ℕ  -- how many more datagrams there is room for
-  pub octets : ℕ  -- how many octets they may have together
-  pub failed_sends : ℕ
+  pub datagrams : List (List ℕ)  -- the datagrams kept, in order
+  pub places : ℕ  -- for how many more datagrams there is room
+  pub octets : ℕ  -- for how many of their bytes there is room
+  pub failed_sends : ℕ  -- how many sends failed, modulo 2^64
 
--- kept datagrams went out on channel 1
+-- a kept datagram was sent on channel 1
 abbrev pub on_first : List ℕ → Sending
 on_first datagram = (1, datagram)
 
--- how many of the greatest size there is room for
+-- for how many datagrams of the greatest size there is room
 abbrev pub sure_room : Keeping → ℕ
 sure_room k = min k.places (k.octets / RED_PDU_MAX)
 
+-- what the keeper shows as channels: receptions are not recorded, and a send is only sure to succeed on channel 1
 abbrev pub told_of : Keeping → Told
 told_of k =
     record {
@@ -30,6 +32,6 @@ told_of k =
       room = λ channel. if channel == 1 then sure_room k else 0;
     }
 
--- one of the datagrams has this upper part
+-- one of the datagrams has this part
 abbrev pub has_part : List ℕ → List (List ℕ) → Bool
 has_part part datagrams = list_any (λ d. bytes_eq part (drop RED_HEADER d)) datagrams

@@ -1,6 +1,14 @@
 pub mod Pairs
 pub mod Premise
 pub mod Headline
+pub mod ByPlace
+pub mod HeadlineByPlace
+pub mod OpenUnits
+pub mod CallsByPlace
+pub mod PremiseByPlace
+pub mod FreshByPlace
+pub mod NothingLostByPlace
+pub mod SettledByPlace
 pub mod Freshness
 pub mod Settled
 pub mod Faithful
@@ -12,6 +20,7 @@ pub mod HistoryPlaces
 pub mod Keeping
 pub mod Bounds
 pub mod Incarnations
+pub mod Noted
 pub mod Openings
 pub mod Sides
 pub mod Joins

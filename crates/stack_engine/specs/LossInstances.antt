@@ -1,4 +1,4 @@
--- Worlds at which one clause of "nothing lost" is false and all else of it holds; every PDU has arrived there.
+-- Worlds at which one clause of nothing lost is false while its other clauses hold. Every PDU has arrived there.
 use Rattle.std.specs.Prelude.{ℕ, Some, List, [], ◌∷◌}
 use Rattle.safe_pdu.specs.declared.Kind.TheVariants.{RetrReq}
 use Rattle.safe_machine.specs.declared.ConnectionState.{ConnectionState}
@@ -12,7 +12,7 @@ use Rattle.stack_engine.specs.Pairs.{World}
 use Rattle.stack_engine.specs.Faithful.{Match, AllThere, NothingLost, IlWaits, FeWaits, CommandsThere, StatusThere, IlUp, FeUp, Steps}
 use Rattle.stack_engine.specs.Instances.{joined_to, one, world_of}
 
--- the two ends of a connection, of one end's settings but for identifiers, names and versions, which match
+-- an end with this identifier and name, and those of its peer: the two ends of a connection match
 abbrev pub crossed : (own peer : ℕ) → EndState → EndState
 crossed own peer x =
     record x {
@@ -24,14 +24,15 @@ crossed own peer x =
           };
     }
 
--- what an end has gone through: it made nothing, and its window is one unit
+-- the history of an end that made no PDU and has a window of one unit
 pub record Course : Type 0 where
-  pub connection : ConnectionState
-  pub phase : Phase
-  pub put : List Item
-  pub taken : List Item
-  pub waiting : List (List ℕ)
+  pub connection : ConnectionState  -- the state of its connection
+  pub phase : Phase  -- the phase of its session
+  pub put : List Item  -- the telegrams put
+  pub taken : List Item  -- the telegrams taken
+  pub waiting : List (List ℕ)  -- the messages that wait
 
+-- an end with this history
 abbrev pub with_course : Course → EndState → EndState
 with_course c x =
     record x {
@@ -49,50 +50,69 @@ with_course c x =
           };
     }
 
--- established, and nothing more
+-- established, and nothing else
 abbrev pub plain : Course
 plain = record { connection = Up; phase = Established; put = []; taken = []; waiting = [] }
 
+-- an interlocking with this history
 abbrev pub il_with : Course → EndState → EndState
 il_with c x = with_course c (crossed 1 2 x)
 
+-- a field element with this history
 abbrev pub fe_with : Course → EndState → EndState
 fe_with c x = with_course c (crossed 2 1 x)
 
--- a message waits that is no telegram
+-- a message waits that is not a telegram
 abbrev pub waits : Course
 waits = record plain { waiting = [] ∷ [] }
 
+-- a telegram was put, and neither waits nor was taken
 abbrev pub lost : Course
 lost = record plain { put = one ∷ [] }
 
+-- the connection is not Up
 abbrev pub starting : Course
 starting = record plain { connection = Start }
 
+-- the session is still Initialising
 abbrev pub early : Course
 early = record plain { phase = Initialising }
 
+-- the world of these two ends, joined
 abbrev pub both : EndState → EndState → World
 both il fe = world_of (il ∷ []) (joined_to (Some 1) fe ∷ [])
 
--- an end that asked for a retransmission
+-- an end that requested a retransmission
 abbrev pub asking : Made → EndState → EndState
 asking m x = record x { machine = record x.machine { made = record m { pdu = record m.pdu { kind = RetrReq } } ∷ [] } }
 
--- ends at which the promise is false, and these six clauses of it hold
+-- two ends at which nothing lost is false, while these six clauses of it hold
 abbrev pub OnlyFails : (A B C D E F : EndState → EndState → Type 0) → (il fe : EndState) → Type 0
 OnlyFails A B C D E F il fe = (NothingLost (both il fe) → ⊥) × A il fe × B il fe × C il fe × D il fe × E il fe × F il fe
 
+-- one world for each clause
 pub record LossInstances (x : EndState) (m : Made) : Type 0 where
+  -- the settings of both ends match
   pub match : Match (il_with plain x) (fe_with plain x)
+  -- two plain ends fulfil every clause
   pub holds : AllThere (il_with plain x) (fe_with plain x)
+  -- the interlocking requested a retransmission
   pub il_asks : NothingLost (world_of (asking m x ∷ []) []) → ⊥
+  -- the field element requested a retransmission
   pub fe_asks : NothingLost (world_of [] (joined_to (Some 1) (asking m x) ∷ [])) → ⊥
+  -- a message waits at the interlocking while its window is open
   pub il_waits : OnlyFails FeWaits CommandsThere StatusThere IlUp FeUp Steps (il_with waits x) (fe_with plain x)
+  -- a message waits at the field element while its window is open
   pub fe_waits : OnlyFails IlWaits CommandsThere StatusThere IlUp FeUp Steps (il_with plain x) (fe_with waits x)
+  -- a command is lost
   pub commands : OnlyFails IlWaits FeWaits StatusThere IlUp FeUp Steps (il_with lost x) (fe_with plain x)
+  -- a status is lost
   pub status : OnlyFails IlWaits FeWaits CommandsThere IlUp FeUp Steps (il_with plain x) (fe_with lost x)
+  -- the interlocking is not Up
   pub il_starts : OnlyFails IlWaits FeWaits CommandsThere StatusThere FeUp Steps (il_with starting x) (fe_with plain x)
+  -- the field element is not Up
   pub fe_starts : OnlyFails IlWaits FeWaits CommandsThere StatusThere IlUp Steps (il_with plain x) (fe_with starting x)
+  -- the interlocking is Initialising, the field element Established
   pub il_early : OnlyFails IlWaits FeWaits CommandsThere StatusThere IlUp FeUp (il_with early x) (fe_with plain x)
+  -- the field element is Initialising, the interlocking Established
   pub fe_early : OnlyFails IlWaits FeWaits CommandsThere StatusThere IlUp FeUp (il_with plain x) (fe_with early x)

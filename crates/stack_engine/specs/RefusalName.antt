@@ -1,9 +1,10 @@
--- The word for why an event is refused, as it is printed.
+-- The printed name of each refusal of an event.
 use Rattle.std.specs.Prelude.{codes, List, ℕ}
 use Rattle.stack_engine.specs.declared.ApplyFault.{ApplyFault}
 use Rattle.stack_engine.specs.declared.ApplyFault.TheVariants as refusal
 use Rattle.pdi_session.specs.FaultNames.{init_fault_name, put_fault_name}
 
+-- the name of the refusal; a refusal by the session has the name of its fault
 abbrev pub refusal_name : ApplyFault → List ℕ
 refusal_name refusal.Memory = codes "Memory"
 refusal_name refusal.EndNotOpen = codes "EndNotOpen"

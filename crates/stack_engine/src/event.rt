@@ -1,4 +1,4 @@
-//! What happens to a pair.
+//! The events of a pair.
 
 ghost use Rattle.std.specs.Prelude.{◌≡◌, ◌<◌, ◌^◌};
 ghost use Rattle.std.specs.List.{AllByRecursion};
@@ -7,59 +7,60 @@ ghost use Rattle.stack_engine.specs.Premise.{IsTyped};
 
 use end_settings::{EndConfig, Side};
 
-/// What happens to one of two ends, at a time of that end's clock in milliseconds.
+/// What happens to one of two ends, at a time of that end's clock. It borrows its bytes.
 #[derive(Clone, Copy, Debug)]
 pub struct Event<'a> {
-    /// Which end.
+    /// The end that it happens to.
     pub side: Side,
-    /// The time.
+    /// When, in milliseconds.
     pub time: u64,
     /// What happens to it.
     pub doing: Doing<'a>,
 }
 
-/// What happens to an end.
+/// What happens to an end: an opening or a call.
 #[derive(Clone, Copy, Debug)]
 pub enum Doing<'a> {
-    /// It is opened, or opened anew.
+    /// The end is opened, or opened again.
     Open {
-        /// What it is opened with.
+        /// The settings.
         config: EndConfig,
         /// The sequence number of its first PDU.
         first_sn: u32,
     },
-    /// It is called.
+    /// The end is called.
     Call(Call<'a>),
 }
 
 /// A call of an end that was opened.
 #[derive(Clone, Copy, Debug)]
 pub enum Call<'a> {
-    /// The end leaves its connection.
+    /// The user closes the end.
     Close,
-    /// The application puts a telegram in.
+    /// The application puts a telegram.
     Put {
-        /// The kind of the telegram.
+        /// The message type.
         kind: u16,
-        /// Its payload, 0 to 357 octets.
+        /// The payload, 0 to 357 bytes.
         payload: &'a [u8],
     },
-    /// The application of the field element has put in its initial status.
+    /// The application of the field element has put its initial status.
     InitDone,
     /// Time passes.
     Tick,
-    /// A datagram comes, of any octets.
+    /// A datagram of any bytes comes.
     Deliver {
-        /// On which channel.
+        /// The channel on which it comes.
         channel: usize,
-        /// The octets.
+        /// Its bytes.
         octets: &'a [u8],
     },
 }
 
 impl<'a> Event<'a> {
-    /// Its octets are below 256, and its kind is below 65,536: their types say so.
+    /// Shows from the types that bytes are below 256 and a message type is below 65,536.
     pub(crate) fn is_typed(&self)
+        // An event of the code meets the condition on values that the laws ask for.
         ensures { IsTyped (event_of self.now) }
     {
         match &self.doing {
@@ -70,20 +71,22 @@ impl<'a> Event<'a> {
     }
 }
 
-/// A kind has two octets.
+/// Shows that a message type has two bytes.
 fn is_kind(kind: u16)
+    // A message type is below 65,536.
     ensures { kind < 256 ^ 2 }
 {}
 
-/// Octets are below 256.
+/// Shows that bytes are below 256.
 fn are_octets(octets: &[u8])
+    // Each element is below 256.
     ensures { AllByRecursion (λ o. o < 256) octets.now }
 {}
 
 impl<'a> Call<'a> {
-    /// How many octets the telegram has that is put in.
+    /// Returns the length in bytes of the payload that is put; 0 for any other call.
     pub fn put_size(&self) -> usize
-        // `put_size` answers how many octets the payload of a put has, and 0 of any other call.
+        // `put_size` is the length of a put's payload, and 0 for every other call.
         ensures { result ≡ put_size self.now }
     {
         match self {

@@ -12,25 +12,25 @@ use end_settings::{EndConfig, Side};
 use std::alloc::{AllocError, Allocator, Global};
 use std::marker::Model;
 
-/// What is kept of an event beside its octets: those of a telegram or of a datagram.
+/// What is kept of an event apart from the bytes of its telegram or datagram.
 #[derive(Clone, Copy)]
 struct Entry {
     /// The end that it happened to.
     side: Side,
     /// When, in milliseconds of that end's clock.
     time: u64,
-    /// What happened; its octets stand beside it.
+    /// What happened; its bytes are kept next to it.
     doing: Deed,
 }
 
-/// What happened to an end; octets stand elsewhere.
+/// What happened to an end, without bytes.
 #[derive(Clone, Copy)]
 enum Deed {
     /// An opening, with the place of its settings among those of all openings.
     Open { config: usize, first_sn: u32 },
     /// The end was closed.
     Close,
-    /// A telegram of this kind was put in.
+    /// A telegram with this message type was put.
     Put { kind: u16 },
     /// The initial status was complete.
     InitDone,
@@ -40,10 +40,10 @@ enum Deed {
     Deliver { channel: usize },
 }
 
-/// Events, the first one first.
+/// The accepted events of a pair, in order. It keeps small entries, and the bytes of all events in one buffer.
 #[derive(Drop)]
 pub struct History<A: Allocator = Global> {
-    /// The events, in order, each with the octets that it brought.
+    /// The events in order, each with its bytes.
     entries: Texts<Entry, A>,
     /// The settings of the openings, in order.
     configs: Vec<EndConfig, A>,
@@ -67,8 +67,9 @@ impl<A: Allocator> Model for History<A> {
 }
 
 impl<A: Allocator + Copy> History<A> {
-    /// Nothing happened, and there is no room.
+    /// Creates an empty history without room.
     pub(crate) fn new(alloc: A) -> Self
+        // No event has happened.
         ensures { result.events ≡ [] }
     {
         History {
@@ -77,9 +78,12 @@ impl<A: Allocator + Copy> History<A> {
         }
     }
 
-    /// Makes room for an event. The error is that memory was refused.
+    /// Makes room for an event. Fails if an allocation fails.
     pub(crate) fn reserve(&mut self, event: &Event<'_>) -> Result<(), AllocError>
+        // Making room leaves the list of events as it is.
         ensures same { self.new.events ≡ self.old.events }
+        // After a success there is a place for the event, room for its bytes, and one for its settings if it is an
+        // opening.
         ensures room { OnOk result (HasPlace event.now self.new) }
     {
         match &event.doing {
@@ -91,9 +95,10 @@ impl<A: Allocator + Copy> History<A> {
         }
     }
 
-    /// Adds an event behind the others. The caller has made room for it.
+    /// Adds an event after the others. The caller has made room for it.
     pub(crate) fn add(&mut self, event: &Event<'_>)
         requires room { HasPlace event.now self.old }
+        // The event becomes the last one; all before it stay.
         ensures added { self.new.events ≡ self.old.events ++ event_of event.now ∷ [] }
     {
         let side = event.side;
@@ -117,25 +122,25 @@ impl<A: Allocator + Copy> History<A> {
 }
 
 impl<A: Allocator> History<A> {
-    /// How many events there are.
+    /// Returns the number of events.
     pub fn len(&self) -> usize
-        // A `History` tells how many events it has, whether it has none, and the event at a place.
+        // `len` is the length of the list of `events`.
         ensures { result ≡ length self.now.events }
     {
         self.entries.len()
     }
 
-    /// Whether nothing happened.
+    /// Returns true if nothing has happened.
     pub fn is_empty(&self) -> bool
-        // A `History` tells how many events it has, whether it has none, and the event at a place.
+        // `is_empty` is true if and only if there are no `events`.
         ensures { result ≡ is_nil self.now.events }
     {
         self.entries.is_empty()
     }
 
-    /// The event at a place, from 0.
+    /// Returns the event at a place, from 0.
     pub fn get(&self, place: usize) -> Option<Event<'_>>
-        // A `History` tells how many events it has, whether it has none, and the event at a place.
+        // `get` returns the event at this `place` exactly as it was added, or `None` after the last one.
         ensures { option_map event_of result ≡ slice_get self.now.events place }
     {
         let (entry, octets) = self.entries.get(place)?;
@@ -162,8 +167,9 @@ impl<A: Allocator> History<A> {
     }
 }
 
-/// The octets of a call: of the telegram that is put in, or of the datagram that comes.
+/// Returns the bytes of a call: of the payload that is put, or of the datagram that comes.
 fn octets_of<'a>(call: &Call<'a>) -> &'a [u8]
+    // A put has the bytes of its payload, a delivery those of its datagram, and any other call has no bytes.
     ensures { result.now ≡ call_octets call.now }
 {
     match call {
@@ -173,8 +179,9 @@ fn octets_of<'a>(call: &Call<'a>) -> &'a [u8]
     }
 }
 
-/// What is kept of a call beside its octets.
+/// Returns what is kept of a call apart from its bytes.
 fn deed_of(call: &Call<'_>) -> Deed
+    // The kind of the call is kept, with the message type of a put and the channel of a delivery.
     ensures { result ≡ deed_in call.now }
 {
     match call {

@@ -30,38 +30,44 @@ use safe_pdu::CodeRule;
 use stack_end::{End, OpenFault, end_law};
 use std::alloc::{AllocError, Allocator, Global};
 
-/// How many PDUs one event makes at most: 36 by guard or tick, 37 by each of nine parts, 32 units.
+/// The most PDUs that one event makes: 36 by the timeout check or tick, 37 by each of nine parts, and 32 units.
 const EVENT_PDUS: usize = 401;
 
-/// How many telegrams are taken in one event at most: three of each of nine parts.
+/// The most telegrams taken in one event: three of each of nine parts.
 const EVENT_TAKEN: usize = 27;
 
-/// An end with each PDU that it made, and all telegrams that were put in and taken.
+/// An end with all PDUs that it made, and all telegrams that were put and taken.
 #[derive(Drop)]
 pub(crate) struct Incarnation<A: Allocator = Global> {
     /// The end, over channels that keep what it sends.
     pub(crate) end: End<Keeper<A>, A>,
-    /// What was put in, in order.
+    /// The telegrams put, in order.
     pub(crate) put: Telegrams<A>,
-    /// What was taken, in order.
+    /// The telegrams taken, in order.
     pub(crate) taken: Telegrams<A>,
-    /// What it was opened with.
+    /// The settings it was opened with.
     pub(crate) config: EndConfig,
-    /// Of the last accepted call.
+    /// The time of the last accepted call, in milliseconds.
     pub(crate) time: u64,
-    /// Of a field element: the number, from 1, of the interlocking's incarnation whose ConnReq it took.
+    /// For a field element the number, from 1, of the interlocking incarnation whose ConnReq it accepted.
     pub(crate) joined: Option<usize>,
-    /// How many of the first remarks of its keeper are those of an earlier event.
+    /// How many of the first notes of its keeper are of earlier events.
     pub(crate) told: usize,
     ghost timed: { end.time ≡ time },
 }
 
 impl<A: Allocator + Copy> Incarnation<A> {
     ghost use Rattle.stack_engine.specs.Incarnations.{HasRoom, HasRoomFor, IncDoes, IncSame, IncStands, IncTurns, inc_refusal};
+    ghost use Rattle.stack_engine.specs.Noted.{AreOf};
     ghost use Rattle.stack_engine.specs.Openings.{NamesRefusal};
     ghost use Rattle.stack_engine.specs.Reports.{place_of};
 
-    /// The end is opened. The settings are tested before memory is taken.
+    /// Opens the end. Tests the settings before it allocates.
+    ///
+    /// # Errors
+    ///
+    /// - `BadConfig` if the settings are invalid for this side;
+    /// - `Memory` if an allocation fails.
     pub(crate) fn open(
         alloc: A,
         config: EndConfig,
@@ -72,9 +78,13 @@ impl<A: Allocator + Copy> Incarnation<A> {
         requires now { now ≤ 2 ^ 62 }
         requires few { are_fit (side_of side) (settings_of config) ≡ true
             → FewFirst (opened_end side config first_sn now) }
+        // `BadConfig` is returned if and only if the settings do not fit this side.
         ensures bad_config { IsErrAnd result (λ fault. fault ≡ BadConfig)
             ↔ (are_fit (side_of side) (settings_of config) ≡ false) }
+        // A new incarnation is joined to no other.
         ensures joined { IfOk result (λ i. i.joined ≡ None) }
+        // A new incarnation represents the opened end: its state, its settings, its first PDU if it sends one, and
+        // empty lists of telegrams.
         ensures stands { IfOk result (λ i. IncStands i (opened_end side config first_sn now)) }
     {
         if !config.is_fit(side) {
@@ -98,12 +108,18 @@ impl<A: Allocator + Copy> Incarnation<A> {
         }
     }
 
-    /// Makes room for all that one event makes and takes. The error is that memory was refused.
+    /// Makes room for all that one event makes and takes, and drops the notes of earlier events. Fails if an
+    /// allocation fails.
     fn reserve(&mut self) -> Result<(), AllocError>
+        // After a success there is room for the PDUs and the taken telegrams of any call.
         ensures room { OnOk result (HasRoom self.new) }
+        // Making room for an event leaves the represented state as it is.
         ensures stands { (x : EndState) → IncStands self.old x → IncStands self.new x }
+        // Making room for an event leaves the time as it is.
         ensures time { self.new.time ≡ self.old.time }
+        // Making room for an event changes no join.
         ensures joined { self.new.joined ≡ self.old.joined }
+        // Making room for an event leaves the telegrams put, and the room for more, as they are.
         ensures put { self.new.put ≡ self.old.put }
     {
         let told = self.told;
@@ -114,33 +130,47 @@ impl<A: Allocator + Copy> Incarnation<A> {
         reserve_telegrams(&mut self.taken, EVENT_TAKEN)
     }
 
-    /// Makes room for a call, and for the octets of the telegram that it puts in.
+    /// Makes room for a call, and for the payload that it puts.
     ///
     /// # Errors
     ///
-    /// The error is that memory was refused.
+    /// Fails if an allocation fails.
     pub(crate) fn reserve_for(&mut self, call: &Call<'_>) -> Result<(), AllocError>
+        // After a success there is room for the call: for its PDUs, for what is taken, and for the telegram that it
+        // puts.
         ensures room { OnOk result (HasRoomFor call.now self.new) }
+        // Making room for a call leaves the represented state as it is.
         ensures stands { (x : EndState) → IncStands self.old x → IncStands self.new x }
+        // Making room for a call leaves the time as it is.
         ensures time { self.new.time ≡ self.old.time }
+        // Making room for a call changes no join.
         ensures joined { self.new.joined ≡ self.old.joined }
     {
         self.put.reserve(1, call.put_size())?;
         self.reserve()
     }
 
-    /// The end is called.
+    /// Calls the end. The caller has made room.
     ///
     /// # Errors
     ///
-    /// Refused as the end refuses it, and then nothing changes: `Put` and `Init`, each with its fault.
+    /// - `Put` if the session refuses the telegram, with its fault;
+    /// - `Init` if the session refuses the end of the initialisation, with its fault.
+    ///
+    /// Nothing has changed then.
     pub(crate) fn call(&mut self, call: &Call<'_>, now: Milliseconds) -> Result<(), ApplyFault>
         requires now { now ≤ 2 ^ 62 }
         requires later { self.old.time ≤ now }
         requires room { HasRoomFor call.now self.old }
+        // After an accepted call the incarnation represents the state after the call's step, if that step stays
+        // within the bounds (`FewMore`).
         ensures does { OnOk result (IncDoes (call_of call.now now) self.old self.new) }
+        // After a refused call the incarnation represents the same states as before.
         ensures refused { OnErr result ((x : EndState) → IncStands self.old x → IncStands self.new x) }
+        // A call by itself joins nothing.
         ensures joined { self.new.joined ≡ self.old.joined }
+        // The call is accepted only if the session of the state has no refusal for it; an error names that refusal
+        // (`NamesRefusal`).
         ensures refusal { (x : EndState) → IncStands self.old x
             → MatchResult result (λ _. session_refusal (call_of call.now now) x ≡ None)
             (λ fault. NamesRefusal fault (session_refusal (call_of call.now now) x)) }
@@ -152,14 +182,20 @@ impl<A: Allocator + Copy> Incarnation<A> {
         Ok(())
     }
 
-    /// The end is called, and what it did before is not forgotten.
+    /// Calls the end, and keeps the notes of earlier events.
     fn step(&mut self, call: &Call<'_>, now: Milliseconds) -> Result<(), ApplyFault>
         requires now { now ≤ 2 ^ 62 }
         requires later { self.old.time ≤ now }
         requires room { HasRoomFor call.now self.old }
+        // An accepted call takes its turn at the end: what is taken is kept, and a telegram that is put is added to
+        // those put.
         ensures turns { OnOk result (IncTurns (call_of call.now now) self.old self.new) }
+        // A refused call leaves end, telegrams and settings as they were.
         ensures refused { OnErr result (IncSame self.old self.new) }
+        // The step of a call joins nothing.
         ensures joined { self.new.joined ≡ self.old.joined }
+        // The call is accepted only if the end's session has no refusal for it; an error names that refusal
+        // (`NamesRefusal`).
         ensures refusal { MatchResult result (λ _. inc_refusal (call_of call.now now) self.old ≡ None)
             (λ fault. NamesRefusal fault (inc_refusal (call_of call.now now) self.old)) }
     {
@@ -175,42 +211,49 @@ impl<A: Allocator + Copy> Incarnation<A> {
         Ok(())
     }
 
-    /// A datagram comes.
+    /// Delivers a datagram.
     fn deliver(&mut self, channel: usize, octets: &[u8], now: Milliseconds)
         requires now { now ≤ 2 ^ 62 }
         requires later { self.old.time ≤ now }
         requires room { HasRoom self.old }
+        // The end takes the turn of a delivery on this channel; the telegrams taken are kept.
         ensures turns { IncTurns (Deliver channel octets.now now) self.old self.new }
+        // A delivery by itself joins nothing.
         ensures joined { self.new.joined ≡ self.old.joined }
     {
         self.end.arrive(channel, octets, now, &mut self.taken);
         self.time = now;
     }
 
-    /// Time passes.
+    /// Lets time pass.
     fn tick(&mut self, now: Milliseconds)
         requires now { now ≤ 2 ^ 62 }
         requires later { self.old.time ≤ now }
         requires room { HasRoom self.old }
+        // The end takes the turn of a tick; the telegrams taken are kept.
         ensures turns { IncTurns (Tick now) self.old self.new }
+        // A tick joins nothing.
         ensures joined { self.new.joined ≡ self.old.joined }
     {
         self.end.tick(now, &mut self.taken);
         self.time = now;
     }
 
-    /// The application puts a telegram in. The caller has made room for it.
-    ///
-    /// Refused as the end refuses it, and then nothing changes.
+    /// Puts a telegram. The caller has made room for it.
     fn put(&mut self, kind: u16, payload: &[u8], now: Milliseconds) -> Result<(), PutFault>
         requires now { now ≤ 2 ^ 62 }
         requires later { self.old.time ≤ now }
         requires room { HasRoom self.old }
         requires place { 1 ≤ self.old.put.places }
         requires octets { length payload.now ≤ self.old.put.octets }
+        // An accepted put takes its turn at the end, and the telegram is added to those put.
         ensures turns { OnOk result (IncTurns (Put kind payload.now now) self.old self.new) }
+        // A put joins nothing.
         ensures joined { self.new.joined ≡ self.old.joined }
+        // A refused put leaves end, telegrams and settings as they were.
         ensures refused { OnErr result (IncSame self.old self.new) }
+        // The put is accepted if and only if the end has no refusal for this telegram; otherwise the error is that
+        // refusal.
         ensures answer { MatchResult result
             (λ _. put_answer kind payload.now (inside self.old.end).upper ≡ None)
             (λ fault. put_answer kind payload.now (inside self.old.end).upper ≡ Some fault) }
@@ -225,16 +268,19 @@ impl<A: Allocator + Copy> Incarnation<A> {
         }
     }
 
-    /// The application of a field element has put in its initial status.
-    ///
-    /// Refused as the end refuses it, and then nothing changes.
+    /// Ends the initialisation: the application of a field element has put its initial status.
     fn init_done(&mut self, now: Milliseconds) -> Result<(), InitFault>
         requires now { now ≤ 2 ^ 62 }
         requires later { self.old.time ≤ now }
         requires room { HasRoom self.old }
+        // An accepted end of the initialisation takes its turn at the end.
         ensures turns { OnOk result (IncTurns (InitDone now) self.old self.new) }
+        // The end of the initialisation joins nothing.
         ensures joined { self.new.joined ≡ self.old.joined }
+        // A refused end of the initialisation leaves end, telegrams and settings as they were.
         ensures refused { OnErr result (IncSame self.old self.new) }
+        // It is accepted if and only if the end has no refusal for the end of the initialisation; otherwise the error
+        // is that refusal.
         ensures answer { MatchResult result (λ _. init_answer (inside self.old.end).upper ≡ None)
             (λ fault. init_answer (inside self.old.end).upper ≡ Some fault) }
     {
@@ -247,20 +293,24 @@ impl<A: Allocator + Copy> Incarnation<A> {
         }
     }
 
-    /// The end leaves its connection.
+    /// Closes the end.
     fn close(&mut self, now: Milliseconds)
         requires now { now ≤ 2 ^ 62 }
         requires later { self.old.time ≤ now }
         requires room { HasRoom self.old }
+        // The end takes the turn of a close.
         ensures turns { IncTurns (Close now) self.old self.new }
+        // A close joins nothing.
         ensures joined { self.new.joined ≡ self.old.joined }
     {
         self.end.close(now);
         self.time = now;
     }
 
-    /// The place, from 0, of the interlocking's incarnation that it is joined to.
+    /// Returns the place, from 0, of the interlocking incarnation that it is joined to. The definitions number
+    /// incarnations from 1.
     pub(crate) fn joined_place(&self) -> Option<usize>
+        // The result is the number in `joined` less 1, or `None` if it is joined to no other.
         ensures { result ≡ place_of self.now.joined }
     {
         match self.joined {
@@ -269,35 +319,43 @@ impl<A: Allocator + Copy> Incarnation<A> {
         }
     }
 
-    /// What the last accepted event did.
-    pub(crate) fn notes(&self) -> Notes<'_, A> {
+    /// Returns the notes of the last accepted event.
+    pub(crate) fn notes(&self) -> Notes<'_, A>
+        // The datagrams and telegrams that the notes are about are those of the represented state (`AreOf`).
+        ensures { (x : EndState) → IncStands self.now x → AreOf result x }
+    {
         self.end.channels_seen().notes(self.told, &self.taken)
     }
 
-    /// The octets of the ConnReq that it took.
+    /// Returns the bytes of the ConnReq that it accepted.
     pub(crate) fn request(&self) -> Option<&[u8]>
+        // The result is the `request` of the represented state.
         ensures { (x : EndState) → IncStands self.now x → option_map (λ octets. octets.now) result ≡ x.request }
     {
         self.end.request()
     }
 
-    /// How many PDUs it made.
+    /// Returns the number of PDUs that it made.
     pub(crate) fn made(&self) -> usize
+        // The result is the number of PDUs in the represented state.
         ensures { (x : EndState) → IncStands self.now x → result ≡ length x.machine.made }
     {
         self.end.channels_seen().len()
     }
 
-    /// Whether it made a PDU of these octets, but for its first `dead` ones.
+    /// Returns true if it made a PDU of these bytes, not counting its first `dead` ones.
     pub(crate) fn has_made(&self, dead: usize, part: &[u8]) -> bool
+        // True if and only if one of the PDUs after the first `dead` ones, encoded under the settings' rule, has the
+        // bytes of `part`.
         ensures { (x : EndState) → IncStands self.now x
             → result ≡ has_made (rule_of x.settings) part.now (drop dead x.machine.made) }
     {
         self.end.channels_seen().has_part(dead, part)
     }
 
-    /// Whether it is open, and asked about this part.
+    /// Returns true if it is open and the premise speaks of this part.
     pub(crate) fn is_asked(&self, part: &[u8]) -> bool
+        // True if and only if the represented state is not closed, and the part has its identifiers and a valid code.
         ensures { (x : EndState) → IncStands self.now x → result ≡ not (is_shut x) && is_asked_of x part.now }
     {
         let rule = CodeRule {
@@ -308,8 +366,9 @@ impl<A: Allocator + Copy> Incarnation<A> {
             && is_asked_about(&rule, self.config.id, self.config.peer_id, part)
     }
 
-    /// The octets of its safety code.
+    /// Returns the length of its safety code in bytes.
     pub(crate) fn code_octets(&self) -> usize
+        // The result is the code length, 8 or 16, of the settings' rule.
         ensures { (x : EndState) → IncStands self.now x → result ≡ code_octets (rule_of x.settings).length }
     {
         self.config.code_length().octets()

@@ -1,6 +1,6 @@
-//! Channels that keep each PDU of an end once, and what the end tells of its doings.
+//! Channels in memory that keep each PDU of an end once, and the notes of the end.
 
-ghost use Rattle.std.specs.Prelude.{◌≡◌, ◌≤◌, ◌+◌, ◌*◌, ◌<◌, [], OnOk, slice_index_or, length, drop};
+ghost use Rattle.std.specs.Prelude.{◌≡◌, ◌≤◌, ◌+◌, ◌*◌, ◌<◌, [], OnOk, slice_index_or, length, map, drop};
 ghost use Rattle.std.specs.List.{list_any};
 ghost use Rattle.std.specs.Str.{bytes_eq};
 ghost use Rattle.octets.specs.declared.limits.TheConstants.{RED_HEADER, RED_PDU_MAX};
@@ -16,25 +16,26 @@ use std::alloc::{AllocError, Allocator, Global};
 use std::collections::VecDeque;
 use std::marker::Model;
 
-/// On which channel datagrams are kept: every PDU is sent on it first.
+/// The channel on which datagrams are kept: every PDU is sent on it first.
 const KEPT_CHANNEL: usize = 1;
 
-/// How many remarks one event makes at most beside its PDUs: of each of nine parts a redundancy event, a step, three telegrams,
-/// three phases and two states, and as many again around them.
+/// The most notes of one event apart from its PDUs. For each of nine parts: a redundancy event, a step, three
+/// telegrams, three phases and two states; and as many again before and after them.
 const EVENT_REMARKS: usize = 200;
 
-/// Keeps what is sent on channel 1, in order. What is sent on another channel is a copy of it, and fails. Nothing is received.
+/// Keeps what is sent on channel 1, in order. A send on any other channel is a copy of it, and fails: for the end, a
+/// failed send is like a sent datagram. Nothing is ever received.
 ///
-/// A sending takes no memory: without room for it, it fails.
+/// Sending does not allocate: without room it fails.
 #[derive(Drop)]
 pub struct Keeper<A: Allocator = Global> {
     /// Each datagram that was made, kept once for all channels, in order.
     datagrams: Texts<(), A>,
-    /// How many sendings have failed, those on the other channels among them, modulo 2^64.
+    /// How many sends have failed, those on other channels included, modulo 2^64.
     failed_sends: u64,
-    /// What the end did, in order.
+    /// The notes of the end, in order.
     remarks: VecDeque<KeptNote, A>,
-    /// How many telegrams its application took.
+    /// How many telegrams the end's application took.
     takes: usize,
 }
 
@@ -53,9 +54,9 @@ impl<A: Allocator> Model for Keeper<A> {
 }
 
 impl<A: Allocator + Copy> Keeper<A> {
-    /// Nothing is kept, and there is no room.
+    /// Creates a keeper that keeps nothing and has no room.
     pub fn new(alloc: A) -> Self
-        // A new `Keeper` of datagrams, as the ends of a pair have it for channels, keeps none.
+        // A new `Keeper` keeps no datagram.
         ensures { result.datagrams ≡ [] }
     {
         Keeper {
@@ -66,27 +67,27 @@ impl<A: Allocator + Copy> Keeper<A> {
         }
     }
 
-    /// Makes room for a number of datagrams, and for what one event does beside.
+    /// Makes room for a number of datagrams, and for the other notes of one event.
     ///
     /// # Errors
     ///
-    /// The error is that memory was refused.
+    /// Fails if an allocation fails.
     pub fn reserve(&mut self, datagrams: usize) -> Result<(), AllocError>
         requires { datagrams ≤ 1000 }
-        // Making room in a `Keeper` leaves the datagrams kept as they are.
+        // Making room leaves the kept datagrams as they are.
         ensures same { self.new.datagrams ≡ self.old.datagrams }
-        // `reserve` makes a place in a `Keeper` for each of that many datagrams, or is refused.
+        // After a success there is a place for each of `datagrams` more.
         ensures places { OnOk result (datagrams ≤ self.new.places) }
-        // It makes room for 1,258 octets of each.
+        // After a success there is room for 1,258 bytes of each.
         ensures octets { OnOk result (datagrams * RED_PDU_MAX ≤ self.new.octets) }
     {
         self.remarks.try_reserve(datagrams + EVENT_REMARKS)?;
         self.datagrams.reserve(datagrams, datagrams * RED_PDU_MAX)
     }
 
-    /// Forgets remarks from the first on.
+    /// Drops the first notes, this many of them.
     pub fn forget(&mut self, remarks: usize)
-        // Forgetting remarks changes neither the datagrams of a `Keeper` nor its room.
+        // Dropping notes changes neither the kept datagrams nor their room.
         ensures { self.new ≡ self.old }
     {
         forget_first(&mut self.remarks, remarks);
@@ -94,13 +95,20 @@ impl<A: Allocator + Copy> Keeper<A> {
 }
 
 impl<A: Allocator> Keeper<A> {
-    /// How many remarks there are.
+    /// Returns the number of notes.
     pub fn remarks(&self) -> usize {
         self.remarks.len()
     }
 
-    /// What was done behind the first `earlier` remarks; the telegrams are those that the end's application took.
-    pub fn notes<'a>(&'a self, earlier: usize, taken: &'a Telegrams<A>) -> Notes<'a, A> {
+    /// Returns the notes after the first `earlier` ones. `taken` has the telegrams that the end's application took.
+    pub fn notes<'a>(&'a self, earlier: usize, taken: &'a Telegrams<A>) -> Notes<'a, A>
+        // The datagrams that the notes are about are the kept ones.
+        ensures datagrams { map (λ t. t.1) result.datagrams.now.texts ≡ self.now.datagrams }
+        // The telegrams that the notes are about are those of `taken`.
+        ensures taken { result.taken.now ≡ taken.now }
+        // The notes are those after the first `earlier` ones.
+        ensures earlier { result.earlier ≡ earlier }
+    {
         Notes {
             remarks: &self.remarks,
             earlier,
@@ -109,18 +117,17 @@ impl<A: Allocator> Keeper<A> {
         }
     }
 
-    /// How many datagrams were kept.
+    /// Returns the number of kept datagrams.
     pub fn len(&self) -> usize
-        // A `Keeper` tells how many datagrams it keeps.
+        // `len` is the length of the list of kept `datagrams`.
         ensures { result ≡ length self.now.datagrams }
     {
         self.datagrams.len()
     }
 
-    /// Whether a datagram with this upper part was kept behind the first `dead`. The newest are tried first.
+    /// Returns true if a datagram with this part was kept after the first `dead` ones. Tests the newest first.
     pub fn has_part(&self, dead: usize, part: &[u8]) -> bool
-        // `has_part` tells exactly whether a datagram that a `Keeper` keeps behind the first `dead` has this
-        // upper part.
+        // `has_part` is true if and only if one of the `datagrams` after the first `dead` ones has this part.
         ensures { result ≡ has_part part.now (drop dead self.now.datagrams) }
     {
         let mut place = self.len();
@@ -133,9 +140,10 @@ impl<A: Allocator> Keeper<A> {
         false
     }
 
-    /// Whether the datagram at a place has this upper part.
+    /// Returns true if the datagram at a place has this part.
     fn is_part(&self, place: usize, part: &[u8]) -> bool
         requires { place < length self.now.datagrams }
+        // True if and only if the bytes after the header of the datagram at `place` are those of `part`.
         ensures { result ≡ bytes_eq part.now (drop RED_HEADER (slice_index_or self.now.datagrams place [])) }
     {
         let Some((_, datagram)) = self.datagrams.get(place) else {
@@ -145,8 +153,9 @@ impl<A: Allocator> Keeper<A> {
     }
 }
 
-/// What stands behind the header of a datagram.
+/// Returns the part of a datagram: what is after its header.
 fn upper_part(datagram: &[u8]) -> &[u8]
+    // The result is the datagram without its first 8 bytes; of a shorter one it is empty.
     ensures { result.now ≡ drop RED_HEADER datagram.now }
 {
     match datagram.split_at_checked(RED_HEADER) {
@@ -201,14 +210,14 @@ impl<A: Allocator + Copy> Listener for Keeper<A> {
     }
 }
 
-/// Adds a remark, where there is room for it.
+/// Adds a note if there is room for it.
 fn remark<A: Allocator>(remarks: &mut VecDeque<KeptNote, A>, made: KeptNote) {
     if remarks.len() < remarks.capacity() {
         remarks.push_back_reserved(made);
     }
 }
 
-/// Forgets remarks from the first on, `count` of them.
+/// Drops the first `count` notes.
 fn forget_first<A: Allocator>(remarks: &mut VecDeque<KeptNote, A>, count: usize) {
     for _ in 0..count {
         let _forgotten = remarks.pop_front();

@@ -1,4 +1,6 @@
-//! What the last accepted event did.
+//! Notes of what the last accepted event did. No promise speaks of them.
+
+ghost use Rattle.std.specs.Prelude.{◌≡◌, ◌==◌, option_map};
 
 use crate::telegrams::Telegrams;
 use crate::texts::Texts;
@@ -12,35 +14,35 @@ use std::collections::VecDeque;
 /// One thing that an event did.
 #[derive(Clone, Copy, Debug, PartialEq, Eq)]
 pub enum NoteView<'a> {
-    /// The end made a PDU, and this is its datagram.
+    /// The end made a PDU; this is its datagram.
     Made(&'a [u8]),
-    /// What the end told of its doings.
+    /// A note of the end.
     Note(Note<'a>),
 }
 
-/// What is kept of it: datagrams and telegrams stand elsewhere.
+/// A note as it is kept; datagrams and telegrams are kept elsewhere.
 #[derive(Clone, Copy, Debug)]
 pub enum KeptNote {
     /// The PDU with this place among all that the end made.
     Made(usize),
-    /// What the redundancy layer did with a datagram, and its number where it has one.
+    /// What the redundancy layer did with a datagram, and the datagram's number if it has one.
     Redundancy(Option<u32>, RedEvent),
     /// What the safety machine did with the part of this number.
     Step(u32, Step),
     /// The telegram with this place among all that the application took.
     Take(usize),
-    /// The connection is in this state now.
+    /// The connection has changed to this state.
     State(ConnectionState),
-    /// The session is in this phase now.
+    /// The session has changed to this phase.
     Phase(Phase),
 }
 
-/// What an event did, one thing after the other. No promise speaks of it.
+/// What an event did, in order.
 #[derive(Clone, Copy)]
 pub struct Notes<'a, A: Allocator = Global> {
-    /// What the layers did, in order.
+    /// The notes of all events that are kept, in order.
     pub(crate) remarks: &'a VecDeque<KeptNote, A>,
-    /// How many of the first remarks are those of an earlier event.
+    /// How many of the first notes are of earlier events.
     pub(crate) earlier: usize,
     /// The datagrams that were made.
     pub(crate) datagrams: &'a Texts<(), A>,
@@ -49,18 +51,30 @@ pub struct Notes<'a, A: Allocator = Global> {
 }
 
 impl<'a, A: Allocator> Notes<'a, A> {
-    /// How many things it did.
-    pub fn len(&self) -> usize {
+    ghost use Rattle.stack_engine.specs.Noted.{note_at, notes_in, seen_note};
+
+    /// Returns the number of notes.
+    pub fn len(&self) -> usize
+        // `len` counts the kept notes after the earlier ones.
+        ensures { result ≡ notes_in self.now }
+    {
         self.remarks.len().saturating_sub(self.earlier)
     }
 
-    /// Whether it did nothing.
-    pub fn is_empty(&self) -> bool {
+    /// Returns true if there are no notes.
+    pub fn is_empty(&self) -> bool
+        // `is_empty` is true if and only if there are no kept notes after the earlier ones.
+        ensures { result ≡ (notes_in self.now == 0) }
+    {
         self.len() == 0
     }
 
-    /// The thing at a place, from 0.
-    pub fn get(&self, place: usize) -> Option<NoteView<'a>> {
+    /// Returns the note at a place, from 0.
+    pub fn get(&self, place: usize) -> Option<NoteView<'a>>
+        // `get` returns the kept note at this `place` after the earlier ones. The note of a PDU made has the
+        // datagram at the place that it names, that of a telegram taken has its message type and payload.
+        ensures { option_map seen_note result ≡ note_at self.now place }
+    {
         let remark = self.remarks.get(self.earlier.checked_add(place)?)?;
         match *remark {
             KeptNote::Made(place) => {

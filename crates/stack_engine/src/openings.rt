@@ -22,24 +22,27 @@ use octets::Milliseconds;
 use stack_end::End;
 use std::alloc::{Allocator, Global};
 
-/// The greatest time.
+/// The greatest time, 2^62 milliseconds.
 const TIME_MAX: u64 = 1 << 62;
 
-/// The incarnations of one end: the present one, and those before it in the order of their opening.
+/// The incarnations of one end: the present one, and the earlier ones in the order of their opening.
 #[derive(Drop)]
 pub(crate) struct Openings<A: Allocator = Global> {
-    /// The incarnation that is open, if the end was ever opened.
+    /// The present incarnation, if the end was ever opened.
     pub(crate) present: Option<Incarnation<A>>,
-    /// Those before it, the first one first.
+    /// The earlier ones, the first one first.
     pub(crate) before: Vec<Incarnation<A>, A>,
 }
 
 impl<A: Allocator + Copy> Openings<A> {
-    ghost use Rattle.stack_engine.specs.Openings.{IsOpenAt, NamesRefusal, SideDoes, SideStands, IsEnd, breaks_with, live_in};
+    ghost use Rattle.stack_engine.specs.Openings.{IsOpenAt, NamesRefusal, SideDoes, SideStands, IsEnd, KeepsMade, breaks_with, live_in};
+    ghost use Rattle.stack_engine.specs.Noted.{AreNotes};
 
-    /// The end was never opened.
+    /// Creates an end that was never opened.
     pub(crate) fn new(alloc: A) -> Self
+        // A new end has no incarnations.
         ensures stands { SideStands result [] }
+        // So none is joined to any other: the list of joins is empty.
         ensures joins { joins_of result ≡ [] }
     {
         Openings {
@@ -48,16 +51,21 @@ impl<A: Allocator + Copy> Openings<A> {
         }
     }
 
-    /// Whether a call at this time is refused before the session is asked.
+    /// Tests a call at this time for what is refused before the session decides.
     ///
     /// # Errors
     ///
-    /// Refused, and the first that holds is named: `EndNotOpen`, `Clock`.
+    /// - `EndNotOpen` if the end was never opened;
+    /// - `Clock` if the time is before its last, or after 2^62 ms.
     pub(crate) fn admits_call(&self, now: Milliseconds) -> Result<(), ApplyFault>
+        // A call at this time is admitted only if at most a refusal by the session is left; an error names the
+        // refusal (`NamesRefusal`).
         ensures refusal { (xs : List EndState) (c : Call) → SideStands self.now xs → time_of c ≡ now
             → MatchResult result (λ _. IsOfSession (call_refusal c (latest xs)))
             (λ fault. NamesRefusal fault (call_refusal c (latest xs))) }
+        // If a call is admitted, the end was opened, and the time is neither before its last nor after 2^62 ms.
         ensures open { OnOk result (IsOpenAt now self.now) }
+        // Testing a call never returns `Memory`.
         ensures no_memory { IfErr result (λ fault. is_memory fault ≡ false) }
     {
         match &self.present {
@@ -67,19 +75,27 @@ impl<A: Allocator + Copy> Openings<A> {
         }
     }
 
-    /// The end is called.
+    /// Calls the present incarnation.
     ///
     /// # Errors
     ///
-    /// Refused, and the first that holds is named: `EndNotOpen`, `Clock`, `Memory`, `Put` and `Init` with their faults.
+    /// - `EndNotOpen` if the end was never opened;
+    /// - `Clock` if the time is before its last, or after 2^62 ms;
+    /// - `Memory` if an allocation fails;
+    /// - `Put` or `Init` if the session refuses the call, with its fault.
     pub(crate) fn call(
         &mut self,
         call: &event::Call<'_>,
         now: Milliseconds,
     ) -> Result<(), ApplyFault>
+        // After an accepted call within the bounds (`FewMore`), the present incarnation represents the state after
+        // the call's step; the earlier ones are as before.
         ensures does { OnOk result (SideDoes (call_of call.now now) self.old self.new) }
+        // After a refused call all incarnations represent the same states as before.
         ensures unchanged { OnErr result ((xs : List EndState) → SideStands self.old xs → SideStands self.new xs) }
+        // A call changes no join.
         ensures joins { joins_of self.new ≡ joins_of self.old }
+        // A call is accepted only if the present state has no refusal for it; an error is that refusal, or `Memory`.
         ensures refusal { (xs : List EndState) → SideStands self.old xs
             → MatchResult result (λ _. call_refusal (call_of call.now now) (latest xs) ≡ None)
             (λ fault. NamesRefusal fault (call_refusal (call_of call.now now) (latest xs))) }
@@ -94,22 +110,27 @@ impl<A: Allocator + Copy> Openings<A> {
         present.call(call, now)
     }
 
-    /// Whether an opening with these settings at this time is refused.
+    /// Tests an opening with these settings at this time.
     ///
     /// # Errors
     ///
-    /// Refused, and the first that holds is named: `BadConfig`, `Clock`.
+    /// - `BadConfig` if the settings are invalid for this side;
+    /// - `Clock` if the time is before that of the end's last event, or after 2^62 ms.
     pub(crate) fn admits_opening(
         &self,
         side: Side,
         config: &EndConfig,
         now: Milliseconds,
     ) -> Result<(), ApplyFault>
+        // An opening is admitted only if there is no refusal for it; an error names that refusal (`NamesRefusal`).
         ensures refusal { (xs : List EndState) → SideStands self.now xs
             → MatchResult result (λ _. open_refusal (side_of side) (settings_of config.now) now (latest xs) ≡ None)
             (λ fault. NamesRefusal fault (open_refusal (side_of side) (settings_of config.now) now (latest xs))) }
+        // If an opening is admitted, its settings fit the side.
         ensures fit { OnOk result (are_fit (side_of side) (settings_of config.now) ≡ true) }
+        // If an opening is admitted, its time is at most 2^62 ms.
         ensures now { OnOk result (now ≤ 2 ^ 62) }
+        // Testing an opening never returns `Memory`.
         ensures no_memory { IfErr result (λ fault. is_memory fault ≡ false) }
     {
         if !config.is_fit(side) {
@@ -125,11 +146,13 @@ impl<A: Allocator + Copy> Openings<A> {
         Ok(())
     }
 
-    /// The end is opened, or opened anew.
+    /// Opens the end, or opens it again.
     ///
     /// # Errors
     ///
-    /// Refused, and the first that holds is named: `BadConfig`, `Clock`, `Memory`.
+    /// - `BadConfig` if the settings are invalid for this side;
+    /// - `Clock` if the time is before that of the end's last event, or after 2^62 ms;
+    /// - `Memory` if an allocation fails.
     pub(crate) fn open(
         &mut self,
         alloc: A,
@@ -140,12 +163,18 @@ impl<A: Allocator + Copy> Openings<A> {
     ) -> Result<(), ApplyFault>
         requires few { are_fit (side_of side) (settings_of config) ≡ true
             → FewFirst (opened_end side config first_sn now) }
+        // An accepted opening adds an incarnation that represents the opened end; what was present becomes the latest
+        // of the earlier ones.
         ensures does { OnOk result ((xs : List EndState) → SideStands self.old xs
             → SideStands self.new (opened_end side config first_sn now ∷ xs)) }
+        // After a refused opening all incarnations represent the same states as before.
         ensures unchanged { OnErr result ((xs : List EndState) → SideStands self.old xs → SideStands self.new xs) }
+        // The new incarnation is joined to no other; the earlier ones are joined as before.
         ensures joins { OnOk result ((xs : List EndState) → SideStands self.old xs
             → joins_of self.new ≡ None ∷ joins_of self.old) }
+        // A refused opening changes no join.
         ensures same_joins { OnErr result (joins_of self.new ≡ joins_of self.old) }
+        // An opening is accepted only if there is no refusal for it; an error is that refusal, or `Memory`.
         ensures refusal { (xs : List EndState) → SideStands self.old xs
             → MatchResult result (λ _. open_refusal (side_of side) (settings_of config) now (latest xs) ≡ None)
             (λ fault. NamesRefusal fault (open_refusal (side_of side) (settings_of config) now (latest xs))) }
@@ -163,8 +192,9 @@ impl<A: Allocator + Copy> Openings<A> {
         Ok(())
     }
 
-    /// The octets of the ConnReq that the present incarnation took.
+    /// Returns the bytes of the ConnReq that the present incarnation accepted.
     pub(crate) fn request(&self) -> Option<&[u8]>
+        // The result is the `request` of the present state, and `None` if the end was never opened.
         ensures { (xs : List EndState) → SideStands self.now xs
             → option_map (λ octets. octets.now) result ≡ request_in (latest xs) }
     {
@@ -176,7 +206,9 @@ impl<A: Allocator + Copy> Openings<A> {
 
     /// Joins the present incarnation to that of the peer with this number.
     pub(crate) fn join(&mut self, number: Option<usize>)
+        // Joining changes no state.
         ensures stands { (xs : List EndState) → SideStands self.old xs → SideStands self.new xs }
+        // The present incarnation is now joined to `number`; the earlier ones are joined as before.
         ensures joins { joins_of self.new ≡ rejoined number (joins_of self.old) }
     {
         if let Some(present) = &mut self.present {
@@ -184,8 +216,9 @@ impl<A: Allocator + Copy> Openings<A> {
         }
     }
 
-    /// The number, from 1, of the latest incarnation that made a PDU of these octets.
+    /// Returns the number, from 1, of the latest incarnation that made a PDU of these bytes.
     pub(crate) fn latest_maker(&self, octets: &[u8]) -> Option<usize>
+        // The result is the greatest number of an incarnation that made these bytes, or `None` if no incarnation did.
         ensures { (xs : List EndState) → SideStands self.now xs → result ≡ latest_maker octets.now xs }
     {
         match &self.present {
@@ -195,8 +228,10 @@ impl<A: Allocator + Copy> Openings<A> {
         }
     }
 
-    /// The report on the incarnation at a place, from 0, which is joined to none.
+    /// Returns the report entry of the incarnation at a place, from 0, as one that is joined to no other.
     pub(crate) fn entry(&self, place: usize) -> Option<Entry<'_, A>>
+        // The entry has what the incarnation at this `place` put and took, without a join; it is `None` after the
+        // last one.
         ensures { option_map seen_entry result
             ≡ option_map (entry_of None) (slice_get (incarnations_of self.now) place) }
     {
@@ -206,8 +241,11 @@ impl<A: Allocator + Copy> Openings<A> {
         }
     }
 
-    /// The report on the incarnation at a place, from 0, and to which one of its peer it is joined.
+    /// Returns the report entry of the incarnation at a place, from 0, with the place of the one that it is joined
+    /// to.
     pub(crate) fn joined_entry(&self, place: usize) -> Option<Entry<'_, A>>
+        // The entry has what the incarnation at this `place` put and took, and its join; it is `None` after the last
+        // one.
         ensures { option_map seen_entry result ≡ option_map joined_entry (slice_get (incarnations_of self.now) place) }
     {
         match self.incarnation(place) {
@@ -216,8 +254,9 @@ impl<A: Allocator + Copy> Openings<A> {
         }
     }
 
-    /// The incarnation at a place, from 0, the first opened one first.
+    /// Returns the incarnation at a place, from 0, the first opened one first.
     fn incarnation(&self, place: usize) -> Option<&Incarnation<A>>
+        // The result is the incarnation at this `place` of all, the present one last.
         ensures { option_map (λ i. i.now) result ≡ slice_get (incarnations_of self.now) place }
     {
         if place == self.before.len() {
@@ -226,8 +265,9 @@ impl<A: Allocator + Copy> Openings<A> {
         self.earlier(place)
     }
 
-    /// The one at a place among those before the present one.
+    /// Returns the incarnation at a place among the earlier ones.
     fn earlier(&self, place: usize) -> Option<&Incarnation<A>>
+        // The result is the earlier incarnation at this `place`, or `None` after the last.
         ensures { option_map (λ i. i.now) result ≡ slice_get self.now.before.items place }
     {
         if place < self.before.len() {
@@ -236,8 +276,9 @@ impl<A: Allocator + Copy> Openings<A> {
         None
     }
 
-    /// How many incarnations there are.
+    /// Returns the number of incarnations.
     pub(crate) fn len(&self) -> usize
+        // The present one, if there is one, is counted with the earlier ones.
         ensures { result ≡ length (incarnations_of self.now) }
     {
         match &self.present {
@@ -246,16 +287,20 @@ impl<A: Allocator + Copy> Openings<A> {
         }
     }
 
-    /// What the last accepted event of the present incarnation did.
-    pub(crate) fn notes(&self) -> Option<Notes<'_, A>> {
+    /// Returns the notes of the last accepted event of the present incarnation.
+    pub(crate) fn notes(&self) -> Option<Notes<'_, A>>
+        // The notes are of the present state; `None` is returned only if the end was never opened.
+        ensures { (xs : List EndState) → SideStands self.now xs → AreNotes result (latest xs) }
+    {
         match &self.present {
             Some(present) => Some(present.notes()),
             None => None,
         }
     }
 
-    /// How many PDUs the present incarnation made.
+    /// Returns the number of PDUs that the present incarnation made.
     pub(crate) fn made(&self) -> usize
+        // The result is the number of PDUs of the present state, and 0 if the end was never opened.
         ensures { (xs : List EndState) → SideStands self.now xs → result ≡ length (made_of (latest xs)) }
     {
         match &self.present {
@@ -264,8 +309,11 @@ impl<A: Allocator + Copy> Openings<A> {
         }
     }
 
-    /// Whether the present incarnation made this part under a code of `code` octets, but for its first `dead` PDUs.
+    /// Returns true if the present incarnation made this part under a code of `code` bytes, not counting its first
+    /// `dead` PDUs.
     fn has_live(&self, code: usize, dead: usize, part: &[u8]) -> bool
+        // True if and only if the present state has a code of this length and made these bytes as a PDU after the
+        // first `dead` ones.
         ensures { (xs : List EndState) → SideStands self.now xs → result ≡ live_in code (latest xs) dead part.now }
     {
         match &self.present {
@@ -274,8 +322,11 @@ impl<A: Allocator + Copy> Openings<A> {
         }
     }
 
-    /// Whether this part, coming to the present incarnation, is none that its peer made and that is still live.
+    /// Returns true if this part would break the premise: the present incarnation is asked about it, and it is not a
+    /// live PDU of the peer.
     fn breaks_by(&self, peer: &Openings<A>, dead: usize, part: &[u8]) -> bool
+        // True if and only if the present state is open, the part has its identifiers and a valid code, and the peer
+        // has made no such live PDU under a code of the same length.
         ensures { (xs ys : List EndState) → SideStands self.now xs → SideStands peer.now ys
             → result ≡ breaks_with (latest xs) (latest ys) dead part.now }
     {
@@ -287,8 +338,9 @@ impl<A: Allocator + Copy> Openings<A> {
         }
     }
 
-    /// Whether the delivery of a datagram would break the premise at once. The peer's first `dead` PDUs are dead.
+    /// Returns true if delivering a datagram would break the premise at once. The peer's first `dead` PDUs are dead.
     pub(crate) fn breaks(&self, peer: &Openings<A>, dead: usize, datagram: &[u8]) -> bool
+        // A redundancy PDU breaks the premise if its part does; bytes that do not decode as one never break it.
         ensures { (xs ys : List EndState) → SideStands self.now xs → SideStands peer.now ys
             → result ≡ breaks_at (latest xs) (latest ys) dead datagram.now }
     {
@@ -298,9 +350,12 @@ impl<A: Allocator + Copy> Openings<A> {
         }
     }
 
-    /// The end of the present incarnation, where there is one.
+    /// Returns the end of the present incarnation, or `None` if there is none.
     pub(crate) fn end(&self) -> Option<&End<Keeper<A>, A>>
-        ensures { (xs : List EndState) → SideStands self.now xs → IsEnd result (latest xs) }
+        // The end is in the present state; `None` is returned only if the end was never opened.
+        ensures stands { (xs : List EndState) → SideStands self.now xs → IsEnd result (latest xs) }
+        // Its channels keep the datagrams of all PDUs of the present state, in order.
+        ensures made { (xs : List EndState) → SideStands self.now xs → KeepsMade result (latest xs) }
     {
         match &self.present {
             Some(present) => Some(&present.end),
@@ -309,11 +364,13 @@ impl<A: Allocator + Copy> Openings<A> {
     }
 }
 
-/// The number, from 1, of the latest of these incarnations that made a PDU of these octets; the first opened one stands first.
+/// Returns the number, from 1, of the latest of these incarnations that made a PDU of these bytes. The first opened
+/// one comes first.
 fn latest_maker_of<A: Allocator + Copy>(
     incarnations: &[Incarnation<A>],
     octets: &[u8],
 ) -> Option<usize>
+    // The result is the greatest number among these incarnations of one that made the bytes, or `None` if no one did.
     ensures { (xs : List EndState) → BeforeStand (reverse incarnations.now) xs → result ≡ latest_maker octets.now xs }
 {
     let mut number = incarnations.len();

@@ -1,7 +1,7 @@
-//! Two ends in memory, with everything that ever happened to them.
+//! Two ends in memory, with their whole history.
 
 ghost use Rattle.std.specs.Prelude.{◌≡◌, ◌+◌, [], ◌∷◌, ◌++◌, length, None, MatchResult, OnOk, OnErr, IfOk, option_map, slice_get};
-ghost use Rattle.stack_engine.specs.Openings.{IsEnd, NamesRefusal};
+ghost use Rattle.stack_engine.specs.Openings.{IsEnd, KeepsMade, NamesRefusal};
 ghost use Rattle.stack_engine.specs.Pairs.{present, refusal, run, start};
 ghost use Rattle.end_settings.specs.Configured.{side_of};
 ghost use Rattle.stack_engine.specs.Premise.{breaks_premise};
@@ -21,22 +21,22 @@ use stack_end::End;
 use std::alloc::{Allocator, Global};
 use std::marker::Model;
 
-/// There was no memory for an event.
+/// An allocation for an event failed.
 #[derive(Clone, Copy, Debug, PartialEq, Eq)]
 pub struct Memory;
 
-/// Two ends in memory with the events that were accepted: a value of it is its history.
+/// Two ends in memory. Its value is its history: the list of events that it has accepted.
 ///
-/// It sends no datagram anywhere: what is lost between the ends is what is never delivered.
+/// A pair sends nothing by itself: a datagram that is never delivered is a datagram lost.
 #[derive(Drop)]
 pub struct Pair<A: Allocator = Global> {
     /// Where memory comes from.
     alloc: A,
-    /// All events that were accepted.
+    /// All accepted events.
     history: History<A>,
-    /// Both ends as the history leaves them.
+    /// Both ends in the state that the history leads to.
     sides: Sides<A>,
-    /// The end that the last accepted event happened to.
+    /// The side of the last accepted event.
     last: Option<Side>,
 }
 
@@ -55,11 +55,11 @@ impl<A: Allocator> Model for Pair<A> {
 
 impl<A: Allocator + Copy> Pair<A> {
     ghost use Rattle.stack_engine.specs.Events.{event_of};
-    ghost use Rattle.stack_engine.specs.PairValue.{events_of, Ran, RanBefore};
+    ghost use Rattle.stack_engine.specs.PairValue.{events_of, last_side, NotesOfLast, Ran, RanBefore};
 
-    /// Neither end was opened, and nothing happened. It takes no memory.
+    /// Creates a pair in which neither end has been opened. It does not allocate.
     pub fn new(alloc: A) -> Self
-        // A new `Pair` has accepted no event.
+        // A new pair has an empty history.
         ensures { result ≡ [] }
     {
         Pair {
@@ -70,37 +70,44 @@ impl<A: Allocator + Copy> Pair<A> {
         }
     }
 
-    /// An event happens, exactly as the definition of a pair says.
+    /// Applies one event: an opening, a close, a put, an end of the initialisation, a tick, or the delivery of
+    /// a datagram.
     ///
     /// # Errors
     ///
-    /// Refused, and then nothing changes; the first that holds is named: `EndNotOpen`, `BadConfig`, `Clock`, `Memory` where a
-    /// growth was refused, `Put` and `Init` with their faults.
+    /// Returns the first that applies, and changes nothing:
+    ///
+    /// - `EndNotOpen` if the end of this side was never opened;
+    /// - `BadConfig` if the settings are invalid for this side;
+    /// - `Clock` if the time is less than that of the end's last accepted event, or greater than 2^62 ms;
+    /// - `Memory` if an allocation fails;
+    /// - `Put` or `Init` if the session refuses the telegram or the end of the initialisation, with its reason.
     pub fn apply(&mut self, event: &Event<'_>) -> Result<(), ApplyFault>
-        // An event that `apply` accepts stands last in the history.
+        // An event that `apply` accepts is appended to the history.
         ensures ok { OnOk result (self.new ≡ self.old ++ event_of event.now ∷ []) }
-        // An event that `apply` refuses changes nothing in the history.
+        // An event that `apply` refuses leaves the history unchanged.
         ensures err { OnErr result (self.new ≡ self.old) }
-        // `apply` accepts an event only where the definition does.
-        // A refusal of `apply` has the definition's name, or is Memory where the definition names none or one
-        // of the session's (`NamesRefusal`).
+        // `apply` accepts an event only if no `refusal` applies to it. It returns the first that applies, or
+        // `Memory` if none applies, or only a refusal by the session (`NamesRefusal`).
         ensures refusal { MatchResult result (λ _. refusal (event_of event.now) (run self.old start) ≡ None)
             (λ fault. NamesRefusal fault (refusal (event_of event.now) (run self.old start))) }
-        // After every `apply` and `run` the history has, where it is genuine, the four promises headline,
-        // fresh, confirmed and settled (`Promises` (genuine)).
-        // After every `apply` and `run` the history has, where it is faithful, the promise nothing_lost
-        // (`Promises` (faithful)).
+        // After `apply`, a genuine history has the promises headline, fresh, confirmed, settled and certain;
+        // a faithful history also has nothing_lost (`Promises`).
         ensures promises { Promises self.new }
     {
         let result = self.happen(event);
-        let _promised = self.history();
+        self.promises();
         result
     }
 
-    /// An event happens.
+    /// Applies one event, without the clause on the promises.
     fn happen(&mut self, event: &Event<'_>) -> Result<(), ApplyFault>
+        // An accepted event becomes the last of the history.
         ensures ok { OnOk result (self.new ≡ self.old ++ event_of event.now ∷ []) }
+        // A refused event is not recorded.
         ensures err { OnErr result (self.new ≡ self.old) }
+        // The result is that of the definition: accepted without a `refusal`, otherwise its name, or `Memory`
+        // (`NamesRefusal`).
         ensures refusal { MatchResult result (λ _. refusal (event_of event.now) (run self.old start) ≡ None)
             (λ fault. NamesRefusal fault (refusal (event_of event.now) (run self.old start))) }
     {
@@ -120,24 +127,24 @@ impl<A: Allocator + Copy> Pair<A> {
         }
     }
 
-    /// Events happen in turn; one that is refused changes nothing, and the next one follows. The answer is how many were accepted.
+    /// Applies events in order and returns how many were accepted. A refused event changes nothing, and the
+    /// next one follows.
     ///
     /// # Errors
     ///
-    /// The error is that memory was refused for one of them: then those before it happened, and none behind it.
+    /// - `Memory` if an allocation fails. The events before the one that failed have been applied; none after
+    ///   it has.
     pub fn run(&mut self, events: &[Event<'_>]) -> Result<usize, Memory>
-        // Where memory was found, `run` makes the history longer by exactly those of its events that the
-        // definition accepts, in turn.
+        // If every allocation succeeds, the history grows by exactly the events that the definition of a pair
+        // accepts, in order (`Ran`).
         ensures ok { OnOk result (Ran self.old (events_of events.now) self.new) }
-        // The answer of `run` is by how many events the history grew.
+        // The returned count is the number of events by which the history grew.
         ensures count { IfOk result (λ count. length self.new ≡ length self.old + count) }
-        // Where memory was refused, `run` made the history longer by what the definition accepts of the events
-        // in front of one, and that one is refused for nothing that is tested before memory.
+        // If an allocation fails, the history has grown by the accepted events before the one that failed. That
+        // event was not refused for anything that is checked before memory (`RanBefore`).
         ensures memory { OnErr result (RanBefore self.old (events_of events.now) self.new) }
-        // After every `apply` and `run` the history has, where it is genuine, the four promises headline,
-        // fresh, confirmed and settled (`Promises` (genuine)).
-        // After every `apply` and `run` the history has, where it is faithful, the promise nothing_lost
-        // (`Promises` (faithful)).
+        // After `run`, even if it failed, a genuine history has the promises headline, fresh, confirmed, settled
+        // and certain; a faithful history also has nothing_lost (`Promises`).
         ensures promises { Promises self.new }
     {
         let mut count = 0;
@@ -146,66 +153,82 @@ impl<A: Allocator + Copy> Pair<A> {
                 Ok(()) => count += 1,
                 Err(fault) => {
                     if fault.is_memory() {
-                        let _promised = self.history();
+                        self.promises();
                         return Err(Memory);
                     }
                 }
             }
         }
-        let _promised = self.history();
+        self.promises();
         Ok(count)
     }
 
-    /// The events that were accepted, in order, and what they promise.
+    /// Returns the accepted events in order.
     pub fn history(&self) -> &History<A>
-        // `history` answers the events that were accepted, in order.
+        // `history` returns exactly the accepted events, in order.
         ensures events { result.now.events ≡ self.now }
-        // After every `apply` and `run` the history has, where it is genuine, the four promises headline,
-        // fresh, confirmed and settled (`Promises` (genuine)).
-        // After every `apply` and `run` the history has, where it is faithful, the promise nothing_lost
-        // (`Promises` (faithful)).
-        ensures promises { Promises self.now }
     {
-        pair_law();
         &self.history
     }
 
-    /// How many incarnations of an end there are in the report.
+    /// States what holds of a pair at any time. It does nothing.
+    pub fn promises(&self)
+        // At any time, a genuine history has the promises headline, fresh, confirmed, settled and certain;
+        // a faithful history also has nothing_lost (`Promises`).
+        ensures promises { Promises self.now }
+    {
+        let _events = &self.history;
+        pair_law();
+    }
+
+    /// Returns how often an end was opened: the number of entries that `report` has for it.
     pub fn incarnations(&self, side: Side) -> usize
-        // `incarnations` answers how often an end was opened.
+        // `incarnations` counts exactly the accepted openings of this side.
         ensures { result ≡ length (report_of (side_of side) (run self.now start)) }
     {
         self.sides.incarnations(side)
     }
 
-    /// The report on one incarnation of an end: what was put in and taken, and to whom it is joined. The first opened one has place 0.
+    /// Returns what one incarnation of an end put and took, and the interlocking incarnation that it is joined
+    /// to. The first opening has place 0. Returns `None` if there is no such incarnation.
     pub fn report(&self, side: Side, place: usize) -> Option<Entry<'_, A>>
-        // `report` shows of an incarnation what was put in and taken, the lists of the promises, and to which
-        // of the interlocking it is joined.
+        // The entry has the two lists that the promises speak of, telegrams put and telegrams taken, and the
+        // place of the interlocking incarnation that this one is joined to, if any.
         ensures { option_map seen_entry result ≡ slice_get (report_of (side_of side) (run self.now start)) place }
     {
         self.sides.entry(side, place)
     }
 
-    /// Whether the delivery of this datagram to an end would break the premise of the promises at once: the end is open, its part bears
-    /// both identifiers and a valid code, and is no live PDU of the peer.
+    /// Returns true if delivering this datagram to the end now would break the premise of the promises: the end
+    /// is open, the part bears both identifiers and a valid safety code, and it is not a live PDU of the peer.
     pub fn breaks_premise(&self, side: Side, datagram: &[u8]) -> bool
-        // `breaks_premise` answers as its definition does for the ends that the pair's history leads to.
+        // `breaks_premise` is true if and only if the end is open and the datagram's part, though it has both
+        // identifiers and a valid safety code, is not a live PDU of the peer. Live means: made since both ends
+        // were last opened.
         ensures { result ≡ breaks_premise (side_of side) datagram.now (run self.now start) }
     {
         self.sides.breaks_premise(side, datagram)
     }
 
-    /// The end of the present incarnation; `None` where it was never opened.
+    /// Returns the present incarnation of an end, or `None` if it was never opened.
     pub fn end_of(&self, side: Side) -> Option<&End<Keeper<A>, A>>
-        // `end_of` shows the end of the present incarnation, and none exactly where it was never opened.
-        ensures { IsEnd result (present (side_of side) (run self.now start)) }
+        // `end_of` returns an end in exactly the state that the history leads to, and `None` if and only if
+        // this side was never opened.
+        ensures stands { IsEnd result (present (side_of side) (run self.now start)) }
+        // The channels of the end keep exactly the datagrams of all PDUs that it made, in order, each under its
+        // index as redundancy number.
+        ensures made { KeepsMade result (present (side_of side) (run self.now start)) }
     {
         self.sides.end_of(side)
     }
 
-    /// What the last accepted event did, one thing after the other; `None` where nothing was accepted yet.
-    pub fn notes(&self) -> Option<Notes<'_, A>> {
+    /// Returns what the last accepted event did, step by step, or `None` if no event was accepted yet. No
+    /// promise speaks of these notes.
+    pub fn notes(&self) -> Option<Notes<'_, A>>
+        // The notes are of the end of the last accepted event: their datagrams are those of all PDUs that it made,
+        // their telegrams are all that it took, in order. `None` is returned only if no event was accepted.
+        ensures { NotesOfLast (last_side self.now) (run self.now start) result }
+    {
         self.sides.notes(self.last?)
     }
 }

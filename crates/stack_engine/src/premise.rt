@@ -1,4 +1,4 @@
-//! Whether the delivery of a datagram would break the premise of the promises.
+//! Testing whether the delivery of a datagram would break the premise of the promises.
 
 ghost use Rattle.std.specs.Prelude.{◌≡◌};
 ghost use Rattle.safe_pdu.specs.Places.{is_asked};
@@ -7,9 +7,11 @@ use octets::limits::SAFE_HEADER;
 use octets::places::u32_at;
 use safe_pdu::CodeRule;
 
-/// Whether an end with these identifiers and this rule of the code is asked about a part: it is long enough, bears both
-/// identifiers at their places, and ends in a valid code.
+/// Returns true if the premise speaks of a part at an end with these identifiers: the part is long enough, has both
+/// identifiers at their places, and ends in a valid safety code.
 pub(crate) fn is_asked_about(rule: &CodeRule, own: u32, peer: u32, part: &[u8]) -> bool
+    // True if and only if the part has a header and a code, `own` as its receiver and `peer` as its sender, and a
+    // safety code that is valid under `rule`.
     ensures { result ≡ is_asked rule.now own peer part.now }
 {
     let code_size = rule.length.octets();

@@ -5,7 +5,8 @@ ghost use Rattle.end_settings.specs.Configured.{settings_of, side_of};
 ghost use Rattle.stack_end.specs.Ends.{Call};
 ghost use Rattle.stack_engine.specs.Bounds.{FewFirstLaw};
 ghost use Rattle.stack_engine.specs.Events.{call_of, event_of};
-ghost use Rattle.stack_engine.specs.Openings.{IsEnd, IsOfSession, NamesRefusal, is_memory};
+ghost use Rattle.stack_engine.specs.Noted.{AreNotes};
+ghost use Rattle.stack_engine.specs.Openings.{IsEnd, IsOfSession, KeepsMade, NamesRefusal, is_memory};
 ghost use Rattle.stack_engine.specs.Pairs.{World, present, refusal, start};
 ghost use Rattle.stack_engine.specs.Premise.{breaks_premise};
 ghost use Rattle.stack_engine.specs.Pairs.Event.{Calls, Open};
@@ -23,16 +24,16 @@ use octets::Milliseconds;
 use stack_end::End;
 use std::alloc::{Allocator, Global};
 
-/// Both ends, and how many of the PDUs of either one's present incarnation are dead: made before the later opening.
+/// Both ends, and how many PDUs of each one's present incarnation are dead: made before the later of both openings.
 #[derive(Drop)]
 pub(crate) struct Sides<A: Allocator = Global> {
     /// The incarnations of the interlocking.
     pub(crate) il: Openings<A>,
     /// The incarnations of the field element.
     pub(crate) fe: Openings<A>,
-    /// How many PDUs of the present interlocking are dead: made before the later opening.
+    /// How many PDUs of the present interlocking are dead.
     pub(crate) dead_il: usize,
-    /// How many of the present field element are.
+    /// How many PDUs of the present field element are dead.
     pub(crate) dead_fe: usize,
 }
 
@@ -40,8 +41,9 @@ impl<A: Allocator + Copy> Sides<A> {
     ghost use Rattle.stack_engine.specs.Openings.{SideStands};
     ghost use Rattle.stack_engine.specs.Sides.{SidesDo, SidesStand, ends_at};
 
-    /// Neither end was opened.
+    /// Creates both ends, neither of which has been opened.
     pub(crate) fn new(alloc: A) -> Self
+        // Both ends are as in the start world: without incarnations and without dead PDUs.
         ensures { SidesStand result start }
     {
         Sides {
@@ -52,15 +54,20 @@ impl<A: Allocator + Copy> Sides<A> {
         }
     }
 
-    /// Whether an event is refused before memory is asked for.
+    /// Tests an event for what is refused before memory is allocated.
     ///
     /// # Errors
     ///
-    /// Refused, and the first that holds is named: `EndNotOpen`, `BadConfig`, `Clock`.
+    /// - `EndNotOpen` if a call is for an end that was never opened;
+    /// - `BadConfig` if the settings of an opening are invalid for the side;
+    /// - `Clock` if the time is before the end's last, or too great.
     pub(crate) fn admits(&self, event: &Event<'_>) -> Result<(), ApplyFault>
+        // An event is admitted only if at most a refusal by the session is left; an error names the refusal
+        // (`NamesRefusal`).
         ensures refusal { (w : World) → SidesStand self.now w
             → MatchResult result (λ _. IsOfSession (refusal (event_of event.now) w))
             (λ fault. NamesRefusal fault (refusal (event_of event.now) w)) }
+        // The error is never `Memory`.
         ensures no_memory { IfErr result (λ fault. is_memory fault ≡ false) }
     {
         let openings = self.openings(event.side);
@@ -70,8 +77,9 @@ impl<A: Allocator + Copy> Sides<A> {
         }
     }
 
-    /// An end with all its incarnations.
+    /// Returns an end with all its incarnations.
     fn openings(&self, side: Side) -> &Openings<A>
+        // The result is the incarnations of this `side`.
         ensures { (w : World) → SidesStand self.now w → SideStands result.now (ends_at (side_of side) w) }
     {
         match side {
@@ -80,15 +88,25 @@ impl<A: Allocator + Copy> Sides<A> {
         }
     }
 
-    /// An event happens.
+    /// Applies an event.
     ///
     /// # Errors
     ///
-    /// Refused, and the first that holds is named; then all stays as it was.
+    /// The first refusal that applies; the event then has changed nothing.
+    ///
+    /// - `EndNotOpen` if a call is for an end that was never opened;
+    /// - `BadConfig` if the settings of an opening are invalid for the side;
+    /// - `Clock` if the time is before the end's last, or too great;
+    /// - `Memory` if an allocation fails;
+    /// - `Put` or `Init` if the session refuses the call.
     pub(crate) fn step(&mut self, alloc: A, event: &Event<'_>) -> Result<(), ApplyFault>
         requires first { FewFirstLaw }
+        // An accepted event that stays within the bounds (`FewAt`) changes both ends as the world changes by it: the
+        // incarnations, the joins, and the dead PDUs.
         ensures does { OnOk result (SidesDo (event_of event.now) self.old self.new) }
+        // After a refused event both ends still represent every world that they did before.
         ensures unchanged { OnErr result ((w : World) → SidesStand self.old w → SidesStand self.new w) }
+        // An event is accepted only if the definition has no `refusal` for it; an error is that refusal, or `Memory`.
         ensures refusal { (w : World) → SidesStand self.old w
             → MatchResult result (λ _. refusal (event_of event.now) w ≡ None)
             (λ fault. NamesRefusal fault (refusal (event_of event.now) w)) }
@@ -102,15 +120,18 @@ impl<A: Allocator + Copy> Sides<A> {
         }
     }
 
-    /// An end is called.
+    /// Calls one of the ends.
     fn call(
         &mut self,
         side: Side,
         call: &event::Call<'_>,
         now: Milliseconds,
     ) -> Result<(), ApplyFault>
+        // An accepted call that stays within the bounds (`FewAt`) changes both ends as the world changes by it.
         ensures does { OnOk result (SidesDo (Calls (side_of side) (call_of call.now now)) self.old self.new) }
+        // A refused call leaves both ends as they were, in every world.
         ensures unchanged { OnErr result ((w : World) → SidesStand self.old w → SidesStand self.new w) }
+        // A call of a side is accepted only if there is no `refusal` for it; an error is that refusal, or `Memory`.
         ensures refusal { (w : World) → SidesStand self.old w
             → MatchResult result (λ _. refusal (Calls (side_of side) (call_of call.now now)) w ≡ None)
             (λ fault. NamesRefusal fault (refusal (Calls (side_of side) (call_of call.now now)) w)) }
@@ -121,10 +142,16 @@ impl<A: Allocator + Copy> Sides<A> {
         }
     }
 
-    /// The field element is called: where it takes a ConnReq, it is joined to the latest interlocking that made it.
+    /// Calls the field element. If it accepts a ConnReq in the call, it is joined to the latest interlocking that
+    /// made it.
     fn call_fe(&mut self, call: &event::Call<'_>, now: Milliseconds) -> Result<(), ApplyFault>
+        // An accepted call of the field element, within the bounds (`FewAt`), changes both ends as the world changes
+        // by it, with the join at its first accepted ConnReq.
         ensures does { OnOk result (SidesDo (Calls Fe (call_of call.now now)) self.old self.new) }
+        // A refused call of the field element changes nothing, in every world.
         ensures unchanged { OnErr result ((w : World) → SidesStand self.old w → SidesStand self.new w) }
+        // A call of the field element is accepted only if there is no `refusal` for it; an error is that refusal, or
+        // `Memory`.
         ensures refusal { (w : World) → SidesStand self.old w
             → MatchResult result (λ _. refusal (Calls Fe (call_of call.now now)) w ≡ None)
             (λ fault. NamesRefusal fault (refusal (Calls Fe (call_of call.now now)) w)) }
@@ -142,7 +169,7 @@ impl<A: Allocator + Copy> Sides<A> {
         Ok(())
     }
 
-    /// An end is opened, or opened anew: what its peer made before is dead, and nothing that it made itself.
+    /// Opens an end, or opens it again. All PDUs of its peer so far become dead; of its own, none is.
     fn open(
         &mut self,
         alloc: A,
@@ -152,8 +179,12 @@ impl<A: Allocator + Copy> Sides<A> {
         now: Milliseconds,
     ) -> Result<(), ApplyFault>
         requires first { FewFirstLaw }
+        // An accepted opening adds a new incarnation, joined to no other, and marks all PDUs of the present peer as
+        // dead.
         ensures does { OnOk result (SidesDo (Open (side_of side) (settings_of config) first_sn now) self.old self.new) }
+        // A refused opening leaves both ends as they were, in every world.
         ensures unchanged { OnErr result ((w : World) → SidesStand self.old w → SidesStand self.new w) }
+        // An opening is accepted only if there is no `refusal` for it; an error is that refusal, or `Memory`.
         ensures refusal { (w : World) → SidesStand self.old w
             → MatchResult result (λ _. refusal (Open (side_of side) (settings_of config) first_sn now) w ≡ None)
             (λ fault. NamesRefusal fault (refusal (Open (side_of side) (settings_of config) first_sn now) w)) }
@@ -173,8 +204,9 @@ impl<A: Allocator + Copy> Sides<A> {
         Ok(())
     }
 
-    /// Whether the delivery of a datagram to an end would break the premise at once.
+    /// Returns true if delivering a datagram to an end would break the premise at once.
     pub(crate) fn breaks_premise(&self, side: Side, datagram: &[u8]) -> bool
+        // The result is that of the definition for this side, datagram and world.
         ensures { (w : World) → SidesStand self.now w → result ≡ breaks_premise (side_of side) datagram.now w }
     {
         match side {
@@ -183,9 +215,13 @@ impl<A: Allocator + Copy> Sides<A> {
         }
     }
 
-    /// The end of the present incarnation, where there is one.
+    /// Returns the end of the present incarnation, or `None` if there is none.
     pub(crate) fn end_of(&self, side: Side) -> Option<&End<Keeper<A>, A>>
-        ensures { (w : World) → SidesStand self.now w → IsEnd result (present (side_of side) w) }
+        // The end is in the state of this side's present incarnation; `None` is returned only if the side was never
+        // opened.
+        ensures stands { (w : World) → SidesStand self.now w → IsEnd result (present (side_of side) w) }
+        // Its channels keep the datagrams of all PDUs of that incarnation, in order.
+        ensures made { (w : World) → SidesStand self.now w → KeepsMade result (present (side_of side) w) }
     {
         match side {
             Side::Interlocking => self.il.end(),
@@ -193,8 +229,9 @@ impl<A: Allocator + Copy> Sides<A> {
         }
     }
 
-    /// How many incarnations an end has.
+    /// Returns the number of incarnations of an end.
     pub(crate) fn incarnations(&self, side: Side) -> usize
+        // The result is the number of entries in the report of this side.
         ensures { (w : World) → SidesStand self.now w → result ≡ length (report_of (side_of side) w) }
     {
         match side {
@@ -203,8 +240,9 @@ impl<A: Allocator + Copy> Sides<A> {
         }
     }
 
-    /// The incarnation of an end at a place, from 0, in the report.
+    /// Returns the entry at a place, from 0, in the report of an end.
     pub(crate) fn entry(&self, side: Side, place: usize) -> Option<Entry<'_, A>>
+        // The entry is the one at this `place` of the side's report, or `None` after the last.
         ensures { (w : World) → SidesStand self.now w
             → option_map seen_entry result ≡ slice_get (report_of (side_of side) w) place }
     {
@@ -214,8 +252,11 @@ impl<A: Allocator + Copy> Sides<A> {
         }
     }
 
-    /// What the last accepted event of an end's present incarnation did.
-    pub(crate) fn notes(&self, side: Side) -> Option<Notes<'_, A>> {
+    /// Returns the notes of the last accepted event of an end's present incarnation.
+    pub(crate) fn notes(&self, side: Side) -> Option<Notes<'_, A>>
+        // The notes are of this side's present incarnation; `None` is returned only if the side was never opened.
+        ensures { (w : World) → SidesStand self.now w → AreNotes result (present (side_of side) w) }
+    {
         match side {
             Side::Interlocking => self.il.notes(),
             Side::FieldElement => self.fe.notes(),

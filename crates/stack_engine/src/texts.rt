@@ -1,4 +1,4 @@
-//! A growing list of texts, each with a head, whose octets stand in one buffer.
+//! A growing list of texts, each with a head. The bytes of all texts are in one buffer.
 
 ghost use Rattle.std.specs.Prelude.{◌≡◌, ◌+◌, ◌≤◌, ℕ, List, [], ◌∷◌, ◌++◌, length, slice_get, option_map, OnOk};
 ghost use Rattle.red_layer.specs.Parts.{is_nil};
@@ -6,23 +6,23 @@ ghost use Rattle.red_layer.specs.Parts.{is_nil};
 use std::alloc::{AllocError, Allocator, Global};
 use std::marker::Model;
 
-/// Where a text stands in the buffer, behind its head.
+/// A text in the list: its head, and its place in the buffer.
 #[derive(Drop)]
 struct Kept<T> {
-    /// What it is kept under.
+    /// The head of the text.
     head: T,
-    /// Where its octets begin among all.
+    /// The place of its first byte in the buffer.
     from: usize,
-    /// Where they end.
+    /// The place after its last byte.
     to: usize,
 }
 
-/// Texts that are only ever added, each with a head, and room for more: an addition takes no memory.
+/// A list of texts that only grows, each with a head, and room for more. Adding a text does not allocate.
 #[derive(Drop)]
 pub struct Texts<T, A: Allocator = Global> {
     /// The texts, in order.
     kept: Vec<Kept<T>, A>,
-    /// The octets of all of them, one after the other.
+    /// The bytes of all texts, one after the other.
     octets: Vec<u8, A>,
 }
 
@@ -43,7 +43,7 @@ impl<T, A: Allocator> Model for Texts<T, A> {
 }
 
 impl<T: Drop, A: Allocator + Copy> Texts<T, A> {
-    /// No text, and no room.
+    /// Creates an empty list without room.
     pub fn new(alloc: A) -> Self
         // New `Texts` are an empty list.
         ensures { result.texts ≡ [] }
@@ -54,17 +54,17 @@ impl<T: Drop, A: Allocator + Copy> Texts<T, A> {
         }
     }
 
-    /// Makes room for a number of texts, and for the octets that they have together.
+    /// Makes room for a number of texts, and for the bytes that they have together.
     ///
     /// # Errors
     ///
-    /// The error is that memory was refused.
+    /// Fails if an allocation fails.
     pub fn reserve(&mut self, places: usize, octets: usize) -> Result<(), AllocError>
-        // Making room in `Texts` leaves the list as it is.
+        // Making room changes none of the `texts`.
         ensures same { self.new.texts ≡ self.old.texts }
-        // `reserve` makes the places in `Texts` that are asked for, or is refused.
+        // After a success there are places for at least that many more texts.
         ensures places { OnOk result (places ≤ self.new.places) }
-        // It makes room for as many octets as are asked for.
+        // After a success there is room for at least that many more bytes.
         ensures octets { OnOk result (octets ≤ self.new.octets) }
     {
         self.kept.try_reserve(places)?;
@@ -75,11 +75,11 @@ impl<T: Drop, A: Allocator + Copy> Texts<T, A> {
     pub fn add(&mut self, head: T, text: &[u8])
         requires place { 1 ≤ self.old.places }
         requires room { length text.now ≤ self.old.octets }
-        // A text that is added to `Texts`, where there is room, stands last with its head.
+        // The new text is the last one, with its head; all others stay.
         ensures added { self.new.texts ≡ self.old.texts ++ (head, text.now) ∷ [] }
-        // Adding a text uses up one place of `Texts` at most.
+        // Adding a text uses at most one place.
         ensures places { self.old.places ≤ self.new.places + 1 }
-        // Adding a text uses up as many octets as it has at most.
+        // Adding a text uses at most as many bytes of room as it has.
         ensures octets { self.old.octets ≤ self.new.octets + length text.now }
     {
         let from = self.octets.len();
@@ -92,41 +92,41 @@ impl<T: Drop, A: Allocator + Copy> Texts<T, A> {
 impl<T, A: Allocator> Texts<T, A> {
     ghost use Rattle.stack_engine.specs.TextPlaces.{seen_text};
 
-    /// How many texts there are.
+    /// Returns the number of texts.
     pub fn len(&self) -> usize
-        // `Texts` tell how many texts they are, whether none, and the text at a place with its head.
+        // `len` is the length of the list of `texts`.
         ensures { result ≡ length self.now.texts }
     {
         self.kept.len()
     }
 
-    /// Whether there is none.
+    /// Returns true if there are no texts.
     pub fn is_empty(&self) -> bool
-        // `Texts` tell how many texts they are, whether none, and the text at a place with its head.
+        // `is_empty` is true if and only if the list of `texts` is empty.
         ensures { result ≡ is_nil self.now.texts }
     {
         self.kept.is_empty()
     }
 
-    /// For how many texts there is a place.
+    /// Returns for how many more texts there is a place.
     pub fn places(&self) -> usize
-        // `Texts` tell their room in texts and in octets.
+        // `places` is the number of texts that can be added without an allocation, if their bytes have room.
         ensures { result ≡ self.now.places }
     {
         self.kept.capacity() - self.kept.len()
     }
 
-    /// For how many octets there is room.
+    /// Returns for how many more bytes there is room.
     pub fn room(&self) -> usize
-        // `Texts` tell their room in texts and in octets.
+        // `room` is the number of bytes that can be added without an allocation.
         ensures { result ≡ self.now.octets }
     {
         self.octets.capacity() - self.octets.len()
     }
 
-    /// The text at a place, from 0, with its head.
+    /// Returns the text at a place, from 0, with its head.
     pub fn get(&self, place: usize) -> Option<(&T, &[u8])>
-        // `Texts` tell how many texts they are, whether none, and the text at a place with its head.
+        // `get` returns head and bytes of the text at this `place`, or `None` after the last one.
         ensures { option_map seen_text result ≡ slice_get self.now.texts place }
     {
         let kept = self.kept.get(place)?;

@@ -1,20 +1,35 @@
--- Channels over sockets: what a sending and a reception do to the sockets, what is told of it, and the addresses that they are opened with.
-use Rattle.std.specs.Prelude.{◌≡◌, ℕ, ◌+◌, ◌-◌, ◌%◌, ◌^◌, ◌≤◌, ◌==◌, ◌&&◌, ◌⊎◌, Bool, true, false, nat_le, if◌then◌else◌, Option, None, Some, Result, Ok, Err, List, [], ◌∷◌, length, take, slice_get, slice_set}
+-- Channels over sockets: what a send and a reception do to the channels, and what contracts know of them.
+use Rattle.std.specs.Prelude.{◌≡◌, ℕ, ◌+◌, ◌-◌, ◌%◌, ◌^◌, ◌≤◌, ◌==◌, ◌&&◌, ◌⊎◌, Bool, true, false, nat_le, if◌then◌else◌, Option, None, Some, option_map, Result, Ok, Err, List, [], ◌∷◌, length, take, drop, slice_get, slice_set}
 use Rattle.octets.specs.declared.limits.TheConstants.{CHANNELS_MAX}
-use Rattle.channels.specs.Told.{Told}
+use Rattle.channels.specs.Told.{Answer, Told, counted}
 use Rattle.channels.specs.declared.ChannelFault.{ChannelFault}
 use Rattle.channels.specs.declared.ChannelFault.TheVariants as fault
+use Rattle.udp_channels.specs.declared.sockets.Failures.{Failures}
 use Rattle.udp_channels.specs.declared.sockets.Reception.{Reception}
 use Rattle.udp_channels.specs.declared.sockets.Reception.TheVariants.{Came, Nothing, Refused}
 
--- the sockets, that of channel 1 first, and what was counted, modulo 2^64
+-- one channel: its socket, and how often its calls failed
+pub record ChannelState (S : Type 0) : Type 0 where
+  pub socket : S
+  pub failures : Failures
+
+-- the channels, that of number 1 first, the number of the one that gave the last datagram (0 before the first), and the counts, modulo 2^64
 pub record Kept (S : Type 0) : Type 0 where
-  pub sockets : List S
+  pub channels : List (ChannelState S)
+  pub last : ℕ
   pub failed_sends : ℕ
   pub failed_receives : ℕ
   pub received : ℕ
 
--- nothing tells what a socket sends or gives: what failed is told
+-- a channel on which nothing has failed
+abbrev pub new_channel : {S : Type 0} → S → ChannelState S
+new_channel socket = record { socket = socket; failures = record { sends = 0; receives = 0 } }
+
+-- channels that were not used yet
+abbrev pub new_kept : {S : Type 0} → List (ChannelState S) → Kept S
+new_kept channels = record { channels = channels; last = 0; failed_sends = 0; failed_receives = 0; received = 0 }
+
+-- the state as contracts of `Channels` see it: only the failures are known, not what a socket sends or delivers
 abbrev pub told_of : {S : Type 0} → Kept S → Told
 told_of c =
     record {
@@ -26,43 +41,96 @@ told_of c =
       room = λ _. 0;
     }
 
--- the octets that came
+-- the bytes received
 abbrev pub octets_of : Reception → List ℕ → List ℕ
 octets_of (Came size) buffer = take size buffer
 octets_of Nothing buffer = []
 octets_of Refused buffer = []
 
--- what came is no longer than the buffer
+-- a datagram received is not longer than the buffer
 abbrev pub Fits : Reception → ℕ → Type 0
 Fits (Came size) room = size ≤ room
 Fits Nothing room = Unit {0}
 Fits Refused room = Unit {0}
 
--- channels are numbered from 1
-abbrev pub has_socket : {S : Type 0} → ℕ → List S → Bool
-has_socket channel sockets = nat_le 1 channel && nat_le channel (length sockets)
+-- the socket did not refuse the call
+abbrev pub was_done : Reception → Bool
+was_done (Came size) = true
+was_done Nothing = true
+was_done Refused = false
 
--- A datagram for a channel: the channel's own socket was handed it, once, and took it or not, and no other was touched; where there is no
--- such channel, nothing went.
-pub record SendsOn {S : Type 0} (sends : S → List ℕ → Bool → S → Type 0) (channel : ℕ) (datagram : List ℕ) (went : Bool) (before after : List S) : Type 0 where
-  pub own : has_socket channel before ≡ true → (socket left : S) × (slice_get before (channel - 1) ≡ Some socket) × sends socket datagram went left × (after ≡ slice_set before (channel - 1) left)
-  pub none : has_socket channel before ≡ false → (went ≡ false) × (after ≡ before)
+-- there is such a channel; channels are numbered from 1
+abbrev pub has_channel : {S : Type 0} → ℕ → List S → Bool
+has_channel channel channels = nat_le 1 channel && nat_le channel (length channels)
 
--- why a sending on this channel is refused
+-- the counts of a channel, if there is one of this number
+abbrev pub failures_of : {S : Type 0} → ℕ → List (ChannelState S) → Option Failures
+failures_of channel channels = if has_channel channel channels then option_map (λ c. c.failures) (slice_get channels (channel - 1)) else None
+
+-- a send on one channel: its socket makes one send, and the channel counts a failure
+pub record IsSent {S : Type 0} (sends : S → List ℕ → Bool → S → Type 0) (datagram : List ℕ) (went : Bool) (before after : ChannelState S) : Type 0 where
+  -- the socket makes one send of the datagram, and accepts it or not
+  pub sent : sends before.socket datagram went after.socket
+  -- a datagram that it does not accept adds 1 to this channel's failed sends
+  pub failures : after.failures ≡ record { sends = counted went before.failures.sends; receives = before.failures.receives }
+
+-- a send on a channel: only this channel changes, and it makes the send
+pub record SendsOn {S : Type 0} (sends : S → List ℕ → Bool → S → Type 0) (channel : ℕ) (datagram : List ℕ) (went : Bool) (before after : List (ChannelState S)) : Type 0 where
+  -- if there is such a channel, it makes one send, and the others do not change
+  pub own : has_channel channel before ≡ true → (used left : ChannelState S) × (slice_get before (channel - 1) ≡ Some used) × IsSent sends datagram went used left × (after ≡ slice_set before (channel - 1) left)
+  -- if there is no such channel, nothing is sent
+  pub none : has_channel channel before ≡ false → (went ≡ false) × (after ≡ before)
+
+-- why a send on this channel fails
 abbrev pub fault_on : {S : Type 0} → ℕ → List S → ChannelFault
-fault_on channel sockets = if has_socket channel sockets then fault.System else fault.Room
+fault_on channel channels = if has_channel channel channels then fault.System else fault.Room
 
--- The sockets were asked in their order, the first as the channel of this number, until one had a datagram or refused: those behind it
--- were not asked.
-abbrev pub Asks : {S : Type 0} → (S → ℕ → Reception → List ℕ → S → Type 0) → (room channel : ℕ) → Result (Option (ℕ × ℕ)) ChannelFault → List ℕ → List S → List S → Type 0
-Asks receives room channel result buffer [] after = (result ≡ Ok None) × (after ≡ [])
-Asks {S} receives room channel result buffer (socket ∷ others) after =
-    (left : S) × (rest : List S) × (after ≡ left ∷ rest)
-    × (((size : ℕ) × receives socket room (Came size) (take size buffer) left × (result ≡ Ok (Some (channel, size))) × (rest ≡ others))
-    ⊎ ((receives socket room Refused [] left × (result ≡ Err fault.System) × (rest ≡ others))
-    ⊎ (receives socket room Nothing [] left × Asks receives room (channel + 1) result buffer others rest)))
+-- one channel is asked: its socket makes one reception, and the channel counts a refusal
+pub record IsAsked {S : Type 0} (receives : S → ℕ → Reception → List ℕ → S → Type 0) (room : ℕ) (reception : Reception) (octets : List ℕ) (before after : ChannelState S) : Type 0 where
+  -- the socket makes one reception with this result and these bytes
+  pub received : receives before.socket room reception octets after.socket
+  -- a refusal adds 1 to this channel's failed receptions
+  pub failures : after.failures ≡ record { sends = before.failures.sends; receives = counted (was_done reception) before.failures.receives }
 
--- modulo 2^64
+-- the result of several channels if one more of them has nothing
+abbrev pub unless_failed : Result (Option (ℕ × ℕ)) ChannelFault → Result (Option (ℕ × ℕ)) ChannelFault
+unless_failed (Ok came) = Ok came
+unless_failed (Err why) = Ok None
+
+-- the answer of several channels if one of them has nothing: what the others answer, but None if they all refuse
+abbrev pub or_none : List Answer → List Answer
+or_none [] = None ∷ []
+or_none (x ∷ xs) = x ∷ xs
+
+-- channels are asked in order, the first as the one of this number, until one gives a datagram; later ones are not asked. The answer is that
+-- datagram; None if no channel gives one and at least one has nothing; and no answer if all refuse
+abbrev pub Asks : {S : Type 0} → (S → ℕ → Reception → List ℕ → S → Type 0) → (room channel : ℕ) → List Answer → (before after : List (ChannelState S)) → Type 0
+Asks receives room channel answers [] after = (answers ≡ []) × (after ≡ [])
+Asks {S} receives room channel answers (asked ∷ others) after =
+    (left : ChannelState S) × (rest : List (ChannelState S)) × (after ≡ left ∷ rest)
+    × (((size : ℕ) × (octets : List ℕ) × IsAsked receives room (Came size) octets asked left × (answers ≡ Some (channel, octets) ∷ []) × (rest ≡ others))
+    ⊎ (((later : List Answer) × IsAsked receives room Nothing [] asked left × Asks receives room (channel + 1) later others rest × (answers ≡ or_none later))
+    ⊎ (IsAsked receives room Refused [] asked left × Asks receives room (channel + 1) answers others rest)))
+
+-- after these answers of the later channels, those from channel 1 on are asked, unless a datagram was given
+abbrev pub AsksThen : {S : Type 0} → (S → ℕ → Reception → List ℕ → S → Type 0) → ℕ → (later answers : List Answer) → (before after : List (ChannelState S)) → Type 0
+AsksThen receives room [] answers before after = Asks receives room 1 answers before after
+AsksThen receives room (None ∷ xs) answers before after = (earlier : List Answer) × Asks receives room 1 earlier before after × (answers ≡ or_none earlier)
+AsksThen receives room (Some x ∷ xs) answers before after = (answers ≡ Some x ∷ []) × (after ≡ before)
+
+-- the channels are asked in a circle: first those after the one that gave the last datagram, then the others
+abbrev pub AsksAround : {S : Type 0} → (S → ℕ → Reception → List ℕ → S → Type 0) → (room last : ℕ) → List Answer → (before after : List (ChannelState S)) → Type 0
+AsksAround receives room last answers before after =
+    (later : List Answer) × Asks receives room (last + 1) later (drop last before) (drop last after)
+    × AsksThen receives room later answers (take last before) (take last after)
+
+-- the number of the channel that gave the last datagram, after a reception
+abbrev pub last_after : Result (Option (ℕ × ℕ)) ChannelFault → ℕ → ℕ
+last_after (Ok (Some (channel, size))) last = channel
+last_after (Ok None) last = last
+last_after (Err why) last = last
+
+-- the count of datagrams after a reception, modulo 2^64
 abbrev pub received_after : Result (Option (ℕ × ℕ)) ChannelFault → ℕ → ℕ
 received_after (Ok (Some _)) n = (n + 1) % 2 ^ 64
 received_after (Ok None) n = n

@@ -1,12 +1,12 @@
-//! Channels over UDP sockets: one socket for each channel, between the addresses that texts spell; none of them blocks.
+//! Channels over UDP: one non-blocking socket for each channel, between addresses that are given as texts.
 //!
-//! A crate apart from `channels`, so that no proof of an end reads of sockets.
+//! The crate is separate from `channels`, so that no proof of an end involves sockets.
 #![tactic(auto)]
 
+mod paths;
 mod sockets;
 mod udp;
 
-pub use sockets::{Reception, Socket, SocketChannels};
-pub use udp::{
-    Addresses, Place, Refusal, UdpChannels, UdpFault, UdpPath, Watch, is_address, open_udp,
-};
+pub use paths::{Addresses, UdpCalls, UdpPath};
+pub use sockets::{Failures, Reception, Socket, SocketChannel, SocketChannels};
+pub use udp::{Place, Refusal, UdpChannels, UdpFault, Watch, is_address, open_udp};

@@ -1,8 +1,9 @@
-//! Channels over one socket each. What a socket does stands in a trait of two calls, so a test can stand in for the system.
+//! Channels over one socket each. A socket is a trait of two calls, one call of the system each, so that a
+//! test can replace it. The calls themselves are trusted.
 
 ghost use Rattle.std.specs.Prelude.{◌≡◌, ◌+◌, ◌^◌, ◌<◌, ◌≤◌, ℕ, Bool, false, List, Err, length, is_ok, IfErr, IfOk, IfSome};
-ghost use Rattle.channels.specs.Told.{Sends, after_receive};
-ghost use Rattle.udp_channels.specs.Sockets.{Asks, Fits, SendsOn, fault_on, octets_of, received_after, told_of};
+ghost use Rattle.channels.specs.Told.{Sends, after_receive, answered};
+ghost use Rattle.udp_channels.specs.Sockets.{Asks, AsksAround, Fits, IsAsked, IsSent, SendsOn, failures_of, fault_on, last_after, new_channel, new_kept, octets_of, received_after, told_of, unless_failed};
 ghost use Rattle.channels.specs.declared.ChannelFault.TheVariants as channel_fault;
 ghost use Rattle.udp_channels.specs.declared.sockets.Reception.{Reception};
 
@@ -11,44 +12,121 @@ use stack_end::Listener;
 use std::alloc::{Allocator, Global};
 use std::marker::Model;
 
-/// What a socket answers when it is asked for a datagram.
+/// The result of asking a socket for a datagram.
 #[derive(Clone, Copy, Debug, PartialEq, Eq)]
 pub enum Reception {
-    /// A datagram came. So many octets of it stand in front of the buffer.
+    /// A datagram came. Its size is the number of bytes at the start of the buffer.
     Came(usize),
     /// None has come.
     Nothing,
-    /// The operating system refused.
+    /// The operating system refused the call.
     Refused,
 }
 
-/// The way of one channel to its peer. Over UDP each call is one call of the system, and nothing else.
+/// The connection of one channel to its peer. Over UDP, each call is one call of the system and nothing
+/// else.
 pub trait Socket {
-    /// A datagram was handed to it, whether it was taken, and how the socket is afterwards.
+    /// What a send does: the datagram, whether the socket accepted it, and the socket afterwards.
     ghost sends: { Self → List ℕ → Bool → Self → Type 0 };
 
-    /// It was asked for a datagram with room for so many octets, what it answered, the octets that came, and how it is afterwards.
+    /// What a reception does: the length of the buffer, the result, the bytes received, and the socket
+    /// afterwards.
     ghost receives: { Self → ℕ → Reception → List ℕ → Self → Type 0 };
 
-    /// Hands a datagram over, and answers whether it was taken.
+    /// Sends a datagram, and returns whether the socket accepted it.
     fn send(&mut self, datagram: &[u8]) -> bool
-        // What a socket does with a datagram, and whether it took it, is what its `sends` says.
+        // One call of `send` does to the socket what its `sends` says for this datagram and result.
         ensures { sends self.old datagram.now result self.new };
 
-    /// Writes the next datagram that came in front of the buffer, cut to its length. It never waits.
+    /// Copies the next received datagram to the start of the buffer, cut to the buffer's length. It never
+    /// waits.
     fn receive(&mut self, buffer: &mut [u8]) -> Reception
-        // What a socket answers when it is asked, and what came, is what its `receives` says.
+        // One call of `receive` does to the socket what its `receives` says for this buffer length, result
+        // and the bytes received.
         ensures gives { receives self.old (length buffer.old) result (octets_of result buffer.new) self.new }
-        // What came is no longer than the buffer.
+        // A datagram received has at most the length of the buffer.
         ensures fits { Fits result (length buffer.old) };
 }
 
-/// Channels over sockets: one for each, numbered from 1.
+/// How often the calls of one channel failed, modulo 2^64.
+#[derive(Clone, Copy, Debug, PartialEq, Eq)]
+pub struct Failures {
+    /// The sends that its socket did not accept.
+    pub sends: u64,
+    /// The receptions that its socket refused.
+    pub receives: u64,
+}
+
+/// One channel: its socket, and how often its calls failed.
+#[derive(Drop)]
+pub struct SocketChannel<S> {
+    /// The socket.
+    pub(crate) socket: S,
+    /// The counts.
+    failures: Failures,
+}
+
+impl<S> Model for SocketChannel<S> {
+    ghost use Rattle.udp_channels.specs.Sockets.{ChannelState};
+
+    ghost Value = { ChannelState S };
+
+    ghost view = { λ c. record { socket = c.socket; failures = c.failures } };
+}
+
+impl<S> SocketChannel<S> {
+    /// Returns a channel over this socket.
+    pub fn over(socket: S) -> Self
+        // A new channel has the given socket, and both counts are 0.
+        ensures { result ≡ new_channel socket }
+    {
+        SocketChannel {
+            socket,
+            failures: Failures {
+                sends: 0,
+                receives: 0,
+            },
+        }
+    }
+}
+
+impl<S: Socket> SocketChannel<S> {
+    /// Sends a datagram once. Returns whether the socket accepted it, and counts a failure.
+    fn send(&mut self, datagram: &[u8]) -> bool
+        // The socket makes one send of the datagram, and this channel counts a failure.
+        ensures { IsSent S.sends datagram.now result self.old self.new }
+    {
+        let went = self.socket.send(datagram);
+        if !went {
+            self.failures.sends = self.failures.sends.wrapping_add(1);
+        }
+        went
+    }
+
+    /// Asks the socket once for a datagram, and counts a refusal.
+    fn ask(&mut self, buffer: &mut [u8]) -> Reception
+        // The socket makes one reception, and this channel counts a refusal.
+        ensures asked { IsAsked S.receives (length buffer.old) result (octets_of result buffer.new) self.old self.new }
+        // What the socket gives has at most the length of the buffer.
+        ensures fits { Fits result (length buffer.old) }
+    {
+        let reception = self.socket.receive(buffer);
+        if matches!(reception, Reception::Refused) {
+            self.failures.receives = self.failures.receives.wrapping_add(1);
+        }
+        reception
+    }
+}
+
+/// Channels over sockets, numbered from 1. No receive buffer is requested: the system's buffer holds the
+/// datagrams.
 #[derive(Drop)]
 pub struct SocketChannels<S, A: Allocator = Global> {
-    /// The sockets, that of channel 1 first.
-    pub(crate) list: Vec<S, A>,
-    /// How many sendings have failed, modulo 2^64.
+    /// The channels, that of number 1 first.
+    pub(crate) list: Vec<SocketChannel<S>, A>,
+    /// The number of the channel that gave the last datagram, 0 before the first.
+    last: usize,
+    /// How many sends have failed, modulo 2^64.
     failed_sends: u64,
     /// How many receptions have failed, modulo 2^64.
     failed_receives: u64,
@@ -57,56 +135,82 @@ pub struct SocketChannels<S, A: Allocator = Global> {
 }
 
 impl<S, A: Allocator> Model for SocketChannels<S, A> {
+    ghost use Rattle.std.specs.Prelude.{◌≤◌, length};
     ghost use Rattle.udp_channels.specs.Sockets.{Kept};
 
     ghost Value = { Kept S };
 
     ghost view = { λ c. record {
-      sockets = c.list.items;
+      channels = c.list.items;
+      last = c.last;
       failed_sends = c.failed_sends;
       failed_receives = c.failed_receives;
       received = c.received;
     } };
+
+    ghost invariant = { λ c. c.last ≤ length c.list.items };
 }
 
 impl<S, A: Allocator> SocketChannels<S, A> {
-    /// Channels over these sockets, that of channel 1 first. Nothing has failed or come yet.
-    pub fn over(sockets: Vec<S, A>) -> Self
-        // Channels over sockets begin with the sockets that they are given, that of channel 1 first, and
-        // nothing counted.
-        ensures { result ≡ record { sockets = sockets.items; failed_sends = 0; failed_receives = 0; received = 0 } }
+    /// Combines channels, that of number 1 first, with all counts 0.
+    pub fn over(channels: Vec<SocketChannel<S>, A>) -> Self
+        // The channels are the ones given, in order; none has given a datagram, and all counts are 0.
+        ensures { result ≡ new_kept channels.items }
     {
         SocketChannels {
-            list: sockets,
+            list: channels,
+            last: 0,
             failed_sends: 0,
             failed_receives: 0,
             received: 0,
         }
     }
 
-    /// How many datagrams came, modulo 2^64. Where none came in a turn it is time to wait.
+    /// Returns how many datagrams were received, modulo 2^64. If none came in a turn, it is time to wait.
     pub fn received(&self) -> u64
-        // What came is counted, and only the system refuses a reception.
+        // The result is the count of datagrams received.
         ensures { result ≡ self.now.received }
     {
         self.received
+    }
+
+    /// Returns how often the calls of a channel failed, or `None` if there is no channel of this number. A
+    /// channel that fails keeps no other from being asked, so look here for it.
+    pub fn failures(&self, channel: usize) -> Option<Failures>
+        // The result is the counts of this very channel; `None` if and only if there is none of this number.
+        ensures { result ≡ failures_of channel self.now.channels }
+    {
+        if channel == 0 {
+            return None;
+        }
+        match self.list.get(channel - 1) {
+            Some(found) => Some(found.failures),
+            None => None,
+        }
     }
 }
 
 impl<S: Socket, A: Allocator> Channels for SocketChannels<S, A> {
     ghost told = { told_of };
 
-    /// Hands it to the channel's own socket, once.
+    /// Sends the datagram once on the channel's own socket.
+    ///
+    /// # Errors
+    ///
+    /// - `Room` if there is no such channel;
+    /// - `System` if the socket does not accept the datagram.
     fn send(&mut self, channel: usize, datagram: &[u8]) -> Result<(), ChannelFault>
-        // What channels over sockets tell of sendings and receptions is what the contract of `Channels` asks.
+        // As seen by the contract of `Channels`, `send` counts a failure and changes nothing else.
         ensures told { Sends (is_ok result) (told_of self.old) (channel, datagram.now) (told_of self.new) }
-        // A datagram is handed once to the socket of its own channel and to no other; it is told as sent
-        // exactly where that socket took it; for a channel that is not there nothing goes.
-        ensures sent { SendsOn S.sends channel datagram.now (is_ok result) self.old.sockets self.new.sockets }
-        // What came is counted, and only the system refuses a reception.
+        // The channel's own socket gets the datagram once, and this channel counts a failure. No other channel
+        // changes. `send` succeeds if and only if the socket accepts it; without such a channel nothing is sent.
+        ensures sent { SendsOn S.sends channel datagram.now (is_ok result) self.old.channels self.new.channels }
+        // `send` does not change which channel gave the last datagram.
+        ensures last { self.new.last ≡ self.old.last }
+        // `send` does not change the count of datagrams received.
         ensures received { self.new.received ≡ self.old.received }
-        // A sending is refused as Room exactly for a channel that is not there, else as System.
-        ensures fault { IfErr result (λ why. why ≡ fault_on channel self.old.sockets) }
+        // The fault is `Room` if there is no such channel, else `System`.
+        ensures fault { IfErr result (λ why. why ≡ fault_on channel self.old.channels) }
     {
         let result = tell(self.list.as_mut_slice(), channel, datagram);
         if result.is_err() {
@@ -115,22 +219,33 @@ impl<S: Socket, A: Allocator> Channels for SocketChannels<S, A> {
         result
     }
 
-    /// Asks one socket after the other, until one has a datagram or refuses.
+    /// Asks the channels in a circle, from the one after the channel that gave the last datagram on, until one
+    /// gives a datagram. A channel whose socket refuses counts that, and the next one is asked.
+    ///
+    /// So a channel that has a datagram gives it after at most one of each other channel.
+    ///
+    /// # Errors
+    ///
+    /// - `System` if every socket refuses.
     fn receive(&mut self, buffer: &mut [u8]) -> Result<Option<(usize, usize)>, ChannelFault>
-        // A datagram that came is no longer than the buffer.
+        // The size of a datagram that a socket gave is at most the length of the buffer.
         ensures fits { IfOk result (λ came. IfSome came (λ p. p.1 ≤ length buffer.new)) }
-        // What channels over sockets tell of receptions is what the contract of `Channels` asks.
+        // As seen by the contract of `Channels`, `receive` counts a failure and changes nothing else.
         ensures told { told_of self.new ≡ after_receive result buffer.new (told_of self.old) }
-        // Sockets are asked in their order, until one has a datagram, which is answered with its channel, or
-        // refuses; those behind it are not asked.
-        ensures asked { Asks S.receives (length buffer.old) 1 result buffer.new self.old.sockets self.new.sockets }
-        // What came is counted.
+        // The channels are asked in a circle, from the one after the channel that gave the last datagram on, until
+        // one gives a datagram, which is returned with its number. One that refuses counts it and stops nothing.
+        // `receive` fails if and only if all refuse.
+        ensures asked { AsksAround S.receives (length buffer.old) self.old.last (answered result buffer.new) self.old.channels self.new.channels }
+        // A channel that gave a datagram is the last one that did; otherwise that does not change.
+        ensures last { self.new.last ≡ last_after result self.old.last }
+        // The count of datagrams received grows by 1, modulo 2^64, if and only if a datagram is returned.
         ensures received { self.new.received ≡ received_after result self.old.received }
-        // Only the system refuses a reception.
+        // The only fault of `receive` is `System`.
         ensures fault { IfErr result (λ why. why ≡ channel_fault.System) }
     {
-        let result = ask(self.list.as_mut_slice(), 1, buffer);
-        if let Ok(Some(_)) = result {
+        let result = ask_around(self.list.as_mut_slice(), self.last, buffer);
+        if let Ok(Some((channel, _))) = result {
+            self.last = channel;
             self.received = self.received.wrapping_add(1);
         }
         if result.is_err() {
@@ -141,18 +256,25 @@ impl<S: Socket, A: Allocator> Channels for SocketChannels<S, A> {
 }
 
 impl<S: Socket, A: Allocator> Listener for SocketChannels<S, A> {
-    /// Nobody listens at a socket.
+    /// Returns false: nothing listens for notes here.
     fn hears_notes(&self) -> bool
-        // Channels over sockets want no notes.
+        // Channels over sockets receive no notes.
         ensures { result ≡ false }
     {
         false
     }
 }
 
-/// Hands a datagram to the socket of a channel.
-fn tell<S: Socket>(list: &mut [S], channel: usize, datagram: &[u8]) -> Result<(), ChannelFault>
+/// Sends a datagram on a channel.
+fn tell<S: Socket>(
+    list: &mut [SocketChannel<S>],
+    channel: usize,
+    datagram: &[u8],
+) -> Result<(), ChannelFault>
+    // The channel makes one send, and no other channel changes; `tell` succeeds if and only if its socket
+    // accepts the datagram.
     ensures sent { SendsOn S.sends channel datagram.now (is_ok result) list.old list.new }
+    // The fault of `tell` is `Room` if there is no such channel, else `System`.
     ensures fault { IfErr result (λ why. why ≡ fault_on channel list.old) }
 {
     if channel == 0 || channel > list.len() {
@@ -165,23 +287,67 @@ fn tell<S: Socket>(list: &mut [S], channel: usize, datagram: &[u8]) -> Result<()
     }
 }
 
-/// The first datagram of the channels in their order, if one has come; `first` is the number of the first channel.
+/// Asks the channels after the one of number `last`, then those up to it, until one gives a datagram.
+fn ask_around<S: Socket>(
+    list: &mut [SocketChannel<S>],
+    last: usize,
+    buffer: &mut [u8],
+) -> Result<Option<(usize, usize)>, ChannelFault>
+    requires last { last ≤ length list.old }
+    requires counted { length list.old + 1 < 2 ^ 64 }
+    // `ask_around` asks the channels in a circle, from the one after `last` on.
+    ensures asked { AsksAround S.receives (length buffer.old) last (answered result buffer.new) list.old list.new }
+    // The size that `ask_around` returns is at most the length of the buffer.
+    ensures fits { IfOk result (λ came. IfSome came (λ p. p.1 ≤ length buffer.new)) }
+    // The channel that `ask_around` returns is one of the list.
+    ensures within { IfOk result (λ came. IfSome came (λ p. p.0 ≤ length list.new)) }
+    // The only fault of `ask_around` is `System`.
+    ensures fault { IfErr result (λ why. why ≡ channel_fault.System) }
+{
+    let (earlier, later) = list.split_at_mut(last);
+    match ask(later, last + 1, buffer) {
+        Ok(Some(came)) => Ok(Some(came)),
+        Ok(None) => or_nothing(ask(earlier, 1, buffer)),
+        Err(_) => ask(earlier, 1, buffer),
+    }
+}
+
+/// Asks channels in order until one gives a datagram. `first` is the number of the first channel.
 fn ask<S: Socket>(
-    list: &mut [S],
+    list: &mut [SocketChannel<S>],
     first: usize,
     buffer: &mut [u8],
 ) -> Result<Option<(usize, usize)>, ChannelFault>
     requires { first + length list.old < 2 ^ 64 }
-    ensures asked { Asks S.receives (length buffer.old) first result buffer.new list.old list.new }
+    // `ask` asks the channels in order until one gives a datagram, which is returned with its number. One that
+    // refuses counts it and stops nothing. `ask` fails if and only if all refuse.
+    ensures asked { Asks S.receives (length buffer.old) first (answered result buffer.new) list.old list.new }
+    // The size that `ask` returns is at most the length of the buffer.
     ensures fits { IfOk result (λ came. IfSome came (λ p. p.1 ≤ length buffer.new)) }
+    // The channel that `ask` returns is one of the list.
+    ensures within { IfOk result (λ came. IfSome came (λ p. p.0 < first + length list.new)) }
+    // The only fault of `ask` is `System`.
     ensures fault { IfErr result (λ why. why ≡ channel_fault.System) }
 {
-    let Some((socket, others)) = list.split_first_mut() else {
-        return Ok(None);
+    let Some((next, others)) = list.split_first_mut() else {
+        return Err(ChannelFault::System);
     };
-    match socket.receive(buffer) {
+    match next.ask(buffer) {
         Reception::Came(size) => Ok(Some((first, size))),
-        Reception::Nothing => ask(others, first + 1, buffer),
-        Reception::Refused => Err(ChannelFault::System),
+        Reception::Nothing => or_nothing(ask(others, first + 1, buffer)),
+        Reception::Refused => ask(others, first + 1, buffer),
+    }
+}
+
+/// Returns the result of asking several channels, if one more of them had nothing.
+fn or_nothing(
+    others: Result<Option<(usize, usize)>, ChannelFault>,
+) -> Result<Option<(usize, usize)>, ChannelFault>
+    // The result is that of the others, but `None` if they fail.
+    ensures { result ≡ unless_failed others }
+{
+    match others {
+        Ok(came) => Ok(came),
+        Err(_) => Ok(None),
     }
 }

@@ -1,4 +1,4 @@
--- Each event of a field element keeps what its phase says of queue and judged telegrams.
+-- Each event of a field element keeps the facts of its phase on the queue and the judged telegrams.
 use Rattle.std.proofs.Common.{◌≡◌, ◌⊎◌, ℕ, Bool, true, false, not, cond, List, [], ◌∷◌, ◌++◌, length, Some, None, refl, sym, ap, ◌∙◌, arith, subst, ⊎_elim, inl, inr, nat_le}
 use Rattle.std.specs.Prelude.{is_none}
 use Rattle.std.proofs.lemmas.Bool.{false≢true, true≢false}
@@ -42,7 +42,7 @@ fe_past_more s queue js more past =
     (λ some. inr (⊎_elim (λ refuses. inl (refuses_more s queue js more refuses))
     (λ rest. inr (⊎_elim (λ accepts. inl (accepts_more s queue js more accepts)) (λ starts. inr (starts_more s queue js more starts)) rest)) some)) past
 
--- what a verdict leaves
+-- the state after a verdict
 abbrev pub FeThen : SessionState → List Tele → List Tele → Phase → Verdict → Type 0
 FeThen s queue js phase verdict = FeAt (base s) (phase_by phase verdict) (queue ++ sent_by s verdict) js
 
@@ -116,12 +116,12 @@ fe_by_row versions s queue js t verdict from (FeCommand p f e) at =
     subst (FeThen s queue (js ++ t ∷ []) s.phase) (sym e)
     (subst (λ x. FeAt (base s) x (queue ++ []) (js ++ t ∷ [])) (sym p) (fe_command (base s) queue js t (subst (λ x. FeAt (base s) x queue js) p at)))
 
--- what a field element decides on a telegram that is for it
+-- the decision of a field element on a telegram for it
 pub fe_row : (versions checksum : List ℕ) (s : SessionState) (t : Tele) → s.role ≡ Field versions checksum → FieldRow versions s.phase (form_of t.kind t.payload) (table s.role s.phase (form_of t.kind t.payload))
 fe_row versions checksum s t role =
     subst (λ r. FieldRow versions s.phase (form_of t.kind t.payload) (table r s.phase (form_of t.kind t.payload))) (sym role) (field_row versions s.phase (form_of t.kind t.payload))
 
--- in which phases it may put
+-- the phases in which it may put
 pub fe_may_put : (versions checksum : List ℕ) (phase : Phase) → may_put (Field versions checksum) phase ≡ true → (phase ≡ Initialising) ⊎ (phase ≡ Established)
 fe_may_put versions checksum Idle may = absurd (false≢true may)
 fe_may_put versions checksum Checking may = absurd (false≢true may)

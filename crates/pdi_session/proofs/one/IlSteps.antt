@@ -1,4 +1,4 @@
--- Each event of an interlocking keeps what its phase says of queue and judged telegrams.
+-- Each event of an interlocking keeps the facts of its phase on the queue and the judged telegrams.
 use Rattle.std.proofs.Common.{◌≡◌, ℕ, ◌==◌, Bool, true, false, not, cond, List, [], ◌∷◌, ◌++◌, length, Some, None, refl, sym, ap, ◌∙◌, arith, subst, ⊎_elim, inl, inr, suc, nat_le, nat_lt}
 use Rattle.std.specs.Prelude.{is_none}
 use Rattle.std.proofs.lemmas.Bool.{eqb-true, false≢true, true≢false}
@@ -32,7 +32,7 @@ by_bool P false p q = q refl
 one_completion : (t : Tele) → (t.kind == INITIALISATION_COMPLETED) ≡ false → completions (t ∷ []) ≡ 0
 one_completion t other = rw other refl
 
--- the kind of a telegram that says this
+-- the message type of a telegram with this form
 pub kind_said : (t : Tele) (n : Notice) → form_of t.kind t.payload ≡ Notifies n → t.kind ≡ kind_of n
 kind_said t n says = subst (FormKind t.kind) says (form_kind t.kind t.payload)
 
@@ -42,7 +42,7 @@ uncounted t n says other = one_completion t (ap (λ k. k == INITIALISATION_COMPL
 pub counted : (t : Tele) → form_of t.kind t.payload ≡ Notifies notice.InitialisationCompleted → completions (t ∷ []) ≡ 1
 counted t says = let is : (t.kind == INITIALISATION_COMPLETED) ≡ true = ap (λ k. k == INITIALISATION_COMPLETED) (kind_said t notice.InitialisationCompleted says) in rw is refl
 
--- a kind that is not reserved is not that of the end of the initialisation
+-- a message type that is not reserved is not that of the end of the initialisation
 pub unreserved : (kind : ℕ) → is_reserved kind ≡ false → (kind == INITIALISATION_COMPLETED) ≡ false
 unreserved kind free = by_bool (λ b. (kind == INITIALISATION_COMPLETED) ≡ b → b ≡ false) (kind == INITIALISATION_COMPLETED) (λ e same. absurd (true≢false (sym (ap is_reserved (eqb-true kind INITIALISATION_COMPLETED e)) ∙ free))) (λ e same. refl) refl
 
@@ -68,7 +68,7 @@ il_past_more : (version : ℕ) (s : SessionState) (queue js more : List Tele) �
 il_past_more version s queue js more past =
     ⊎_elim (λ none. inl (append-nil queue ∙ none)) (λ some. inr (⊎_elim (λ one. inl (append-nil queue ∙ one)) (λ asked. inr (asked_more version s queue js more asked)) some)) past
 
--- what a verdict leaves
+-- the state after a verdict
 abbrev pub IlThen : ℕ → SessionState → List Tele → List Tele → Phase → Verdict → Type 0
 IlThen version s queue js phase verdict = IlAt version (base s) (phase_by phase verdict) (queue ++ sent_by s verdict) js
 
@@ -102,7 +102,7 @@ il_equal version s queue js t says at =
       one = ap (λ xs. length (xs ++ t ∷ [])) at.1;
     }
 
--- an answer alone is no end of the initialisation
+-- a single reply is not the end of the initialisation
 told_open : (version : ℕ) (js : List Tele) → Told version js → length js ≡ 1 → completions js ≡ 0
 told_open version js told one = by told.others told.is
   where
@@ -167,14 +167,14 @@ il_by_row version s queue js t verdict (IlStatus p f e) at =
     subst (IlThen version s queue (js ++ t ∷ []) s.phase) (sym e)
     (subst (λ x. IlAt version (base s) x (queue ++ []) (js ++ t ∷ [])) (sym p) (il_status version (base s) queue js t f (subst (λ x. IlAt version (base s) x queue js) p at)))
 
--- the row of what an interlocking decides
+-- the row of an interlocking's decision
 pub il_row : (version : ℕ) (s : SessionState) (t : Tele) → s.role ≡ Interlocking version → InterlockingRow version s.phase (form_of t.kind t.payload) (judged s t)
 il_row version s t role =
     by_cond (InterlockingRow version s.phase (form_of t.kind t.payload)) (is_addressed s.addressing t) _ _
     (λ _. subst (λ r. InterlockingRow version s.phase (form_of t.kind t.payload) (table r s.phase (form_of t.kind t.payload))) (sym role) (interlocking_row version s.phase (form_of t.kind t.payload)))
     (λ _. IlOver detail.NotOfThisPair refl)
 
--- who may put
+-- the phases with puts
 pub open_by_tests : (a b c d : Bool) → is_none (cond (not a) (Some fault.NotEstablished) (cond b (Some fault.Full) (cond c (Some fault.ReservedType) (cond d (Some fault.TooLong) None)))) ≡ true → (a ≡ true) × (c ≡ false)
 open_by_tests true false false d none = (refl, refl)
 open_by_tests true false true d none = absurd (true≢false (sym none))

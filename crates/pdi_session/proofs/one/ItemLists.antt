@@ -1,4 +1,4 @@
--- What is taken, put in and added over every list of events.
+-- The telegrams taken, put and added over every list of events.
 use Rattle.std.proofs.Common.{◌≡◌, Bool, true, false, cond, List, [], ◌∷◌, ◌++◌, Option, Some, None, refl, sym, ap, ◌∙◌, subst, append_assoc}
 use Rattle.std.specs.Prelude.{is_none}
 use Rattle.std.proofs.lemmas.Bool.{false≢true, true≢false}
@@ -34,7 +34,7 @@ reserved-none : (xs : List Tele) → AreReserved xs → items_of xs ≡ []
 reserved-none [] all = refl
 reserved-none (x ∷ xs) all = rw all.0 (reserved-none xs all.1)
 
--- what an event adds is what it puts in, and else of the establishment
+-- an event adds the item that it puts, or telegrams of the establishment
 items-added : (e : Event) (s : SessionState) → items_of (added_by e s) ≡ put_by e s
 items-added Up s = reserved-none (added_by Up s) (own_law s).0
 items-added (Arrives t) s = reserved-none (added_by (Arrives t) s) ((own_law s).2 t)
@@ -52,7 +52,7 @@ PutIsQueue h = items_of h.queue ≡ h.put
 pub put_grows : (e : Event) (h : History) → PutIsQueue h → PutIsQueue (grown e h)
 put_grows e h is = items-append h.queue (added_by e h.state) ∙ ap (λ xs. xs ++ items_of (added_by e h.state)) is ∙ ap (λ xs. h.put ++ xs) (items-added e h.state)
 
--- what each event keeps, a list of events keeps
+-- a fact that each event keeps holds after a list of events
 pub along : (P : History → Type 0) → ((e : Event) (h : History) → P h → P (grown e h)) → (es : List Event) (h : History) → P h → P (grown_along es h)
 along P step [] h p = p
 along P step (e ∷ es) h p = along P step es (grown e h) (step e h p)
@@ -60,12 +60,12 @@ along P step (e ∷ es) h p = along P step es (grown e h) (step e h p)
 pub queue_law : QueueLaw
 queue_law addressing role es = along PutIsQueue put_grows es (begun addressing role) refl
 
--- what is taken is a beginning of what was judged, and all of it while the session is not over
+-- what is taken is a prefix of what was judged, and all of it while the session is not over
 pub record Taken (h : History) : Type 0 where
   pub front : IsBeginning h.taken (items_of h.judged)
   pub whole : is_ended h.state.phase ≡ false → h.taken ≡ items_of h.judged
 
--- what a telegram adds to both, by what is decided
+-- what a telegram adds to both lists, by the decision on it
 taken_whole : (t : Tele) (verdict : Verdict) → Outcome t verdict → (phase : Phase) → is_ended (phase_by phase verdict) ≡ false → taken_as t verdict ≡ items_of (t ∷ [])
 taken_whole t verdict (Closed why e) phase on = absurd (true≢false (sym (ap (λ v. is_ended (phase_by phase v)) e) ∙ on))
 taken_whole t verdict (Went n f next e) phase on = ap (taken_as t) e ∙ sym (rw (reserved_of t.kind t.payload n f) refl)
@@ -138,7 +138,7 @@ taken_front t h taken true over =
     let end = judged_over h.state t (is_over h.state.phase over) in
     rw end.1 (begins_more h.taken (items_of h.judged) (items_of (t ∷ [])) taken.front)
 
--- an event that hands nothing over
+-- an event without a telegram
 still : (e : Event) (h : History) → taken_by e h.state ≡ [] → handed_by e ≡ [] → Taken h → Taken (grown e h)
 still e h none silent taken =
     record {
@@ -159,7 +159,7 @@ taken_grows (Puts kind payload waits) h taken = still (Puts kind payload waits) 
 taken_grows (InitDone waits) h taken = still (InitDone waits) h refl refl taken
 taken_grows Closes h taken = still Closes h refl refl taken
 
--- the commands or status of a beginning are a beginning of the commands or status
+-- the commands or status of a prefix are a prefix of the commands or status
 pub items_begin : (xs ys : List Tele) → IsBeginning xs ys → IsBeginning (items_of xs) (items_of ys)
 items_begin xs ys b = (items_of b.0, sym (items-append xs b.0) ∙ ap items_of b.1)
 

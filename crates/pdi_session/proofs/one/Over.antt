@@ -1,4 +1,4 @@
--- A session is over by a telegram that ends it or by a closing alone, and one that has begun is never idle again.
+-- Only a telegram that ends it, or a closing, ends a session, and one that has begun is never Idle again.
 use Rattle.std.proofs.Common.{◌≡◌, ◌≢◌, ℕ, List, Option, Some, None, Bool, true, false, not, ◌&&◌, refl, sym, ap, ◌∙◌}
 use Rattle.std.specs.Prelude.{is_none}
 use Rattle.pdi_session.specs.telegram.Tele.{Tele}

@@ -1,4 +1,4 @@
--- A telegram that ends a session before Initialising ends one into which nothing was put.
+-- If a telegram ends a session before Initialising, the session has put nothing.
 use Rattle.std.proofs.Common.{◌≡◌, ℕ, true, false, List, [], ◌∷◌, ◌++◌, Option, Some, None, refl, sym, ap, ◌∙◌}
 use Rattle.std.specs.Prelude.{is_none}
 use Rattle.std.proofs.lemmas.Bool.{false≢true}
@@ -67,7 +67,7 @@ early_back (InitDone waits) s early =
     by_cond (λ p. is_early p ≡ true → is_early s.phase ≡ true) (is_none (init_refusal s waits)) _ _ (λ _ k. absurd (false≢true k)) (λ _ k. k) early
 early_back Closes s early = absurd (false≢true early)
 
--- nothing is put in where nothing may be
+-- nothing is put in a phase without puts
 early_shut : (role : Role) (phase : Phase) → is_early phase ≡ true → may_put role phase ≡ false
 early_shut (Interlocking version) Idle early = refl
 early_shut (Interlocking version) Checking early = refl
@@ -99,7 +99,7 @@ shut_puts (Puts kind payload waits) s shut = rw shut refl
 shut_puts (InitDone waits) s shut = refl
 shut_puts Closes s shut = refl
 
--- what every history keeps
+-- facts that every history keeps
 record Own (h : History) : Type 0 where
   early : is_early h.state.phase ≡ true → h.put ≡ []
   ended : (phase : Phase) → h.ended_in ≡ Some phase → is_early phase ≡ true → h.put ≡ []

@@ -1,4 +1,4 @@
--- What the queue of a session is over every list of events.
+-- The queue of a session over every list of events.
 use Rattle.std.proofs.Common.{◌≡◌, ◌≢◌, ℕ, true, cond, List, [], ◌∷◌, ◌++◌, refl, sym, ap, ◌∙◌, subst, ⊎_elim, inl, inr}
 use Rattle.std.specs.Prelude.{is_none}
 use Rattle.std.specs.List.{AllByRecursion}
@@ -37,7 +37,7 @@ established_is Initialising is = absurd (false≢true is)
 established_is Established is = refl
 established_is Ended is = absurd (false≢true is)
 
--- what an interlocking's history keeps
+-- facts that an interlocking's history keeps
 pub record IlWell (version : ℕ) (h : History) : Type 0 where
   pub role : h.state.role ≡ Interlocking version
   pub at : IlAt version (base h.state) h.state.phase h.queue h.judged
@@ -68,7 +68,7 @@ il_grows version e h well =
       items = put_grows e h well.items;
     }
 
--- where there are no items among commands, there is no command
+-- commands without items are an empty list
 no_items : (s : SessionState) (ts : List Tele) → AllByRecursion (IsItem s) ts → items_of ts ≡ [] → ts ≡ []
 no_items s [] each none = refl
 no_items s (t ∷ ts) each none = let some : item_of t ∷ items_of ts ≡ [] = rw each.0.0 at none in cc
@@ -92,7 +92,7 @@ interlocking_law addressing version es =
     let h : History = grown_along es (begun addressing (Interlocking version)) in
     il_queue version h well (il_past version (base h.state) h.state.phase h.queue h.judged well.at)
 
--- what a field element's history keeps
+-- facts that a field element's history keeps
 pub record FeWell (versions checksum : List ℕ) (h : History) : Type 0 where
   pub role : h.state.role ≡ Field versions checksum
   pub at : FeAt (base h.state) h.state.phase h.queue h.judged

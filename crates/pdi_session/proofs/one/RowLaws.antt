@@ -23,7 +23,7 @@ use Rattle.pdi_session.specs.Laws.{AreReserved, TakesLaw, GoesLaw, OwnLaw, PutLa
 use Rattle.pdi_session.proofs.one.TableLemmas.{by_cond}
 use Rattle.pdi_session.proofs.one.Rows.{InterlockingRow, IlOver, IlEqual, IlBegins, IlInitial, IlDone, IlStatus, FieldRow, FeOver, FeEqual, FeDiffers, FeAsked, FeCommand, interlocking_row, field_row, reserved_of, item_of_form, reserved_notice}
 
--- what a verdict on a telegram can be
+-- the possible verdicts on a telegram
 pub data Outcome (t : Tele) (verdict : Verdict) : Type 0 where
   Closed : (why : SessionDetail) → verdict ≡ Ends why → Outcome t verdict
   Went : (n : Notice) → form_of t.kind t.payload ≡ Notifies n → (next : Phase) → verdict ≡ Goes next → Outcome t verdict

@@ -18,7 +18,7 @@ use Rattle.pdi_session.specs.Telegrams.{form_of, is_reserved, check_form, answer
 use Rattle.pdi_session.specs.Tables.{interlocking_table, field_table}
 use Rattle.pdi_session.proofs.one.TableLemmas.{by_cond}
 
--- the rows of the interlocking: in which phase and on what each verdict is
+-- the rows of the interlocking: the phase and the form of each verdict
 pub data InterlockingRow (own : ℕ) (phase : Phase) (form : Form) (verdict : Verdict) : Type 0 where
   IlOver : (why : SessionDetail) → verdict ≡ Ends why → InterlockingRow own phase form verdict
   IlEqual : phase ≡ Checking → form ≡ Notifies (notice.VersionEqual own) → verdict ≡ Answers Requesting notice.InitialisationRequest → InterlockingRow own phase form verdict
@@ -106,7 +106,7 @@ field_row versions Established Item = FeCommand refl refl refl
 field_row versions Established OtherPayload = FeOver detail.OutOfOrder refl
 field_row versions Ended form = FeOver detail.OutOfOrder refl
 
--- what the kind is, by the form
+-- the message type, by the form
 abbrev pub FormKind : ℕ → Form → Type 0
 FormKind kind (Notifies n) = kind ≡ kind_of n
 FormKind kind Item = is_reserved kind ≡ false
@@ -147,10 +147,10 @@ reserved_notice notice.InitialisationRequest = refl
 reserved_notice notice.StartInitialisation = refl
 reserved_notice notice.InitialisationCompleted = refl
 
--- a telegram that says something of the establishment has such a kind
+-- a telegram with a notice has a message type of the establishment
 pub reserved_of : (kind : ℕ) (payload : List ℕ) (n : Notice) → form_of kind payload ≡ Notifies n → is_reserved kind ≡ true
 reserved_of kind payload n e = ap is_reserved (subst (FormKind kind) e (form_kind kind payload)) ∙ reserved_notice n
 
--- a command or status has none
+-- a command or status does not
 pub item_of_form : (kind : ℕ) (payload : List ℕ) → form_of kind payload ≡ Item → is_reserved kind ≡ false
 item_of_form kind payload e = subst (FormKind kind) e (form_kind kind payload)

@@ -1,4 +1,4 @@
--- What the queue of a session and the telegrams it judged look like in each phase.
+-- The form of a session's queue and of its judged telegrams in each phase.
 use Rattle.std.proofs.Common.{◌≡◌, ◌≢◌, ◌⊎◌, ℕ, ◌+◌, ◌≤◌, ◌==◌, true, cond, List, [], ◌∷◌, ◌++◌, length, arith, inl, inr}
 use Rattle.std.specs.List.{AllByRecursion}
 use Rattle.pdi_session.specs.telegram.Tele.{Tele}
@@ -12,7 +12,7 @@ use Rattle.pdi_session.specs.SessionStep.{SessionState, notice_tele, with_phase}
 use Rattle.pdi_session.specs.Laws.{IsItem, IsStatus, completions}
 use Rattle.pdi_session.proofs.one.TableLemmas.{by_cond}
 
--- a session but for its phase
+-- a session without its phase
 abbrev pub base : SessionState → SessionState
 base s = with_phase Idle s
 
@@ -23,14 +23,14 @@ check_from version s = notice_tele s (notice.VersionCheck version)
 abbrev pub request_from : SessionState → Tele
 request_from s = notice_tele s notice.InitialisationRequest
 
--- it has judged this answer first
+-- it has judged this reply first
 pub record Told (version : ℕ) (judged : List Tele) : Type 0 where
   pub first : Tele
   pub others : List Tele
   pub is : judged ≡ first ∷ others
   pub says : form_of first.kind first.payload ≡ Notifies (notice.VersionEqual version)
 
--- it has asked, and then sent commands, some of them only after the end of the initialisation
+-- it has sent its request and then commands; there are commands only after the end of the initialisation
 pub record Asked (version : ℕ) (s : SessionState) (queue judged : List Tele) : Type 0 where
   pub commands : List Tele
   pub is : queue ≡ check_from version s ∷ request_from s ∷ commands
@@ -38,7 +38,7 @@ pub record Asked (version : ℕ) (s : SessionState) (queue judged : List Tele) :
   pub told : Told version judged
   pub late : commands ≢ [] → (2 ≤ length judged) × (1 ≤ completions judged)
 
--- whatever the phase is
+-- in any phase
 abbrev pub IlPast : ℕ → SessionState → List Tele → List Tele → Type 0
 IlPast version s queue judged = (queue ≡ []) ⊎ ((queue ≡ check_from version s ∷ []) ⊎ Asked version s queue judged)
 
@@ -127,7 +127,7 @@ FeAt s Established queue judged = FeEstablished s queue judged
 FeAt s Ended queue judged = FePast s queue judged
 FeAt s phase queue judged = ⊥
 
--- a phase's facts hold whatever comes
+-- the facts of a phase hold after any event
 pub il_past : (version : ℕ) (s : SessionState) (phase : Phase) (queue judged : List Tele) → IlAt version s phase queue judged → IlPast version s queue judged
 il_past version s Idle queue judged at = inl at.0
 il_past version s Checking queue judged at = inr (inl at.0)
@@ -161,7 +161,7 @@ pub All-append : {X : Type 0} (P : X → Type 0) (xs ys : List X) → AllByRecur
 All-append P [] ys a b = b
 All-append P (x ∷ xs) ys a b = (a.0, All-append P xs ys a.1 b)
 
--- the telegram behind a beginning has what all have
+-- the telegram after a prefix has the property of all
 pub All-next : {X : Type 0} (P : X → Type 0) (xs : List X) (x : X) (ys : List X) → AllByRecursion P (xs ++ x ∷ ys) → P x
 All-next P [] x ys all = all.0
 All-next P (z ∷ xs) x ys all = All-next P xs x ys all.1

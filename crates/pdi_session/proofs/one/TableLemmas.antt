@@ -26,7 +26,7 @@ abbrev pub sends : Verdict → ℕ
 sends (Answers next n) = 1
 sends verdict = 0
 
--- what waits at most and what is sent is what waits at most in the next phase
+-- the bound on waiting messages and what is sent are within the bound of the next phase
 abbrev pub Fits : Phase → Verdict → Type 0
 Fits phase verdict = most_waiting phase + sends verdict ≤ most_waiting (phase_by phase verdict)
 
@@ -106,7 +106,7 @@ table_fits : (role : Role) (phase : Phase) (form : Form) → Fits phase (table r
 table_fits (Interlocking version) phase form = interlocking_fits version phase form
 table_fits (Field versions checksum) phase form = field_fits versions phase form
 
--- so it is of whatever is decided on a telegram
+-- so it is for any decision on a telegram
 pub judged_fits : (s : SessionState) (t : Tele) → Fits s.phase (judged s t)
 judged_fits s t = by_cond (Fits s.phase) (is_addressed s.addressing t) _ _ (λ _. table_fits s.role s.phase (form_of t.kind t.payload)) (λ _. most s.phase)
 
@@ -116,7 +116,7 @@ length-sent s (Goes next) = refl
 length-sent s (Answers next n) = refl
 length-sent s (Ends why) = refl
 
--- and few messages still wait
+-- and the bound on waiting messages still holds
 pub few_judged : (s : SessionState) (t : Tele) (waiting : List (List ℕ)) → FewWait s waiting → FewWait (with_phase (phase_by s.phase (judged s t)) s) (waiting ++ texts (sent_by s (judged s t)))
 few_judged s t waiting few =
     omega (arith, few, judged_fits s t, length-sent s (judged s t), length-append waiting (texts (sent_by s (judged s t))))

@@ -1,4 +1,4 @@
--- Two sessions that run and have judged all of one another's queue are in step.
+-- Two sessions that run and have judged all of each other's queue are in step.
 use Rattle.std.proofs.Common.{◌≡◌, ◌≢◌, ◌⊎◌, ℕ, ◌≤◌, true, false, cond, List, [], ◌∷◌, ◌++◌, length, refl, sym, ap, subst, ◌∙◌, arith, ⊎_elim, inl, inr}
 use Rattle.std.specs.Prelude.{is_none}
 use Rattle.std.proofs.lemmas.Bool.{false≢true, true≢false}
@@ -20,7 +20,7 @@ use Rattle.pdi_session.proofs.one.Queues.{established_is, was-last}
 use Rattle.pdi_session.proofs.one.IlSteps.{by_bool}
 use Rattle.pdi_session.proofs.two.JointSteps.{Both, both_after}
 
--- how a field element comes to Established
+-- the way of a field element to Established
 comes_row : (versions : List ℕ) (phase : Phase) (form : Form) (v : Verdict) → FieldRow versions phase form v → phase_by phase v ≡ Established → phase ≡ Established
 comes_row versions phase form v (FeOver why e) is = let x : Ended ≡ Established = sym (ap (phase_by phase) e) ∙ is in cc
 comes_row versions phase form v (FeEqual version p f e) is = let x : AwaitRequest ≡ Established = sym (ap (phase_by phase) e) ∙ is in cc
@@ -56,7 +56,7 @@ was-split [] p h = inr (established_is p (by_bool (λ b. cond b true false ≡ t
 was-split (x ∷ xs) p h =
     by_bool (λ b. cond b true (was_established (xs ++ p ∷ [])) ≡ true → (cond b true (was_established xs) ≡ true) ⊎ (p ≡ Established)) (is_established x) (λ _ _. inl refl) (λ _ k. was-split xs p k) h
 
--- a field element that was established has said so
+-- a field element that was Established has sent the end of the initialisation
 record Said (y : History) : Type 0 where
   now : is_established y.state.phase ≡ true → was_established y.phases ≡ true
   some : was_established y.phases ≡ true → 1 ≤ completions y.queue
@@ -78,7 +78,7 @@ said_along versions checksum [] j role h = h
 said_along versions checksum (AtIl e ∷ es) j role h = said_along versions checksum es (happens (AtIl e) j) role h
 said_along versions checksum (AtFe e ∷ es) j role h = said_along versions checksum es (happens (AtFe e) j) role (said_grows versions checksum e j.fe role h)
 
--- the phases of both, by how many telegrams each has sent and judged
+-- the phases of both, by the numbers of telegrams sent and judged
 module _ (version : ℕ) (x y : History) (said : Said y) (il-all : x.judged ≡ y.queue) (fe-all : y.judged ≡ x.queue) where
   len-il : length x.judged ≡ length y.queue
   len-il = ap length il-all

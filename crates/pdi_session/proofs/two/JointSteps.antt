@@ -1,4 +1,4 @@
--- Two sessions keep what the tables say of both, whatever happens in turn: the phase law.
+-- Two sessions keep the facts of the tables on both over all events in turn: the phase law.
 use Rattle.std.proofs.Common.{◌≡◌, ◌⊎◌, ℕ, ◌≤◌, Bool, true, false, not, ◌&&◌, cond, List, [], ◌∷◌, ◌++◌, length, get_or, Option, Some, None, refl, sym, ap, ◌∙◌, arith, subst, ⊎_elim, inl, inr}
 use Rattle.std.specs.Prelude.{is_none, unwrap_or}
 use Rattle.std.proofs.lemmas.Bool.{false≢true, true≢false}
@@ -52,7 +52,7 @@ pub quiet_field : (versions checksum : List ℕ) (e : Event) (s : SessionState) 
 quiet_field versions checksum e s role phase =
     quiet_adds e s (subst (λ r. Quiet r s.phase) (sym role) (quiet_phase versions checksum s.phase phase))
 
--- an answer of equal versions is no refusal
+-- a reply of equal versions is not a refusal
 pub not_both : (a b : ℕ) (s : SessionState) (checksum : List ℕ) (more : List Tele) → equal_from a s ∷ more ≡ differs_from b s ∷ [] → ⊥
 not_both a b s checksum more e =
     let octet : 2 ≡ 1 = ap (λ l. get_or (get_or l 0 (equal_from a s)).payload 0 0) e in
@@ -70,7 +70,7 @@ refused_phase s Initialising queue js version at is = let e = ap length (sym at.
 refused_phase s Established queue js version at is = let e = ap length (sym at.starts.is ∙ is) in absurd (omega (arith, e))
 refused_phase s Ended queue js version at is = inr refl
 
--- what both keep
+-- facts that both keep
 pub record Both (version : ℕ) (versions checksum : List ℕ) (x y : History) : Type 0 where
   pub joint : Joint version versions checksum x y
   pub il_items : PutIsQueue x
@@ -81,7 +81,7 @@ pub record Both (version : ℕ) (versions checksum : List ℕ) (x y : History) :
   pub fe_ended : (phase : Phase) → y.ended_in ≡ Some phase → (is_early phase ≡ true) × (y.queue ≡ [])
   pub fe_over : (phase : Phase) → y.ended_in ≡ Some phase → y.state.phase ≡ Ended
 
--- what is handed over is a beginning still
+-- the telegrams received are still a prefix
 next_begins : (e : Event) (h peer : History) → IsNext e h peer → IsBeginning h.judged peer.queue → IsBeginning (h.judged ++ handed_by e) peer.queue
 next_begins Up h peer next begins = subst (λ l. IsBeginning l peer.queue) (sym (append-nil h.judged)) begins
 next_begins (Arrives t) h peer next begins = next.1
@@ -89,7 +89,7 @@ next_begins (Puts kind payload waits) h peer next begins = subst (λ l. IsBeginn
 next_begins (InitDone waits) h peer next begins = subst (λ l. IsBeginning l peer.queue) (sym (append-nil h.judged)) begins
 next_begins Closes h peer next begins = subst (λ l. IsBeginning l peer.queue) (sym (append-nil h.judged)) begins
 
--- what ends a session, by whether this event did
+-- the phase in which a session ended, by whether this event ended it
 pub ended_by : (P : Phase → Type 0) (e : Event) (h : History) → ((t : Tele) → e ≡ Arrives t → Fails h t → P h.state.phase) → ((phase : Phase) → h.ended_in ≡ Some phase → P phase)
     → (phase : Phase) → (grown e h).ended_in ≡ Some phase → P phase
 ended_by P Up h new old phase is = old phase is
@@ -190,7 +190,7 @@ both_along version versions checksum (AtIl e ∷ es) j turn b =
 both_along version versions checksum (AtFe e ∷ es) j turn b =
     both_along version versions checksum es (happens (AtFe e) j) turn.1 (fe_event version versions checksum e j.il j.fe turn.0 b)
 
--- a field element that has sent nothing has let no command be put in
+-- while a field element has sent nothing, its peer has put no command
 nothing_put : (version : ℕ) (versions checksum : List ℕ) (x y : History) → Both version versions checksum x y → y.queue ≡ [] → x.put ≡ []
 nothing_put version versions checksum x y b none =
     let j : Joint version versions checksum x y = b.joint in
@@ -233,7 +233,7 @@ both_after il fe version versions checksum short es turn =
 pub phase_law : PhaseLaw
 phase_law il fe version versions checksum short es turn = ends_early version versions checksum _ _ (both_after il fe version versions checksum short es turn)
 
--- what is taken is a beginning of what the peer has put in
+-- what is taken is a prefix of what the peer has put
 takes_front : (h peer : History) → Taken h → IsBeginning h.judged peer.queue → PutIsQueue peer → IsBeginning h.taken peer.put
 takes_front h peer taken hears items =
     subst (IsBeginning h.taken) items (begins_through h.taken (items_of h.judged) (items_of peer.queue) taken.front (items_begin h.judged peer.queue hears))
@@ -244,7 +244,7 @@ fronts_law il fe version versions checksum short es turn =
     let b : Both version versions checksum end.il end.fe = both_after il fe version versions checksum short es turn in
     (takes_front end.il end.fe b.il_taken b.joint.il_hears b.fe_items, takes_front end.fe end.il b.fe_taken b.joint.fe_hears b.il_items)
 
--- one event more, at the end
+-- one more event, at the end
 grown_more : (es : List Event) (e : Event) (h : History) → grown_along (es ++ e ∷ []) h ≡ grown e (grown_along es h)
 grown_more [] e h = refl
 grown_more (x ∷ es) e h = grown_more es e (grown x h)

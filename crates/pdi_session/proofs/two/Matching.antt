@@ -1,4 +1,4 @@
--- Two sessions whose settings fit: no telegram ends either, but one that comes before the connection is up.
+-- Two sessions with matching settings: no telegram ends either, except one that arrives before the connection is up.
 use Rattle.std.proofs.Common.{◌≡◌, ◌⊎◌, ℕ, ◌==◌, true, List, [], ◌∷◌, ◌++◌, length, Option, Some, None, refl, sym, ap, subst, ◌∙◌, arith, ⊎_elim, inl, inr}
 use Rattle.std.specs.Prelude.{is_none}
 use Rattle.std.specs.List.{list_any}
@@ -21,14 +21,14 @@ use Rattle.pdi_session.proofs.two.PhaseLemma.{Crossed, Joint, decides, first_sam
 use Rattle.pdi_session.proofs.two.PhaseFails.{Fails, fe_fails}
 use Rattle.pdi_session.proofs.two.JointSteps.{Both, Quiet, both_joined, ended_by, fe_event, il_event, not_both, quiet_adds, quiet_field}
 
--- what two whose settings fit keep
+-- facts that two sessions with matching settings keep
 record Fit (version : ℕ) (versions : List ℕ) (x y : History) : Type 0 where
   crossed : Crossed x.state.addressing y.state.addressing
   version_is : list_any (λ v. v == version) versions ≡ true
   equal : (v : ℕ) → y.queue ≡ differs_from v (base y.state) ∷ [] → ⊥
   idle : (phase : Phase) → y.ended_in ≡ Some phase → phase ≡ Idle
 
--- the check is answered by its version
+-- the reply to the check has its version
 answers : (version : ℕ) (versions checksum : List ℕ) (x y : History) (t : Tele) → Both version versions checksum x y → Fit version versions x y → y.state.phase ≡ AwaitCheck → y.judged ≡ []
     → IsBeginning (y.judged ++ t ∷ []) x.queue → judged y.state t ≡ Answers AwaitRequest (notice.VersionEqual version)
 answers version versions checksum x y t b f phase none begins =
@@ -48,7 +48,7 @@ answers version versions checksum x y t b f phase none begins =
 idle_quiet : (versions checksum : List ℕ) → Quiet (Field versions checksum) Idle
 idle_quiet versions checksum = record { up = (AwaitCheck, refl); judges = λ form. refl; puts = refl; done = refl }
 
--- what is added to an empty queue is no refusal
+-- a telegram added to an empty queue is not a refusal
 no_refusal : (version : ℕ) (versions checksum : List ℕ) (e : Event) (x y : History) → IsNext e y x → Both version versions checksum x y → Fit version versions x y → (phase : Phase) → y.state.phase ≡ phase
     → FeAt (base y.state) phase y.queue y.judged → y.queue ≡ [] → (v : ℕ) → added_by e y.state ≡ differs_from v (base y.state) ∷ [] → ⊥
 no_refusal version versions checksum e x y next b f Idle p at none v added =
@@ -83,7 +83,7 @@ one_of [] added d e = inr (refl, e)
 one_of (q ∷ []) added d e = let same : q ≡ d = cc in inl (ap (λ z. z ∷ []) same)
 one_of (q ∷ r ∷ queue) added d e = absurd (let l = ap length e in omega (arith, l))
 
--- it fails while idle alone
+-- it fails only while Idle
 fails_idle : (version : ℕ) (versions checksum : List ℕ) (x y : History) (t : Tele) → Both version versions checksum x y → Fit version versions x y → IsNext (Arrives t) y x → (phase : Phase) → y.state.phase ≡ phase
     → FeAt (base y.state) phase y.queue y.judged → (is_early phase ≡ true) × (y.queue ≡ []) → Fails y t → phase ≡ Idle
 fails_idle version versions checksum x y t b f next Idle p at early fails = refl

@@ -1,4 +1,4 @@
--- In which phases a telegram of the peer's queue can end a session.
+-- The phases in which a telegram of the peer's queue can end a session.
 use Rattle.std.proofs.Common.{◌≡◌, ◌⊎◌, ℕ, suc, ◌≤◌, ◌==◌, true, false, List, [], ◌∷◌, ◌++◌, length, refl, sym, ap, ◌∙◌, arith, subst, ⊎_elim, inl, inr}
 use Rattle.std.specs.Prelude.{is_none}
 use Rattle.std.proofs.lemmas.Bool.{eq-eqb, true≢false}
@@ -28,12 +28,12 @@ Fails h t = is_none (end_of (judged h.state t)) ≡ false
 abbrev pub IlFailed : Phase → History → Type 0
 IlFailed phase y = (is_early phase ≡ true) × ((version : ℕ) × (y.queue ≡ differs_from version (base y.state) ∷ []))
 
--- nothing is behind the end of a queue
+-- nothing follows the end of a queue
 too_long : (js rest queue : List Tele) (t : Tele) (n : ℕ) → (js ++ t ∷ []) ++ rest ≡ queue → length queue ≡ n → n ≤ length js → ⊥
 too_long js rest queue t n e long short =
     let l = ap length e in omega (arith, l, long, short, length-append (js ++ t ∷ []) rest, length-append js (t ∷ []))
 
--- something was judged, so there is a queue that it was of
+-- something was judged, so the peer's queue is not empty
 heard_some : (asked : ℕ) (s : SessionState) (js queue : List Tele) → Heard asked s js → IsBeginning js queue → queue ≡ [] → ⊥
 heard_some asked s js queue heard begins none =
     let nothing : js ≡ [] = none_begins js (subst (IsBeginning js) none begins) in
@@ -41,7 +41,7 @@ heard_some asked s js queue heard begins none =
     omega (arith, long)
 
 module _ (version : ℕ) (versions checksum : List ℕ) (x y : History) (t : Tele) (rest : List Tele) (j : Joint version versions checksum x y) where
-  -- the interlocking goes on at an answer of equal versions
+  -- the interlocking goes on at a reply of equal versions
   equal_goes : (asked : ℕ) → Heard asked (base y.state) y.judged → x.state.phase ≡ Checking → t ≡ equal_from asked (base y.state) → is_none (end_of (judged x.state t)) ≡ true
   equal_goes asked heard phase is =
       let m = met version versions checksum x y asked j heard in
@@ -75,7 +75,7 @@ module _ (version : ℕ) (versions checksum : List ℕ) (x y : History) (t : Tel
       let says : form_of t.kind t.payload ≡ Notifies notice.InitialisationCompleted = ap (λ u. form_of u.kind u.payload) is in
       goes_on x.state t (Goes Established) (decides x.state t (Interlocking version) Initialising (Notifies notice.InitialisationCompleted) j.il_role phase from says) refl
 
-  -- so it fails in Checking alone, and only at a refusal
+  -- so it fails only in Checking, and only at a refusal
   pub il_fails : (phase : Phase) → x.state.phase ≡ phase → IlAt version (base x.state) phase x.queue x.judged → FePast (base y.state) y.queue y.judged → (x.judged ++ t ∷ []) ++ rest ≡ y.queue → is_ended phase ≡ false
       → Fails x t → IlFailed phase y
   il_fails phase p at past next unfinished fails =
@@ -161,7 +161,7 @@ module _ (version : ℕ) (versions checksum : List ℕ) (x y : History) (t : Tel
       against : is_none (end_of (judged y.state t)) ≡ true → ⊥
       against goes = true≢false (sym goes ∙ fails)
 
-      -- two telegrams are there, so it was asked
+      -- there are two telegrams, so it was requested
       asked : 1 ≤ length y.judged → Asked version (base x.state) x.queue x.judged
       asked some =
           ⊎_elim (λ none. absurd (too_long y.judged rest x.queue t 0 next (ap length none) (omega arith)))

@@ -1,4 +1,4 @@
--- Of two sessions that are handed one another's queues, none ends by a telegram once its peer has put something in.
+-- Of two sessions that receive each other's queues, a telegram ends neither once its peer has put something.
 use Rattle.std.proofs.Common.{◌≡◌, ℕ, suc, ◌≤◌, ◌==◌, Bool, true, false, ◌&&◌, List, [], ◌∷◌, ◌++◌, length, drop, get_or, refl, sym, ap, ◌∙◌, arith, subst, ⊎_elim, append_assoc, nat_le}
 use Rattle.std.specs.Prelude.{is_none}
 use Rattle.std.specs.Str.{bytes_eq}
@@ -21,7 +21,7 @@ use Rattle.pdi_session.specs.Histories.{History}
 use Rattle.pdi_session.proofs.one.Rows.{FormKind, form_kind, reserved_notice}
 use Rattle.pdi_session.proofs.one.Shapes.{All-next, FeAt, Heard, IlAt, IlPast, base, check_from, equal_from, il_past, request_from}
 
--- the settings of two ends fit one another
+-- the settings of two ends match
 pub record Crossed (a b : Addressing) : Type 0 where
   pub protocol : a.protocol ≡ b.protocol
   pub own : a.own ≡ b.peer
@@ -42,7 +42,7 @@ crossed_of a b kind payload is =
       peer = (bytes_eq-Decides a.peer b.own).0 parts.2;
     }
 
--- so each takes the other's telegrams as its peer's
+-- so each accepts the other's telegrams as those of its peer
 pub to_field : (a b : Addressing) (kind : ℕ) (payload : List ℕ) → Crossed a b → is_addressed b (telegram a kind payload) ≡ true
 to_field a b kind payload c =
     let p : (a.protocol == b.protocol) ≡ true = eq-eqb a.protocol b.protocol c.protocol in
@@ -53,7 +53,7 @@ to_field a b kind payload c =
 pub to_interlocking : (a b : Addressing) (kind : ℕ) (payload : List ℕ) → Crossed a b → is_addressed a (telegram b kind payload) ≡ true
 to_interlocking a b kind payload c = to_field b a kind payload (record { protocol = sym c.protocol; own = sym c.peer; peer = sym c.own })
 
--- what is decided on a telegram that is for this end and has this form
+-- the decision on a telegram for this end with this form
 pub decides : (s : SessionState) (t : Tele) (role : Role) (phase : Phase) (form : Form) → s.role ≡ role → s.phase ≡ phase → is_addressed s.addressing t ≡ true → form_of t.kind t.payload ≡ form
     → judged s t ≡ table role phase form
 decides s t role phase form r p from says = rw from (ap (λ x. table x s.phase (form_of t.kind t.payload)) r ∙ ap (λ x. table role x (form_of t.kind t.payload)) p ∙ ap (table role phase) says)
@@ -61,7 +61,7 @@ decides s t role phase form r p from says = rw from (ap (λ x. table x s.phase (
 pub goes_on : (s : SessionState) (t : Tele) (verdict : Verdict) → judged s t ≡ verdict → is_none (end_of verdict) ≡ true → is_none (end_of (judged s t)) ≡ true
 goes_on s t verdict e is = ap (λ v. is_none (end_of v)) e ∙ is
 
--- the form of a kind that is not reserved
+-- the form of a message type that is not reserved
 pub free_form : (kind : ℕ) (payload : List ℕ) → is_reserved kind ≡ false → form_of kind payload ≡ Item
 free_form kind payload free = by (form_of kind payload) (form_kind kind payload)
   where
@@ -70,7 +70,7 @@ free_form kind payload free = by (form_of kind payload) (form_kind kind payload)
     by Item is = refl
     by OtherPayload is = absurd (true≢false (sym is ∙ free))
 
--- beginnings
+-- prefixes
 pub none_begins : {X : Type 0} (xs : List X) → IsBeginning xs [] → xs ≡ []
 none_begins [] b = refl
 none_begins (x ∷ xs) b = let long : suc (length (xs ++ b.0)) ≡ 0 = ap length b.1 in absurd (omega (arith, long))
@@ -81,13 +81,13 @@ begins_longer xs ys zs b = (b.0 ++ zs, sym (append_assoc xs b.0 zs) ∙ ap (λ l
 pub first_same : (a b : Tele) (xs ys : List Tele) → a ∷ xs ≡ b ∷ ys → a ≡ b
 first_same a b xs ys e = ap (λ l. get_or l 0 a) e
 
--- the telegram behind one
+-- the telegram after one
 pub second_is : (js : List Tele) (t p q : Tele) (rest qs : List Tele) → length js ≡ 1 → (js ++ t ∷ []) ++ rest ≡ p ∷ q ∷ qs → t ≡ q
 second_is [] t p q rest qs one e = absurd (omega (arith, one))
 second_is (a ∷ []) t p q rest qs one e = ap (λ l. get_or l 1 t) e
 second_is (a ∷ b ∷ js) t p q rest qs one e = absurd (omega (arith, one))
 
--- the telegram behind two or more has what all behind two have
+-- the telegram after two or more has the property of all after two
 pub later_has : (P : Tele → Type 0) (js : List Tele) (t p q : Tele) (rest qs : List Tele) → 2 ≤ length js → (js ++ t ∷ []) ++ rest ≡ p ∷ q ∷ qs → AllByRecursion P qs → P t
 later_has P [] t p q rest qs two e all = absurd (omega (arith, two))
 later_has P (a ∷ []) t p q rest qs two e all = absurd (omega (arith, two))
@@ -95,7 +95,7 @@ later_has P (a ∷ b ∷ js) t p q rest qs two e all =
     let same : (js ++ t ∷ []) ++ rest ≡ qs = ap (drop 2) e in
     All-next P js t rest (subst (AllByRecursion P) (sym same ∙ append_assoc js (t ∷ []) rest) all)
 
--- an answer of equal versions is read as one
+-- a reply of equal versions is read as one
 pub equal_says : (version : ℕ) (checksum : List ℕ) (s : SessionState) (versions : List ℕ) → s.role ≡ Field versions checksum → length checksum ≤ CHECKSUM_MAX
     → form_of (equal_from version s).kind (equal_from version s).payload ≡ Notifies (notice.VersionEqual version)
 equal_says version checksum s versions role short =
@@ -114,7 +114,7 @@ abbrev pub is_equal : Form → Bool
 is_equal (Notifies (notice.VersionEqual version)) = true
 is_equal form = false
 
--- what two sessions have gone through, with all that the tables say of it
+-- the histories of two sessions, with the facts of the tables on both
 pub record Joint (version : ℕ) (versions checksum : List ℕ) (x y : History) : Type 0 where
   pub il_role : x.state.role ≡ Interlocking version
   pub fe_role : y.state.role ≡ Field versions checksum
@@ -124,7 +124,7 @@ pub record Joint (version : ℕ) (versions checksum : List ℕ) (x y : History) 
   pub il_hears : IsBeginning x.judged y.queue
   pub fe_hears : IsBeginning y.judged x.queue
 
--- what a field element has judged first is the interlocking's version
+-- the first telegram that a field element has judged has the interlocking's version
 pub checked : (version : ℕ) (s : SessionState) (queue js : List Tele) (first : Tele) (others : List Tele) → IlPast version s queue js → IsBeginning (first ∷ others) queue → first ≡ check_from version s
 checked version s queue js first others past begins =
     ⊎_elim (λ none. absurd (nothing (subst (IsBeginning (first ∷ others)) none begins)))

@@ -1,26 +1,27 @@
--- Names of a telegram (session layer; the characters and the filling are the profile's, docs/PROFILE.md).
+-- The names in a telegram (session layer; characters and filling are the profile's, docs/protocol.md).
 use Rattle.std.specs.Prelude.{◌≡◌, ◌==◌, ◌<◌, ◌≤◌, ℕ, ◌-◌, Bool, true, ◌&&◌, not, nat_lt, nat_le, if◌then◌else◌, List, ◌++◌, length, replicate, Result, Ok, Err}
 use Rattle.std.specs.List.{list_all}
 use Rattle.octets.specs.declared.limits.TheConstants.{NAME_LENGTH, FILLING}
 use Rattle.pdi_session.specs.declared.telegram.NameFault.{NameFault}
 use Rattle.pdi_session.specs.declared.telegram.NameFault.TheVariants.{Empty, Long, Character}
 
--- the octet may stand in a name
+-- the byte is allowed in a name
 abbrev pub is_character : ℕ → Bool
 is_character octet = nat_le 0x21 octet && nat_le octet 0x7e && not (octet == FILLING)
 
+-- every byte is allowed in a name
 abbrev pub HasCharacters : List ℕ → Type 0
 HasCharacters text = list_all is_character text ≡ true
 
--- the text is a name: 1 to 20 characters
+-- the text is a valid name: 1 to 20 characters
 abbrev pub IsName : List ℕ → Type 0
 IsName text = (0 < length text) × (length text ≤ NAME_LENGTH) × HasCharacters text
 
--- a name as it stands in a telegram
+-- a name as a telegram has it: with filling, 20 bytes
 abbrev pub filled : List ℕ → List ℕ
 filled name = name ++ replicate (NAME_LENGTH - length name) FILLING
 
--- the fault is the first one that the text has
+-- the fault is the first that the text has
 abbrev pub FirstNameFault : List ℕ → NameFault → Type 0
 FirstNameFault text Empty = length text ≡ 0
 FirstNameFault text Long = NAME_LENGTH < length text

@@ -9,11 +9,17 @@ use Rattle.pdi_session.specs.telegram.Tele.{Tele}
 abbrev pub tele_text : Tele → List ℕ
 tele_text t = (t.protocol ∷ []) ++ little_bytes 2 t.kind ++ filled t.sender ++ filled t.receiver ++ t.payload
 
--- the octets are the telegram with these fields
+-- the bytes are the encoding of the telegram with these fields
 pub record TeleText (t : Tele) (octets : List ℕ) : Type 0 where
+  -- the protocol type fits one byte
   pub protocol : t.protocol < 256
+  -- the message type fits two bytes
   pub kind : t.kind < 256 ^ 2
+  -- the sender's name is valid
   pub sender : IsName t.sender
+  -- the receiver's name is valid
   pub receiver : IsName t.receiver
+  -- the payload has at most 357 bytes
   pub payload : length t.payload ≤ PAYLOAD_MAX
+  -- the bytes are exactly the fields in order
   pub spelled : octets ≡ tele_text t

@@ -1,4 +1,4 @@
-//! Reading a unit, and writing one message behind the others.
+//! Decoding a unit, and appending a message to one.
 
 ghost use Rattle.std.specs.Prelude.{◌≡◌, ◌+◌, ◌≤◌, ℕ, true, false, List, ◌++◌, length, Ok, IfOk, IfErr, IsOkAnd, MatchOption};
 ghost use Rattle.arrayvec.specs.ArrayVec.{array_vec_len};
@@ -9,10 +9,13 @@ use super::{Messages, PackFault, Unit};
 use octets::limits::{MESSAGE_LENGTH, MESSAGE_MAX, MESSAGE_MIN, UNIT_MAX, UNIT_MESSAGES};
 use octets::places::{put_u16, u16_at};
 
-/// The first message and what stands behind it, where a whole piece stands in front.
+/// Returns the first message and the bytes after it, if the bytes start with a complete message and its length.
 fn first_piece(octets: &[u8]) -> Option<(&[u8], &[u8])>
+    // The result is `None` if and only if the bytes do not start with a complete piece (`is_piece`).
     ensures none { MatchOption result (is_piece octets.now ≡ false) (λ _. is_piece octets.now ≡ true) }
+    // The message returned is the one after the length field, with as many bytes as that says (`first_message`).
     ensures message { MatchOption result (is_piece octets.now ≡ false) (λ p. p.0.now ≡ first_message octets.now) }
+    // The second part of the result is everything after that message (`behind_first`).
     ensures behind { MatchOption result (is_piece octets.now ≡ false) (λ p. p.1.now ≡ behind_first octets.now) }
 {
     if octets.len() < MESSAGE_LENGTH {
@@ -29,8 +32,10 @@ fn first_piece(octets: &[u8]) -> Option<(&[u8], &[u8])>
     Some(behind_length.split_at(size))
 }
 
-/// The messages of octets, which may be none.
+/// Splits bytes into messages. Empty input has no messages.
 fn messages_in(octets: &[u8]) -> Result<Messages<'_>, PackFault>
+    // The result is the messages read from the left, or the first fault: at most three, without bytes left over
+    // (`pieces_seen`).
     ensures { seen_of result ≡ pieces_seen UNIT_MESSAGES octets.now }
 {
     let mut messages = Messages::new();
@@ -48,24 +53,27 @@ fn messages_in(octets: &[u8]) -> Result<Messages<'_>, PackFault>
     Ok(messages)
 }
 
-/// Reads a unit, of any octets, from the left. It copies none of them: the answer holds views.
+/// Decodes a unit. `octets` may contain any bytes. The messages returned are views of it; nothing is copied.
 ///
 /// # Errors
 ///
-/// Refused: `Empty`, where there are no octets; `TooMany`, where three whole messages were read and
-/// octets remain; else `Length`.
+/// Returns the fault that reading from the left meets first:
+///
+/// - `Empty` if there are no bytes;
+/// - `TooMany` if bytes remain after three messages;
+/// - `Length` if a length is not 43 to 400, or its message is incomplete.
 pub fn unpack(octets: &[u8]) -> Result<Messages<'_>, PackFault>
-    // What `unpack` accepts is the text, by the grammar, of the 1 to 3 messages that it answers.
+    // If `unpack` succeeds, the bytes are exactly the unit of the 1 to 3 messages returned.
     ensures found { IfOk result (λ messages. UnitText (messages_of messages) octets.now) }
 
-    // `unpack` accepts every text of 1 to 3 messages, and answers these.
+    // Every unit of 1 to 3 messages is accepted, and `unpack` returns these messages.
     ensures only { (ms : List (List ℕ)) → UnitText ms octets.now
         → IsOkAnd result (λ messages. messages_of messages ≡ ms) }
 
-    // The fault that `unpack` names is the one that reading from the left meets.
+    // If `unpack` fails, its fault is the first that reading from the left meets, and the bytes have it.
     ensures fault { IfErr result (FirstFault octets.now) }
 
-    // What `unpack` answers is one function of the octets: the messages, or the fault.
+    // The messages or the fault are those that `unit_seen` computes from the bytes.
     ensures exact { seen_of result ≡ unit_seen octets.now }
 {
     if octets.is_empty() {
@@ -74,10 +82,11 @@ pub fn unpack(octets: &[u8]) -> Result<Messages<'_>, PackFault>
     messages_in(octets)
 }
 
-/// Writes a message behind those that are there. The caller keeps room for it.
+/// Appends a message with its length to a unit that has room for both.
 pub(crate) fn put_message(unit: &mut Unit, message: &[u8])
     requires sized { IsMessage message.now }
     requires room { array_vec_len unit.old + MESSAGE_LENGTH + length message.now ≤ UNIT_MAX }
+    // The unit grows by the length of the message (2 bytes) and the message.
     ensures { unit.new.items ≡ unit.old.items ++ piece message.now }
 {
     let mut size = [0; MESSAGE_LENGTH];
@@ -86,16 +95,14 @@ pub(crate) fn put_message(unit: &mut Unit, message: &[u8])
     unit.try_extend_from_slice(message).unwrap();
 }
 
-/// A law, which does nothing when it is called: an accepted unit has one list of messages, and a
-/// list of messages one unit, so what is packed unpacks to the same messages and packing what was
-/// unpacked gives the same octets.
+/// Laws of the encoding of units. The function does nothing when it is called.
 pub fn one_spelling()
-    // A unit has one list of messages.
+    // The same bytes are the unit of only one list of messages.
     ensures value { (ms other : List (List ℕ)) (octets : List ℕ) → UnitText ms octets → UnitText other octets
         → ms ≡ other }
-    // A list of messages has one unit, so packing what was unpacked gives the same octets.
+    // A list of messages has only one unit, so unpacking and packing again gives the same bytes.
     ensures text { (ms : List (List ℕ)) (octets again : List ℕ) → UnitText ms octets → UnitText ms again
         → octets ≡ again }
-    // The unit of a list of messages is read, from the left, as that list.
+    // Reading the unit of a list of messages from the left returns that list.
     ensures read { (ms : List (List ℕ)) (octets : List ℕ) → UnitText ms octets → unit_seen octets ≡ Ok ms }
 {}

@@ -3,29 +3,33 @@
 ghost use Rattle.std.specs.Prelude.{◌≡◌, ◌==◌, ◌<◌, ◌≤◌, ◌+◌, ◌↔◌, [], ◌∷◌, ◌++◌, not, length, take, drop, IsOk, IsNone, IsTrue, OnOk, OnErr, IfOk, IfSome, IsOkAnd};
 ghost use Rattle.arrayvec.specs.ArrayVec.{array_vec_len};
 ghost use Rattle.octets.specs.declared.limits.TheConstants.{UNIT_MAX, UNIT_MIN};
-ghost use Rattle.pdi_session.specs.packing.Ring.{IsMoved};
+ghost use Rattle.pdi_session.specs.Counted.{items_in};
+ghost use Rattle.pdi_session.specs.packing.Ring.{IsMoved, IsRing, messages_from};
 ghost use Rattle.pdi_session.specs.packing.UnitText.{AreMessages, IsMessage, UnitText, messages_of};
 
 use super::unit::{put_message, unpack};
 use super::{Full, Messages, PackFault, Unit, WAITING_MAX};
+use crate::counting::is_item;
 use arrayvec::ArrayVec;
 use octets::limits::{MESSAGE_LENGTH, MESSAGE_MAX, UNIT_MAX, UNIT_MESSAGES};
 use octets::rings::{next_place, place_at};
 use std::alloc::{AllocError, Allocator, Global};
 use std::marker::Model;
 
-/// The octets of a message, in storage of the longest one.
+/// A message in storage of the longest one, 400 bytes.
 type Message = ArrayVec<u8, MESSAGE_MAX>;
 
-/// The messages that wait to be sent, the first that came first, at most 64. All its room is made
-/// by `new`; no other call takes memory, and only `add` writes messages: the octets that one has, over what a place held before.
+/// The messages that wait to be sent, oldest first, at most 64.
+///
+/// `new` allocates all the room; no other call allocates. Only `add` copies a message, over the previous content
+/// of a place.
 #[derive(Drop)]
 pub struct Waiting<A: Allocator = Global> {
-    /// A place for each message that there is room for.
+    /// One place for each message that fits.
     places: Vec<Message, A>,
-    /// The place of the message that waits longest. The others stand behind it, and behind the last place the first one comes.
+    /// The place of the oldest message. The others follow it in a ring.
     first: usize,
-    /// How many places hold a message that waits. What the others hold is never read.
+    /// The number of waiting messages. The places of no waiting message are never read.
     count: usize,
 }
 
@@ -44,13 +48,13 @@ impl<A: Allocator> Model for Waiting<A> {
 }
 
 impl<A: Allocator> Waiting<A> {
-    /// No message, and room for 64.
+    /// Creates an empty queue with room for 64 messages.
     ///
     /// # Errors
     ///
-    /// The error is that memory was refused.
+    /// Returns an error if the allocation fails.
     pub fn new(alloc: A) -> Result<Self, AllocError>
-        // In a new `Waiting` no message waits.
+        // In a new queue no message waits.
         ensures { IfOk result (λ waiting. waiting ≡ []) }
     {
         let mut places = Vec::with_capacity(alloc, WAITING_MAX)?;
@@ -64,46 +68,46 @@ impl<A: Allocator> Waiting<A> {
         })
     }
 
-    /// How many messages wait.
+    /// Returns the number of waiting messages.
     pub fn len(&self) -> usize
-        // `len` answers how many messages wait.
+        // `len` is the number of messages that wait.
         ensures len { result ≡ length self.now }
-        // At most 64 messages wait.
+        // At any time at most 64 messages wait.
         ensures within { result ≤ WAITING_MAX }
-        // Each message that waits has 43 to 400 octets.
+        // Each waiting message has 43 to 400 bytes.
         ensures sized { AreMessages self.now }
     {
         self.count // and not the number of places
     }
 
-    /// Whether no message waits.
+    /// Returns true if no message waits.
     pub fn is_empty(&self) -> bool
-        // `is_empty` tells exactly that none waits.
+        // `is_empty` is true if and only if the number of waiting messages is 0.
         ensures { result ≡ (length self.now == 0) }
     {
         self.count == 0
     }
 
-    /// Whether there is no room for a message.
+    /// Returns true if there is no room for another message.
     pub fn is_full(&self) -> bool
-        // `is_full` tells exactly that 64 wait.
+        // `is_full` is true if and only if 64 messages wait.
         ensures { result ≡ (length self.now == WAITING_MAX) }
     {
         self.count == WAITING_MAX
     }
 
-    /// Puts a message behind those that wait. The caller keeps it within 43 to 400 octets.
+    /// Appends a message, which must have 43 to 400 bytes.
     ///
     /// # Errors
     ///
-    /// Refused exactly where 64 wait, and then all stays as it was.
+    /// - `Full` if 64 messages wait; nothing changes then.
     pub fn add(&mut self, message: &[u8]) -> Result<(), Full>
         requires { IsMessage message.now }
-        // `add` is refused exactly where 64 wait.
+        // `add` succeeds if and only if fewer than 64 messages wait.
         ensures room { IsOk result ↔ (length self.old < WAITING_MAX) }
-        // An accepted `add` puts its message at the end.
+        // An accepted message becomes the last one that waits.
         ensures added { OnOk result (self.new ≡ self.old ++ message.now ∷ []) }
-        // A refused `add` changes nothing.
+        // A refused `add` leaves the waiting messages unchanged.
         ensures full { OnErr result (self.new ≡ self.old) }
     {
         if self.count == WAITING_MAX {
@@ -115,10 +119,31 @@ impl<A: Allocator> Waiting<A> {
         Ok(())
     }
 
-    /// Moves the first message behind those of a unit. The caller has seen that one waits, and keeps room for it.
+    /// Returns how many of the waiting messages are commands or status.
+    pub fn items(&self) -> usize
+        // `items` counts the waiting messages that are telegrams outside the establishment.
+        ensures count { result ≡ items_in self.now }
+        // At most 64 commands or status wait.
+        ensures few { result ≤ WAITING_MAX }
+    {
+        items_from(&self.places, self.first, self.count)
+    }
+
+    /// Drops every message. The room stays.
+    pub fn clear(&mut self)
+        // After `clear` no message waits.
+        ensures { self.new ≡ [] }
+    {
+        self.first = 0;
+        self.count = 0;
+    }
+
+    /// Moves the oldest message to the end of a unit. The caller must make sure that one waits and that there is
+    /// room.
     fn put_first(&mut self, unit: &mut Unit)
         requires some { 0 < length self.old }
         requires room { array_vec_len unit.old + MESSAGE_LENGTH + MESSAGE_MAX ≤ UNIT_MAX }
+        // The oldest message leaves the queue, and the unit grows by its length and the message.
         ensures { IsMoved self.old unit.old.items self.new unit.new.items }
     {
         put_message(unit, &self.places[self.first]);
@@ -127,27 +152,50 @@ impl<A: Allocator> Waiting<A> {
     }
 }
 
-/// Writes the octets of a message over what a place held.
+/// Counts the commands and status in `count` places of the ring from `first` on.
+fn items_from(places: &[Message], first: usize, count: usize) -> usize
+    requires places { length places.now ≡ WAITING_MAX }
+    requires ring { IsRing first count }
+    // The count is that of the messages in these places, in the order of the ring (`messages_from`).
+    ensures count { result ≡ items_in (messages_from places.now first count) }
+    // No more are counted than there are places to look at.
+    ensures few { result ≤ count }
+{
+    let mut place = first;
+    let mut left = count;
+    let mut items = 0;
+    while left > 0 {
+        if is_item(&places[place]) {
+            items += 1;
+        }
+        place = next_place(WAITING_MAX, place);
+        left -= 1;
+    }
+    items
+}
+
+/// Replaces the content of a place by a message.
 fn write_message(place: &mut Message, message: &[u8])
     requires { length message.now ≤ MESSAGE_MAX }
+    // The place then has exactly the message, and nothing of its previous content.
     ensures { place.new.items ≡ message.now }
 {
     place.clear();
     let _fits = place.try_extend_from_slice(message);
 }
 
-/// Packs the first `max` messages that wait into a unit, or all where fewer wait, and takes them
-/// out. The caller keeps `max` within 1 to 3. The answer is `None` exactly where no message waits.
+/// Takes the first `max` waiting messages, or all if fewer wait, and returns them as a unit. `max` must be 1 to 3.
+/// Returns `None` if no message waits.
 pub fn pack<A: Allocator>(waiting: &mut Waiting<A>, max: usize) -> Option<Unit>
     requires some { 1 ≤ max }
     requires most { max ≤ UNIT_MESSAGES }
-    // The unit that `pack` makes is the text of the first `max` messages in order or, where fewer wait, of all.
+    // The unit that `pack` returns has the first `max` waiting messages in order, or all if fewer wait.
     ensures packed { IfSome result (λ unit. UnitText (take max waiting.old) unit.items) }
-    // A unit that `pack` makes has 45 to 1,206 octets.
+    // A unit returned by `pack` has 45 to 1,206 bytes.
     ensures sized { IfSome result (λ unit. (UNIT_MIN ≤ length unit.items) × (length unit.items ≤ UNIT_MAX)) }
-    // `pack` answers `None` exactly where no message waits.
+    // `pack` returns `None` if and only if no message waits.
     ensures none { IsNone result ↔ (waiting.old ≡ []) }
-    // `pack` leaves the messages behind the first `max`, in order.
+    // After `pack` the messages from number `max` + 1 on still wait, in order.
     ensures left { waiting.new ≡ drop max waiting.old }
 {
     let mut unit = Unit::new();
@@ -157,19 +205,18 @@ pub fn pack<A: Allocator>(waiting: &mut Waiting<A>, max: usize) -> Option<Unit>
     Some(unit)
 }
 
-/// Packs the first `max` messages that wait into a unit that is kept, or all where fewer wait, and takes them
-/// out: what the unit held before is gone then. The caller keeps `max` within 1 to 3. The answer is whether a message waited.
+/// Takes the first `max` waiting messages, or all if fewer wait, and writes them as a unit over the content of
+/// `unit`. `max` must be 1 to 3. Returns false, and leaves `unit` unchanged, if no message waits.
 pub fn pack_into<A: Allocator>(waiting: &mut Waiting<A>, max: usize, unit: &mut Unit) -> bool
     requires some { 1 ≤ max }
     requires most { max ≤ UNIT_MESSAGES }
-    // Where a message waits, the unit that `pack_into` leaves is the text of the first `max` messages in order or,
-    // where fewer wait, of all.
+    // If `pack_into` returns true, the unit has the first `max` waiting messages in order, or all if fewer wait.
     ensures packed { IsTrue result → UnitText (take max waiting.old) unit.new.items }
-    // A unit that `pack_into` makes has 45 to 1,206 octets.
+    // A unit written by `pack_into` has 45 to 1,206 bytes.
     ensures sized { IsTrue result → (UNIT_MIN ≤ length unit.new.items) × (length unit.new.items ≤ UNIT_MAX) }
-    // `pack_into` tells exactly whether a message waits.
+    // `pack_into` returns true if and only if a message waits.
     ensures some { result ≡ not (length waiting.old == 0) }
-    // `pack_into` leaves the messages behind the first `max`, in order.
+    // The first `max` messages no longer wait after `pack_into`; the others still do, in order.
     ensures left { waiting.new ≡ drop max waiting.old }
 {
     let count = max.min(waiting.len());
@@ -183,7 +230,7 @@ pub fn pack_into<A: Allocator>(waiting: &mut Waiting<A>, max: usize, unit: &mut 
     true
 }
 
-/// Packs messages and unpacks them again: what comes out is what waited.
+/// Packs messages and unpacks the unit.
 pub fn read_back<'a, A: Allocator>(
     waiting: &mut Waiting<A>,
     max: usize,
@@ -191,11 +238,11 @@ pub fn read_back<'a, A: Allocator>(
 ) -> Option<Result<Messages<'a>, PackFault>>
     requires some { 1 ≤ max }
     requires most { max ≤ UNIT_MESSAGES }
-    // What is packed unpacks to the same messages: the first `max` or, where fewer wait, all.
+    // Unpacking succeeds and returns the messages that were packed: the first `max`, or all if fewer wait.
     ensures read { IfSome result (λ answer. IsOkAnd answer (λ messages. messages_of messages ≡ take max waiting.old)) }
-    // Packing and unpacking again answers `None` exactly where no message waits.
+    // `read_back` returns `None` if and only if no message waits.
     ensures none { IsNone result ↔ (waiting.old ≡ []) }
-    // Packing and unpacking again leaves the messages behind the first `max`, in order.
+    // `read_back` removes the first `max` messages and keeps the others in order.
     ensures left { waiting.new ≡ drop max waiting.old }
 {
     *unit = pack(waiting, max)?;

@@ -1,4 +1,4 @@
-//! Reading and writing a telegram.
+//! Encoding and decoding of telegrams.
 
 ghost use Rattle.std.specs.Prelude.{◌≡◌, ◌==◌, ℕ, ◌+◌, ◌≤◌, ◌++◌, not, List, length, take, drop, count_by, Ok, IfOk, IfErr, IsOkAnd};
 ghost use Rattle.pdi_session.specs.telegram.Names.{filled};
@@ -10,11 +10,12 @@ use super::{FILLING, KIND, NAME_LENGTH, Name, RECEIVER, SENDER, TeleFault, Teleg
 use octets::limits::{MESSAGE_MAX, MESSAGE_MIN, PAYLOAD_MAX};
 use octets::places::{put_octets, put_u16, u16_at};
 
-/// A name's place, filling alone.
+/// A name's place with nothing but filling.
 const UNNAMED: [u8; NAME_LENGTH] = [FILLING; NAME_LENGTH];
 
-/// How many octets are no filling.
+/// Returns how many bytes are not filling.
 fn characters_in(field: &[u8]) -> usize
+    // The result counts every byte other than 0x5f, also one after filling.
     ensures { result ≡ count_by (λ octet. not (octet == FILLING)) field.now }
 {
     let mut count = 0;
@@ -26,33 +27,40 @@ fn characters_in(field: &[u8]) -> usize
     count
 }
 
-/// The name that stands in its place of 20 octets.
+/// Decodes a name from its place of 20 bytes.
 fn name_in(field: &[u8]) -> Option<Name<'_>>
     requires { length field.now ≡ NAME_LENGTH }
+    // The name ends at the first filling. The result is `None` if its characters are not valid, or anything but
+    // filling follows.
     ensures { name_found result ≡ name_seen field.now }
 {
-    // Where so many characters stand in front, what stands behind them is filling.
+    // If all bytes other than filling come first, only filling follows them.
     let (characters, _) = field.split_at(characters_in(field));
     Name::of_octets(characters)
 }
 
-/// Reads a message, of any octets. It copies none of them: the answer is a view.
+/// Decodes a message, which may contain any bytes. The telegram returned is a view of it; nothing is copied.
 ///
 /// # Errors
 ///
-/// Refused, and the first that holds is named: `Short`, `Long`, `Name`.
+/// Returns the first that applies:
+///
+/// - `Short` if there are fewer than 43 bytes;
+/// - `Long` if there are more than 400 bytes;
+/// - `Name` if the sender's or the receiver's name is not valid.
 #[tactic(auto, unfolding(crate::specs::telegram::Places::tele_seen))]
 pub fn decode(octets: &[u8]) -> Result<Telegram<'_>, TeleFault>
-    // What `decode` accepts is the text, by the grammar, of the telegram that it answers.
+    // If `decode` succeeds, the message is exactly the encoding of the telegram returned.
     ensures found { IfOk result (λ telegram. TeleText (tele_of telegram) octets.now) }
 
-    // `decode` accepts every text of the grammar, and answers its telegram.
+    // Every encoding of a telegram is accepted, and `decode` returns that telegram.
     ensures only { (t : Tele) → TeleText t octets.now → IsOkAnd result (λ telegram. tele_of telegram ≡ t) }
 
-    // The fault that `decode` names is the first that holds.
+    // If `decode` fails, it returns the first fault in the order above, and the message has that fault.
     ensures fault { IfErr result (FirstFault octets.now) }
 
-    // What `decode` answers is what stands at the places, the names without their filling, or the first fault.
+    // The fields returned are those at their places, names without filling; otherwise the first fault is returned.
+    // Both are what `tele_seen` computes.
     ensures exact { seen_of result ≡ tele_seen octets.now }
 {
     if octets.len() < MESSAGE_MIN {
@@ -79,28 +87,31 @@ pub fn decode(octets: &[u8]) -> Result<Telegram<'_>, TeleFault>
     })
 }
 
-/// Writes a name with its filling into the 20 octets from a place on, and leaves the rest.
+/// Writes a name and its filling, 20 bytes in all, into the buffer at `place`.
 pub(super) fn put_name(buffer: &mut [u8], place: usize, name: Name<'_>)
     requires { place + NAME_LENGTH ≤ length buffer.old }
+    // Up to the end of the name, the buffer has its old bytes before `place`, and then the name with its filling
+    // (`filled`).
     ensures front { take (place + NAME_LENGTH) buffer.new ≡ take place buffer.old ++ filled (characters_of name.entry) }
+    // The bytes after the 20 of the name are unchanged.
     ensures rest { drop (place + NAME_LENGTH) buffer.new ≡ drop (place + NAME_LENGTH) buffer.old }
 {
     let characters = name.as_str().as_bytes();
-    // Filling of the whole place first, since what has one length takes two moves and no call.
+    // Filling goes over the whole place first, since copying a fixed size takes two moves and no call.
     put_octets(buffer, place, &UNNAMED);
     put_octets(buffer, place, characters);
 }
 
-/// Writes a telegram in front of the buffer, leaves the rest of it, and answers how many octets were
-/// written. The caller keeps the payload within 357 octets and room for 43 more.
+/// Encodes a telegram at the start of the buffer and returns the number of bytes written. The payload must have at
+/// most 357 bytes, and the buffer room for 43 bytes and the payload.
 pub fn encode(telegram: &Telegram<'_>, buffer: &mut [u8]) -> usize
     requires fits { length telegram.now.payload.now ≤ PAYLOAD_MAX }
     requires room { MESSAGE_MIN + length telegram.now.payload.now ≤ length buffer.old }
-    // `encode` answers how many octets it wrote: 43 and those of the payload.
+    // `encode` returns 43 plus the size of the payload.
     ensures size { result ≡ MESSAGE_MIN + length telegram.now.payload.now }
-    // What `encode` writes in front of the buffer is the text of its telegram.
+    // The bytes that `encode` writes are exactly the encoding of the telegram.
     ensures written { TeleText (tele_of telegram.now) (take result buffer.new) }
-    // `encode` leaves the rest of the buffer.
+    // `encode` leaves the buffer after the written bytes unchanged.
     ensures rest { drop result buffer.new ≡ drop result buffer.old }
 {
     put_octets(buffer, 0, &[telegram.protocol]);
@@ -111,29 +122,28 @@ pub fn encode(telegram: &Telegram<'_>, buffer: &mut [u8]) -> usize
     MESSAGE_MIN + telegram.payload.len()
 }
 
-/// Writes a telegram and reads it again: what was written is what is read.
+/// Encodes a telegram and decodes the result.
 pub fn read_back<'a>(
     telegram: &Telegram<'_>,
     buffer: &'a mut [u8],
 ) -> Result<Telegram<'a>, TeleFault>
     requires fits { length telegram.now.payload.now ≤ PAYLOAD_MAX }
     requires room { MESSAGE_MIN + length telegram.now.payload.now ≤ length buffer.old }
-    // What is encoded decodes to the same telegram.
+    // Decoding an encoded telegram succeeds and returns the same telegram.
     ensures { IsOkAnd result (λ again. tele_of again ≡ tele_of telegram.now) }
 {
     let size = encode(telegram, buffer);
     decode(&buffer[..size])
 }
 
-/// A law, which does nothing when it is called: an accepted text has one value, and a value one
-/// text, so encoding what was decoded gives the same octets; and a text is seen as its value.
+/// Laws of the encoding of telegrams. The function does nothing when it is called.
 pub fn one_spelling()
-    // A text has one telegram.
+    // The same bytes are the encoding of only one telegram.
     ensures value { (t other : Tele) (octets : List ℕ) → TeleText t octets → TeleText other octets
         → t ≡ other }
-    // A telegram has one text, so encoding what was decoded gives the same octets.
+    // A telegram has only one encoding, so decoding and encoding again gives the same bytes.
     ensures text { (t : Tele) (octets again : List ℕ) → TeleText t octets → TeleText t again
         → octets ≡ again }
-    // A text is read, by places, as its telegram.
+    // Reading an encoding field by field (`tele_seen`) returns its telegram.
     ensures read { (t : Tele) (octets : List ℕ) → TeleText t octets → tele_seen octets ≡ Ok t }
 {}

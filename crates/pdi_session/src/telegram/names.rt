@@ -1,4 +1,4 @@
-//! Making and reading a name.
+//! Creating and reading names.
 
 ghost use Rattle.std.specs.Prelude.{◌≡◌, IfOk, IfErr, IsOkAnd};
 ghost use Rattle.std.specs.List.{list_all};
@@ -10,37 +10,43 @@ ghost use Rattle.pdi_session.specs.telegram.Tele.{characters_of, name_of, owned_
 use super::{FILLING, NAME_LENGTH, Name, NameFault, OwnedName};
 use arrayvec::ArrayString;
 
-/// Whether an octet may stand in a name.
+/// Returns true if a byte is allowed in a name.
 fn fits_name(octet: u8) -> bool
+    // The bytes allowed are 0x21 to 0x7e except the filling 0x5f (`is_character`).
     ensures { result ≡ is_character octet }
 {
     0x21 <= octet && octet <= 0x7e && octet != FILLING
 }
 
-/// Whether all octets may stand in a name.
+/// Returns true if every byte is allowed in a name.
 fn fit_name(octets: &[u8]) -> bool
+    // The result is true if and only if `is_character` is true for every byte.
     ensures { result ≡ list_all is_character octets.now }
 {
     octets.iter().all(|octet| fits_name(*octet))
 }
 
 impl<'a> Name<'a> {
-    /// The name that a text spells. It is a view: no octet is copied.
+    /// Creates a name from a text. It is a view of the text; nothing is copied.
     ///
     /// # Errors
     ///
-    /// Refused, and the first that holds is named: `Empty`, `Long` (counted in octets), `Character`.
+    /// Returns the first that applies:
+    ///
+    /// - `Empty` if the text is empty;
+    /// - `Long` if it has more than 20 bytes;
+    /// - `Character` if a byte is not in 0x21 to 0x7e, or is the filling 0x5f.
     pub fn new(text: &'a str) -> Result<Self, NameFault>
-        // What `Name::new` makes keeps the characters of its text, which is a name.
+        // If `Name::new` succeeds, the text is a valid name, and its characters are those of the result.
         ensures found { IfOk result (λ name. (characters_of name ≡ text.now) × IsName text.now) }
 
-        // `Name::new` accepts every text that is a name.
+        // Every text that is a valid name is accepted, and the result has its characters.
         ensures only { IsName text.now → IsOkAnd result (λ name. characters_of name ≡ text.now) }
 
-        // The fault that `Name::new` names is the first that holds.
+        // If `Name::new` fails, it returns the first fault in the order above, and the text has that fault.
         ensures fault { IfErr result (FirstNameFault text.now) }
 
-        // What `Name::new` answers is one function of the text: its characters, or the first fault.
+        // The characters or the fault are those that `name_read` computes from the text.
         ensures exact { name_of result ≡ name_read text.now }
     {
         if text.is_empty() {
@@ -55,33 +61,36 @@ impl<'a> Name<'a> {
         Ok(Name { characters: text })
     }
 
-    /// The name that octets spell.
+    /// Creates a name from bytes, or returns `None` if they are not a valid name.
     pub(super) fn of_octets(octets: &'a [u8]) -> Option<Self>
+        // The result has exactly these bytes as characters if they are a valid name, and is `None` otherwise.
         ensures { name_found result ≡ result_ok (name_read octets.now) }
     {
         if octets.is_empty() || octets.len() > NAME_LENGTH || !fit_name(octets) {
             return None;
         }
-        // What may stand in a name is ASCII, and so it is text.
+        // The characters allowed in a name are ASCII, so the bytes are UTF-8: the precondition, proved here. The
+        // safe function would test them a second time.
         let characters = unsafe { str::from_utf8_unchecked(octets) };
         Some(Name { characters })
     }
 
-    /// The name that octets spell, of which this is known.
+    /// Creates a name from bytes that the caller knows to be valid.
     pub(super) fn known(octets: &'a [u8]) -> Self
         requires { IsName octets.now }
+        // The characters of the name are exactly the given bytes.
         ensures { characters_of result ≡ octets.now }
     {
-        // What may stand in a name is ASCII, and so it is text.
+        // Valid names are ASCII, as in `of_octets`.
         let characters = unsafe { str::from_utf8_unchecked(octets) };
         Name { characters }
     }
 
-    /// The characters, without the filling.
+    /// Returns the characters, without the filling.
     pub fn as_str(self) -> &'a str
-        // `as_str` answers the characters of a name.
+        // `as_str` returns the characters of the name.
         ensures characters { result.now ≡ characters_of self.entry }
-        // The characters of every `Name` are a name: 1 to 20 of 0x21 to 0x7e without 0x5f.
+        // Every `Name` has 1 to 20 characters 0x21 to 0x7e except 0x5f.
         ensures well_formed { IsName result.now }
     {
         self.characters
@@ -89,9 +98,9 @@ impl<'a> Name<'a> {
 }
 
 impl OwnedName {
-    /// A copy of a name.
+    /// Copies a name.
     pub fn new(name: Name<'_>) -> Self
-        // An `OwnedName` keeps the characters of the name that it is made of.
+        // The copy has the characters of the name it was made from.
         ensures { owned_characters result ≡ characters_of name.entry }
     {
         let mut text = ArrayString::new();
@@ -99,9 +108,9 @@ impl OwnedName {
         OwnedName { text }
     }
 
-    /// The name, as a view.
+    /// Returns the name as a view.
     pub fn name(&self) -> Name<'_>
-        // `OwnedName::name` answers the characters that are kept.
+        // `OwnedName::name` returns a name with the copied characters.
         ensures { characters_of result ≡ owned_characters self.now }
     {
         Name {

@@ -1,4 +1,4 @@
--- What the functions rely on: a decision's branch, the guard before it, units that are made again, and the properties of an arrival.
+-- What the functions rely on: the decision of a branch, the timeout check before it, units that are sent again, and the properties of an arrival.
 use Rattle.safe_machine.proofs.Words.{◌≡◌, ℕ, ◌-◌, ◌<◌, List, [], length, refl, sym, ap, subst, ◌∙◌, ltb-true, leb-true, Pdu, IsBody, Down, Reason, Detail}
 use Rattle.safe_machine.proofs.Words.{Decision, decide, Takes, View, Turn, arrives, goes_on, guards, handed_by, hands, leaves, responds, still, Allows, Passes}
 use Rattle.safe_machine.proofs.Words.{overdue, append-nil, Option, Some, None, ◌+◌, ◌≤◌, ◌∷◌, ◌++◌, arith, IfSome, get_or, nat_lt, slice_get, nat_tests}
@@ -10,14 +10,14 @@ use Rattle.safe_machine.proofs.one.Deciding.{Fits, Tested}
 use Rattle.safe_machine.specs.Turns.{next_made}
 use Rattle.safe_machine.proofs.one.Runs.{octets_of-append}
 
--- What a decision allows its branch to rely on, and what the guard before it makes of an arrival.
+-- What a decision allows its branch to rely on, and how the timeout check before it affects an arrival.
 passes-from : (v : View) (p : Pdu) (now : ℕ) → Tested v p now → Passes v p now
 passes-from v p now t = (ltb-true _ (v.made - v.confirmed) t.cs, leb-true _ (now - v.confirmed_at) t.cts)
 
 pub allowed : (v : View) (p : Pdu) (now : ℕ) (d : Decision) → IsBody p.kind p.body → (v.connection ≡ Down → v.ring ≡ []) → Fits v p now d → Allows v p now d
 allowed v p now d body down h = grind (arith, passes-from, ltb-true)
 
--- the guard, and what is handed up, by what is overdue
+-- The timeout check, and what is delivered, by what is overdue.
 abbrev left_by : ℕ → View → Option (Reason × Detail) → Turn
 left_by now v None = still v
 left_by now v (Some (reason, detail)) = leaves reason detail now v
@@ -32,7 +32,7 @@ guards-is now v o e = grind arith
 hands-is : (p : Pdu) (now : ℕ) (v : View) (o : Option (Reason × Detail)) → overdue now v ≡ o → hands p now v ≡ handed_behind (handed_by (decide v p now) p) o
 hands-is p now v o e = grind arith
 
--- who is closed by its guard makes nothing of an arrival
+-- An end that its timeout check closes ignores the arrival.
 pub arrives-left : (p : Pdu) (now : ℕ) (v : View) (reason : Reason) (detail : Detail) → Some (reason, detail) ≡ overdue now v
     → arrives p now v ≡ leaves reason detail now v
 arrives-left p now v reason detail e =
@@ -48,13 +48,13 @@ hands-left p now v reason detail e = hands-is p now v (Some (reason, detail)) (s
 pub hands-goes : (p : Pdu) (now : ℕ) (v : View) → None ≡ overdue now v → hands p now v ≡ handed_by (decide v p now) p
 hands-goes p now v e = hands-is p now v None (sym e)
 
--- Units that are made again, one by one, and what a confirmation leaves of them.
+-- Units that are sent again, one by one, and what a confirmation leaves of them.
 resends-append : (a b : List (List ℕ)) (now : ℕ) (v : View) → resends (a ++ b) now v ≡ goes_on (resends a now v) (resends b now)
 resends-append [] b now v = refl
 resends-append (u ∷ a) b now v =
     ap (λ (t : Turn). record { left = t.left; made = next_made v RetrData u now ∷ t.made }) (resends-append a b now (counted now v))
 
--- every part of what is kept that a PDU made leaves
+-- Every part of what is kept that a PDU made leaves unchanged.
 resends-keeps : {X : Type 0} (part : View → X) → ((now : ℕ) (v : View) → part (counted now v) ≡ part v) → (us : List (List ℕ)) (now : ℕ) (v : View)
     → part (resends us now v).left ≡ part v
 resends-keeps part one [] now v = refl
@@ -63,7 +63,7 @@ resends-keeps part one (u ∷ us) now v = resends-keeps part one us now (counted
 no_unit : Numbered
 no_unit = record { number = 0; octets = [] }
 
--- one unit more is made again
+-- One more unit is sent again.
 pub resends-more : {O : Type 0} (makes : O → List ℕ → O → Type 0) (first m n : View) (a b d : O) (now place : ℕ) → place < length first.ring →
     m ≡ (resends (octets_of (take place first.ring)) now first).left →
     Out makes first.settings.rule a (resends (octets_of (take place first.ring)) now first) b → n ≡ counted now m →
@@ -95,7 +95,7 @@ resends-more makes first m n a b d now place inside left out counts after =
           (FoldsTo-append makes (texts rule t.made) (texts rule (one ∷ [])) a b d out (d, at, refl)),
     )
 
--- one turn, and then another
+-- One turn, and then another.
 pub out-then : {O : Type 0} (makes : O → List ℕ → O → Type 0) (rule : CodeRule) (t : Turn) (next : View → Turn) (a b c : O) → Out makes rule a t b
     → Out makes rule b (next t.left) c → Out makes rule a (goes_on t next) c
 out-then makes rule t next a b c h k =
@@ -105,7 +105,7 @@ out-then makes rule t next a b c h k =
 pub replies-settings : (now : ℕ) (v : View) → (replies now v).left.settings ≡ v.settings
 replies-settings now v = resends-keeps (λ (v : View). v.settings) (λ now v. refl) (octets_of v.ring) now (counted now v)
 
--- an answer: what is made first, each unit, and the heartbeat
+-- An answer: the RetrResp, each unit, and the heartbeat.
 pub replies-out : {O : Type 0} (makes : O → List ℕ → O → Type 0) (now : ℕ) (v : View) (a b c d : O)
     → makes a (text_of v.settings.rule (next_made v RetrResp [] now)) b →
     Out makes v.settings.rule b (resends (octets_of v.ring) now (counted now v)) c →
@@ -116,7 +116,7 @@ replies-out makes now v a b c d first again last =
     let beaten = subst (λ (x : Settings). makes c (text_of x.rule (next_made t.left Heartbeat [] now)) d) (replies-settings now v) last in
     (b, first, out-then makes v.settings.rule t (says Heartbeat [] now) b c d again (d, beaten, refl))
 
--- what is confirmed keeps the bounds of the units
+-- Confirming keeps the bounds of the units.
 pub short-above : (number : ℕ) (us : List Numbered) → length (above number us) ≤ length us
 short-above number [] = omega arith
 short-above number (u ∷ us) = grind (arith, nat_tests, short-above number us)
@@ -133,21 +133,21 @@ pub hands-recent : {U : Type 0} (takes : U → List ℕ → U → Type 0) (a b :
     FoldsTo takes a (hands p now v) b → HandsIf takes a b (now < v.confirmed_at + cts_step v p + v.settings.t_max)
 hands-recent takes a b p now v h = (hands p now v, h, recent-hands p now v)
 
--- the same of octets
+-- The same for bytes.
 read-recent : (read : Result Pdu SafeFault) (now : ℕ) (v : View) → handed (heard read now) v ≢ [] → IsRecent read now v
 read-recent read now v some = grind (arith, recent-hands)
 
 pub recent_law_holds : (octets : List ℕ) (now : ℕ) (v : View) → hears_units octets now v ≢ [] → IsRecent (safe_seen v.settings.rule octets) now v
 recent_law_holds octets now v some = read-recent (safe_seen v.settings.rule octets) now v some
 
--- The next Data of the peer, in Up.
+-- The peer's next Data, in Up.
 unit-connection : (p : Pdu) (now : ℕ) (v : View) → (takes_unit p now v).left.connection ≡ v.connection
 unit-connection p now v = grind arith
 
 next-decided : (read : Result Pdu SafeFault) (p : Pdu) (now : ℕ) (s : State) → IsNextData read p now (kept_of s) → decide (kept_of s) p now ≡ Takes Up
 next-decided read p now s h = grind arith
 
--- it goes up alone, and the end stays in Up, as a machine has it
+-- Only this unit is delivered, and the end stays in Up, for every machine.
 pub reached-passes : (read : Result Pdu SafeFault) (p : Pdu) (now : ℕ) (v : View) → IsReached v → IsNextData read p now v →
     (hands p now v ≡ p.body ∷ []) × ((arrives p now v).left.connection ≡ Up)
 reached-passes read p now v r h =
@@ -160,7 +160,7 @@ reached-passes read p now v r h =
           ∙ unit-connection p now (record (passed p 0 (both_confirmed p v)) { connection = Up }),
     )
 
--- octets read as one PDU, or as none
+-- Bytes decode as at most one PDU.
 pub one-read : (read : Result Pdu SafeFault) (p q : Pdu) → Ok p ≡ read → read ≡ Ok q → p ≡ q
 one-read read p q e f = let g = e ∙ f in cc
 

@@ -1,6 +1,6 @@
--- What holds of every machine, since it stands for a state that moves lead to from an opening.
+-- What holds for every machine, since it is in a state that moves lead to from an opening.
 use Rattle.safe_machine.proofs.Words.{◌≡◌, ℕ, ◌+◌, ◌<◌, ◌≤◌, List, [], ◌∷◌, ◌++◌, length, drop, true, refl, sym, ap, subst, ◌∙◌, arith, ◌⊎◌, inl, inr}
-use Rattle.safe_machine.proofs.Words.{false≢true, cond_both, and_parts, drop_all, length-drop, All-nil, All-cons, All-push, All-weaker, Numbered, octets_of}
+use Rattle.safe_machine.proofs.Words.{false≢true, and_parts, drop_all, length-drop, All-nil, All-cons, All-push, All-weaker, Numbered, octets_of}
 use Rattle.safe_machine.proofs.Words.{after_at, carried_at, ring_of, Kind, ConnReq, ConnResp, RetrResp, Heartbeat, Data, RetrData, Pdu, IsBody, window_of}
 use Rattle.safe_machine.proofs.Words.{HasNumbers, Down, Reason, Detail, Made, opening_body, Settings, is_legal, Decision, decide, distance, Nothing, Drops}
 use Rattle.safe_machine.proofs.Words.{Shuts, Leaves, Takes, Resumes, AnswersNext, AnswersEarly, take_unit, tests_passed, carry_out, respond, send}
@@ -8,7 +8,8 @@ use Rattle.safe_machine.proofs.Words.{confirm_units, Move, move, moved, IsUnitSi
 use Rattle.safe_machine.proofs.Words.{reply, unconfirmed, leave, IsRead, AreRead, IsReached, AllBelow, AllUnits, Sound, MaySend, turn, View, kept_of}
 use Rattle.safe_machine.proofs.Words.{is_connected, arrive, arrives, guards, index_step, ◌-◌, length-append, ltb-true, above, renumbered, RetrReq, DiscReq}
 use Rattle.safe_machine.proofs.Words.{WrongVersion, Unspecified, leaving_body, next_made, hand_up, ask, cs_fits, cs_step, Rejects, Accepts, Connects, Asks}
-use Rattle.safe_machine.proofs.Words.{set_window, beside, StopsOnly, octets-renumbered, may_send, FewLaw}
+use Rattle.safe_machine.proofs.Words.{set_window, WINDOW_MAX, beside, StopsOnly, octets-renumbered, may_send, FewLaw, if◌then◌else◌}
+use Rattle.safe_machine.proofs.one.Turning.{opened-cases, send-is}
 use Rattle.safe_machine.proofs.one.Runs.{octets_of-length, ring_of-units, legal as lawful, resend-settings, resend-connection, leave-cases, unit-cases}
 use Rattle.safe_machine.proofs.one.Runs.{early-cases, turn-connected, turn-live, connected-up, legal, resend-expected, ring-resend, plain-ring, ring-step}
 use Rattle.safe_machine.proofs.one.Runs.{answer-ring, quiet-cases, arrive-cases, when}
@@ -19,7 +20,7 @@ use Rattle.safe_machine.proofs.one.Kept.{AllowsMove, kept-move, Texts, own-legal
 use Rattle.safe_machine.proofs.one.Kept.{texts-opened}
 use Rattle.safe_machine.proofs.one.Turning.{tells_law_holds, turns_law_holds}
 
--- What holds of every machine, since it stands for a state that moves lead to from an opening.
+-- What holds for every machine, since it is in a state that moves lead to from an opening.
 moved-snoc : (ms : List Move) (m : Move) (s : State) → moved (ms ++ m ∷ []) s ≡ move m (moved ms s)
 moved-snoc [] m s = refl
 moved-snoc (n ∷ ms) m s = moved-snoc ms m (move n s)
@@ -28,7 +29,7 @@ read-snoc : (ms : List Move) (m : Move) → AreRead ms → IsRead m → AreRead 
 read-snoc [] m h k = (k, tt)
 read-snoc (n ∷ ms) m h k = (h.0, read-snoc ms m h.1 k)
 
--- bounds of a state, that every move keeps
+-- Bounds of a state that every move keeps.
 pub record Sure (s : State) : Type 0 where
   pub bounded : Bounded s
   pub down : s.connection ≡ Down → s.made ≡ []
@@ -46,7 +47,7 @@ Waits s = (s.connection ≡ Down → s.made ≡ []) × (s.since < s.settings.mwa
 waits-leave : (reason : Reason) (detail : Detail) (now : ℕ) (s : State) → Waits s → Waits (leave reason detail now s)
 waits-leave reason detail now s h = leave-cases Waits reason detail now s (λ _. (λ e. cc, omega (arith, h.1))) (λ _. (λ e. cc, h.1))
 
--- a connected end that has made a PDU
+-- A connected end that has made a PDU.
 waits-made : (kind : Kind) (body : List ℕ) (now : ℕ) (s : State) → is_connected s.connection ≡ true → s.since < s.settings.mwa → Waits (make kind body now s)
 waits-made kind body now s on h = (λ e. absurd (connected-up s.connection on e), omega (arith, h))
 
@@ -105,10 +106,10 @@ texts-moved (m ∷ ms) s a h = texts-moved ms (move m s) a.1 (kept-move HasNumbe
 pub opened-sure : (settings : Settings) (first now : ℕ) → is_legal settings ≡ true → Sure (opened settings first now)
 opened-sure settings first now legal =
     let since = (lawful settings legal).mwa_least in
-    let waits : Waits (opened settings first now) = cond_both settings.client _ _ Waits (λ _. ((λ e. cc), since)) (λ _. ((λ e. refl), since)) in
+    let waits : Waits (opened settings first now) = opened-cases Waits settings first now (λ _. ((λ e. cc), since)) (λ _. ((λ e. refl), since)) in
     sure (opened settings first now) (bounded-opened settings first now legal) waits
 
--- the ring of a state
+-- The ring of a state.
 units-of : (us : List Numbered) → AllSized (octets_of us) → AllUnits us
 units-of [] h = All-nil (λ (u : Numbered). IsBody RetrData u.octets)
 units-of (u ∷ us) h = All-cons (λ (u : Numbered). IsBody RetrData u.octets) u us h.0 (units-of us h.1)
@@ -135,7 +136,13 @@ pub legal-reached : (v : View) (r : IsReached v) → is_legal (moved r.moves (op
 legal-reached v r =
     let P : State → Type 0 = λ s. is_legal s.settings ≡ true in
     kept-moved P (kept-lists P (λ s t e f h. ap is_legal e ∙ h) (λ kind body now s h. h)) r.moves (opened r.settings r.first r.began)
-    (cond_both r.settings.client _ _ P (λ _. r.legal) (λ _. r.legal))
+    (opened-cases P r.settings r.first r.began (λ _. r.legal) (λ _. r.legal))
+
+pub reached-legal : (v : View) → IsReached v → is_legal v.settings ≡ true
+reached-legal v r = subst (λ (w : View). is_legal w.settings ≡ true) (sym r.stands) (legal-reached v r)
+
+pub reached-room : (v : View) → IsReached v → v.room ≡ WINDOW_MAX
+reached-room v r = ap (λ (w : View). w.room) r.stands
 
 sure-reached : (v : View) (r : IsReached v) → Sure (moved r.moves (opened r.settings r.first r.began))
 sure-reached v r = sure-moved r.moves (opened r.settings r.first r.began) r.read (opened-sure r.settings r.first r.began r.legal)
@@ -164,12 +171,12 @@ reached-sound v r =
       opening = (own-legal t.settings legal).window;
     })
 
--- an end that sends has made the PDU that was last confirmed
+-- An end that sends has made the PDU last confirmed.
 pub reached-may : (m : Move) (v : View) → IsReached v → MaySend m v
 reached-may (Sends unit now) v r = λ turn. (reached-sound v r).live (turn-live v.connection turn)
 reached-may _ v r = tt
 
--- one move more
+-- One more move.
 pub reached-turn : (m : Move) (v w : View) → IsReached v → IsRead m → w ≡ (turn m v).left → IsReached w
 reached-turn m v w r read e =
     let s = moved r.moves (opened r.settings r.first r.began) in
@@ -183,7 +190,7 @@ reached-turn m v w r read e =
       stands = e ∙ ((turns_law_holds m v s (reached-may m v r) r.stands).stands ∙ ap kept_of (sym (moved-snoc r.moves m (opened r.settings r.first r.began))));
     }
 
--- no more units are unconfirmed than the peer's window has
+-- At most as many units are unconfirmed as the peer's window allows.
 pub reached-window : (v : View) → IsReached v → length v.ring ≤ v.window
 reached-window v r =
     let t : State = moved r.moves (opened r.settings r.first r.began) in
@@ -208,7 +215,7 @@ near-arrive p now s small =
     (λ reason detail. omega (arith, leave-expected reason detail now s))
     (λ _ _ _. near-decided p now (decide (kept_of s) p now) s small (decide-fits (kept_of s) p now))
 
--- one arrival
+-- One arrival.
 pub reached-near : (p : Pdu) (now : ℕ) (v w : View) → IsReached v → w ≡ (arrives p now v).left → w.expected ≤ v.expected + index_step
 reached-near p now v w r e =
     let t = moved r.moves (opened r.settings r.first r.began) in
@@ -217,7 +224,7 @@ reached-near p now v w r e =
     let after : w.expected ≡ (arrive p now t).expected = ap (λ (x : View). x.expected) (e ∙ stands) in
     omega (arith, before, after, near-arrive p now t (legal t.settings (legal-reached v r)).window_most)
 
--- octets that are no PDU move it not at all
+-- Bytes that are not a PDU do not move it.
 pub reached-still : (now : ℕ) (v w : View) → IsReached v → w ≡ (guards now v).left → w.expected ≡ v.expected
 reached-still now v w r e = grind arith
 
@@ -226,12 +233,12 @@ abbrev Stops : Pdu → State → State → Type 0
 Stops p s t = (octets_of (ring_of t) ≡ octets_of (ring_of s)) ⊎ (octets_of (ring_of t) ≡ octets_of (above (s.confirmed + cs_step (kept_of s) p) (ring_of s)))
 
 ring-leave : (reason : Reason) (detail : Detail) (now : ℕ) (s : State) → ring_of (leave reason detail now s) ≡ ring_of s
-ring-leave reason detail now s = grind (arith, leave-cases, plain-ring)
+ring-leave reason detail now s = leave-cases (λ (t : State). ring_of t ≡ ring_of s) reason detail now s (λ live. grind (arith, plain-ring)) (λ quiet. refl)
 
 ring-unit : (p : Pdu) (now : ℕ) (s : State) → ring_of (take_unit p now s) ≡ ring_of s
 ring-unit p now s = unit-cases (λ t. ring_of t ≡ ring_of s) p now s (λ _. plain-ring Heartbeat [] now (hand_up p s) refl) (λ _ _. refl) (λ _. refl)
 
--- an answer keeps the units
+-- An answer keeps the units.
 ring-reply : (now : ℕ) (y : State) → y.confirmed < length y.made → octets_of (ring_of (reply now y)) ≡ octets_of (ring_of y)
 ring-reply now y within =
     let t = make RetrResp [] now y in
@@ -243,7 +250,7 @@ ring-reply now y within =
     ∙ (ring-resend us now t (omega arith) ∙ ap (λ cs. cs ++ renumbered (length t.made) us) (answer-ring now y within)))
     ∙ (octets-renumbered (length t.made) us ∙ sym (ring_of-units y))
 
--- a server that was just opened has no unit, and none when it has answered
+-- A server that was just opened has no unit, also after its ConnResp.
 ring-none : (ms : List Made) (m : Made) → carried_at (length ms + 1) [] (drop (length ms + 1) (ms ++ m ∷ [])) ≡ []
 ring-none ms m = go (drop (length ms + 1) (ms ++ m ∷ [])) (length-drop (length ms + 1) (ms ++ m ∷ []) ∙ omega (arith, length-append ms (m ∷ [])))
   where
@@ -288,7 +295,7 @@ stops-arrive p now s down =
     arrive-cases (Stops p s) p now s (inl refl) (λ reason detail. inl (ap octets_of (ring-leave reason detail now s)))
     (λ _ _ _. stops-decided p now (decide (kept_of s) p now) s down (decide-fits (kept_of s) p now))
 
--- as a machine has it
+-- For every machine.
 pub reached-stops : (p : Pdu) (now : ℕ) (v w : View) → IsReached v → w ≡ (arrives p now v).left → StopsOnly (v.confirmed + cs_step v p) v w
 reached-stops p now v w r is =
     let t = moved r.moves (opened r.settings r.first r.began) in
@@ -303,12 +310,14 @@ reached-keeps now v w r is = grind arith
 
 -- How few PDUs a move makes.
 few-leave : (reason : Reason) (detail : Detail) (now : ℕ) (s : State) → length (leave reason detail now s).made ≤ length s.made + 1
-few-leave reason detail now s = grind (arith, leave-cases, length-make)
+few-leave reason detail now s =
+    leave-cases (λ (t : State). length t.made ≤ length s.made + 1) reason detail now s (λ live. omega (arith, length-make DiscReq (leaving_body reason detail) now s))
+    (λ quiet. omega arith)
 
 reply-length : (now : ℕ) (s : State) → length (reply now s).made ≡ length s.made + 2 + length (unconfirmed s)
 reply-length now s = grind (arith, length-make, resend-length)
 
--- a PDU that confirms leaves no more units unconfirmed
+-- A PDU that confirms does not add unconfirmed units.
 shrinks : (p : Pdu) (s : State) → length (unconfirmed (confirm_units p s)) ≤ length (unconfirmed s)
 shrinks p s = run_of-shrinks (s.confirmed + 1) (s.confirmed + cs_step (kept_of s) p + 1) s.made (omega arith)
 
@@ -335,10 +344,19 @@ few-carry p now AnswersEarly s h =
 few-carry p now _ s h = omega arith
 
 few-move : (m : Move) (s : State) → Bounded s → length (move m s).made ≤ length s.made + 36
-few-move m s b = grind (arith, arrive-cases, few-leave, few-carry, quiet-cases, length-make)
+few-move (Hears p now) s b =
+    arrive-cases (λ (t : State). length t.made ≤ length s.made + 36) p now s (omega arith) (λ reason detail. omega (arith, few-leave reason detail now s))
+    (λ _ _ _. omega (arith, few-carry p now (decide (kept_of s) p now) s (omega (arith, b.in_window, b.window_small))))
+few-move m s b =
+    quiet-cases (λ (t : State). length t.made ≤ length s.made + 36) m s tt (omega arith) (λ reason detail. omega (arith, few-leave reason detail (when m) s))
+    (λ _ _. omega (arith, length-make Heartbeat [] (when m) s)) (λ unit _ _. omega (arith, length-make Data unit (when m) s))
 
 sending-one : (s : State) → Bounded s → (unit : List ℕ) (now : ℕ) → may_send s ≡ true → length (unconfirmed (send unit now s)) ≡ length (unconfirmed s) + 1
-sending-one s b unit now may = grind (arith, turn-live, and_parts, unconfirmed-make, length-append, false≢true)
+sending-one s b unit now may =
+    subst (λ (t : State). length (unconfirmed t) ≡ length (unconfirmed s) + 1) (sym (send-is unit now s)) (by_room may)
+  where
+    by_room : may_send s ≡ true → length (unconfirmed (if may_send s then make Data unit now s else s)) ≡ length (unconfirmed s) + 1
+    by_room may = grind (arith, turn-live, and_parts, unconfirmed-make, length-append, false≢true)
 
 pub few_law_holds : FewLaw
 few_law_holds settings first now ms m legal read reads = grind (arith, sure-moved, opened-sure, few-move, sending-one)

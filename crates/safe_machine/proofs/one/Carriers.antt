@@ -1,4 +1,4 @@
--- The run of unconfirmed units is the list of those whose carrier lies behind the last PDU confirmed.
+-- The run of unconfirmed units is the list of units whose carrier was made after the last PDU confirmed.
 use Rattle.safe_machine.proofs.Words.{◌≡◌, ◌⊎◌, inl, inr, ℕ, suc, ◌+◌, ◌-◌, ◌<◌, ◌≤◌, List, [], ◌∷◌, ◌++◌, length, take, drop, Bool, true, false, refl, sym, ap}
 use Rattle.safe_machine.proofs.Words.{subst, ◌∙◌, arith, append_assoc, length-append, if◌then◌else◌, nat_lt, drop-append-le, length-drop, take-append_seam}
 use Rattle.safe_machine.proofs.Words.{drop-append_seam, lt-ltb, ltb-true, nat_tests, Kind, ConnResp, RetrResp, Heartbeat, Data, RetrData, Made, units}
@@ -9,7 +9,7 @@ use Rattle.safe_machine.proofs.one.Runs.{units-append, octets_of-append, octets_
 use Rattle.safe_machine.proofs.one.Runs.{ring-confirm, ring-resend, resend-confirmed}
 use Rattle.safe_machine.proofs.one.Kept.{Kept, Anything, is_plain, kept-unsent, kept-moved}
 
--- Carriers of a list that grows. A RetrData at its front would be counted with a RetrResp before it.
+-- Carriers of a list that grows. A RetrData at its front would be counted for a RetrResp before it.
 abbrev Begins : List Made → Type 0
 Begins [] = Unit {0}
 Begins (m ∷ ms) = is_resent m.pdu.kind ≡ false
@@ -31,7 +31,7 @@ carriers-append index cs (m ∷ a) b h =
 abbrev Ring : ℕ → List Made → List Numbered
 Ring confirmed made = carried_at (confirmed + 1) [] (drop (confirmed + 1) made)
 
--- Indices rise from the first bound on and stay below the second.
+-- Indices rise from the first bound on, and stay below the second.
 abbrev Rises : ℕ → ℕ → List Numbered → Type 0
 Rises low high [] = low ≤ high
 Rises low high (c ∷ cs) = (low ≤ c.number) × Rises (c.number + 1) high cs
@@ -64,7 +64,7 @@ all-above b low high (c ∷ cs) h less =
     ap (λ (t : Bool). if t then c ∷ above b cs else above b cs) (lt-ltb b c.number (omega (arith, h.0)))
     ∙ ap (λ xs. c ∷ xs) (all-above b (c.number + 1) high cs h.1 (omega (arith, h.0)))
 
--- What is above an index stands behind what is not.
+-- The units above an index come after those that are not.
 record Split (b : ℕ) (cs : List Numbered) : Type 0 where
   low : List Numbered
   is : cs ≡ low ++ above b cs
@@ -87,7 +87,7 @@ split-at b low high (c ∷ cs) h = go (nat_lt b c.number) refl (split-at b (c.nu
           none = ap (λ (t : Bool). if t then c ∷ above b s.low else above b s.low) e ∙ s.none;
         }
 
--- what is not above an index is not above a greater one
+-- If no unit is above an index, none is above a greater one.
 above-less : (a b : ℕ) (cs : List Numbered) → a ≤ b → above a cs ≡ [] → above b cs ≡ []
 above-less a b [] h e = refl
 above-less a b (c ∷ cs) h e = go (nat_lt a c.number) refl e (λ none. above-less a b cs h none)
@@ -99,7 +99,7 @@ above-less a b (c ∷ cs) h e = go (nat_lt a c.number) refl e (λ none. above-le
         not_above : nat_lt b c.number ≡ false
         not_above = grind (arith, nat_tests)
 
--- What is known of the carriers: those of the confirmed units, then the ring.
+-- The carriers: those of the confirmed units, then the ring.
 record CarriersOf (made : List Made) (confirmed : ℕ) : Type 0 where
   front : List Numbered
   is : carriers made ≡ front ++ Ring confirmed made
@@ -110,7 +110,7 @@ record CarriersOf (made : List Made) (confirmed : ℕ) : Type 0 where
 abbrev Carriers : State → Type 0
 Carriers s = CarriersOf s.made s.confirmed
 
--- neither an answer nor a unit again
+-- The PDU is neither a RetrResp nor a RetrData.
 abbrev is_new : Kind → Bool
 is_new RetrResp = false
 is_new RetrData = false
@@ -119,7 +119,7 @@ is_new _ = true
 new-begins : (kind : Kind) → is_new kind ≡ true → is_resent kind ≡ false
 new-begins kind h = grind arith
 
--- what a new PDU carries
+-- What a new PDU carries.
 new-carrier : (kind : Kind) (body : List ℕ) (index n : ℕ) (cs : List Numbered) → is_new kind ≡ true → after_carrier kind body index n cs ≡ cs ++ after_at kind
     body index []
 new-carrier kind body index n cs h = grind (arith, append-nil)
@@ -133,7 +133,7 @@ new-units kind body index h = grind arith
 new-first : (kind : Kind) (body : List ℕ) → above 0 (after_at kind body 0 []) ≡ []
 new-first kind body = grind arith
 
--- the ring after one PDU more
+-- The ring after one more PDU.
 ring-push : (confirmed : ℕ) (made : List Made) (m : Made) → confirmed < length made → Ring confirmed (made ++ m ∷ []) ≡ after_at m.pdu.kind m.pdu.body
     (length made) (Ring confirmed made)
 ring-push confirmed made m h = grind (arith, length-drop, drop-append-le, carried_at-append)
@@ -175,7 +175,7 @@ push made confirmed m new h =
           }))
     ]
 
--- more is confirmed: what is not above it any more joins the confirmed ones
+-- More is confirmed: the units that are no longer above join the confirmed ones.
 confirm : (made : List Made) (a b : ℕ) → a ≤ b → b < length made → CarriersOf made a → CarriersOf made b
 confirm made a b more less h =
     let ring = Ring a made in
@@ -189,7 +189,7 @@ confirm made a b more less h =
       all = h.all;
     }
 
--- An answer: the RetrData, and what stands behind them.
+-- A RetrResp and the RetrData after it.
 datas : List (List ℕ) → ℕ → State → List Made
 datas [] now s = []
 datas (u ∷ us) now s = next_made s RetrData u now ∷ datas us now (make RetrData u now s)
@@ -211,7 +211,7 @@ unfolding datas
 carriers-datas [] now index s cs m h = ap (λ kind. after_carrier kind m.pdu.body index 0 cs) h
 carriers-datas (u ∷ us) now index s cs m h = carriers-datas us now (index + 1) (make RetrData u now s) cs m h
 
--- the last units, carried again
+-- The last units, carried again.
 again : (front ring : List Numbered) (us : List (List ℕ)) (index : ℕ) → octets_of ring ≡ us → carried_again (length us) index (front ++ ring) ≡ front
     ++ renumbered index us
 again front ring us index e =
@@ -225,7 +225,7 @@ ring-answer : (confirmed : ℕ) (made : List Made) (m : Made) → m.pdu.kind ≡
     → Ring confirmed (made ++ m ∷ []) ≡ []
 ring-answer confirmed made m is h = grind (arith, ring-push)
 
--- the units made end in the unconfirmed ones
+-- The units made end in the unconfirmed ones.
 ended : (s : State) (h : Carriers s) → octets_of h.front ++ unconfirmed s ≡ units s.made
 ended s h = grind (arith, ring_of-units, octets_of-append)
 

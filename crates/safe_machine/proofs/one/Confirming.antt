@@ -1,2 +1,2 @@
--- What is cited of how the machine goes on, under the name that other crates cite.
-pub use Rattle.safe_machine.proofs.one.Turning.{made_law_holds}
+-- Lemmas on the steps of a machine, under the name that other crates use.
+pub use Rattle.safe_machine.proofs.one.Ahead.{made_law_holds}

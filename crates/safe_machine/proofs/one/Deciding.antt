@@ -1,121 +1,35 @@
--- What each decision says of the state and of the PDU, and how many PDUs an end makes.
-use Rattle.safe_machine.proofs.Words.{◌≡◌, ℕ, List, [], ◌∷◌, Bool, true, false, refl, Kind, RetrReq, Heartbeat, Data, RetrData, ConnectionState, Start, Up}
-use Rattle.safe_machine.proofs.Words.{Requesting, RetrRun, carries, after_pdu, is_answer, in_turn, is_connected, ◌+◌, ◌*◌, ◌<◌, ◌≤◌, ap, ◌∙◌, cond_both}
-use Rattle.safe_machine.proofs.Words.{ConnReq, ConnResp, Closed, Down, Pdu, Decision, is_ours, cs_fits, cts_fits, distance, decide, cs_step, Nothing, Drops}
+-- How many PDUs an end makes, and how many units are unconfirmed.
+use Rattle.safe_machine.proofs.Words.{◌≡◌, ℕ, List, [], ◌∷◌, true, refl, Kind, RetrReq, Heartbeat, Data, RetrData, ConnectionState, Start, Up}
+use Rattle.safe_machine.proofs.Words.{RetrRun, after_pdu, in_turn, is_connected, ◌+◌, ◌<◌, ◌≤◌, ap, ◌∙◌}
+use Rattle.safe_machine.proofs.Words.{ConnReq, Closed, Down, Pdu, Decision, cs_fits, distance, decide, cs_step, Nothing, Drops}
 use Rattle.safe_machine.proofs.Words.{Shuts, Leaves, Rejects, Accepts, Connects, Takes, Asks, Resumes, AnswersNext, AnswersEarly, WrongVersion, Unspecified}
-use Rattle.safe_machine.proofs.Words.{is_live, View, ◌-◌, ◌++◌, length, take, drop, sym, arith, append_assoc, length-append, append-nil, drop-append-le}
+use Rattle.safe_machine.proofs.Words.{is_live, ◌-◌, ◌++◌, length, take, drop, sym, arith, append_assoc, length-append, append-nil, drop-append-le}
 use Rattle.safe_machine.proofs.Words.{take-append-drop, drop-drop, ltb-true, false≢true, DiscReq, window_of, Made, run_after, run_of, opening_body}
 use Rattle.safe_machine.proofs.Words.{leaving_body, Settings, State, unconfirmed, next_made, make, move_to, pass, hand_up, note_request, resend, reply, ask}
 use Rattle.safe_machine.proofs.Words.{leave, tests_passed, carry_out, set_window, respond, confirm_units, Reason, Detail, kept_of, Move, HearsNothing, move}
-use Rattle.safe_machine.proofs.Words.{is_legal, opened, blank, rules}
-use Rattle.safe_machine.proofs.two.Invariant.{room, needs_peer, is_opening}
+use Rattle.safe_machine.proofs.Words.{is_legal, opened, blank}
+use Rattle.safe_machine.proofs.one.Lists.{is_opening}
 use Rattle.safe_machine.proofs.one.Runs.{run_after-append, resend-settings, resend-connection, resend-confirmed, resend-window, leave-cases, unit-cases}
 use Rattle.safe_machine.proofs.one.Runs.{early-cases, connected-live, turn-live, quiet-cases, when, legal}
+use Rattle.safe_machine.proofs.one.Turning.{opened-cases}
+pub use Rattle.safe_machine.proofs.one.Fitting.{AnswerFits, AskFits, ByTable, Fits, ResumeFits, StartsBy, TakeFits, Tested, carries-none, carries-unit, decide-fits, in_turn-room, listens, listens-live}
 
--- What a connection starts by, what a PDU carries, and who sends in turn.
-
--- what a connection starts by leads up, and carries no unit
-abbrev pub StartsBy : ConnectionState → Kind → ConnectionState → Type 0
-StartsBy connection kind to = connection ≡ Start → (to ≡ Up) × (carries kind ≡ false)
-
--- what a PDU that is no answer adds to the units carried
-pub carries-unit : (kind : Kind) (body : List ℕ) → carries kind ≡ true → after_pdu kind body [] ≡ body ∷ []
-carries-unit kind body e = grind arith
-
-pub carries-none : (kind : Kind) (body : List ℕ) → carries kind ≡ false → after_pdu kind body [] ≡ []
-carries-none kind body e = grind arith
-
-pub in_turn-room : (connection : ConnectionState) → in_turn connection ≡ true → (room connection ≡ 0) × (is_connected connection ≡ true)
-in_turn-room connection e = grind arith
-
--- What each decision says of the state and of the PDU.
-
--- the states that the table decides
-abbrev pub listens : ConnectionState → Bool → Bool
-listens Start false = true
-listens Start true = false
-listens Up client = true
-listens Requesting client = true
-listens RetrRun client = true
-listens Closed client = false
-listens Down client = false
-
--- both confirmation tests passed
-pub record Tested (v : View) (p : Pdu) (now : ℕ) : Type 0 where
-  pub cs : cs_fits v p ≡ true
-  pub cts : cts_fits v p now ≡ true
-
--- the table decided
-pub record ByTable (v : View) (p : Pdu) : Type 0 where
-  pub listens_now : listens v.connection v.settings.client ≡ true
-  pub near : distance v p ≤ 10 * v.settings.n_sendmax
-
-pub record TakeFits (v : View) (p : Pdu) (now : ℕ) (to : ConnectionState) : Type 0 where
-  pub table : ByTable v p
-  pub next : distance v p ≡ 0
-  pub quiet : room v.connection ≡ 0
-  pub connected : is_connected to ≡ true
-  pub plain : is_answer p.kind ≡ 0
-  pub needs : needs_peer p.kind ≡ 1
-  pub starts : StartsBy v.connection p.kind to
-  pub passed : Tested v p now
-
-pub record AskFits (v : View) (p : Pdu) : Type 0 where
-  pub table : ByTable v p
-  pub quiet : room v.connection ≡ 0
-  pub needs : needs_peer p.kind ≡ 1
-  pub connected : is_connected v.connection ≡ true
-
-pub record ResumeFits (v : View) (p : Pdu) (now : ℕ) : Type 0 where
-  pub table : ByTable v p
-  pub connected : is_connected v.connection ≡ true
-  pub answer : is_answer p.kind ≡ 1
-  pub needs : needs_peer p.kind ≡ 1
-  pub passed : Tested v p now
-
-pub record AnswerFits (v : View) (p : Pdu) : Type 0 where
-  pub table : ByTable v p
-  pub connected : is_connected v.connection ≡ true
-  pub request : p.kind ≡ RetrReq
-  pub new : v.answered < v.expected + distance v p
-  pub cs : cs_fits v p ≡ true
-
-abbrev pub Fits : View → Pdu → ℕ → Decision → Type 0
-Fits v p now (Leaves reason detail) = is_live v.connection ≡ true
-Fits v p now Rejects = (v.connection ≡ Down) × (p.kind ≡ ConnReq)
-Fits v p now Accepts = (v.connection ≡ Down) × (p.kind ≡ ConnReq) × (is_ours p.body ≡ true)
-Fits v p now Connects = (v.connection ≡ Start) × (v.settings.client ≡ true) × (p.kind ≡ ConnResp) × Tested v p now
-Fits v p now (Takes to) = TakeFits v p now to
-Fits v p now Asks = AskFits v p
-Fits v p now Resumes = ResumeFits v p now
-Fits v p now AnswersNext = AnswerFits v p × (distance v p ≡ 0) × (in_turn v.connection ≡ true) × (cts_fits v p now ≡ true)
-Fits v p now AnswersEarly = AnswerFits v p
-Fits v p now _ = Unit {0}
-
-pub listens-live : (connection : ConnectionState) (client : Bool) → listens connection client ≡ true → is_live connection ≡ true
-listens-live connection client h = grind arith
-
--- Each decision that is made says this.
-pub decide-fits : (v : View) (p : Pdu) (now : ℕ) → Fits v p now (decide v p now)
-decide-fits v p now = search rules
-
--- How many PDUs an end makes, and how many units are unconfirmed.
 pub record BoundedOf (settings : Settings) (made : List Made) (confirmed : ℕ) (connection : ConnectionState) (window : ℕ) : Type 0 where
   pub small : settings.n_sendmax ≤ 32
   pub limit : settings.pdu_limit ≤ 4294901760
   pub few : length made ≤ 4294901860
-  -- past the limit only units that are still unconfirmed were sent
+  -- After the limit, only unconfirmed units were sent.
   pub few_live : is_live connection ≡ true → length made ≤ 4294901795 + length (run_of (drop (confirmed + 1) made))
   pub window_small : window ≤ 32
   pub in_window : length (run_of (drop (confirmed + 1) made)) ≤ window
-  -- where the client's window is set
+  -- Here the client's window is set.
   pub none_in_start : connection ≡ Start → length (run_of (drop (confirmed + 1) made)) ≡ 0
   pub confirmed_made : is_live connection ≡ true → confirmed < length made
 
 abbrev pub Bounded : State → Type 0
 Bounded s = BoundedOf s.settings s.made s.confirmed s.connection s.window
 
--- within the limit
+-- The limit is not reached.
 abbrev pub Ready : State → Type 0
 Ready s = is_live s.connection ≡ true → length s.made < s.settings.pdu_limit
 
@@ -126,7 +40,7 @@ unconfirmed-make kind body now s h = grind (arith, drop-append-le, run_after-app
 pub length-make : (kind : Kind) (body : List ℕ) (now : ℕ) (s : State) → length (make kind body now s).made ≡ length s.made + 1
 length-make kind body now s = length-append s.made (next_made s kind body now ∷ [])
 
--- a longer run before leaves no shorter run after
+-- A longer run before a PDU gives a longer run after it.
 after_pdu-longer : (kind : Kind) (body : List ℕ) (us vs : List (List ℕ)) → length us ≤ length vs → length (after_pdu kind body us)
     ≤ length (after_pdu kind body vs)
 after_pdu-longer kind body us vs h = grind (arith, length-append)
@@ -151,17 +65,17 @@ pub bounded-low : (t : State) → t.settings.n_sendmax ≤ 32 → t.settings.pdu
     → Bounded t
 bounded-low t small limit few window in_window none made = grind arith
 
--- an end as it is opened
+-- An end when it is opened.
 pub bounded-opened : (settings : Settings) (first now : ℕ) → is_legal settings ≡ true → Bounded (opened settings first now)
 bounded-opened settings first now e =
     let l = legal settings e in
     let waits = blank settings first now Down in
     let asks = make ConnReq (opening_body settings.n_sendmax) now (blank settings first now Start) in
-    cond_both settings.client asks waits Bounded
+    opened-cases Bounded settings first now
     (λ _. bounded-low asks l.window_most l.limit_most (omega arith) (omega arith) (omega arith) (λ _. omega arith) (λ _. omega arith))
     (λ _. bounded-low waits l.window_most l.limit_most (omega arith) (omega arith) (omega arith) (λ _. omega arith) (λ live. absurd (false≢true live)))
 
--- a PDU that carries nothing, made by a live end
+-- A PDU without a unit, made by a live end.
 bounded-plain : (kind : Kind) (body : List ℕ) (now : ℕ) (s : State) → Bounded s → length s.made ≤ 4294901794 → s.confirmed < length s.made →
     ((run : List (List ℕ)) → after_pdu kind body run ≡ run) → Bounded (make kind body now s)
 bounded-plain kind body now s b few made plain = grind (arith, unconfirmed-make, bounded-low, length-make)
@@ -169,10 +83,14 @@ bounded-plain kind body now s b few made plain = grind (arith, unconfirmed-make,
 pub bounded-closed : (s : State) → Bounded s → Bounded (move_to Closed s)
 bounded-closed s b = grind arith
 
-pub bounded-leave : (reason : Reason) (detail : Detail) (now : ℕ) (s : State) → Bounded s → Bounded (leave reason detail now s)
-bounded-leave reason detail now s b = grind (arith, leave-cases, unconfirmed-make, length-make, false≢true, bounded-closed)
+bounded-said : (reason : Reason) (detail : Detail) (now : ℕ) (s : State) → Bounded s → is_live s.connection ≡ true
+    → Bounded (move_to Closed (make DiscReq (leaving_body reason detail) now s))
+bounded-said reason detail now s b live = grind (arith, unconfirmed-make, length-make, false≢true, bounded-closed)
 
--- what is resent
+pub bounded-leave : (reason : Reason) (detail : Detail) (now : ℕ) (s : State) → Bounded s → Bounded (leave reason detail now s)
+bounded-leave reason detail now s b = leave-cases Bounded reason detail now s (bounded-said reason detail now s b) (λ _. bounded-closed s b)
+
+-- How many PDUs sending again makes.
 pub resend-length : (us : List (List ℕ)) (now : ℕ) (s : State) → length (resend us now s).made ≡ length s.made + length us
 resend-length [] now s = omega arith
 resend-length (u ∷ us) now s = omega (arith, resend-length us now (make RetrData u now s), length-make RetrData u now s)
@@ -183,7 +101,7 @@ resend-unconfirmed (u ∷ us) now s h =
     resend-unconfirmed us now (make RetrData u now s) (omega (arith, length-make RetrData u now s))
     ∙ (ap (λ run. run ++ us) (unconfirmed-make RetrData u now s h) ∙ append_assoc (unconfirmed s) (u ∷ []) us)
 
--- an answer
+-- An answer to a request.
 pub record Replied (s t : State) : Type 0 where
   pub settings : t.settings ≡ s.settings
   pub connection : t.connection ≡ s.connection
@@ -200,7 +118,7 @@ bounded-replied : (s t : State) → Bounded s → Replied s t → length s.made 
     × (t.confirmed < length t.made)
 bounded-replied s t b r few made = grind arith
 
--- confirming
+-- Confirming.
 pub confirmed-made : (x : State) (p : Pdu) → cs_fits (kept_of x) p ≡ true → x.confirmed + cs_step (kept_of x) p < length x.made
 confirmed-made x p fits = omega (arith, ltb-true (cs_step (kept_of x) p) (length x.made - x.confirmed) fits)
 
@@ -273,7 +191,7 @@ pub bounded-respond : (now : ℕ) (p : Pdu) (x : State) → Bounded x → Ready 
     → (1 ≤ is_opening p.kind → window_of p.body ≤ 32) → Bounded (respond p now x)
 bounded-respond now p x b ready down window = bounded-carry now p x b ready down window (decide (kept_of x) p now) (decide-fits (kept_of x) p now)
 
--- a move that is no arrival
+-- A move that is not an arrival.
 pub bounded-move : (m : Move) (x : State) → HearsNothing m → Bounded x → Bounded (move m x)
 bounded-move m x quiet b =
     let now = when m in

@@ -1,2 +1,2 @@
--- That settings stay, under the name that other crates cite.
+-- Settings stay the same; under the name that other crates use.
 pub use Rattle.safe_machine.proofs.one.Kept.{settings_law_holds}

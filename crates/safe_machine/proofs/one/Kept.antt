@@ -1,35 +1,37 @@
--- What every move of one machine keeps, whatever comes to it.
+-- What every move of one machine keeps, for any input.
 use Rattle.safe_machine.proofs.Words.{◌≡◌, ℕ, List, [], Bool, true, false, refl, Kind, ConnResp, RetrReq, DiscReq, Heartbeat, Data, Pdu, IsBody, window_of}
 use Rattle.safe_machine.proofs.Words.{Closed, Start, Up, Requesting, RetrRun, Reason, WrongVersion, Detail, Unspecified, opening_body, leaving_body, State}
 use Rattle.safe_machine.proofs.Words.{make, move_to, pass, hand_up, note_request, reply, leave, Decision, decide, cs_fits, distance, Nothing, Drops, Shuts}
 use Rattle.safe_machine.proofs.Words.{Leaves, Rejects, Accepts, Connects, Takes, Asks, Resumes, AnswersNext, AnswersEarly, set_window, confirm_to, tests_passed}
 use Rattle.safe_machine.proofs.Words.{carry_out, guard, confirm_units, Move, move, Guards, Hears, Ticks, Sends, LeavesNow, kept_of, length, sym, subst, ◌∙◌}
 use Rattle.safe_machine.proofs.Words.{ConnectionState, Down, joins, ◌∷◌, ◌++◌, RetrData, Made, Settings, next_made, resend, opened, moved, AreFrom, SettingsLaw}
-use Rattle.safe_machine.proofs.Words.{IdentifiedLaw, cond_both, ap, append_assoc, if◌then◌else◌, nat_le, units, may_send, sent_by, MovesLaw, append-nil}
+use Rattle.safe_machine.proofs.Words.{IdentifiedLaw, ap, append_assoc, if◌then◌else◌, nat_le, units, may_send, sent_by, MovesLaw, append-nil}
 use Rattle.safe_machine.proofs.Words.{ConnReq, respond, RequestsLaw, ◌⊎◌, inl, inr, StrangersLaw, WaitsLaw, GoesOn, HearsNothing, ConnectionsLaw, ◌≤◌, ◌<◌, ◌^◌}
 use Rattle.safe_machine.proofs.Words.{zero, suc, arith, drop, le-leb, leb-true, and_parts, UNIT_MIN, UNIT_MAX, Eight, HasNumbers, length-text, after_pdu}
 use Rattle.safe_machine.proofs.Words.{run_after, blank, is_legal, HasText, HaveTexts, IsUnitSized, AreSoundMoves, IsSoundMove, TextsLaw, HearsOwn, first_sent}
 use Rattle.safe_machine.proofs.Words.{handed_by, handed, IsTakenBy}
 use Rattle.safe_machine.proofs.one.Deciding.{Fits, decide-fits}
+use Rattle.safe_machine.proofs.one.Turning.{arrive-is, opened-cases, send-is, tick-is}
+use Rattle.safe_machine.proofs.one.Runs.{heartbeat-cases, leave-cases}
 use Rattle.safe_machine.proofs.one.Runs.{guard-cases, unit-cases, send-cases, early-cases, units-append, legal, made-again, reply-connection, taken-move}
 use Rattle.safe_machine.proofs.one.Runs.{by_guard-cases, closed-move}
 use Rattle.safe_machine.specs.Numbers.{sn_of}
 
--- A property that every single change of a machine keeps is kept by every move.
+-- If every single change of a machine keeps a property, every move keeps it.
 
--- nothing changes that is kept of the PDUs made
+-- Nothing changes that is derived from the PDUs made.
 abbrev pub Silent : State → State → Type 0
 Silent s t =
     (t.settings ≡ s.settings) × (t.made ≡ s.made) × (t.confirmed ≡ s.confirmed) × (t.last_sn ≡ s.last_sn) × (t.last_ts ≡ s.last_ts)
 
--- PDUs without a unit that no answer begins
+-- PDUs without a unit, and not a RetrResp.
 abbrev pub is_plain : Kind → Bool
 is_plain Heartbeat = true
 is_plain RetrReq = true
 is_plain DiscReq = true
 is_plain _ = false
 
--- P is kept, where A holds of each PDU that arrives and U of each unit that is sent.
+-- P is kept if A holds for each PDU that arrives and U for each unit that is sent.
 pub record Kept (A : Pdu → Type 0) (U : List ℕ → Type 0) (P : State → Type 0) : Type 0 where
   pub silent : (s t : State) → Silent s t → P s → P t
   pub plain : (kind : Kind) (body : List ℕ) (now : ℕ) (s : State) → is_plain kind ≡ true → IsBody kind body → P s → P (make kind body now s)
@@ -39,13 +41,13 @@ pub record Kept (A : Pdu → Type 0) (U : List ℕ → Type 0) (P : State → Ty
   pub sends : (unit : List ℕ) (now : ℕ) (s : State) → U unit → P s → P (make Data unit now s)
   pub replies : (now : ℕ) (s : State) → P s → P (reply now s)
 
--- what a move brings with it
+-- The condition on the PDU or unit of a move.
 abbrev pub AllowsMove : (A : Pdu → Type 0) (U : List ℕ → Type 0) → Move → Type 0
 AllowsMove A U (Hears p now) = A p
 AllowsMove A U (Sends unit now) = U unit
 AllowsMove A U _ = Unit {0}
 
--- where nothing is asked of what a move brings
+-- No condition on the PDU or unit of a move.
 abbrev pub Anything : {X : Type 0} → X → Type 0
 Anything x = Unit {0}
 
@@ -54,7 +56,7 @@ anything m = grind arith
 
 module _ (A : Pdu → Type 0) (U : List ℕ → Type 0) (P : State → Type 0) (k : Kept A U P) where
   kept-leave : (reason : Reason) (detail : Detail) (now : ℕ) (s : State) → P s → P (leave reason detail now s)
-  kept-leave reason detail now s h = grind arith
+  kept-leave reason detail now s h = leave-cases P reason detail now s (λ live. grind arith) (λ quiet. grind arith)
 
   kept-guard : (now : ℕ) (s : State) → P s → P (guard now s)
   kept-guard now s h = guard-cases P now s (λ reason detail. kept-leave reason detail now s h) (λ _. h)
@@ -110,12 +112,15 @@ module _ (A : Pdu → Type 0) (U : List ℕ → Type 0) (P : State → Type 0) (
   kept-move (Guards now) s a h = kept-guard now s h
   kept-move (Hears p now) s a h =
       let g = guard now s in
-      kept-decided p now (decide (kept_of g) p now) g a (decide-fits (kept_of g) p now) (kept-guard now s h)
-  kept-move (Ticks now) s a h = grind arith
+      subst P (sym (arrive-is p now s)) (kept-decided p now (decide (kept_of g) p now) g a (decide-fits (kept_of g) p now) (kept-guard now s h))
+  kept-move (Ticks now) s a h =
+      let g = guard now s in
+      let kept = kept-guard now s h in
+      subst P (sym (tick-is now s)) (heartbeat-cases P now g (λ on. k.plain Heartbeat [] now g refl refl kept) kept)
   kept-move (Sends unit now) s a h = send-cases P unit now s (λ _ _. k.sends unit now s a h) h
   kept-move (LeavesNow reason detail now) s a h = kept-leave reason detail now s h
 
--- a property of the settings and of the PDUs made
+-- A property of the settings and of the PDUs made.
 pub kept-lists : (P : State → Type 0) → ((s t : State) → t.settings ≡ s.settings → t.made ≡ s.made → P s → P t) →
     ((kind : Kind) (body : List ℕ) (now : ℕ) (s : State) → P s → P (make kind body now s)) → Kept Anything Anything P
 kept-lists P same makes =
@@ -131,12 +136,12 @@ kept-lists P same makes =
       replies = λ now s h. made-again P now (λ kind body s none h. makes kind body now s h) s h;
     }
 
--- many moves
+-- A list of moves.
 pub kept-moved : (P : State → Type 0) → Kept Anything Anything P → (ms : List Move) (s : State) → P s → P (moved ms s)
 kept-moved P k [] s h = h
 kept-moved P k (m ∷ ms) s h = kept-moved P k ms (move m s) (kept-move Anything Anything P k m s (anything m) h)
 
--- A machine's settings stay, and every PDU that it makes bears its identifiers.
+-- A machine's settings stay the same, and every PDU that it makes has its identifiers.
 pub settings_law_holds : SettingsLaw
 settings_law_holds m s =
     kept-move Anything Anything (λ (t : State). t.settings ≡ s.settings)
@@ -154,14 +159,14 @@ identified_law_holds settings first now ms =
     kept-lists P (λ s t e f h. (e ∙ h.0, subst (AreFrom settings) (sym f) h.1))
     (λ kind body now s h.
     (h.0, from-push settings s.made (next_made s kind body now) h.1 (ap (λ (c : Settings). c.peer) h.0, ap (λ (c : Settings). c.own) h.0))) in
-    let begun : P (opened settings first now) = cond_both settings.client _ _ P (λ _. (refl, ((refl, refl), tt))) (λ _. (refl, tt)) in
+    let begun : P (opened settings first now) = opened-cases P settings first now (λ _. (refl, ((refl, refl), tt))) (λ _. (refl, tt)) in
     (kept-moved P kept ms (opened settings first now) begun).1
 
--- A PDU of a stranger changes nothing.
+-- A stranger's PDU changes nothing.
 pub strangers_law_holds : StrangersLaw
 strangers_law_holds p now s strange = grind arith
 
--- How the state of a connection goes on.
+-- The states that can follow a state.
 decided-goes : (p : Pdu) (now : ℕ) (s : State) (d : Decision) → Fits (kept_of s) p now d → GoesOn s.connection (carry_out p now d s).connection
 decided-goes p now s Nothing f = inl refl
 decided-goes p now s (Drops cause) f = inl refl
@@ -184,8 +189,9 @@ stays-goes a b h = grind arith
 
 connection-goes : (m : Move) (s : State) → GoesOn s.connection (move m s).connection
 connection-goes (Hears p now) s =
-    guard-cases (λ g. GoesOn s.connection (respond p now g).connection) now s (λ reason detail. inr (inl refl))
-    (λ _. decided-goes p now s (decide (kept_of s) p now) (decide-fits (kept_of s) p now))
+    subst (λ (t : State). GoesOn s.connection t.connection) (sym (arrive-is p now s))
+    (guard-cases (λ g. GoesOn s.connection (respond p now g).connection) now s (λ reason detail. inr (inl refl))
+    (λ _. decided-goes p now s (decide (kept_of s) p now) (decide-fits (kept_of s) p now)))
 connection-goes m s = stays-goes s.connection (move m s).connection (connection-stays m s tt)
 
 pub connections_law_holds : ConnectionsLaw
@@ -198,7 +204,7 @@ goes-down a b h down = grind arith
 starts-own : (m : Move) (s : State) → s.connection ≡ Down → (move m s).connection ≡ Start → HearsOwn m s
 starts-own m s down start = grind arith
 
--- the PDUs made before stand in front
+-- The PDUs made before stay at the front.
 abbrev Grown : List Made → State → Type 0
 Grown before t = (more : List Made) × (t.made ≡ before ++ more)
 
@@ -210,7 +216,7 @@ grown m s =
     let new = next_made a kind body now ∷ [] in (h.0 ++ new, ap (λ ms. ms ++ new) h.1 ∙ append_assoc s.made h.0 new)))
     m s (anything m) ([], sym (append-nil s.made))
 
--- a PDU without a new unit
+-- A PDU without a new unit.
 unsent-make : (us : List (List ℕ)) (kind : Kind) (body : List ℕ) (now : ℕ) (s : State) → first_sent kind body ≡ [] → units s.made ≡ us
     → units (make kind body now s).made ≡ us
 unsent-make us kind body now s none h = grind (arith, units-append, append-nil)
@@ -235,7 +241,8 @@ unsent m s a =
     kept-move Anything (λ unit. ⊥) (λ (t : State). units t.made ≡ units s.made) (kept-unsent (units s.made)) m s a refl ∙ sym (append-nil (units s.made))
 
 move-sent : (m : Move) (s : State) → units (move m s).made ≡ units s.made ++ sent_by m s
-move-sent (Sends unit now) s = go (may_send s)
+move-sent (Sends unit now) s =
+    subst (λ (t : State). units t.made ≡ units s.made ++ (if may_send s then unit ∷ [] else [])) (sym (send-is unit now s)) (go (may_send s))
   where
     go : (b : Bool) → units (if b then make Data unit now s else s).made ≡ units s.made ++ (if b then unit ∷ [] else [])
     go true = units-append s.made (next_made s Data unit now ∷ [])
@@ -266,27 +273,37 @@ moves_law_holds m s =
 pub joins-down : (a b : ConnectionState) → joins a b ≡ true → (a ≡ Down) × (b ≡ Start)
 joins-down a b h = grind arith
 
--- Who starts a connection has heard a ConnReq.
+-- A connection starts only by a ConnReq.
 pub requests_law_holds : RequestsLaw
 requests_law_holds h s down e = grind arith
 
--- Before the connection is up nothing is taken.
+none-by : (p : Pdu) (now : ℕ) (d : Decision) (s : State) → (s.connection ≡ Down) ⊎ (s.connection ≡ Start) → Fits (kept_of s) p now d → handed_by d p ≡ []
+none-by p now (Takes to) s before f = grind arith
+none-by p now _ s before f = refl
+
+-- Before the connection is up, nothing is taken.
 pub waits_law_holds : WaitsLaw
-waits_law_holds h s before = grind arith
+waits_law_holds m s before = taken-move m s ∙ ap (λ us. s.taken ++ us) (none-handed m s before) ∙ append-nil s.taken
+  where
+    none-handed : (m : Move) (s : State) → (s.connection ≡ Down) ⊎ (s.connection ≡ Start) → handed m (kept_of s) ≡ []
+    none-handed (Hears p now) s before =
+        by_guard-cases (λ (us : List (List ℕ)). us ≡ []) now (kept_of s) (λ reason detail. []) (handed_by (decide (kept_of s) p now) p) (λ reason detail. refl)
+        (λ _. none-by p now (decide (kept_of s) p now) s before (decide-fits (kept_of s) p now))
+    none-handed m s before = refl
 
--- Each PDU that a machine makes has a text.
+-- Each PDU that a machine makes has an encoding.
 
--- a 32-bit number
+-- A number of 32 bits.
 small_number : (first index : ℕ) → sn_of first index < 256 ^ 4
 unfolding sn_of
 small_number first index = omega arith
 
--- what fits its fields has a text under every rule
+-- A PDU that fits its fields has an encoding under every rule.
 text-of : (p : Pdu) → HasNumbers p → IsBody p.kind p.body → length p.body ≤ UNIT_MAX → HasText p
 text-of p numbers body small rule =
     record { numbers = numbers; body = body; size = omega (arith, length-text p rule); spelled = refl }
 
--- what the settings say of an end's own fields
+-- What the settings say about an end's own fields.
 pub record Own (s : Settings) : Type 0 where
   pub own : s.own < 256 ^ 4
   pub peer : s.peer < 256 ^ 4
@@ -295,7 +312,7 @@ pub record Own (s : Settings) : Type 0 where
 pub own-legal : (s : Settings) → is_legal s ≡ true → Own s
 own-legal s e = grind (arith, legal, le-leb)
 
--- what is known of the PDUs made, and of what the next one will confirm
+-- What is known about the PDUs made, and about what the next one confirms.
 pub record TextsOf (settings : Settings) (made : List Made) (last_sn last_ts : ℕ) : Type 0 where
   pub own : Own settings
   pub sn : last_sn < 256 ^ 4
@@ -330,7 +347,7 @@ texts-make kind body now s fits small h =
           fits small);
     }
 
--- the units that PDUs with texts carry have the size of units
+-- The units in PDUs with encodings have the size of units.
 abbrev pub AllSized : List (List ℕ) → Type 0
 AllSized [] = Unit {0}
 AllSized (u ∷ us) = IsBody Data u × AllSized us
@@ -383,7 +400,7 @@ texts-opened settings first now lawful =
     let own = own-legal settings lawful in
     let begun : State = blank settings first now Start in
     let before : Texts begun = record { own = own; sn = omega arith; ts = omega arith; texts = tt } in
-    cond_both settings.client (make ConnReq (opening_body settings.n_sendmax) now begun) (blank settings first now Down) Texts
+    opened-cases Texts settings first now
     (λ _. texts-make ConnReq (opening_body settings.n_sendmax) now begun own.window (omega arith) before)
     (λ _. record { own = own; sn = omega arith; ts = omega arith; texts = tt })
 

@@ -1,4 +1,4 @@
--- A history's view takes the view's turn, and the history grows by what the turn made and what it handed up.
+-- What is kept of a history takes the turn, and the history grows by what the turn made and handed up.
 use Rattle.safe_machine.proofs.Words.{◌≡◌, ℕ, ◌+◌, ◌-◌, ◌<◌, List, [], ◌∷◌, ◌++◌, length, Bool, true, false, refl, sym, ap, subst, ◌∙◌, arith, append_assoc}
 use Rattle.safe_machine.proofs.Words.{length-append, Result, Ok, Err, if◌then◌else◌, nat_le, ltb-true, and_parts, drop_all, Numbered, octets_of, renumbered}
 use Rattle.safe_machine.proofs.Words.{Kind, ConnResp, RetrReq, RetrResp, DiscReq, Heartbeat, Data, RetrData, Pdu, window_of, safe_seen, SafeFault}
@@ -10,16 +10,15 @@ use Rattle.safe_machine.proofs.Words.{next_made, note_request, pass, reply, rese
 use Rattle.safe_machine.proofs.Words.{confirm_units, guard, heartbeat, may_send, respond, send, set_window, take_unit, tests_passed, MaySend, OpenedTurn, Tells}
 use Rattle.safe_machine.proofs.Words.{Turned, handed, turn, Turn, answers_ahead, arrives, asks, beats, both_confirmed, carries_out, confirmed_to, counted}
 use Rattle.safe_machine.proofs.Words.{goes_on, guards, has_room, is_open, leaves, moved_to, passed, renumbers, replies, requested, resends, responds, says}
-use Rattle.safe_machine.proofs.Words.{sends, sends_unit, still, takes_unit, units_confirmed, windowed, View, StandsFor, beside, kept_of, append-nil, false≢true}
-use Rattle.safe_machine.proofs.Words.{HasMade}
-use Rattle.safe_machine.proofs.one.Deciding.{Fits, decide-fits, confirmed-made, length-make, replied}
-use Rattle.safe_machine.proofs.one.Runs.{octets_of-length, ring_of-units, ring-resend, answer-ring, data-ring, made-beside, plain-ring, ring-step, taken-move}
-use Rattle.safe_machine.proofs.one.Runs.{by_guard-two, quiet-cases, arrive-cases}
-use Rattle.safe_machine.proofs.one.Kept.{Anything, Kept, kept-decided}
+use Rattle.safe_machine.proofs.Words.{sends, sends_unit, still, takes_unit, units_confirmed, windowed, View, StandsFor, beside, kept_of, append-nil}
+use Rattle.safe_machine.proofs.Words.{ConnReq, Down, Ticks, LeavesNow, blank, follow, guarded, handed_by, hands, history, left_by, opened, tick, ticks}
+use Rattle.safe_machine.proofs.one.Fitting.{Fits, decide-fits}
+use Rattle.safe_machine.proofs.one.Lists.{octets_of-length, ring_of-units, ring-resend, answer-ring, data-ring, made-beside, plain-ring, ring-step}
+use Rattle.safe_machine.proofs.one.Lists.{by_guard-cases, by_guard-two, decided-taken, none-taken}
 
 -- A history's view takes the view's turn, and the history grows by what the turn made and what it handed up.
 
--- What is left stands for the history beside these units, which has grown by what was made.
+-- What the turn left is what is kept of the history with these units in the ring, and the history has grown by what was made.
 abbrev FollowsAt : List Numbered → Turn → State → State → Type 0
 FollowsAt ring t s u = (t.left ≡ beside ring u) × (u.made ≡ s.made ++ t.made)
 
@@ -40,7 +39,7 @@ choose b t r s u w h k = grind arith
 moved : (connection : ConnectionState) (t : Turn) (s u : State) → Follows t s u → Follows (moved_to connection t) s (move_to connection u)
 moved connection t s u h = (ap (λ (v : View). record v { connection = connection }) h.0, h.1)
 
--- a PDU is made beside any units, and beside its own where it leaves them
+-- A PDU is made with any units in the ring, or with the history's own if it does not change them.
 said-at : (ring : List Numbered) (kind : Kind) (body : List ℕ) (now : ℕ) (s : State) → FollowsAt ring (says kind body now (beside ring s)) s
     (make kind body now s)
 said-at ring kind body now s = (made-beside ring kind body now s, refl)
@@ -49,21 +48,48 @@ said : (kind : Kind) (body : List ℕ) (now : ℕ) (s : State) → ring_of (make
     → Follows (says kind body now (kept_of s)) s (make kind body now s)
 said kind body now s same = (made-beside (ring_of s) kind body now s ∙ ap (λ r. beside r (make kind body now s)) (sym same), refl)
 
-leaves-follows : (reason : Reason) (detail : Detail) (now : ℕ) (s : State) → Follows (leaves reason detail now (kept_of s)) s (leave reason detail now s)
-leaves-follows reason detail now s =
+left-follows : (reason : Reason) (detail : Detail) (now : ℕ) (s : State) → Follows (leaves reason detail now (kept_of s)) s (left_by reason detail now s)
+left-follows reason detail now s =
     let body = leaving_body reason detail in
     moved Closed (if is_live s.connection then says DiscReq body now (kept_of s) else still (kept_of s)) s
     (if is_live s.connection then make DiscReq body now s else s)
     (choose (is_live s.connection) (says DiscReq body now (kept_of s)) (still (kept_of s)) s (make DiscReq body now s) s
     (λ _. said DiscReq body now s (plain-ring DiscReq body now s refl)) (λ _. stays s))
 
-guards-follows : (now : ℕ) (s : State) → Follows (guards now (kept_of s)) s (guard now s)
-guards-follows now s =
+-- A history that follows a turn is what the changes lead to.
+follow-is : (ring : List Numbered) (t : Turn) (units : List (List ℕ)) (s u : State) → FollowsAt ring t s u → u.taken ≡ s.taken ++ units → follow t units s ≡ u
+follow-is ring t units s u h taken =
+    ap (λ v. history v (s.made ++ t.made) (s.taken ++ units)) h.0
+    ∙ (ap (λ ms. history (beside ring u) ms (s.taken ++ units)) (sym h.1) ∙ ap (history (beside ring u) u.made) (sym taken))
+
+left-taken : (reason : Reason) (detail : Detail) (now : ℕ) (s : State) → (left_by reason detail now s).taken ≡ s.taken ++ []
+left-taken reason detail now s = grind (arith, none-taken)
+
+pub leave-is : (reason : Reason) (detail : Detail) (now : ℕ) (s : State) → leave reason detail now s ≡ left_by reason detail now s
+leave-is reason detail now s =
+    let u = left_by reason detail now s in
+    follow-is (ring_of u) (leaves reason detail now (kept_of s)) [] s u (left-follows reason detail now s) (left-taken reason detail now s)
+
+leaves-follows : (reason : Reason) (detail : Detail) (now : ℕ) (s : State) → Follows (leaves reason detail now (kept_of s)) s (leave reason detail now s)
+leaves-follows reason detail now s = subst (Follows (leaves reason detail now (kept_of s)) s) (sym (leave-is reason detail now s)) (left-follows reason detail now s)
+
+guarded-follows : (now : ℕ) (s : State) → Follows (guards now (kept_of s)) s (guarded now s)
+guarded-follows now s =
     by_guard-two (λ t u. Follows t s u) now (kept_of s) (λ reason detail. leaves reason detail now (kept_of s)) (still (kept_of s))
     (λ reason detail. leave reason detail now s) s
     (λ reason detail. leaves-follows reason detail now s) (stays s)
 
--- what was confirmed
+pub guard-is : (now : ℕ) (s : State) → guard now s ≡ guarded now s
+guard-is now s =
+    let u = guarded now s in
+    follow-is (ring_of u) (guards now (kept_of s)) [] s u (guarded-follows now s)
+    (by_guard-cases (λ (t : State). t.taken ≡ s.taken ++ []) now (kept_of s) (λ reason detail. leave reason detail now s) s (λ reason detail. refl)
+    (λ _. none-taken s))
+
+guards-follows : (now : ℕ) (s : State) → Follows (guards now (kept_of s)) s (guard now s)
+guards-follows now s = subst (Follows (guards now (kept_of s)) s) (sym (guard-is now s)) (guarded-follows now s)
+
+-- What was confirmed.
 within : (p : Pdu) (s : State) → cs_fits (kept_of s) p ≡ true → cs_step (kept_of s) p < length s.made - s.confirmed
 within p s e = ltb-true (cs_step (kept_of s) p) (length s.made - s.confirmed) e
 
@@ -73,7 +99,7 @@ units-kept p s e = ap (λ r. beside r (confirm_units p s)) (ring-step p s (withi
 both-kept : (p : Pdu) (s : State) → cs_fits (kept_of s) p ≡ true → both_confirmed p (kept_of s) ≡ kept_of (tests_passed p s)
 both-kept p s e = ap (λ r. beside r (tests_passed p s)) (ring-step p s (within p s e))
 
--- a unit goes up
+-- A unit is delivered.
 unit-follows : (p : Pdu) (now : ℕ) (s : State) → Follows (takes_unit p now (kept_of s)) s (take_unit p now s)
 unit-follows p now s =
     let u = hand_up p s in
@@ -86,7 +112,7 @@ unit-follows p now s =
 asks-follows : (now : ℕ) (s : State) → Follows (asks now (kept_of s)) s (ask now s)
 asks-follows now s = moved Requesting (says RetrReq [] now (kept_of s)) s (make RetrReq [] now s) (said RetrReq [] now s (plain-ring RetrReq [] now s refl))
 
--- units go out again
+-- Units are sent again.
 resends-at : (ring : List Numbered) (units : List (List ℕ)) (now : ℕ) (s : State) → FollowsAt ring (resends units now (beside ring s)) s (resend units now s)
 resends-at ring [] now s = (refl, sym (append-nil s.made))
 resends-at ring (unit ∷ units) now s =
@@ -117,7 +143,7 @@ replies-follows now s inside =
     subst (λ us. Follows (replies now (kept_of s)) s (make Heartbeat [] now (resend us now a))) is
     (from.0, from.1 ∙ append_assoc s.made (next_made s RetrResp [] now ∷ []) (again (counted now (kept_of s))).made)
 
--- what was decided
+-- The decision is carried out.
 ahead-follows : (p : Pdu) (now : ℕ) (s : State) → cs_fits (kept_of s) p ≡ true → Follows (answers_ahead p now (kept_of s)) s (answered_ahead p now s)
 ahead-follows p now s fits =
     let d = distance (kept_of s) p in
@@ -179,7 +205,7 @@ beats-follows now s =
     choose (beat_due now (kept_of s)) (says Heartbeat [] now (kept_of s)) (still (kept_of s)) s (make Heartbeat [] now s) s
     (λ _. said Heartbeat [] now s (plain-ring Heartbeat [] now s refl)) (λ _. stays s)
 
--- how many units are unconfirmed, and whether one may be sent
+-- How many units are unconfirmed, and whether one may be sent.
 count-kept : (s : State) → length (ring_of s) ≡ length (unconfirmed s)
 count-kept s = sym (octets_of-length (ring_of s)) ∙ ap length (ring_of-units s)
 
@@ -189,31 +215,88 @@ room-kept s = ap (λ (n : ℕ). is_open s.connection n s.window) (count-kept s)
 pub tells_law_holds : (v : View) (s : State) → StandsFor v s → Tells v s
 tells_law_holds v s h = subst (λ w. Tells w s) (sym h) (record { awaiting = count-kept s; room = room-kept s })
 
+-- A send, with the ring that it leaves.
+sent-follows : (unit : List ℕ) (now : ℕ) (s : State) (b : Bool) → (ring : List Numbered)
+    × FollowsAt ring (if b then sends_unit unit now (kept_of s) else still (kept_of s)) s (if b then make Data unit now s else s)
+sent-follows unit now s true =
+    let keep : View → View = λ v. record v { ring = ring_of s ++ record { number = length s.made; octets = unit } ∷ [] } in
+    (ring_of s ++ record { number = length s.made; octets = unit } ∷ [], (ap keep (made-beside (ring_of s) Data unit now s), refl))
+sent-follows unit now s false = (ring_of s, stays s)
+
+sent-taken : (unit : List ℕ) (now : ℕ) (s : State) (b : Bool) → (if b then make Data unit now s else s).taken ≡ s.taken ++ []
+sent-taken unit now s b = grind (arith, none-taken)
+
+pub send-is : (unit : List ℕ) (now : ℕ) (s : State) → send unit now s ≡ (if may_send s then make Data unit now s else s)
+send-is unit now s =
+    let h = sent-follows unit now s (may_send s) in
+    subst (λ (b : Bool). follow (if b then sends_unit unit now (kept_of s) else still (kept_of s)) [] s ≡ (if may_send s then make Data unit now s else s))
+    (sym (room-kept s))
+    (follow-is h.0 (if may_send s then sends_unit unit now (kept_of s) else still (kept_of s)) [] s (if may_send s then make Data unit now s else s) h.1
+    (sent-taken unit now s (may_send s)))
+
 sends-follows : (unit : List ℕ) (now : ℕ) (s : State) → (in_turn s.connection ≡ true → s.confirmed < length s.made)
     → Follows (sends unit now (kept_of s)) s (send unit now s)
 sends-follows unit now s made =
     let u = make Data unit now s in
     let keep : View → View = λ v. record v { ring = ring_of s ++ record { number = length s.made; octets = unit } ∷ [] } in
-    let sent : may_send s ≡ true → Follows (sends_unit unit now (kept_of s)) s u =
+    let kept : may_send s ≡ true → Follows (sends_unit unit now (kept_of s)) s u =
     λ open_now.
     let turn = (and_parts (in_turn s.connection) _ open_now).0 in
     (ap keep (made-beside (ring_of s) Data unit now s) ∙ ap (λ r. beside r u) (sym (data-ring unit now s (made turn))), refl) in
-    subst (λ (b : Bool). Follows (if b then sends_unit unit now (kept_of s) else still (kept_of s)) s (send unit now s)) (sym (room-kept s))
-    (choose (may_send s) (sends_unit unit now (kept_of s)) (still (kept_of s)) s u s sent (λ _. stays s))
+    subst (Follows (sends unit now (kept_of s)) s) (sym (send-is unit now s))
+    (subst (λ (b : Bool). Follows (if b then sends_unit unit now (kept_of s) else still (kept_of s)) s (if may_send s then u else s)) (sym (room-kept s))
+    (choose (may_send s) (sends_unit unit now (kept_of s)) (still (kept_of s)) s u s kept (λ _. stays s)))
 
-arrives-follows : (p : Pdu) (now : ℕ) (s : State) → Follows (arrives p now (kept_of s)) s (arrive p now s)
-arrives-follows p now s = grind (arith, then-at, guards-follows, responds-follows)
+-- An arrival.
+responded-follows : (p : Pdu) (now : ℕ) (s : State) → Follows (arrives p now (kept_of s)) s (respond p now (guard now s))
+responded-follows p now s =
+    let g = guard now s in
+    let u = respond p now g in
+    then-at (ring_of u) (ring_of g) (guards now (kept_of s)) (responds p now) s g u (guards-follows now s) (responds-follows p now g)
+
+responded-taken : (p : Pdu) (now : ℕ) (s : State) → (respond p now (guarded now s)).taken ≡ s.taken ++ hands p now (kept_of s)
+responded-taken p now s =
+    by_guard-two (λ (g : State) us. (respond p now g).taken ≡ s.taken ++ us) now (kept_of s) (λ reason detail. leave reason detail now s) s
+    (λ reason detail. []) (handed_by (decide (kept_of s) p now) p) (λ reason detail. refl) (decided-taken p now (decide (kept_of s) p now) s)
+
+pub arrive-is : (p : Pdu) (now : ℕ) (s : State) → arrive p now s ≡ respond p now (guard now s)
+arrive-is p now s =
+    let u = respond p now (guard now s) in
+    follow-is (ring_of u) (arrives p now (kept_of s)) (hands p now (kept_of s)) s u (responded-follows p now s)
+    (subst (λ (g : State). (respond p now g).taken ≡ s.taken ++ hands p now (kept_of s)) (sym (guard-is now s)) (responded-taken p now s))
+
+-- Time passes.
+beaten-follows : (now : ℕ) (s : State) → Follows (ticks now (kept_of s)) s (heartbeat now (guard now s))
+beaten-follows now s =
+    let g = guard now s in
+    let u = heartbeat now g in
+    then-at (ring_of u) (ring_of g) (guards now (kept_of s)) (beats now) s g u (guards-follows now s) (beats-follows now g)
+
+beat-taken : (now : ℕ) (s : State) → (heartbeat now s).taken ≡ s.taken
+beat-taken now s = grind arith
+
+pub tick-is : (now : ℕ) (s : State) → tick now s ≡ heartbeat now (guard now s)
+tick-is now s =
+    let u = heartbeat now (guard now s) in
+    follow-is (ring_of u) (ticks now (kept_of s)) [] s u (beaten-follows now s) (beat-taken now (guard now s))
 
 follows : (m : Move) (s : State) → MaySend m (kept_of s) → Follows (turn m (kept_of s)) s (move m s)
-follows m s may = grind (arith, guards-follows, arrives-follows, then-at, beats-follows, sends-follows, leaves-follows)
+follows (Guards now) s may = guards-follows now s
+follows (Hears p now) s may = subst (Follows (arrives p now (kept_of s)) s) (sym (arrive-is p now s)) (responded-follows p now s)
+follows (Ticks now) s may = subst (Follows (ticks now (kept_of s)) s) (sym (tick-is now s)) (beaten-follows now s)
+follows (Sends unit now) s may = sends-follows unit now s may
+follows (LeavesNow reason detail now) s may = leaves-follows reason detail now s
 
 turned-of : (m : Move) (s : State) → MaySend m (kept_of s) → Turned (turn m (kept_of s)) (handed m (kept_of s)) s (move m s)
 turned-of m s may = let h = follows m s may in record { stands = h.0; made = h.1; taken = taken-move m s }
+  where
+    taken-move : (m : Move) (s : State) → (move m s).taken ≡ s.taken ++ handed m (kept_of s)
+    taken-move m s = grind arith
 
 pub turns_law_holds : (m : Move) (v : View) (s : State) → MaySend m v → StandsFor v s → Turned (turn m v) (handed m v) s (move m s)
 turns_law_holds m v s may h = subst (λ w. Turned (turn m w) (handed m w) s (move m s)) (sym h) (turned-of m s (subst (MaySend m) h may))
 
--- what octets read as is no sending
+-- The arrival of bytes is not a send.
 heard-turns : (read : Result Pdu SafeFault) (now : ℕ) (v : View) (s : State) → StandsFor v s → Turned (turn (heard read now) v) (handed (heard read now) v) s
     (move (heard read now) s)
 heard-turns (Ok p) now v s h = turns_law_holds (Hears p now) v s tt h
@@ -228,41 +311,8 @@ octets_law_holds octets now v s h =
 pub opening_law_holds : (settings : Settings) (first now : ℕ) → OpenedTurn settings first now
 opening_law_holds settings first now = grind arith
 
--- An end that sends in turn has made the PDU that was last confirmed, and every move keeps that.
-
--- more PDUs were made than confirmed
-abbrev IsAhead : State → Type 0
-IsAhead s = s.confirmed < length s.made
-
-ahead-kept : Kept Anything Anything IsAhead
-ahead-kept = grind (arith, length-make, confirmed-made, replied)
-
--- a PDU that confirms finds one to confirm
-was-ahead : (p : Pdu) (s : State) → cs_fits (kept_of s) p ≡ true → IsAhead s
-was-ahead p s fits = omega (arith, ltb-true (cs_step (kept_of s) p) (length s.made - s.confirmed) fits)
-
-leave-made : (reason : Reason) (detail : Detail) (now : ℕ) (s : State) → HasMade (kept_of (leave reason detail now s))
-leave-made reason detail now s = grind arith
-
-by-fit : (p : Pdu) (now : ℕ) (d : Decision) (s : State) → Fits (kept_of s) p now d → cs_fits (kept_of s) p ≡ true → HasMade (kept_of (carry_out p now d s))
-by-fit p now d s f fits turn = kept-decided Anything Anything IsAhead ahead-kept p now d s tt f (was-ahead p s fits)
-
-decided-made : (p : Pdu) (now : ℕ) (d : Decision) (s : State) → Fits (kept_of s) p now d → HasMade (kept_of s) → HasMade (kept_of (carry_out p now d s))
-decided-made p now d s f h = grind (arith, leave-made, by-fit, false≢true)
-
-move-made : (m : Move) (s : State) → HasMade (kept_of s) → HasMade (kept_of (move m s))
-move-made (Hears p now) s h =
-    arrive-cases (λ t. HasMade (kept_of t)) p now s h (λ reason detail. leave-made reason detail now s)
-    (λ _ _ _. decided-made p now (decide (kept_of s) p now) s (decide-fits (kept_of s) p now) h)
-move-made m s h = grind (arith, quiet-cases, leave-made, length-make)
-
--- the same of what is kept
-pub made_law_holds : (m : Move) (v : View) (s : State) → HasMade v → StandsFor v s → HasMade (turn m v).left
-made_law_holds m v s h stands =
-    let kept : HasMade (kept_of s) = subst HasMade stands h in
-    let may : MaySend m v = may-send m v h in
-    subst HasMade (sym (turns_law_holds m v s may stands).stands) (move-made m s kept)
-  where
-    may-send : (m : Move) (v : View) → HasMade v → MaySend m v
-    may-send (Sends unit now) v h = h
-    may-send _ v h = tt
+-- An opening.
+pub opened-cases : (P : State → Type 0) (settings : Settings) (first now : ℕ)
+    → (settings.client ≡ true → P (make ConnReq (opening_body settings.n_sendmax) now (blank settings first now Start)))
+    → (settings.client ≡ false → P (blank settings first now Down)) → P (opened settings first now)
+opened-cases P settings first now asks waits = grind arith

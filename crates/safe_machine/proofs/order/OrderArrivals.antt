@@ -1,4 +1,4 @@
--- What two ends make and decide to which everything comes in order, and the next PDU of the peer.
+-- What two ends make and decide if everything arrives in order, and the next PDU of the peer.
 use Rattle.safe_machine.proofs.Words.{◌≡◌, inl, inr, ℕ, suc, zero, ◌≤◌, List, [], ◌∷◌, ◌++◌, length, take, drop, Bool, true, false, refl, sym, ap, subst, ◌∙◌}
 use Rattle.safe_machine.proofs.Words.{arith, append_assoc, length-append, append-nil, append_cancel_right, take-append-drop, false≢true, Kind, ConnReq}
 use Rattle.safe_machine.proofs.Words.{ConnResp, RetrReq, RetrResp, DiscReq, Heartbeat, Data, RetrData, Made, opening_body, units, first_sent, after_pdu}
@@ -13,29 +13,29 @@ use Rattle.safe_machine.specs.Numbers.{sn_of, ahead}
 use Rattle.safe_machine.proofs.two.Invariant.{Told, Solo, Half, Few, needs_peer, Pair, started-is}
 use Rattle.safe_machine.proofs.two.Lone.{Arrival, arrival-index}
 
--- What two ends make to which everything comes in order.
+-- What two ends make if everything arrives in order.
 
--- a PDU of an end that is connected, or leaves
+-- A PDU of an end that is connected, or disconnects.
 abbrev pub is_plain : Kind → Bool
 is_plain Heartbeat = true
 is_plain Data = true
 is_plain DiscReq = true
 is_plain _ = false
 
--- the same without a unit
+-- The same without a unit.
 abbrev pub is_bare : Kind → Bool
 is_bare Heartbeat = true
 is_bare DiscReq = true
 is_bare _ = false
 
--- a PDU of a retransmission
+-- A PDU of a retransmission.
 abbrev pub is_repeat : Kind → Bool
 is_repeat RetrReq = true
 is_repeat RetrResp = true
 is_repeat RetrData = true
 is_repeat _ = false
 
--- what a client with this N_sendmax has made at an index, and what a server
+-- What a client with this N_sendmax has made at an index, and what a server has.
 abbrev pub GoodAt : Bool → ℕ → ℕ → Made → Type 0
 GoodAt true n zero m = (m.pdu.kind ≡ ConnReq) × (m.pdu.body ≡ opening_body n)
 GoodAt true n (suc zero) m = is_bare m.pdu.kind ≡ true
@@ -49,11 +49,11 @@ Kinds client n ms = (i : ℕ) (m : Made) (rest : List Made) → drop i ms ≡ m 
 abbrev pub Ordinary : Made → Type 0
 Ordinary m = is_repeat m.pdu.kind ≡ false
 
--- a PDU without a unit may stand anywhere but first
+-- A PDU without a unit may be at any place except the first.
 pub good-bare : (client : Bool) (n i : ℕ) (m : Made) → 1 ≤ i → is_bare m.pdu.kind ≡ true → GoodAt client n i m
 good-bare client n i m h e = grind arith
 
--- and any plain one after the first of a server, and after the second of a client
+-- Any plain PDU may come after the first of a server, and after the second of a client.
 pub good-plain : (client : Bool) (n i : ℕ) (m : Made) → 1 ≤ i → (client ≡ true → 2 ≤ i) → is_plain m.pdu.kind ≡ true → GoodAt client n i m
 good-plain client n i m h k e = grind arith
 
@@ -91,7 +91,7 @@ ordinary-run run (m ∷ ms) h =
     let sent = first_sent m.pdu.kind m.pdu.body in
     ap (λ us. run_after us ms) (ordinary-after m.pdu.kind m.pdu.body run h.0) ∙ (ordinary-run (run ++ sent) ms h.1 ∙ append_assoc run sent (units ms))
 
--- What was taken are the units of the PDUs before the expected one.
+-- What was taken is the units of the PDUs before the expected one.
 pub taken-so_far : (taken : List (List ℕ)) (n : ℕ) (ms : List Made) → Every Ordinary ms → taken ++ (run_of (drop n ms) ++ []) ≡ units ms
     → taken ≡ units (take n ms)
 taken-so_far taken n ms h e =
@@ -112,7 +112,7 @@ next-distance m rest x y solo h late at =
     ∙ (ahead-next y.first (x.expected - 1) m.pdu.sn
     ∙ (ap (λ n. ahead (sn_of y.first n) m.pdu.sn) back ∙ (ap (ahead (sn_of y.first x.expected)) sn ∙ (zero_step ∙ omega arith))))
 
--- where it was made with more behind than what is confirmed
+-- If its maker had passed more than what is confirmed.
 pub next-cs : (i : ℕ) (m : Made) (rest : List Made) (x y : State) → Half x y → Few x → drop i y.made ≡ m ∷ rest → x.confirmed + 1 ≤ m.behind
     → cs_fits (kept_of x) m.pdu ≡ true
 next-cs i m rest x y h few at more =
@@ -128,7 +128,7 @@ next-cts clock now i m rest x y later guarded h c =
     let b = basis clock now i m rest x y later h guarded c in
     le-leb (cts_step (kept_of x) m.pdu) (now - x.confirmed_at) (omega (arith, b.3, b.4, b.5))
 
--- With all behind, all was taken.
+-- If everything is passed, everything was taken.
 pub all-taken : (x y : State) → Half x y → y.expected ≡ length x.made → y.taken ≡ units x.made
 all-taken x y h all =
     let none : run_of (drop y.expected x.made) ≡ [] = ap (λ (n : ℕ). run_of (drop n x.made)) all ∙ ap run_of (dropped x.made) in
@@ -138,15 +138,15 @@ all-taken x y h all =
     dropped [] = refl
     dropped (m ∷ ms) = dropped ms
 
--- What an end decides on the next PDU of its peer.
+-- The decision on the next PDU of the peer.
 
--- what the tests find of a PDU that needs a peer
+-- The results of the tests for a PDU that needs a peer.
 pub record Passes (s : State) (p : Pdu) (now : ℕ) : Type 0 where
   pub next : distance (kept_of s) p ≡ 0
   pub cs : cs_fits (kept_of s) p ≡ true
   pub cts : cts_fits (kept_of s) p now ≡ true
 
--- a goodbye, or a PDU that is taken
+-- A DiscReq, or a PDU that is taken.
 abbrev pub ShutsOrTakes : Pdu → Decision → Type 0
 ShutsOrTakes p d = ((d ≡ Shuts) × (is_goodbye p.kind ≡ true)) ⊎ ((d ≡ Takes Up) × (needs_peer p.kind ≡ 1))
 
@@ -165,9 +165,9 @@ pub decide-connects : (s : State) (p : Pdu) (now n : ℕ) → s.connection ≡ S
     → p.body ≡ opening_body n → cs_fits (kept_of s) p ≡ true → cts_fits (kept_of s) p now ≡ true → decide (kept_of s) p now ≡ Connects
 decide-connects s p now n start client meant is body cs cts = grind arith
 
--- What holds of an end and its peer while everything comes in order, and the moves that keep it.
+-- What holds for an end and its peer while everything arrives in order, and the moves that keep it.
 
--- the state of an end in this role after a number of arrivals
+-- The state of an end in this role after a number of arrivals.
 abbrev pub state_of : Bool → ℕ → ConnectionState
 state_of true n = client_state n
 state_of false n = server_state n
@@ -176,17 +176,17 @@ abbrev pub opposite : Bool → Bool
 opposite true = false
 opposite false = true
 
--- a PDU that confirms anything confirms more than this
+-- A PDU that confirms anything confirms more than this.
 abbrev pub Beyond : ℕ → Made → Type 0
 Beyond confirmed m = 1 ≤ m.behind → confirmed + 1 ≤ m.behind
 
--- where an end in this role stands to which n PDUs came
+-- The state of an end in this role to which n PDUs came.
 pub record StandsOf (client : Bool) (n : ℕ) (connection : ConnectionState) (expected window peer : ℕ) : Type 0 where
   pub state : connection ≢ Closed → connection ≡ state_of client n
   pub count : connection ≢ Closed → expected ≡ n
   pub window_is : connection ≢ Closed → 1 ≤ n → window ≡ peer
 
--- such an end: `back` is what the peer has made
+-- Such an end: `back` is what the peer has made.
 pub record EndOf (client : Bool) (n : ℕ) (role : Bool) (own : ℕ) (connection : ConnectionState) (made : List Made) (expected confirmed window peer : ℕ)
     (back : List Made) : Type 0 where
   pub role_is : role ≡ client
@@ -197,7 +197,7 @@ pub record EndOf (client : Bool) (n : ℕ) (role : Bool) (own : ℕ) (connection
 abbrev pub End : Bool → ℕ → State → State → Type 0
 End client n x y = EndOf client n x.settings.client x.settings.n_sendmax x.connection x.made x.expected x.confirmed x.window y.settings.n_sendmax y.made
 
--- a client that is up has sent its first heartbeat
+-- A client that is up has sent its first heartbeat.
 abbrev pub Grown : Bool → State → Type 0
 Grown client s = client ≡ true → s.connection ≡ Up → 2 ≤ length s.made
 
@@ -207,7 +207,7 @@ pub record Ends (client : Bool) (n k : ℕ) (x y : State) : Type 0 where
   pub grown : Grown client x
   pub grown_peer : Grown (opposite client) y
 
--- A PDU is made: what it says of its maker, and of the peer.
+-- A PDU is made: what it says about its maker, and about the peer.
 pub end-make : (client : Bool) (n : ℕ) (kind : Kind) (body : List ℕ) (now : ℕ) (x y : State)
     → GoodAt client x.settings.n_sendmax (length x.made) (next_made x kind body now) → End client n x y → End client n (make kind body now x) y
 end-make client n kind body now x y good h = grind (arith, kinds-push)
@@ -226,12 +226,12 @@ pub ends-make : (client : Bool) (n k : ℕ) (kind : Kind) (body : List ℕ) (now
     GoodAt client x.settings.n_sendmax (length x.made) (next_made x kind body now) → Ends client n k x y → Ends client n k (make kind body now x) y
 ends-make client n k kind body now x y behind good h = grind (arith, end-make, end-made, length-append)
 
--- an end that is closed, whatever came to it
+-- An end that is closed, after any arrivals.
 pub ends-closed : (connection : ConnectionState) (client : Bool) (n n' k : ℕ) (x y : State) → connection ≡ Closed → Ends client n k x y
     → Ends client n' k (move_to connection x) y
 ends-closed connection client n n' k x y e h = grind arith
 
--- what comes after a PDU confirms no less than it
+-- Later PDUs do not confirm less.
 pub beyond-later : (i c : ℕ) (m : Made) (rest ms : List Made) → Rises behind_of ms → drop i ms ≡ m ∷ rest → c + 1 ≤ m.behind
     → Every (Beyond c) (drop (i + 1) ms)
 beyond-later i c m rest ms rises at more =
@@ -241,7 +241,7 @@ beyond-later i c m rest ms rises at more =
     let order : m.behind ≤ a.behind = rises i (i + 1 + j) m a rest ra (omega arith) at there in
     λ one. omega arith)
 
--- the end after it took the next PDU, in its new state
+-- The end after it took the next PDU, in its new state.
 pub end-take : (client : Bool) (n : ℕ) (to : ConnectionState) (window : ℕ) (m : Made) (rest : List Made) (x y : State) → Arrival 0 m rest x y → End client n x y
     → Rises behind_of y.made →
     x.connection ≢ Closed → needs_peer m.pdu.kind ≡ 1 → cs_fits (kept_of x) m.pdu ≡ true → to ≡ state_of client (n + 1) → window ≡ y.settings.n_sendmax →
@@ -256,9 +256,9 @@ end-take client n to window m rest x y a h rises on needs fits state same =
       beyond = beyond-later (x.expected + 0) (x.confirmed + cs_step (kept_of x) m.pdu) m rest y.made rises a.at (omega (arith, index.0, index.1));
     }
 
--- The next PDU of the peer comes in.
+-- The next PDU of the peer arrives.
 
--- what is known where the next PDU of y comes in at x, which is not closed
+-- What is known when the next PDU of y arrives at x, which is not closed.
 pub record NextIn (client : Bool) (n k clock now : ℕ) (m : Made) (rest : List Made) (x y : State) : Type 0 where
   pub pair : Pair x y
   pub peer : Solo y
@@ -278,7 +278,7 @@ module _ (client : Bool) (n k clock now : ℕ) (m : Made) (rest : List Made) (x 
       let same : n ≡ x.expected + 0 = omega (arith, h.ends.own.stands.count h.on) in
       record { pair = h.pair; peer = h.peer; few = h.few; at = subst (λ (j : ℕ). drop j y.made ≡ m ∷ rest) same h.at }
 
-  -- It passes the confirmation tests, and stands where its number says.
+  -- It passes the confirmation tests, and has the index that its number means.
   next-tests : is_live x.connection ≡ true → needs_peer m.pdu.kind ≡ 1 → (cs_fits (kept_of x) m.pdu ≡ true) × (cts_fits (kept_of x) m.pdu now ≡ true)
   next-tests live needs =
       let a = next-arrival in
@@ -344,7 +344,7 @@ module _ (client : Bool) (n k clock now : ℕ) (m : Made) (rest : List Made) (x 
   behind : y.confirmed ≤ x.expected + 0 + 1 - 1
   behind = next-behind client n k clock now m rest x y h
 
-  -- the end took the next PDU, and confirms what it says
+  -- The end took the next PDU, and confirms what it says.
   took : (window : ℕ) → is_live x.connection ≡ true → needs_peer m.pdu.kind ≡ 1 → Up ≡ state_of client (n + 1) → window ≡ y.settings.n_sendmax
       → EndOf client (n + 1) x.settings.client x.settings.n_sendmax Up x.made (x.expected + 0 + 1) (x.confirmed + cs_step (kept_of x) m.pdu) window
       y.settings.n_sendmax y.made
@@ -366,7 +366,7 @@ module _ (client : Bool) (n k clock now : ℕ) (m : Made) (rest : List Made) (x 
       (good-bare client x.settings.n_sendmax (length x.made) (next_made u Heartbeat [] now) some refl) up)
       (λ _ _. up) (λ _. taken)
 
-  -- A ConnResp comes in at the client.
+  -- A ConnResp arrives at the client.
   after-connects : m.pdu.kind ≡ ConnResp → m.pdu.body ≡ opening_body y.settings.n_sendmax → is_live x.connection ≡ true → 1 ≤ length x.made
       → Up ≡ state_of client (n + 1) → After Connects
   after-connects is body live some state =
@@ -380,7 +380,7 @@ module _ (client : Bool) (n k clock now : ℕ) (m : Made) (rest : List Made) (x 
         grown_peer = h.ends.grown_peer;
       }
 
-  -- A ConnReq comes in at the server.
+  -- A ConnReq arrives at the server.
   after-accepts : m.pdu.body ≡ opening_body y.settings.n_sendmax → x.made ≡ [] → client ≡ false → n ≡ 0 → After Accepts
   after-accepts body empty server first =
       let z = set_window (window_of m.pdu.body) (pass m.pdu 0 x) in
@@ -411,6 +411,6 @@ module _ (client : Bool) (n k clock now : ℕ) (m : Made) (rest : List Made) (x 
   after-leads d (connects e is body live some state) = subst After (sym e) (after-connects is body live some state)
   after-leads d (accepts e body empty server first) = subst After (sym e) (after-accepts body empty server first)
 
-  -- Whatever it is.
+  -- For every PDU.
   pub next-ends : Ends client (n + 1) k (respond m.pdu now x) y
   next-ends = after-leads (decide (kept_of x) m.pdu now) (next-leads client n k clock now m rest x y h)

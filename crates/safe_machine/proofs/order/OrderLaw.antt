@@ -1,4 +1,4 @@
--- The laws of two machines where each hears the peer's PDUs one by one in the order of their making.
+-- The laws of two machines that receive the peer's PDUs one by one, in the order in which they were made.
 use Rattle.safe_machine.proofs.Words.{◌≡◌, ◌≢◌, inl, inr, ℕ, ◌+◌, ◌≤◌, List, [], length, drop, Bool, true, false, refl, sym, ap, subst, ◌∙◌, arith, ltb-false}
 use Rattle.safe_machine.proofs.Words.{DiscReq, Heartbeat, Data, Pdu, ConnectionState, Closed, Down, Start, Up, Reason, Detail, Made, leaving_body, State}
 use Rattle.safe_machine.proofs.Words.{next_made, make, leave, guard, respond, arrive, tick, send, GenuineAt, GuardHolds, NextArrival, AllThere, is_live}
@@ -11,6 +11,7 @@ use Rattle.safe_machine.proofs.two.Invariant.{Started, Solo, Pair, started-parts
 use Rattle.safe_machine.proofs.one.Deciding.{Bounded}
 use Rattle.safe_machine.proofs.two.Lone.{pair-arrive, Lone, among-dropped, pair-move, lone-move}
 use Rattle.safe_machine.proofs.two.Timing.{Makes, makes-none, makes-move}
+use Rattle.safe_machine.proofs.one.Turning.{arrive-is}
 use Rattle.safe_machine.proofs.one.Runs.{closed-move, leave-cases, heartbeat-cases, send-cases, closed_or, Every, every-at, every-from, every-drop_all, down_or}
 use Rattle.safe_machine.proofs.one.Runs.{down≢closed, every-push, unit-cases, quiet-cases, when}
 use Rattle.safe_machine.proofs.two.Freshness.{Both, both-makes, met-arrive, no_index, TInv, t-event, t-start, fe-past, opened-times}
@@ -20,20 +21,20 @@ use Rattle.safe_machine.proofs.two.Status.{Mute, Quiet, Untouched, mute-move}
 use Rattle.safe_machine.proofs.two.Worlds.{met-opened, solo-il, solo-untouched, mute-il}
 use Rattle.safe_machine.proofs.order.OrderArrivals.Leads.{takes}
 
--- Each step of an end keeps what holds of it and its peer while everything comes in order.
+-- Each step of an end keeps what holds for it and its peer while everything arrives in order.
 
--- an end and its peer, with the times of their last events
+-- An end and its peer, with the times of their last events.
 pub record Two (client : Bool) (n k clock other : ℕ) (x y : State) : Type 0 where
   pub pair : Pair x y
   pub peer : Solo y
   pub both : Both clock other x y
   pub ends : Ends client n k x y
 
--- seen from the other end
+-- As the other end sees it.
 pub two-swap : (client : Bool) (n k clock other : ℕ) (x y : State) → Two client n k clock other x y → Two (opposite client) k n other clock y x
 two-swap client n k clock other x y h = grind arith
 
--- a step in which PDUs are made
+-- A step in which PDUs are made.
 two-makes : (client : Bool) (n k clock other now : ℕ) (x t y : State) → clock ≤ now → Two client n k clock other x y → Pair t y → Makes now x t
     → Ends client n k t y → Two client n k now other t y
 two-makes client n k clock other now x t y later h pair makes ends =
@@ -42,14 +43,14 @@ two-makes client n k clock other now x t y later h pair makes ends =
 pub two-later : (client : Bool) (n k clock other now : ℕ) (x y : State) → clock ≤ now → Two client n k clock other x y → Two client n k now other x y
 two-later client n k clock other now x y later h = two-makes client n k clock other now x x y later h h.pair (makes-none now x) h.ends
 
--- an end that sends is up
+-- An end that sends is up.
 turn-open : (connection : ConnectionState) → in_turn connection ≡ true → connection ≢ Closed
 turn-open connection turn = grind arith
 
 turn-up : (client : Bool) (n : ℕ) → in_turn (state_of client n) ≡ true → state_of client n ≡ Up
 turn-up client n turn = grind arith
 
--- an end that says goodbye has made something
+-- An end that disconnects has made something.
 goodbye-started : (connection : ConnectionState) (client : Bool) (expected : ℕ) (made : List Made) → is_live connection ≡ true
     → Started connection client expected made → 1 ≤ length made
 goodbye-started connection client expected made says h = grind arith
@@ -87,7 +88,7 @@ two-move client n k clock other m x y quiet later h =
     two-makes client n k clock other (when m) x (move m x) y later h (pair-move m x y quiet h.pair) (makes-move m x quiet)
     (ends-move client n k m x y quiet h.pair h.ends)
 
--- the next PDU in order, as it comes to an end that is not closed
+-- The next PDU in order, as it arrives at an end that is not closed.
 pub next-in : (client : Bool) (n k clock other now : ℕ) (p : Pdu) (x y : State) → clock ≤ now → Two client n k clock other x y → Bounded x → Bounded y
     → x.settings.t_max ≤ 60000 → (a : NextArrival x p now n y.made) → x.connection ≢ Closed → NextIn client n k clock now a.made a.later x y
 next-in client n k clock other now p x y later h bounded bounded_peer short a on = grind arith
@@ -103,7 +104,8 @@ ends-arrive client n k clock other now p x y later h bounded bounded_peer short 
           let next = next-in client n k clock other now p x y later h bounded bounded_peer short a on in
           let received : Ends client (n + 1) k (respond p now x) y =
           subst (λ (q : Pdu). Ends client (n + 1) k (respond q now x) y) a.is (next-ends client n k clock now a.made a.later x y next) in
-          subst (λ (t : State). Ends client (n + 1) k (respond p now t) y) (sym a.holds) received
+          subst (λ (t : State). Ends client (n + 1) k t y) (sym (arrive-is p now x))
+          (subst (λ (t : State). Ends client (n + 1) k (respond p now t) y) (sym a.holds) received)
     ]
 
 pub two-arrive : (client : Bool) (n k clock other now dead : ℕ) (p : Pdu) (x y : State) → clock ≤ now → Two client n k clock other x y → Bounded x → Bounded y
@@ -116,15 +118,14 @@ two-arrive client n k clock other now dead p x y later h bounded bounded_peer sh
       ends = ends-arrive client n k clock other now p x y later h bounded bounded_peer short a;
     }
 
--- With all arrived at an end that is up.
+-- If everything has arrived at an end that is up.
 pub two-all_there : (client : Bool) (n k clock other : ℕ) (x y : State) → Two client n k clock other x y → x.connection ≡ Up → 1 ≤ n → n ≡ length y.made
     → AllThere x y
 two-all_there client n k clock other x y h up one all = grind (arith, turn-open, all-taken, ltb-false)
 
--- Two ends that have not met, each opened once at most: nothing comes to the interlocking, and nothing to a field element
--- that is not closed.
+-- Two ends that have not met, each opened at most once: nothing arrives at the interlocking, and nothing at a field element that is not closed.
 
--- n PDUs came to the interlocking, and k to the field element
+-- n PDUs came to the interlocking, and k to the field element.
 pub record Apart (n k : ℕ) (il fe : State) (fe_before : List Served) (dead_il : ℕ) : Type 0 where
   pub mute : Mute il
   pub none : n ≡ 0
@@ -135,10 +136,10 @@ pub record Apart (n k : ℕ) (il fe : State) (fe_before : List Served) (dead_il 
   pub heard : fe.connection ≢ Closed → k ≡ 0
   pub unheard : fe_before ≡ [] → k ≡ 0
   pub opened : fe.connection ≢ Closed → fe_before ≢ []
-  -- what the interlocking made before the field element was opened never comes
+  -- What the interlocking made before the field element was opened never arrives.
   pub dead : fe.connection ≢ Closed → Every NotOpening (drop dead_il il.made)
 
--- a step of the interlocking in which it takes nothing
+-- A step of the interlocking in which it takes nothing.
 pub apart-il : (n k now : ℕ) (il t fe : State) (fe_before : List Served) (dead_il : ℕ) → Lone il t → Makes now il t → Mute t → Apart n k il fe fe_before dead_il
     → Apart n k t fe fe_before dead_il
 apart-il n k now il t fe fe_before dead_il l makes mute h = grind arith
@@ -147,12 +148,12 @@ pub apart-fe : (n k : ℕ) (il fe t : State) (fe_before : List Served) (dead_il 
     → Apart n k il t fe_before dead_il
 apart-fe n k il fe t fe_before dead_il l h = grind arith
 
--- nothing comes to the interlocking
+-- Nothing arrives at the interlocking.
 pub apart-silent : {P : Type 0} (n k now : ℕ) (p : Pdu) (il fe : State) (fe_before : List Served) (dead_il : ℕ) → Apart n k il fe fe_before dead_il
     → NextArrival il p now n fe.made → P
 apart-silent n k now p il fe fe_before dead_il h a = no_index n fe.made a.made a.later h.made a.at
 
--- What comes to the field element in order is the ConnReq, which is dead: so it is closed.
+-- The PDU that arrives at the field element in order is the ConnReq, which is dead: so the field element is closed.
 pub apart-deaf : (n k now : ℕ) (p : Pdu) (il fe : State) (fe_before : List Served) (dead_il : ℕ) → Apart n k il fe fe_before dead_il
     → GenuineAt fe p (drop dead_il il.made) → NextArrival fe p now k il.made → fe.connection ≢ Closed → ⊥
 apart-deaf n k now p il fe fe_before dead_il h genuine a on =
@@ -162,7 +163,7 @@ apart-deaf n k now p il fe fe_before dead_il h genuine a on =
     let plain : is_opening p.kind ≡ 0 = ap (λ (q : Pdu). is_opening q.kind) (sym r.4) ∙ every-at NotOpening dead_il r.0 il.made r.1 r.2 (h.dead on) r.5 r.3 in
     omega arith
 
--- What comes to the field element in order is the ConnReq, which is dead, or the field element is closed.
+-- The PDU that arrives at the field element in order is the ConnReq, which is dead, or the field element is closed.
 pub apart-arrive : (n k now : ℕ) (p : Pdu) (il fe : State) (fe_before : List Served) (dead_il : ℕ) → Apart n k il fe fe_before dead_il → fe_before ≢ []
     → GenuineAt fe p (drop dead_il il.made) → NextArrival fe p now k il.made → Apart n (k + 1) il (arrive p now fe) fe_before dead_il
 apart-arrive n k now p il fe fe_before dead_il h opened genuine a =
@@ -184,8 +185,8 @@ apart-arrive n k now p il fe fe_before dead_il h opened genuine a =
       | inr on ↦ absurd (apart-deaf n k now p il fe fe_before dead_il h genuine a on)
     ]
 
--- Over every list of events in which each end hears the peer's PDUs one by one in the order of their making, nothing is
--- asked for again and everything is taken.
+-- Over every list of events in which each end receives the peer's PDUs one by one, in the order in which they were made, nothing is requested again
+-- and everything is taken.
 
 -- The two have met, or they have not.
 pub data Standing (n k : ℕ) (il : State) (il_before : List State) (fe : State) (fe_before : List Served) (dead_il il_clock fe_clock : ℕ) : Type 0 where
@@ -195,7 +196,7 @@ pub data Standing (n k : ℕ) (il : State) (il_before : List State) (fe : State)
 abbrev pub StandsAt : (n k : ℕ) → World → (il_clock fe_clock : ℕ) → Type 0
 StandsAt n k w il_clock fe_clock = Standing n k w.il w.il_before w.fe w.fe_before w.dead_il il_clock fe_clock
 
--- a step of the interlocking or of the field element, where the two have met and where they have not
+-- A step of the interlocking or of the field element, if the two have met and if they have not.
 il-stands : (n n' k : ℕ) (w : World) (ci cf now : ℕ) (t : State) → (Two true n k ci cf w.il w.fe → Two true n' k now cf t w.fe)
     → (Apart n k w.il w.fe w.fe_before w.dead_il → Apart n' k t w.fe w.fe_before w.dead_il) →
     StandsAt n k w ci cf → Standing n' k t w.il_before w.fe w.fe_before w.dead_il now cf
@@ -206,7 +207,7 @@ fe-stands : (n k k' : ℕ) (w : World) (ci cf now : ℕ) (t : State) → (Two fa
     StandsAt n k w ci cf → Standing n k' w.il w.il_before t w.fe_before w.dead_il ci now
 fe-stands n k k' w ci cf now t two one h = grind arith
 
--- openings
+-- Openings.
 ends-opened : (settings : Settings) (first now : ℕ) (fe : State) → fe.connection ≡ Down → Untouched fe
     → Ends true 0 0 (opened (as_role true settings) first now) fe
 ends-opened settings first now fe down u =
@@ -291,7 +292,7 @@ stands-open_fe n k settings first now w ci cf first_time (apart h) =
       dead = λ on. every-drop_all NotOpening w.il.made;
     })
 
--- a move that is no arrival
+-- A move that is not an arrival.
 il-quiet_stands : (n k : ℕ) (w : World) (ci cf : ℕ) (m : Move) → HearsNothing m → ci ≤ when m → TInv w ci cf → StandsAt n k w ci cf
     → Standing n k (move m w.il) w.il_before w.fe w.fe_before w.dead_il (when m) cf
 il-quiet_stands n k w ci cf m quiet later t =
@@ -334,7 +335,7 @@ stands-event n k w (Arrive Fe p now) ci cf t g later o h =
     (λ two. two-arrive false k n cf ci now w.dead_il p w.fe w.il later two t.inv.bounded_fe t.inv.bounded_il t.short_fe g o.1)
     (λ a. apart-arrive n k now p w.il w.fe w.fe_before w.dead_il a o.0 g o.1) h
 
--- What it says.
+-- What follows from it.
 quiet-asks : (ms : List Made) → Every Quiet ms → AsksNothing ms
 quiet-asks [] h = tt
 quiet-asks (m ∷ ms) h = ((λ e. absurd (omega (arith, h.0, ap needs_peer e))), quiet-asks ms h.1)
@@ -347,7 +348,7 @@ two-taken client n k clock other x y h on =
     taken-so_far x.taken n y.made (kinds-ordinary (opposite client) y.settings.n_sendmax y.made h.ends.peer.kinds)
     (subst (λ (i : ℕ). x.taken ++ (run_of (drop i y.made) ++ []) ≡ units y.made) (h.ends.own.stands.count on) h.pair.2.carried)
 
--- with all arrived, both are up
+-- If everything has arrived, both are up.
 record BothUp (n k : ℕ) (il fe : State) : Type 0 where
   il_up : il.connection ≡ Up
   fe_up : fe.connection ≡ Up
@@ -396,27 +397,27 @@ stands-start = grind arith
 pub order_law_holds : OrderLaw
 order_law_holds events genuine timely order = order-run events 0 0 start t-start genuine timely order stands-start
 
--- In order, no PDU but a DiscReq closes an end that is not closed, and none has it make a DiscReq.
+-- In order, only a DiscReq closes an end that is not closed, and no other PDU causes it to make a DiscReq.
 
--- it is no DiscReq
+-- It is not a DiscReq.
 abbrev pub Remains : Made → Type 0
 Remains m = is_goodbye m.pdu.kind ≡ false
 
--- an end that is not closed, and has made no DiscReq
+-- An end that is not closed, and has made no DiscReq.
 abbrev pub IsOpen : State → Type 0
 IsOpen s = (s.connection ≢ Closed) × Every Remains s.made
 
 pub open-make : (kind : Kind) (body : List ℕ) (now : ℕ) (s : State) → is_goodbye kind ≡ false → IsOpen s → IsOpen (make kind body now s)
 open-make kind body now s e h = (h.0, every-push Remains s.made (next_made s kind body now) h.1 e)
 
--- the next PDU in order, that is no DiscReq, leaves an open end open
+-- The next PDU in order leaves an open end open, if it is not a DiscReq.
 leads-open : (client : Bool) (n now : ℕ) (p : Pdu) (x y : State) (d : Decision) → Leads client n p x y d → is_goodbye p.kind ≡ false → IsOpen x
     → IsOpen (carry_out p now d x)
 leads-open client n now p x y d h stays k = grind (arith, false≢true, takes, unit-cases, open-make, every-push)
 
--- Over every list of events in order without a closing by a caller, no end that was opened closes.
+-- Over every list of events in order in which no caller closes an end, no end that was opened closes.
 
--- each end that was opened is open
+-- Each end that was opened is open.
 record OpenBoth (w : World) : Type 0 where
   il : w.il_before ≢ [] → IsOpen w.il
   fe : w.fe_before ≢ [] → IsOpen w.fe
@@ -433,7 +434,7 @@ open-tick now s holds h = grind (arith, heartbeat-cases, open-make)
 open-opened : (client : Bool) (settings : Settings) (first now : ℕ) → IsOpen (opened (as_role client settings) first now)
 open-opened client settings first now = grind arith
 
--- the next PDU of an open peer comes to an open end
+-- The next PDU of an open peer arrives at an open end.
 open-arrive : (client : Bool) (n k clock other now : ℕ) (p : Pdu) (x y : State) → clock ≤ now → Two client n k clock other x y → Bounded x → Bounded y
     → x.settings.t_max ≤ 60000 → NextArrival x p now n y.made → IsOpen x → IsOpen y → IsOpen (arrive p now x)
 open-arrive client n k clock other now p x y later h bounded bounded_peer short a own peer =
@@ -443,7 +444,7 @@ open-arrive client n k clock other now p x y later h bounded bounded_peer short 
     let received : IsOpen (respond p now x) =
     subst (λ (q : Pdu). IsOpen (respond q now x)) a.is
     (leads-open client n now a.made.pdu x y (decide (kept_of x) a.made.pdu now) leads stays own) in
-    subst (λ (t : State). IsOpen (respond p now t)) (sym a.holds) received
+    subst IsOpen (sym (arrive-is p now x)) (subst (λ (t : State). IsOpen (respond p now t)) (sym a.holds) received)
 
 open-arrive_il : (n k now : ℕ) (p : Pdu) (w : World) (ci cf : ℕ) → TInv w ci cf → ci ≤ now → (w.il_before ≢ []) × NextArrival w.il p now n w.fe.made
     → StandsAt n k w ci cf → OpenBoth w → IsOpen (arrive p now w.il)
@@ -475,7 +476,7 @@ open-event n k w (Tick Fe now) ci cf t g later o none s h = record { il = h.il; 
 open-event n k w (Arrive Il p now) ci cf t g later o none s h = record { il = λ some. open-arrive_il n k now p w ci cf t later o s h; fe = h.fe }
 open-event n k w (Arrive Fe p now) ci cf t g later o none s h = record { il = h.il; fe = λ some. open-arrive_fe n k now p w ci cf t later g o s h }
 
--- none of them is a closing
+-- None of them is a close.
 no-close : (b c : Bool) → (if b then true else c) ≡ false → (b ≡ false) × (c ≡ false)
 no-close b c h = grind arith
 

@@ -1,4 +1,4 @@
--- Every event keeps the times, and what is said of the incarnations and of one event more.
+-- Every event keeps the times; facts on the incarnations and on one more event.
 use Rattle.safe_machine.proofs.Words.{◌≡◌, ◌≢◌, ◌⊎◌, inl, inr, ℕ, suc, zero, ◌+◌, ◌-◌, ◌<◌, ◌≤◌, List, [], ◌∷◌, ◌++◌, length, drop, true, refl, sym, ap, subst}
 use Rattle.safe_machine.proofs.Words.{◌∙◌, arith, cond_both, Il, Fe, ConnReq, ConnectionState, Closed, Down, Start, Pdu, Made, opening_body, Settings, is_legal}
 use Rattle.safe_machine.proofs.Words.{State, unconfirmed, leave, opened, blank, next_made, Decision, decide, Takes, respond, arrive, carry_out, World, Event}
@@ -23,17 +23,17 @@ use Rattle.safe_machine.proofs.two.Worlds.{il-arrive, fe-arrive}
 use Rattle.safe_machine.proofs.one.Kept.{joins-down, moves_law_holds, settings_law_holds}
 use Rattle.safe_machine.specs.Law as Public
 
--- Over every list of events with clocks that never go back, what is taken is fresh.
+-- Over every list of events with clocks that never decrease, everything taken is fresh.
 
--- what a decision hands up
+-- What a decision delivers.
 carry-taken : (p : Pdu) (now : ℕ) (s : State) (e : Decision) → ((to : ConnectionState) × (e ≡ Takes to)) ⊎ ((carry_out p now e s).taken ≡ s.taken)
 carry-taken p now s e = grind (arith, decided-taken, append-nil)
 
--- a later clock
+-- A later clock.
 timed-later : (clock now : ℕ) (x y : State) → clock ≤ now → Timed clock x y → Timed now x y
 timed-later clock now x y h t = grind (arith, every-weaken)
 
--- one step of x, for both directions
+-- One step of x, for both directions.
 pub record Both (clock other : ℕ) (t y : State) : Type 0 where
   pub receives : Timed clock t y
   pub sends : Timed other y t
@@ -46,7 +46,7 @@ pub both-makes : (clock other now : ℕ) (x t y : State) → clock ≤ now → H
 both-makes clock other now x t y later h g b m =
     both-step clock other now x t y later h g b (steps-then now x x t y (steps-none clock other now x y later b.receives b.sends) m)
 
--- An arrival that is genuine, where the two have met.
+-- A genuine arrival after the two ends have met.
 pub record Arrived (clock other now : ℕ) (p : Pdu) (x t y : State) : Type 0 where
   pub both : Both now other t y
   pub fresh : t.taken ≢ x.taken → Fresh x p now y.made
@@ -116,7 +116,7 @@ swapped clock other x y b = record { receives = b.sends; sends = b.receives }
 short-same : (s t : State) → t.settings ≡ s.settings → s.settings.t_max ≤ 60000 → t.settings.t_max ≤ 60000
 short-same s t e h = omega (arith, ap (λ (k : Settings). k.t_max) e)
 
--- a move of the interlocking that is no arrival
+-- A move of the interlocking that is not an arrival.
 il-quiet_times : (w : World) (ci cf : ℕ) (m : Move) → HearsNothing m → ci ≤ when m → TInv w ci cf → TInv (with_il (move m w.il) w) (when m) cf
 il-quiet_times w ci cf m quiet later h =
     let both : MetIn w → Both ci cf w.il w.fe → Both (when m) cf (move m w.il) w.fe =
@@ -139,7 +139,7 @@ fe-quiet_times w ci cf m quiet later h =
       short_fe = short-same w.fe t (settings_law_holds m w.fe) h.short_fe;
     }
 
--- arrivals, and that what they hand up is fresh
+-- Arrivals, and that what they deliver is fresh.
 il-arrive_times : (w : World) (ci cf now : ℕ) (p : Pdu) → ci ≤ now → TInv w ci cf → GenuineAt w.il p (drop w.dead_fe w.fe.made) →
     TInv (with_il (arrive p now w.il) w) now cf × ((arrive p now w.il).taken ≢ w.il.taken → Fresh w.il p now w.fe.made)
 il-arrive_times w ci cf now p later h genuine = (
@@ -179,7 +179,7 @@ fe-arrive_times w ci cf now p later h genuine = (
         met-arrive cf ci now w.dead_il p w.fe w.il later (s.solo_fe, s.fe_sends, s.il_sends) s.solo_il h.inv.bounded_fe h.inv.bounded_il h.short_fe
         (swapped ci cf w.il w.fe b) genuine
 
--- openings
+-- Openings.
 pub no_index : {P : Type 0} (k : ℕ) (ms : List Made) (m : Made) (rest : List Made) → ms ≡ [] → drop k ms ≡ m ∷ rest → P
 no_index k ms m rest e at = let l = at-length k ms m rest at in absurd (omega (arith, ap length e))
 
@@ -236,7 +236,7 @@ opened-times settings first now cf fe k past =
 pub fe-past : (w : World) (ci cf : ℕ) → TInv w ci cf → w.fe.connection ≡ Down → w.fe.confirmed_at ≤ cf
 fe-past w ci cf h down = grind arith
 
--- Every event keeps the times, and what it takes is fresh.
+-- Every event keeps the times, and everything it takes is fresh.
 t-changed : (w : World) (e : Event) (ci cf : ℕ) → TInv w ci cf → GenuineEvent w e → at_end (event_end e) ci cf ≤ event_time e →
     TInv (changed w e) (at_end (event_end e) (event_time e) ci) (at_end (event_end e) cf (event_time e)) × FreshEvent w e
 t-changed w (Open Il settings first now) ci cf h g later = (
@@ -279,7 +279,7 @@ t-changed w (Tick Fe now) ci cf h g later = (fe-quiet_times w ci cf (Ticks now) 
 t-changed w (Arrive Il p now) ci cf h g later = il-arrive_times w ci cf now p later h g
 t-changed w (Arrive Fe p now) ci cf h g later = fe-arrive_times w ci cf now p later h g
 
--- the noted times are not a matter of the invariant
+-- The invariant does not depend on the recorded times.
 pub t-event : (w : World) (e : Event) (ci cf : ℕ) → TInv w ci cf → GenuineEvent w e → at_end (event_end e) ci cf ≤ event_time e →
     TInv (happens w e) (at_end (event_end e) (event_time e) ci) (at_end (event_end e) cf (event_time e)) × FreshEvent w e
 t-event w e ci cf h g later =
@@ -299,7 +299,7 @@ t-run (e ∷ es) w h g k =
 pub fresh_law_holds : FreshLaw
 fresh_law_holds events genuine timely = t-run events start t-start genuine timely
 
--- what is fresh along a list is fresh at its last event
+-- What is fresh along a list is fresh at its last event.
 fresh-last : (events : List Event) (e : Event) (w : World) → AllFresh (events ++ e ∷ []) w → FreshEvent (run events w) e
 fresh-last [] e w h = h.0
 fresh-last (a ∷ es) e w h = fresh-last es e (happens w a) h.1
@@ -307,9 +307,9 @@ fresh-last (a ∷ es) e w h = fresh-last es e (happens w a) h.1
 pub fresh_at_last_law_holds : FreshAtLastLaw
 fresh_at_last_law_holds events e genuine timely = fresh-last events e start (fresh_law_holds (events ++ e ∷ []) genuine timely)
 
--- From the law over all ends that ever stood to that over the incarnations, which are those that were opened.
+-- From the law over all ends, that before the first opening included, to that over the incarnations, which are the ends that were opened.
 
--- a list without its last entry
+-- A list without its last entry.
 length-front : {A : Type 0} (x : A) (xs : List A) → length (take (length xs) (x ∷ xs)) ≡ length xs
 length-front x [] = refl
 length-front x (y ∷ ys) = ap suc (length-front y ys)
@@ -317,7 +317,7 @@ length-front x (y ∷ ys) = ap suc (length-front y ys)
 differ : (a b : ℕ) → a ≢ b → (a == b) ≡ false
 differ a b h = grind (arith, nat_tests, h)
 
--- the same incarnation by its number
+-- The same incarnation by its number.
 found : (x : State) (xs : List State) (number : ℕ) → 1 ≤ number → incarnation (x ∷ xs) number ≡ Public.incarnation (take (length xs) (x ∷ xs)) number
 found x [] number late = ap (λ (t : Bool). if t then Some x else None) (differ number 0 (omega (arith, late)))
 found x (y ∷ ys) number late =
@@ -325,7 +325,7 @@ found x (y ∷ ys) number late =
     ap (λ (n : ℕ). if number == n then Some x else incarnation (y ∷ ys) number) count
     ∙ ap (λ o. if number == length (take (length ys) (y ∷ ys)) + 1 then Some x else o) (found y ys number late)
 
--- nobody is joined to what stood there before the first opening
+-- No end is joined to the one before the first opening.
 abbrev pub Late : Option ℕ → Type 0
 Late None = Unit {0}
 Late (Some number) = 1 ≤ number
@@ -350,7 +350,7 @@ falls-take bound zero fs h = tt
 falls-take bound (suc n) [] h = tt
 falls-take bound (suc n) (f ∷ fs) h = (h.0, falls-take (next_bound bound f.joined) n fs h.1)
 
--- what stood there before the first opening: the last of the lists
+-- The end before the first opening is the last of the lists.
 abbrev pub LastIl : State → List State → Type 0
 LastIl s [] = s ≡ unopened
 LastIl s (t ∷ ts) = LastIl t ts
@@ -388,7 +388,7 @@ taken-found : (x : State) (xs : List State) (joined : Option ℕ) → Late joine
     joined
 taken-found x xs joined late = grind (arith, found)
 
--- The lists are so in every world.
+-- The lists have this form in every world.
 abbrev pub entry : World → Served
 entry w = record { machine = w.fe; joined = w.joined }
 
@@ -403,14 +403,14 @@ shaped-law w h s = grind (arith, all-takes, length-front, falls-take, only)
 shaped-losses : (w : World) → Lawful w → Shaped w → Public.LosesNothing w
 shaped-losses w h s =
     record {
-      from_il = λ on.
+      from_il =
           subst (λ (n : ℕ). length (units w.il.made) ≤ n + length (unconfirmed w.il))
           (taken-same (length w.il_before) (entry w) w.fe_before s.fe
           ∙ ap (λ (n : ℕ). taken_from_il n (take (length w.fe_before) (entry w ∷ w.fe_before))) (sym (length-front w.il w.il_before)))
-          (h.loses_nothing.from_il on);
-      from_fe = λ on.
+          h.loses_nothing.from_il;
+      from_fe =
           subst (λ (n : ℕ). length (units w.fe.made) ≤ n + length (unconfirmed w.fe)) (taken-found w.il w.il_before w.joined s.late.0)
-          (h.loses_nothing.from_fe on);
+          h.loses_nothing.from_fe;
     }
 
 il-moved : (m : Move) (s : State) (before : List State) → LastIl s before → LastIl (move m s) before
@@ -420,7 +420,7 @@ il-moved m s (b ∷ bs) h = h
 among-none : (n : ℕ) (p : Pdu) → Among p (drop n []) → ⊥
 among-none n p h = grind arith
 
--- who has made a PDU was opened
+-- An end that has made a PDU was opened.
 was-opened : (n : ℕ) (p : Pdu) (s : State) (before : List State) → LastIl s before → Among p (drop n s.made) → 1 ≤ length before
 was-opened n p s [] e h = absurd (among-none n p (subst (λ t. Among p (drop n t.made)) e h))
 was-opened n p s (b ∷ bs) e h = omega arith
@@ -504,7 +504,7 @@ joins-event w e g = grind (arith, among-drop)
 pub joined_law_holds : JoinedLaw
 joined_law_holds events e genuine = joins-event (run events start) e (genuine-last events e start genuine)
 
--- One event more, at the end of a list.
+-- One more event, at the end of a list.
 leads-more : (es : List Event) (e : Event) (w : World) → run (es ++ e ∷ []) w ≡ happens (run es w) e
 leads-more [] e w = refl
 leads-more (d ∷ es) e w = leads-more es e (happens w d)

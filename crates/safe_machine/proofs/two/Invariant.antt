@@ -1,5 +1,5 @@
--- What holds of two machines at every moment, and what making and passing a PDU keeps of it.
-use Rattle.safe_machine.proofs.Words.{◌≡◌, ℕ, ◌+◌, ◌-◌, ◌≤◌, List, [], ◌++◌, length, drop, Bool, true, false, Kind, ConnReq, ConnResp, DiscReq, ConnectionState}
+-- What holds for two machines at every moment, and what making and passing a PDU keeps of it.
+use Rattle.safe_machine.proofs.Words.{◌≡◌, ℕ, ◌+◌, ◌-◌, ◌≤◌, List, [], ◌++◌, length, drop, Bool, true, false, Kind, DiscReq, ConnectionState}
 use Rattle.safe_machine.proofs.Words.{Closed, Down, Start, Requesting, window_of, Made, units, run_of, State, ◌∷◌, refl, ap, ◌∙◌, arith, length-append}
 use Rattle.safe_machine.proofs.Words.{append-nil, drop-append-le, first_sent, after_pdu, is_request, is_answer, next_made, make, ◌<◌, sym, subst, append_assoc}
 use Rattle.safe_machine.proofs.Words.{ltb-true, run_after, cs_fits, distance, cs_step, confirm_units, kept_of, RetrReq, RetrResp, Heartbeat, Data, RetrData}
@@ -8,37 +8,21 @@ use Rattle.safe_machine.specs.Numbers.{sn_of, ahead}
 use Rattle.safe_machine.proofs.one.Runs.{requests, answers, Every, RequestAt, CountsUp, units-append, run_after-append, count-push, count-drop_push, every-push}
 use Rattle.safe_machine.proofs.one.Runs.{every-drop_push, numbered-push, first_plain-push, ahead-up, ahead-down, ahead-next, count-at, run_after-front}
 use Rattle.safe_machine.proofs.one.Runs.{run_of-resume, at-length, at-next, every-at, every-weaken, no_requests, numbered-at, resend-connection, leave-cases}
+pub use Rattle.safe_machine.proofs.one.Lists.{room, needs_peer, is_opening}
 
--- What holds of two machines at every moment.
+-- What holds for two machines at every moment.
 
--- how many requests may be open: requests that the peer has not handled, and answers not yet taken
-abbrev pub room : ConnectionState → ℕ
-room Requesting = 1
-room Closed = 1
-room _ = 0
-
--- PDUs that are made only by an end that has taken something
-abbrev pub needs_peer : Kind → ℕ
-needs_peer ConnReq = 0
-needs_peer DiscReq = 0
-needs_peer _ = 1
-
-abbrev pub is_opening : Kind → ℕ
-is_opening ConnReq = 1
-is_opening ConnResp = 1
-is_opening _ = 0
-
--- a PDU made with at most `index` of the peer's PDUs behind names the last of these in its CS
+-- A PDU made after passing at most `index` of the peer's PDUs names the last of these in its CS.
 pub record Told (peer_first index : ℕ) (m : Made) : Type 0 where
   pub behind : m.behind ≤ index
   pub cs : 1 ≤ m.behind → m.pdu.cs ≡ sn_of peer_first (m.behind - 1)
 
--- what holds of one PDU that an end made, by itself
+-- What holds for each PDU that an end made, by itself.
 pub record Sound (m : Made) : Type 0 where
   pub late : 1 ≤ needs_peer m.pdu.kind → 1 ≤ m.behind
   pub window : 1 ≤ is_opening m.pdu.kind → window_of m.pdu.body ≤ 32
 
--- a PDU that is no ConnReq and no ConnResp
+-- A PDU that is not a ConnReq and not a ConnResp.
 abbrev pub NotOpening : Made → Type 0
 NotOpening m = is_opening m.pdu.kind ≡ 0
 
@@ -48,7 +32,7 @@ Started Down client expected made = (made ≡ []) × (expected ≡ 0) × (client
 Started Start client expected made = (client ≡ true → expected ≡ 0) × (client ≡ false → 1 ≤ expected) × (1 ≤ length made)
 Started _ client expected made = (1 ≤ expected) × (1 ≤ length made)
 
--- one end by itself
+-- One end by itself.
 pub record SoloOf (first : ℕ) (made : List Made) (expected : ℕ) (connection : ConnectionState) (client : Bool) : Type 0 where
   pub numbered : CountsUp first 0 made
   pub opening : Every NotOpening (drop 1 made)
@@ -61,19 +45,19 @@ Solo s = SoloOf s.first s.made s.expected s.connection s.settings.client
 pub started-is : (connection : ConnectionState) (s : State) → Solo s → s.connection ≡ connection → Started connection s.settings.client s.expected s.made
 started-is connection s h is = subst (λ (c : ConnectionState). Started c s.settings.client s.expected s.made) is h.started
 
--- One direction. The sender has made `made` and is told that `confirmed` of it was taken; the receiver has `expected`
--- of it behind, has taken `taken`, and has made `back`. `pending` are units that the sender is about to make anew.
+-- One direction. The sender has made `made`, of which it knows that `confirmed` was taken. The receiver has passed `expected` of it, has taken
+-- `taken`, and has made `back`. `pending` are units that the sender is about to send again.
 pub record HalfOf (first : ℕ) (made : List Made) (confirmed answered : ℕ) (pending : List (List ℕ)) (back : List Made) (expected : ℕ) (taken : List (List ℕ))
     (connection : ConnectionState) (last_sn : ℕ) : Type 0 where
-  -- what was taken, with what is carried from the expected index on, is what was first sent
+  -- What was taken, with what is carried from the expected index on, is what was first sent.
   pub carried : taken ++ (run_of (drop expected made) ++ pending) ≡ units made
   pub within : expected ≤ length made
-  -- the first PDU carries nothing
+  -- The first PDU carries nothing.
   pub first_plain : run_of made ≡ run_of (drop 1 made)
-  -- requests not handled and answers not taken: at most one, and none but in RetrReq or Closed
+  -- Requests not handled and answers not taken: at most one, and only in RetrReq or Closed.
   pub open_requests : requests (drop (answered + 1) back) + answers (drop expected made) ≤ room connection
   pub requests_at : Every (RequestAt expected) (drop (answered + 1) back)
-  -- nothing counts as confirmed that is not behind the receiver
+  -- Only what the receiver has passed counts as confirmed.
   pub confirmed_behind : confirmed ≤ expected - 1
   pub last : 1 ≤ expected → last_sn ≡ sn_of first (expected - 1)
   pub told : Every (Told first expected) back
@@ -84,20 +68,20 @@ HalfWith pending x y = HalfOf x.first x.made x.confirmed x.answered pending y.ma
 abbrev pub Half : State → State → Type 0
 Half x y = HalfWith [] x y
 
--- an end with its peer: x is about to make the pending units anew
+-- An end with its peer: x is about to send the pending units again.
 abbrev pub PairWith : List (List ℕ) → State → State → Type 0
 PairWith pending x y = Solo x × HalfWith pending x y × Half y x
 
 abbrev pub Pair : State → State → Type 0
 Pair x y = PairWith [] x y
 
--- so few PDUs were made that sequence numbers tell them apart
+-- So few PDUs were made that sequence numbers distinguish them.
 abbrev pub Few : State → Type 0
 Few s = length s.made ≤ 4294901900
 
 -- Making a PDU keeps the invariant.
 
--- The direction in which the end sends. `carried` is the one field that a kind of its own decides.
+-- The direction in which the end sends. The PDU type only matters for the field `carried`.
 pub make-sends : (kind : Kind) (body : List ℕ) (now : ℕ) (pending pending' : List (List ℕ)) (x y : State) → HalfWith pending x y
     → requests (drop (x.answered + 1) y.made) + (answers (drop y.expected x.made) + is_answer kind) ≤ room y.connection
     → y.taken ++ (after_pdu kind body (run_of (drop y.expected x.made)) ++ pending') ≡ units x.made ++ first_sent kind body
@@ -105,7 +89,7 @@ pub make-sends : (kind : Kind) (body : List ℕ) (now : ℕ) (pending pending' :
 make-sends kind body now pending pending' x y h open_after e plain =
     grind (arith, drop-append-le, run_after-append, units-append, append-nil, count-push, length-append, first_plain-push)
 
--- the direction in which it receives, for a PDU that is no request
+-- The direction in which it receives, for a PDU that is not a request.
 pub make-receives : (kind : Kind) (body : List ℕ) (now : ℕ) (x y : State) → Half y x → is_request kind ≡ 0 → Half y (make kind body now x)
 make-receives kind body now x y h none =
     let m = next_made x kind body now in
@@ -133,7 +117,7 @@ make-solo kind body now x h plain late started = grind (arith, numbered-push, ev
 told-more : (first a b : ℕ) → a ≤ b → (m : Made) → Told first a m → Told first b m
 told-more first a b h m t = record { behind = omega (arith, t.behind); cs = t.cs }
 
--- The receiver x has the PDU at distance d behind it now, and has taken `taken`.
+-- The receiver x has now passed everything up to the PDU at distance d, and has taken `taken`.
 pub half-pass : (d : ℕ) (taken : List (List ℕ)) (connection : ConnectionState) (m : Made) (rest : List Made) (x y : State) → Solo y → Half y x
     → drop (x.expected + d) y.made ≡ m ∷ rest → requests (drop (y.answered + 1) x.made) ≡ 0 → answers (drop (x.expected + d + 1) y.made) ≡ 0
     → taken ++ (run_of (drop (x.expected + d + 1) y.made) ++ []) ≡ units y.made
@@ -154,7 +138,7 @@ half-pass d taken connection m rest x y solo h at no_request no_answer carried =
           h.told;
     }
 
--- the next PDU, which carries these units, where no request is open
+-- The next PDU, which carries these units, while no request is open.
 pub half-take : (up taken : List (List ℕ)) (connection : ConnectionState) (m : Made) (rest : List Made) (x y : State) → Solo y → Half y x
     → room x.connection ≡ 0 → drop (x.expected + 0) y.made ≡ m ∷ rest → is_answer m.pdu.kind ≡ 0 → after_pdu m.pdu.kind m.pdu.body [] ≡ up
     → taken ≡ x.taken ++ up → HalfOf y.first y.made y.confirmed y.answered [] x.made (x.expected + 0 + 1) taken connection m.pdu.sn
@@ -173,7 +157,7 @@ half-take up taken connection m rest x y solo h closed at plain carries took =
     half-pass 0 taken connection m rest x y solo h at (omega arith) (ap answers next ∙ no_answer)
     (ap (λ us. us ++ (run_of (drop (x.expected + 0 + 1) y.made) ++ [])) took ∙ (ap (λ ms. (x.taken ++ up) ++ (run_of ms ++ [])) next ∙ all))
 
--- the answer to the request that is open
+-- The answer to the request that is open.
 pub half-resume : (d : ℕ) (connection : ConnectionState) (m : Made) (rest : List Made) (x y : State) → Solo y → Half y x → room x.connection ≤ 1 →
     drop (x.expected + d) y.made ≡ m ∷ rest → is_answer m.pdu.kind ≡ 1 →
     HalfOf y.first y.made y.confirmed y.answered [] x.made (x.expected + d + 1) x.taken connection m.pdu.sn
@@ -186,7 +170,7 @@ half-resume d connection m rest x y solo h small at is =
     half-pass d x.taken connection m rest x y solo h at (omega arith) (omega arith)
     (ap (λ us. x.taken ++ (us ++ [])) (sym run) ∙ h.carried)
 
--- a index that an accepted PDU confirms is the one that its maker had behind it
+-- The index that an accepted PDU confirms is the last one that its maker had passed.
 pub confirm-index : (i : ℕ) (m : Made) (rest : List Made) (x y : State) → Half x y → Few x → drop i y.made ≡ m ∷ rest → 1 ≤ m.behind →
     cs_fits (kept_of x) m.pdu ≡ true → x.confirmed + cs_step (kept_of x) m.pdu ≡ m.behind - 1
 confirm-index i m rest x y h few at late fits =
@@ -206,7 +190,7 @@ confirm-index i m rest x y h few at late fits =
 pub half-confirm : (m : Made) (x y : State) → Half x y → x.confirmed + cs_step (kept_of x) m.pdu ≤ y.expected - 1 → Half (confirm_units m.pdu x) y
 half-confirm m x y h e = grind arith
 
--- a PDU within reach of an end that has taken something lies where its number says
+-- A PDU within reach of an end that has taken something has the index that its number means.
 pub reach : (i : ℕ) (m : Made) (rest : List Made) (x y : State) → Solo y → Half y x → Few y → 1 ≤ x.expected → drop i y.made ≡ m ∷ rest →
     distance (kept_of x) m.pdu ≤ 320 → x.expected + distance (kept_of x) m.pdu ≡ i
 reach i m rest x y solo h few late at near =
@@ -228,11 +212,11 @@ reach i m rest x y solo h few late at near =
 pub room-le : (connection : ConnectionState) → room connection ≤ 1
 room-le connection = grind arith
 
--- closing
+-- Closing.
 pub pair-closed : (x y : State) → Pair x y → Pair (move_to Closed x) y
 pair-closed x y h = grind arith
 
--- a PDU that carries no unit, and asks and answers nothing
+-- A PDU that carries no unit, and is neither a RetrReq nor a RetrResp.
 pub pair-plain : (kind : Kind) (body : List ℕ) (now : ℕ) (pending : List (List ℕ)) (x y : State) → PairWith pending x y →
     ((run : List (List ℕ)) → after_pdu kind body run ≡ run) → first_sent kind body ≡ [] → is_answer kind ≡ 0 → is_request kind ≡ 0 → is_opening kind ≡ 0 →
     (1 ≤ needs_peer kind → 1 ≤ x.expected) → Started x.connection x.settings.client x.expected (x.made ++ next_made x kind body now ∷ []) →
@@ -244,7 +228,7 @@ pair-plain kind body now pending x y h after none answer request opening late st
   make-receives kind body now x y h.2 request,
 )
 
--- leaving
+-- Disconnecting.
 pub pair-leave : (reason : Reason) (detail : Detail) (now : ℕ) (x y : State) → Pair x y → Pair (leave reason detail now x) y
 pair-leave reason detail now x y h =
     let closed = pair-closed x y h in
@@ -252,7 +236,7 @@ pair-leave reason detail now x y h =
     pair-plain DiscReq (leaving_body reason detail) now [] (move_to Closed x) y closed (λ run. refl) refl refl refl refl (λ one. absurd (omega arith)) tt in
     leave-cases (λ s. Pair s y) reason detail now x (λ _. said) (λ _. closed)
 
--- an end that is connected has taken something and made something
+-- A connected end has taken something and made something.
 pub started-parts : (connection : ConnectionState) (client : Bool) (expected : ℕ) (made : List Made) → is_connected connection ≡ true
     → Started connection client expected made → (1 ≤ expected) × (1 ≤ length made)
 started-parts connection client expected made c h = grind arith
@@ -264,12 +248,12 @@ started-from connection client expected made c e m = grind arith
 pub some-push : (ms : List Made) (m : Made) → 1 ≤ length (ms ++ m ∷ [])
 some-push ms m = omega (arith, length-append ms (m ∷ []))
 
--- a connected end is started also with one PDU more
+-- A connected end is started also after one more PDU.
 pub started-push : (kind : Kind) (body : List ℕ) (now : ℕ) (x : State) → is_connected x.connection ≡ true → Solo x
     → Started x.connection x.settings.client x.expected (x.made ++ next_made x kind body now ∷ [])
 started-push kind body now x c h = grind arith
 
--- a connected end has made something
+-- A connected end has made something.
 nonempty : {P : Type 0} (x : State) → is_connected x.connection ≡ true → Solo x → x.made ≡ [] → P
 nonempty x c h e = grind arith
 
@@ -279,7 +263,7 @@ pair-beat now pending x y c h =
     pair-plain Heartbeat [] now pending x y h (λ run. refl) refl refl refl refl
     (λ one. (started-parts x.connection x.settings.client x.expected x.made c h.0.started).0) (started-push Heartbeat [] now x c h.0)
 
--- a unit is sent
+-- A unit is sent.
 pub pair-sent : (unit : List ℕ) (now : ℕ) (x y : State) → is_connected x.connection ≡ true → Pair x y → Pair (make Data unit now x) y
 pair-sent unit now x y c h =
     let run = run_of (drop y.expected x.made) in
@@ -293,7 +277,7 @@ pair-sent unit now x y c h =
       make-receives Data unit now x y h.2 refl,
     )
 
--- a retransmission is asked for, where no request is open
+-- A retransmission is requested while no request is open.
 pub pair-ask : (now : ℕ) (x y : State) → is_connected x.connection ≡ true → room x.connection ≡ 0 → Pair x y → Pair (ask now x) y
 pair-ask now x y c none h =
     let m = next_made x RetrReq [] now in
@@ -328,7 +312,7 @@ pair-ask now x y c none h =
       },
     )
 
--- the units that are resent
+-- The units that are sent again.
 pub pair-resend : (us : List (List ℕ)) (now : ℕ) (x y : State) → is_connected x.connection ≡ true → PairWith us x y → Pair (resend us now x) y
 pair-resend [] now x y c h = h
 pair-resend (u ∷ us) now x y c h =
@@ -342,7 +326,7 @@ pair-resend (u ∷ us) now x y c h =
       make-receives RetrData u now x y h.2 refl,
     )
 
--- A request is answered: none is open any more, and what counts as confirmed is all that the peer has behind.
+-- A request is answered: no request is open any more, and everything that the peer has passed counts as confirmed.
 pub pair-reply : (now : ℕ) (x y : State) → is_connected x.connection ≡ true → Pair x y →
     requests (drop (x.answered + 1) y.made) + answers (drop y.expected x.made) ≡ 0 → room y.connection ≡ 1 → x.confirmed + 1 ≡ y.expected →
     Pair (reply now x) y

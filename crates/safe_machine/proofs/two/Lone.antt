@@ -6,10 +6,10 @@ use Rattle.safe_machine.proofs.Words.{tests_passed, carry_out, confirm_units, in
 use Rattle.safe_machine.proofs.Words.{ConnReq, ConnResp, DiscReq, Closed, Down, Start, Up, Pdu, window_of, units, opening_body, leaving_body, next_made}
 use Rattle.safe_machine.proofs.Words.{Decision, decide, Nothing, Drops, Shuts, Leaves, Rejects, Accepts, Connects, Asks, set_window, respond, WrongVersion}
 use Rattle.safe_machine.proofs.Words.{Unspecified, ◌≢◌, ◌⊎◌, inl, inr, append_assoc, length-append, drop-drop, IsBeginning, Kind, Heartbeat, Data, first_sent}
-use Rattle.safe_machine.proofs.Words.{leave, arrive, Among, GenuineAt, Reason, Detail, is_live, Move, HearsNothing, move, rules}
+use Rattle.safe_machine.proofs.Words.{leave, run_of, arrive, Among, GenuineAt, Reason, Detail, is_live, Move, HearsNothing, move, rules}
 use Rattle.safe_machine.proofs.one.Runs.{requests, answers, count-at, every-at, no_requests, RequestAt, unit-cases, Every, every-push, numbered-push}
 use Rattle.safe_machine.proofs.one.Runs.{units-append, every-drop_push, leave-cases, connected-live, turn-connected, turn-live, opening_window}
-use Rattle.safe_machine.proofs.one.Runs.{reply-connection, quiet-cases, arrive-cases, when}
+use Rattle.safe_machine.proofs.one.Runs.{reply-connection, quiet-cases, arrive-cases, run_after-append, when}
 use Rattle.safe_machine.proofs.two.Invariant.{room, needs_peer, Told, Sound, Started, SoloOf, Solo, Half, Pair, Few, room-le, pair-beat, pair-ask, pair-reply}
 use Rattle.safe_machine.proofs.two.Invariant.{started-from, half-take, half-resume, half-confirm, confirm-index, is_opening, NotOpening, make-sends}
 use Rattle.safe_machine.proofs.two.Invariant.{make-receives, pair-closed, pair-plain, pair-leave, reach, pair-sent}
@@ -19,7 +19,7 @@ use Rattle.safe_machine.specs.Numbers.{sn_of}
 
 -- An arrival of a PDU that the peer made keeps the invariant.
 
--- what is known where a PDU of the peer comes in
+-- What is known when a PDU of the peer arrives.
 pub record Arrival (d : ℕ) (m : Made) (rest : List Made) (x y : State) : Type 0 where
   pub pair : Pair x y
   pub peer : Solo y
@@ -30,7 +30,7 @@ solo-at : (connection : ConnectionState) (expected : ℕ) (x : State) → Solo x
     → SoloOf x.first x.made expected connection x.settings.client
 solo-at connection expected x h s = record { numbered = h.numbered; opening = h.opening; sound = h.sound; started = s }
 
--- the index confirmed, where the PDU needs a peer
+-- The index confirmed, if the PDU needs a peer.
 pub arrival-index : (d : ℕ) (m : Made) (rest : List Made) (x y : State) → Arrival d m rest x y → needs_peer m.pdu.kind ≡ 1 → cs_fits (kept_of x) m.pdu ≡ true →
     (x.confirmed + cs_step (kept_of x) m.pdu ≡ m.behind - 1) × (1 ≤ m.behind) × (m.behind ≤ y.expected)
 arrival-index d m rest x y a needs fits =
@@ -60,7 +60,7 @@ arrival-take now to m rest x y a closed connected plain needs fits some =
     λ c. (solo, sends, half-take [] x.taken to m rest x y a.peer a.pair.2 closed a.at plain (carries-none p.kind p.body c) (sym (append-nil x.taken))) in
     unit-cases (λ s. Pair s y) p now z (λ c. pair-beat now [] (hand_up p z) y connected (unit c)) (λ c _. unit c) none
 
--- The answer to the own request.
+-- The answer to the end's own request.
 pub arrival-resume : (now : ℕ) (m : Made) (rest : List Made) (x y : State) → Arrival (distance (kept_of x) m.pdu) m rest x y → room x.connection ≤ 1
     → is_answer m.pdu.kind ≡ 1 → needs_peer m.pdu.kind ≡ 1 → cs_fits (kept_of x) m.pdu ≡ true → 1 ≤ length x.made → Pair (carry_out m.pdu now Resumes x) y
 arrival-resume now m rest x y a small is needs fits some =
@@ -70,7 +70,7 @@ arrival-resume now m rest x y a small is needs fits some =
       half-resume d RetrRun m rest x y a.peer a.pair.2 small a.at is,
     )
 
--- What is known of a request that was not handled before.
+-- What is known about a request that was not handled before.
 pub record Asked (d : ℕ) (m : Made) (x y : State) : Type 0 where
   pub none : requests (drop (x.expected + d + 1) y.made) + answers (drop y.expected x.made) ≡ 0
   pub one : room y.connection ≡ 1
@@ -88,7 +88,7 @@ asked d m rest x y a is needs new fits =
     let small : room y.connection ≤ 1 = room-le y.connection in
     record { none = omega arith; one = omega arith; all = omega arith }
 
--- the request is noted
+-- The request is recorded.
 half-noted : (d : ℕ) (m : Made) (x y : State) → Half x y → Asked d m x y → Half (note_request d (confirm_units m.pdu x)) y
 half-noted d m x y h k =
     record {
@@ -133,19 +133,19 @@ arrival-early_request now m rest x y a is new connected fits =
 
 -- The opening of a connection, and every arrival.
 
--- a ConnReq or a ConnResp is the first PDU that its end made
+-- A ConnReq or ConnResp is the first PDU that its end made.
 opening-first : (i : ℕ) (m : Made) (rest : List Made) (y : State) → Solo y → drop i y.made ≡ m ∷ rest → is_opening m.pdu.kind ≡ 1 → i ≡ 0
 opening-first zero m rest y h at is = refl
 opening-first (suc i) m rest y h at is =
     let none : is_opening m.pdu.kind ≡ 0 = every-at NotOpening 1 (suc i) y.made m rest h.opening (omega arith) at in
     absurd (omega arith)
 
--- the first PDU of the peer, which carries nothing, where nothing was taken before
+-- The first PDU of the peer, which carries nothing, if nothing was taken before.
 pub first-arrival : (i : ℕ) (m : Made) (rest : List Made) (x y : State) → Pair x y → Solo y → Few x → drop i y.made ≡ m ∷ rest → is_opening m.pdu.kind ≡ 1
     → x.expected ≡ 0 → Arrival 0 m rest x y
 first-arrival i m rest x y h peer few at is none = grind (arith, opening-first)
 
--- the client takes a ConnResp
+-- The client takes a ConnResp.
 connected : (now i : ℕ) (m : Made) (rest : List Made) (x y : State) → Pair x y → Solo y → Few x → drop i y.made ≡ m ∷ rest → m.pdu.kind ≡ ConnResp
     → x.expected ≡ 0 → room x.connection ≡ 0 → 1 ≤ length x.made → cs_fits (kept_of x) m.pdu ≡ true → Pair (carry_out m.pdu now Connects x) y
 connected now i m rest x y h peer few at is none closed some fits =
@@ -158,7 +158,7 @@ connected now i m rest x y h peer few at is none closed some fits =
     ) in
     pair-beat now [] z y refl before
 
--- the server takes a ConnReq of another version
+-- The server takes a ConnReq of another version.
 rejected : (now i : ℕ) (m : Made) (rest : List Made) (x y : State) → Pair x y → Solo y → Few x → drop i y.made ≡ m ∷ rest → m.pdu.kind ≡ ConnReq
     → x.expected ≡ 0 → room x.connection ≡ 0 → Pair (carry_out m.pdu now Rejects x) y
 rejected now i m rest x y h peer few at is none closed =
@@ -171,7 +171,7 @@ rejected now i m rest x y h peer few at is none closed =
     ) in
     pair-plain DiscReq (leaving_body WrongVersion Unspecified) now [] z y before (λ run. refl) refl refl refl refl (λ one. absurd (omega arith)) tt
 
--- the server takes a ConnReq
+-- The server takes a ConnReq.
 accepted : (now i : ℕ) (m : Made) (rest : List Made) (x y : State) → Pair x y → Solo y → Few x → drop i y.made ≡ m ∷ rest → m.pdu.kind ≡ ConnReq
     → x.expected ≡ 0 → x.connection ≡ Down → x.made ≡ [] → x.settings.client ≡ false → x.settings.n_sendmax ≤ 32 → Pair (carry_out m.pdu now Accepts x) y
 accepted now i m rest x y h peer few at is none down empty server small =
@@ -205,7 +205,7 @@ accepted now i m rest x y h peer few at is none down empty server small =
       make-receives ConnResp body now z y takes refl,
     )
 
--- where an arrival comes in
+-- An arrival at an end.
 pub record Incoming (i : ℕ) (m : Made) (rest : List Made) (x y : State) : Type 0 where
   pub pair : Pair x y
   pub peer : Solo y
@@ -214,7 +214,7 @@ pub record Incoming (i : ℕ) (m : Made) (rest : List Made) (x y : State) : Type
   pub small : x.settings.n_sendmax ≤ 32
   pub at : drop i y.made ≡ m ∷ rest
 
--- an end that the table decides for has taken something and made something
+-- If the table decides for an end, it has taken something and made something.
 listens-started : (connection : ConnectionState) (client : Bool) (expected : ℕ) (made : List Made) → listens connection client ≡ true
     → Started connection client expected made → (1 ≤ expected) × (1 ≤ length made)
 listens-started connection client expected made l h = grind arith
@@ -222,7 +222,7 @@ listens-started connection client expected made l h = grind arith
 pub by_table-started : (x : State) (p : Pdu) → Solo x → ByTable (kept_of x) p → (1 ≤ x.expected) × (1 ≤ length x.made)
 by_table-started x p h t = listens-started x.connection x.settings.client x.expected x.made t.listens_now h.started
 
--- and the PDU lies where its number says
+-- The PDU has the index that its number means.
 pub incoming-arrival : (i : ℕ) (m : Made) (rest : List Made) (x y : State) → Incoming i m rest x y → ByTable (kept_of x) m.pdu
     → Arrival (distance (kept_of x) m.pdu) m rest x y
 incoming-arrival i m rest x y a t = grind (arith, by_table-started, reach)
@@ -260,13 +260,13 @@ pair-carry now i m rest x y a AnswersNext (f, none, turn, cts) =
 pair-carry now i m rest x y a AnswersEarly f =
     arrival-early_request now m rest x y (incoming-arrival i m rest x y a f.table) f.request f.new f.connected f.cs
 
--- Whatever PDU of the peer comes, the invariant is kept.
+-- For any PDU of the peer, the invariant is kept.
 pub pair-respond : (now i : ℕ) (m : Made) (rest : List Made) (x y : State) → Incoming i m rest x y → Pair (respond m.pdu now x) y
 pair-respond now i m rest x y a = pair-carry now i m rest x y a (decide (kept_of x) m.pdu now) (decide-fits (kept_of x) m.pdu now)
 
--- The steps in which an end takes nothing: it sends, leaves, tests its guard, or ticks.
+-- The steps in which an end takes nothing: it sends, disconnects, checks its timeouts, or ticks.
 
--- from s to t nothing was taken
+-- Nothing was taken from s to t.
 pub record Lone (s t : State) : Type 0 where
   pub taken : t.taken ≡ s.taken
   pub longer : IsBeginning (units s.made) (units t.made)
@@ -275,16 +275,16 @@ pub record Lone (s t : State) : Type 0 where
   pub expected : t.expected ≡ s.expected
   pub confirmed : t.confirmed ≡ s.confirmed
   pub connection : (t.connection ≡ s.connection) ⊎ (t.connection ≡ Closed)
-  -- an end that was not live is as before, or closed with the same lists
+  -- An end that was not live is as before, or closed with the same lists.
   pub down : s.connection ≡ Down → (t.made ≡ s.made)
   pub closed : s.connection ≡ Closed → t ≡ s
-  -- as many units more are unconfirmed as were sent
-  pub owes : t.connection ≢ Closed → length (units t.made) + length (unconfirmed s) ≡ length (units s.made) + length (unconfirmed t)
+  -- As many more units are unconfirmed as were sent.
+  pub owes : length (units t.made) + length (unconfirmed s) ≡ length (units s.made) + length (unconfirmed t)
 
 pub beginning_trans : (us vs ws : List (List ℕ)) → IsBeginning us vs → IsBeginning vs ws → IsBeginning us ws
 beginning_trans us vs ws h k = (h.0 ++ k.0, sym (append_assoc us h.0 k.0) ∙ (ap (λ xs. xs ++ k.0) h.1 ∙ k.1))
 
--- an end that stays as it is, or closes
+-- An end that does not change, or closes.
 lone-still : (connection : ConnectionState) (s : State) → (connection ≡ s.connection) ⊎ (connection ≡ Closed) → Lone s (move_to connection s)
 lone-still connection s goes = search rules
 
@@ -294,10 +294,10 @@ lone-refl s = lone-still s.connection s (inl refl)
 pub lone-closed : (s : State) → Lone s (move_to Closed s)
 lone-closed s = lone-still Closed s (inr refl)
 
--- a live end makes a PDU that adds what it carries to both, and stays or closes
+-- A live end makes a PDU that adds what it carries to both lists, and stays or closes.
 lone-said : (connection : ConnectionState) (kind : Kind) (body : List ℕ) (now : ℕ) (s : State) → is_live s.connection ≡ true → is_opening kind ≡ 0 →
     (connection ≡ s.connection) ⊎ (connection ≡ Closed) →
-    (connection ≢ Closed → length (unconfirmed (make kind body now s)) ≡ length (unconfirmed s) + length (first_sent kind body)) →
+    length (unconfirmed (make kind body now s)) ≡ length (unconfirmed s) + length (first_sent kind body) →
     Lone s (move_to connection (make kind body now s))
 lone-said connection kind body now s live plain goes adds =
     let m = next_made s kind body now in
@@ -313,18 +313,29 @@ lone-said connection kind body now s live plain goes adds =
       connection = goes;
       down = λ e. absurd (false≢true (sym (ap is_live e) ∙ live));
       closed = λ e. absurd (false≢true (sym (ap is_live e) ∙ live));
-      owes = λ e. omega (arith, ap length sent, length-append (units s.made) (first_sent kind body), adds e);
+      owes = omega (arith, ap length sent, length-append (units s.made) (first_sent kind body), adds);
     }
 
 lone-made : (kind : Kind) (body : List ℕ) (now : ℕ) (s : State) → is_live s.connection ≡ true → s.confirmed < length s.made → is_opening kind ≡ 0 →
     length (after_pdu kind body (unconfirmed s)) ≡ length (unconfirmed s) + length (first_sent kind body) → Lone s (make kind body now s)
 lone-made kind body now s live made plain adds =
-    lone-said s.connection kind body now s live plain (inl refl) (λ _. ap length (unconfirmed-make kind body now s made) ∙ adds)
+    lone-said s.connection kind body now s live plain (inl refl) (ap length (unconfirmed-make kind body now s made) ∙ adds)
+
+-- A PDU that carries no unit, appended to the others, does not change the unconfirmed units.
+unsaid-drop : (k : ℕ) (ms : List Made) (m : Made) → ((run : List (List ℕ)) → after_pdu m.pdu.kind m.pdu.body run ≡ run)
+    → run_of (drop k (ms ++ m ∷ [])) ≡ run_of (drop k ms)
+unsaid-drop zero ms m plain = run_after-append [] ms (m ∷ []) ∙ plain (run_of ms)
+unsaid-drop (suc zero) [] m plain = refl
+unsaid-drop (suc (suc k)) [] m plain = refl
+unsaid-drop (suc k) (x ∷ xs) m plain = unsaid-drop k xs m plain
 
 pub lone-leave : (reason : Reason) (detail : Detail) (now : ℕ) (s : State) → Lone s (leave reason detail now s)
 lone-leave reason detail now s =
     leave-cases (Lone s) reason detail now s
-    (λ live. lone-said Closed DiscReq (leaving_body reason detail) now s live refl (inr refl) (λ on. absurd (on refl))) (λ _. lone-closed s)
+    (λ live. lone-said Closed DiscReq (leaving_body reason detail) now s live refl (inr refl)
+    (let m = next_made s DiscReq (leaving_body reason detail) now in
+    let same = ap length (unsaid-drop (s.confirmed + 1) s.made m (λ run. refl)) in omega (arith, same)))
+    (λ _. lone-closed s)
 
 pub lone-move : (m : Move) (s : State) → HearsNothing m → Bounded s → Lone s (move m s)
 lone-move m s quiet b =
@@ -342,7 +353,7 @@ pair-move m x y quiet h =
     quiet-cases (λ s. Pair s y) m x quiet h (λ reason detail. pair-leave reason detail (when m) x y h) (λ connected _. pair-beat (when m) [] x y connected h)
     (λ unit turn _. pair-sent unit (when m) x y (turn-connected x.connection turn) h)
 
--- where a PDU among those made stands
+-- The index of a PDU among those made.
 pub among-index : (p : Pdu) (ms : List Made) → Among p ms → (k : ℕ) × (m : Made) × (rest : List Made) × (drop k ms ≡ m ∷ rest) × (m.pdu ≡ p)
 among-index p [] h = absurd h
 among-index p (m ∷ ms) (inl e) = (0, m, ms, refl, e)
@@ -352,12 +363,12 @@ pub among-dropped : (p : Pdu) (n : ℕ) (ms : List Made) → Among p (drop n ms)
     × (n ≤ i)
 among-dropped p n ms h = let r = among-index p (drop n ms) h in (n + r.0, r.1, r.2, sym (drop-drop r.0 n ms) ∙ r.3, r.4, omega arith)
 
--- where a PDU that is genuine comes in
+-- The index of a genuine PDU that arrives.
 pub incoming-at : (p : Pdu) (n : ℕ) (x y : State) → Pair x y → Solo y → Bounded x → Bounded y → (h : Among p (drop n y.made)) →
     let r = among-dropped p n y.made h in Incoming r.0 r.1 r.2 x y
 incoming-at p n x y h peer bounded bounded_peer among = grind arith
 
--- An arrival that is genuine keeps the invariant of the pair, and the counts.
+-- A genuine arrival keeps the invariant of the pair, and the counts.
 pub pair-arrive : (now n : ℕ) (p : Pdu) (x y : State) → Pair x y → Solo y → Bounded x → Bounded y → GenuineAt x p (drop n y.made) →
     Pair (arrive p now x) y × Bounded (arrive p now x)
 pair-arrive now n p x y h peer bounded bounded_peer genuine =

@@ -1,4 +1,4 @@
--- How the present incarnations can stand to each other, and what each step leaves of that.
+-- How the present incarnations can be related, and what each step changes about that.
 use Rattle.safe_machine.proofs.Words.{◌==◌, MatchOption, if◌then◌else◌, IsBeginning, Closed, units, State, unconfirmed, Served, JoinsFall, IsJoined}
 use Rattle.safe_machine.proofs.Words.{taken_from_il, taken_count, ℕ, ◌+◌, ◌≡◌, ◌≢◌, ◌≤◌, ◌⊎◌, Option, Some, None, List, [], ◌∷◌, length, inl, inr, Bool, false}
 use Rattle.safe_machine.proofs.Words.{refl, sym, ap, subst, ◌∙◌, arith, eq-eqb, eqb_tells, JoinedBelow, next_bound, drop, true, false≢true, ConnectionState}
@@ -9,15 +9,15 @@ use Rattle.safe_machine.proofs.one.Runs.{Every, every-at, every-push, leave-case
 use Rattle.safe_machine.proofs.two.Invariant.{is_opening, needs_peer, NotOpening, Solo, Half}
 use Rattle.safe_machine.proofs.one.Deciding.{Fits, listens, decide-fits, Bounded, bounded-leave, bounded-closed, run_of-shrinks}
 
--- The law over all ends that ever stood, with the end before its first opening as number 0 and last of its list.
+-- The law over all ends, with the end before its first opening as number 0 and last of its list.
 
--- the incarnation with this number, counted from 0
+-- The incarnation with this number, counted from 0.
 abbrev pub incarnation : List State → ℕ → Option State
 incarnation [] number = None
 incarnation (s ∷ before) number = if number == length before then Some s else incarnation before number
 
--- An incarnation of the field element without a joined has taken nothing;
--- with one, each has taken a beginning of the units that the other sent.
+-- If an incarnation of the field element is not joined, it has taken nothing. If it is, each of the two has taken a prefix of the units that the
+-- other sent.
 abbrev pub TakesBeginnings : List State → State → Option ℕ → Type 0
 TakesBeginnings ils fe None = fe.taken ≡ []
 TakesBeginnings ils fe (Some number) =
@@ -41,26 +41,26 @@ taken_from_fe ils None = 0
 taken_from_fe ils (Some number) = taken_count (incarnation ils number)
 
 pub record LosesNothingOf (il : State) (il_before : List State) (fe : State) (joined : Option ℕ) (fe_before : List Served) : Type 0 where
-  pub from_il : il.connection ≢ Closed → length (units il.made) ≤ taken_from_il (length il_before) (record { machine = fe; joined = joined } ∷ fe_before)
+  pub from_il : length (units il.made) ≤ taken_from_il (length il_before) (record { machine = fe; joined = joined } ∷ fe_before)
       + length (unconfirmed il)
-  pub from_fe : fe.connection ≢ Closed → length (units fe.made) ≤ taken_from_fe (il ∷ il_before) joined + length (unconfirmed fe)
+  pub from_fe : length (units fe.made) ≤ taken_from_fe (il ∷ il_before) joined + length (unconfirmed fe)
 
 -- The law over the lists of incarnations: what an opening and a step change.
 abbrev pub Linked : State → State → Type 0
 Linked fe il = IsBeginning fe.taken (units il.made) × IsBeginning il.taken (units fe.made)
 
--- the incarnation with the greatest number is the latest
+-- The incarnation with the greatest number is the latest.
 pub latest : (s : State) (before : List State) → incarnation (s ∷ before) (length before) ≡ Some s
 latest s before = ap (λ (b : Bool). if b then Some s else incarnation before (length before)) (eq-eqb (length before) (length before) refl)
 
--- the present pair
+-- The present pair.
 pub linked-latest : (il fe : State) (before : List State) → Linked fe il → TakesBeginnings (il ∷ before) fe (Some (length before))
 linked-latest il fe before h = subst (λ (o : Option State). MatchOption o ⊥ (λ g. Linked fe g)) (sym (latest il before)) h
 
 linked-of : (il fe : State) (before : List State) → TakesBeginnings (il ∷ before) fe (Some (length before)) → Linked fe il
 linked-of il fe before h = subst (λ (o : Option State). MatchOption o ⊥ (λ g. Linked fe g)) (latest il before) h
 
--- an earlier joined does not depend on what is the latest
+-- An incarnation joined to an earlier one does not depend on the latest.
 pub takes-other : (s t : State) (before : List State) (fe : State) (p : Option ℕ) → JoinedBelow (length before) p → TakesBeginnings (s ∷ before) fe p
     → TakesBeginnings (t ∷ before) fe p
 takes-other s t before fe p below h = grind arith
@@ -69,7 +69,7 @@ pub takes-pushed : (t : State) (ils : List State) (fe : State) (p : Option ℕ) 
     → TakesBeginnings (t ∷ ils) fe p
 takes-pushed t ils fe p below h = grind arith
 
--- the interlocking takes nothing and sends more
+-- The interlocking takes nothing and sends more.
 pub takes-il_lone : (s t : State) (before : List State) (fe : State) (p : Option ℕ) → JoinedBelow (length before + 1) p → Lone s t
     → TakesBeginnings (s ∷ before) fe p → TakesBeginnings (t ∷ before) fe p
 takes-il_lone s t before fe None below l h = h
@@ -88,7 +88,7 @@ takes-il_lone s t before fe (Some number) below l h =
       | inr other ↦ takes-other s t before fe (Some number) (omega (arith, other.1)) h
     ]
 
--- the field element takes nothing and sends more
+-- The field element takes nothing and sends more.
 pub takes-fe_lone : (ils : List State) (s t : State) (p : Option ℕ) → Lone s t → TakesBeginnings ils s p → TakesBeginnings ils t p
 takes-fe_lone ils s t None l h = l.taken ∙ h
 takes-fe_lone ils s t (Some number) l h = with_il (incarnation ils number) h
@@ -97,7 +97,7 @@ takes-fe_lone ils s t (Some number) l h = with_il (incarnation ils number) h
     with_il None k = k
     with_il (Some g) k = (subst (λ us. IsBeginning us (units g.made)) (sym l.taken) k.0, beginning_trans g.taken (units s.made) (units t.made) k.1 l.longer)
 
--- lists of such
+-- Lists of such incarnations.
 pub below-more : (a b : ℕ) (p : Option ℕ) → a ≤ b → JoinedBelow a p → JoinedBelow b p
 below-more a b p h k = grind arith
 
@@ -111,7 +111,7 @@ fall-more a b (f ∷ fs) h k = (below-more a b f.joined h k.0, fall-joined a b f
 bound-le : (bound : ℕ) (p : Option ℕ) → JoinedBelow bound p → next_bound bound p ≤ bound
 bound-le bound p h = grind arith
 
--- what each entry with a joined below the bound keeps, all keep
+-- What each entry keeps that is joined below the bound, all keep.
 pub all-takes : (ils ils' : List State) (bound : ℕ) (fes : List Served) → JoinsFall bound fes →
     ((fe : State) (p : Option ℕ) → JoinedBelow bound p → TakesBeginnings ils fe p → TakesBeginnings ils' fe p) →
     AllTakeBeginnings ils fes → AllTakeBeginnings ils' fes
@@ -120,16 +120,16 @@ all-takes ils ils' bound (e ∷ es) fall f h =
     let rest : JoinsFall bound es = fall-more (next_bound bound e.joined) bound es (bound-le bound e.joined fall.0) fall.1 in
     (f e.machine e.joined fall.0 h.0, all-takes ils ils' bound es rest f h.1)
 
--- joined ones that stay joined ones
+-- Joined incarnations that stay joined.
 pub only-weaken : (fes fes' : List Served) (ils : List State) → ((number : ℕ) → IsJoined number fes → IsJoined number fes') → OnlyJoinedTake fes ils
     → OnlyJoinedTake fes' ils
 only-weaken fes fes' [] f h = tt
 only-weaken fes fes' (s ∷ before) f h =
     (elim h.0 [ inl none ↦ inl none | inr is ↦ inr (f (length before) is) ], only-weaken fes fes' before f h.1)
 
--- The three ways in which the present incarnations can stand to each other.
+-- The three ways in which the present incarnations can be related.
 
--- a field element that has not joined
+-- A field element that has not joined.
 abbrev pub Settled : State → Type 0
 Settled s = ((s.connection ≡ Down) ⊎ (s.connection ≡ Closed)) × (units s.made ≡ []) × (s.taken ≡ [])
 
@@ -146,7 +146,7 @@ pub record Met (index : ℕ) (il fe : State) (joined : Option ℕ) (fe_before : 
   pub joined_to : JoinedTo index fe joined
   pub falls : JoinsFall index fe_before
 
--- an interlocking that can't be answered
+-- An interlocking that cannot get an answer.
 abbrev pub Quiet : Made → Type 0
 Quiet m = needs_peer m.pdu.kind ≡ 0
 
@@ -172,13 +172,13 @@ pub record FeLater (index : ℕ) (il fe : State) (joined : Option ℕ) (fe_befor
   pub none : joined ≡ None
   pub falls : JoinsFall (index + 1) fe_before
 
--- One of the three, with T of two that have met, and P of a field element that was opened later.
+-- One of the three. T holds if the two have met, and P if the field element was opened later.
 pub data Status (T P : Type 0) (index : ℕ) (il fe : State) (joined : Option ℕ) (fe_before : List Served) (dead_il dead_fe : ℕ) : Type 0 where
   met : Met index il fe joined fe_before → T → Status T P index il fe joined fe_before dead_il dead_fe
   il_later : IlLater index il fe joined fe_before dead_fe → Status T P index il fe joined fe_before dead_il dead_fe
   fe_later : FeLater index il fe joined fe_before dead_il → P → Status T P index il fe joined fe_before dead_il dead_fe
 
--- a field element in Down is as it was opened
+-- A field element in Down is as it was opened.
 pub record Untouched (s : State) : Type 0 where
   pub made : s.made ≡ []
   pub expected : s.expected ≡ 0
@@ -186,7 +186,7 @@ pub record Untouched (s : State) : Type 0 where
   pub confirmed : s.confirmed ≡ 0
   pub server : s.settings.client ≡ false
 
--- a mute interlocking
+-- A mute interlocking.
 mute-deaf : (connection : ConnectionState) (client : Bool) → client ≡ true → (connection ≡ Start) ⊎ (connection ≡ Closed) → listens connection client ≡ false
 mute-deaf connection client c h = grind arith
 
@@ -195,7 +195,7 @@ mute-not_connected : (connection : ConnectionState) → (connection ≡ Start) �
 mute-not_connected connection h = grind arith
 
 pub mute-leave : (reason : Reason) (detail : Detail) (now : ℕ) (s : State) → Mute s → Mute (leave reason detail now s)
-mute-leave reason detail now s h = grind (arith, leave-cases, every-push)
+mute-leave reason detail now s h = leave-cases Mute reason detail now s (λ live. grind (arith, every-push)) (λ quiet. grind arith)
 
 pub mute-move : (m : Move) (s : State) → HearsNothing m → Mute s → Mute (move m s)
 mute-move m s quiet h =
@@ -203,7 +203,7 @@ mute-move m s quiet h =
     quiet-cases Mute m s quiet h (λ reason detail. mute-leave reason detail (when m) s h) (λ connected _. absurd (false≢true (sym silent.0 ∙ connected)))
     (λ unit turn _. absurd (false≢true (sym silent.1 ∙ turn)))
 
--- an end that no PDU opens, and for which the table decides nothing
+-- An end that no PDU opens, and for which the table decides nothing.
 record Deaf (s : State) (p : Pdu) : Type 0 where
   down : s.connection ≡ Down → p.kind ≡ ConnReq → ⊥
   start : s.connection ≡ Start → p.kind ≡ ConnResp → ⊥
@@ -213,7 +213,7 @@ deaf-carry : (P : State → Type 0) (p : Pdu) (now : ℕ) (s : State) (d : Decis
     ((reason : Reason) (detail : Detail) → P (leave reason detail now s)) → P (carry_out p now d s)
 deaf-carry P p now s d deaf f same closed left = grind arith
 
--- what comes to it is among PDUs of this sort
+-- What arrives there is among PDUs of this form.
 deaf-hears : (P : State → Type 0) (Q : Made → Type 0) (now n : ℕ) (p : Pdu) (s : State) (made : List Made) → Every Q (drop n made) →
     GenuineAt s p (drop n made) → ((m : Made) → Q m → Deaf s m.pdu) → P s → P (move_to Closed s) →
     ((reason : Reason) (detail : Detail) → P (leave reason detail now s)) → P (arrive p now s)
@@ -224,7 +224,7 @@ deaf-hears P Q now n p s made all genuine deaf same closed left =
     let here : Deaf s p = subst (Deaf s) r.4 (deaf r.1 (every-at Q n r.0 made r.1 r.2 all r.5 r.3)) in
     deaf-carry P p now s (decide (kept_of s) p now) here (decide-fits (kept_of s) p now) same closed left)
 
--- what comes in at a mute interlocking is no ConnResp
+-- What arrives at a mute interlocking is not a ConnResp.
 pub mute-arrive : (now n : ℕ) (p : Pdu) (il : State) (made : List Made) → Mute il → Bounded il → Every NotOpening (drop n made) → GenuineAt il p (drop n made) →
     Mute (arrive p now il) × Lone il (arrive p now il) × Bounded (arrive p now il)
 mute-arrive now n p il made h b dead genuine =
@@ -239,7 +239,7 @@ mute-arrive now n p il made h b dead genuine =
     (record { client = h.client; connection = inr refl; taken = h.taken; quiet = h.quiet }, lone-closed il, bounded-closed il b)
     (λ reason detail. (mute-leave reason detail now il h, lone-leave reason detail now il, bounded-leave reason detail now il b))
 
--- a field element that is on, and hears only what a mute interlocking says
+-- A field element after Down that receives only the PDUs of a mute interlocking.
 pub deaf-arrive : (now n : ℕ) (p : Pdu) (fe : State) (made : List Made) → fe.connection ≢ Down → Bounded fe → Every Quiet made → GenuineAt fe p (drop n made) →
     ((arrive p now fe).connection ≢ Down) × Lone fe (arrive p now fe) × Bounded (arrive p now fe)
 deaf-arrive now n p fe made on b quiet genuine =
@@ -252,7 +252,7 @@ deaf-arrive now n p fe made on b quiet genuine =
     (on, lone-refl fe, b) (closed≢down, lone-closed fe, bounded-closed fe b)
     (λ reason detail. (closed≢down, lone-leave reason detail now fe, bounded-leave reason detail now fe b))
 
--- a field element in Down or Closed that hears no opening
+-- A field element in Down or Closed that receives no opening.
 still_deaf : (connection : ConnectionState) (client : Bool) → (connection ≡ Down) ⊎ (connection ≡ Closed) → (listens connection client ≡ false)
     × (is_live connection ≡ false)
 still_deaf connection client h = grind arith
@@ -275,9 +275,9 @@ still-arrive now n p fe made still b dead genuine =
     (lone-refl fe, b, still, refl, refl) closed
     (λ reason detail. leave-cases P reason detail now fe (λ live. absurd (false≢true (sym silent.1 ∙ live))) (λ _. closed))
 
--- What is neither taken nor unconfirmed was not sent.
+-- A unit that is neither taken nor unconfirmed was not sent.
 
--- one direction
+-- One direction.
 pub half-owes : (x y : State) → Half x y → length (units x.made) ≤ length y.taken + length (unconfirmed x)
 half-owes x y h = grind (arith, append-nil, length-append, run_of-shrinks)
 
@@ -288,12 +288,12 @@ pub quiet-units : (ms : List Made) → Every Quiet ms → units ms ≡ []
 quiet-units [] h = refl
 quiet-units (m ∷ ms) h = ap (λ us. us ++ units ms) (quiet-none m.pdu.kind m.pdu.body h.0) ∙ quiet-units ms h.1
 
--- where the two have met
+-- After the two have met.
 pub met-loses_nothing : (il : State) (before : List State) (fe : State) (joined : Option ℕ) (fe_before : List Served)
     → Met (length before) il fe joined fe_before → LosesNothingOf il before fe joined fe_before
 met-loses_nothing il before fe joined fe_before m = grind (arith, half-owes, eq-eqb)
 
--- an earlier joined does not depend on the latest
+-- An incarnation joined to an earlier one does not depend on the latest.
 pub taken-other : (s t : State) (before : List State) (p : Option ℕ) → JoinedBelow (length before) p → taken_from_fe (s ∷ before) p ≡ taken_from_fe (t ∷ before)
     p
 taken-other s t before p below = grind arith
@@ -301,10 +301,10 @@ taken-other s t before p below = grind arith
 pub taken-pushed : (t : State) (ils : List State) (p : Option ℕ) → JoinedBelow (length ils) p → taken_from_fe ils p ≡ taken_from_fe (t ∷ ils) p
 taken-pushed t ils p below = grind arith
 
--- a step in which nothing is taken
-pub lone-owes : (s t : State) (n : ℕ) → Lone s t → (s.connection ≢ Closed → length (units s.made) ≤ n + length (unconfirmed s)) → t.connection ≢ Closed
+-- A step in which nothing is taken.
+pub lone-owes : (s t : State) (n : ℕ) → Lone s t → length (units s.made) ≤ n + length (unconfirmed s)
     → length (units t.made) ≤ n + length (unconfirmed t)
-lone-owes s t n l h on = grind arith
+lone-owes s t n l h = omega (arith, l.owes, h)
 
 pub mute-loses_nothing : (il : State) (n : ℕ) → Mute il → length (units il.made) ≤ n + length (unconfirmed il)
 mute-loses_nothing il n h = omega (arith, ap length (quiet-units il.made h.quiet))

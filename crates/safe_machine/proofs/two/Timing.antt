@@ -1,4 +1,4 @@
--- The times of what two machines make: what an end took lately was made upon a PDU that it made lately.
+-- The times of the PDUs of two machines: the basis of a PDU that an end took recently was made recently.
 use Rattle.safe_machine.proofs.Words.{◌≡◌, ◌⊎◌, inl, inr, ℕ, suc, zero, ◌+◌, ◌-◌, ◌%◌, ◌<◌, ◌≤◌, List, [], ◌∷◌, ◌++◌, length, drop, sym, ap, subst, ◌∙◌, arith}
 use Rattle.safe_machine.proofs.Words.{wrap, Made, State, true, refl, append_assoc, append-nil, Kind, RetrReq, Heartbeat, ConnectionState, Start, window_of}
 use Rattle.safe_machine.proofs.Words.{make, move_to, pass, hand_up, note_request, reply, leave, Decision, distance, cts_step, Nothing, Drops, Shuts, Leaves}
@@ -10,14 +10,14 @@ use Rattle.safe_machine.proofs.two.Invariant.{Told, Sound, needs_peer, is_openin
 use Rattle.safe_machine.proofs.one.Deciding.{Fits, listens-live, ByTable}
 use Rattle.safe_machine.proofs.two.Lone.{Arrival, Incoming, incoming-arrival, incoming-next, first-arrival}
 
--- Times of PDUs: what an end took lately was made upon a PDU that it made lately.
+-- Times of PDUs: the basis of a PDU that an end took recently was made recently.
 
--- a measure that never falls along a list
+-- A measure that never decreases along a list.
 abbrev pub Rises : (Made → ℕ) → List Made → Type 0
 Rises f ms =
     (i j : ℕ) (a b : Made) (ra rb : List Made) → i ≤ j → drop i ms ≡ a ∷ ra → drop j ms ≡ b ∷ rb → f a ≤ f b
 
--- a index in a longer list
+-- An index in a longer list.
 pub record Older (i : ℕ) (ms : List Made) (m : Made) : Type 0 where
   pub rest : List Made
   pub at : drop i ms ≡ m ∷ rest
@@ -56,36 +56,36 @@ behind_of m = m.behind
 abbrev pub Stamped : Made → Type 0
 Stamped m = m.pdu.ts ≡ m.time % wrap
 
--- a 32-bit time stands for the whole time that it was made from, where that is near
+-- A 32-bit time means the whole time that it was made from, if that is near.
 pub ahead-time : (from v : ℕ) → from ≤ v → v - from < wrap → ahead from (v % wrap) ≡ v - from
 unfolding ahead
 ahead-time from v h k = omega arith
 
--- x receives from y, and its clock stands at `clock`
+-- x receives from y, and its clock is at `clock`.
 pub record TimedOf (clock : ℕ) (made : List Made) (expected confirmed_at : ℕ) (back : List Made) (back_expected back_last_ts : ℕ) : Type 0 where
   pub rises : Rises time_of made
   pub past : Every (λ m. m.time ≤ clock) made
   pub confirmed_past : confirmed_at ≤ clock
   pub stamped : Every Stamped made
   pub behind_rises : Rises behind_of back
-  -- CTS is the TS of the basis
+  -- CTS is the TS of the basis.
   pub cts : (i k : ℕ) (m b : Made) (rm rb : List Made) → drop i back ≡ m ∷ rm → drop k made ≡ b ∷ rb → k + 1 ≡ m.behind → m.pdu.cts ≡ b.time % wrap
   pub last : (k : ℕ) (b : Made) (rb : List Made) → drop k made ≡ b ∷ rb → k + 1 ≡ back_expected → back_last_ts ≡ b.time % wrap
-  -- what is still to be taken has a basis no older than the time last confirmed
+  -- What is still to be taken has a basis not older than the time last confirmed.
   pub based : (i k : ℕ) (m b : Made) (rm rb : List Made) → expected ≤ i → drop i back ≡ m ∷ rm → drop k made ≡ b ∷ rb → k + 1 ≡ m.behind → confirmed_at ≤ b.time
   pub ahead_of : (k : ℕ) (b : Made) (rb : List Made) → drop k made ≡ b ∷ rb → back_expected ≤ k + 1 → confirmed_at ≤ b.time
 
 abbrev pub Timed : ℕ → State → State → Type 0
 Timed clock x y = TimedOf clock x.made x.expected x.confirmed_at y.made y.expected y.last_ts
 
--- a PDU made at this time by an end that expects this, and took this timestamp last
+-- A PDU made at this time by an end that expects this index, and took this timestamp last.
 pub record MadeNow (now expected last_ts : ℕ) (m : Made) : Type 0 where
   pub time : m.time ≡ now
   pub stamp : m.pdu.ts ≡ now % wrap
   pub behind : m.behind ≡ expected
   pub cts : m.pdu.cts ≡ last_ts
 
--- A step of x at time `now` to t: what it makes it makes in the end, and what it confirms is no newer than what comes.
+-- A step of x at time `now` to t: its PDUs are appended, and what it confirms is not newer than what follows.
 pub record StepsOf (now : ℕ) (x : State) (ms : List Made) (e ts at : ℕ) (y : State) : Type 0 where
   pub new : List Made
   pub made : ms ≡ x.made ++ new
@@ -102,7 +102,7 @@ Steps now x t y = StepsOf now x t.made t.expected t.last_ts t.confirmed_at y
 fresh-time : (now expected last_ts : ℕ) (new : List Made) → Every (MadeNow now expected last_ts) new → Every (λ m. m.time ≡ now) new
 fresh-time now expected last_ts new h = every-weaken (MadeNow now expected last_ts) (λ m. m.time ≡ now) new (λ m k. k.time) h
 
--- the receiver after its step
+-- The receiver after its step.
 pub timed-receiver : (clock now : ℕ) (x t y : State) → clock ≤ now → Timed clock x y → Steps now x t y → Every (Told x.first y.expected) y.made
     → y.expected ≤ length x.made → Timed now t y
 timed-receiver clock now x t y later h s told within =
@@ -135,7 +135,7 @@ timed-receiver clock now x t y later h s told within =
           [ inl old ↦ s.ahead_of k b old.rest old.at l | inr is ↦ omega (arith, s.confirmed_past, is.1.time) ];
     })
 
--- the sender after its step
+-- The sender after its step.
 pub timed-sender : (clock now : ℕ) (x t y : State) → Timed clock y x → Steps now x t y → Every (Told y.first x.expected) x.made → Timed clock y t
 timed-sender clock now x t y h s told =
     record {
@@ -164,7 +164,7 @@ timed-sender clock now x t y h s told =
 
 -- Each step of an end keeps the times of the pair.
 
--- PDUs are made and nothing else that the times speak of
+-- PDUs are made, and nothing else changes that the times depend on.
 pub record MakesOf (now : ℕ) (s : State) (ms : List Made) (e ts at : ℕ) : Type 0 where
   pub new : List Made
   pub made : ms ≡ s.made ++ new
@@ -182,7 +182,7 @@ makes-none now s = record { new = []; made = sym (append-nil s.made); fresh = tt
 pub makes-one : (kind : Kind) (body : List ℕ) (now : ℕ) (s : State) → Makes now s (make kind body now s)
 makes-one kind body now s = grind arith
 
--- what was made before, where what is expected is the same
+-- What was made before, if the expected index is the same.
 fresh-same : (now e ts e' ts' : ℕ) (new : List Made) → e' ≡ e → ts' ≡ ts → Every (MadeNow now e ts) new → Every (MadeNow now e' ts') new
 fresh-same now e ts e' ts' new f g = grind arith
 
@@ -199,14 +199,14 @@ makes-reply now s =
 pub makes-move : (m : Move) (s : State) → HearsNothing m → Makes (when m) s (move m s)
 makes-move m s quiet = search rules
 
--- a step that takes nothing, and what is made behind any step
+-- A step that takes nothing, and what is made after any step.
 pub steps-none : (clock other now : ℕ) (x y : State) → clock ≤ now → Timed clock x y → Timed other y x → Steps now x x y
 steps-none clock other now x y later h g = search rules
 
 pub steps-then : (now : ℕ) (x z t y : State) → Steps now x z y → Makes now z t → Steps now x t y
 steps-then now x z t y s a = grind (arith, append_assoc, every-append, fresh-same)
 
--- what stands at an index
+-- The PDU at an index.
 exists-at : (k : ℕ) (ms : List Made) → k < length ms → (b : Made) × (rest : List Made) × (drop k ms ≡ b ∷ rest)
 exists-at k [] h = absurd (omega arith)
 exists-at zero (m ∷ ms) h = (m, ms, refl)
@@ -215,7 +215,7 @@ exists-at (suc k) (m ∷ ms) h = exists-at k ms (omega arith)
 same-index : (k : ℕ) (ms : List Made) (a b : Made) (ra rb : List Made) → drop k ms ≡ a ∷ ra → drop k ms ≡ b ∷ rb → a ≡ b
 same-index k ms a b ra rb ea eb = cc
 
--- what is known of the PDU at a index beyond the expected one
+-- What is known about the PDU at an index after the expected one.
 pub record Coming (i : ℕ) (m : Made) (rest : List Made) (x y : State) : Type 0 where
   pub at : drop i y.made ≡ m ∷ rest
   pub beyond : x.expected ≤ i
@@ -230,7 +230,7 @@ arrival-coming d m rest x y a needs =
     record { at = a.at; beyond = omega arith; late = sound.late (omega arith); told = told.behind; within = a.pair.1.within }
 
 module _ (clock now i : ℕ) (m : Made) (rest : List Made) (x y : State) (later : clock ≤ now) (h : Timed clock x y) where
-  -- The basis of what comes was made at the time that its CTS stands for, which is no less than the time last confirmed.
+  -- The basis of the PDU that arrives was made at the time that its CTS means, which is at least the time last confirmed.
   pub basis : now < x.confirmed_at + 60000 → Coming i m rest x y → (b : Made) × (rb : List Made) × (drop (m.behind - 1) x.made ≡ b ∷ rb)
       × (x.confirmed_at ≤ b.time) × (x.confirmed_at + cts_step (kept_of x) m.pdu ≡ b.time) × (b.time ≤ now)
   basis guarded c =
@@ -243,7 +243,7 @@ module _ (clock now i : ℕ) (m : Made) (rest : List Made) (x y : State) (later 
       let step : cts_step (kept_of x) m.pdu ≡ b.time - x.confirmed_at = ap (ahead x.confirmed_at) cts ∙ ahead-time x.confirmed_at b.time low (omega arith) in
       (b, e.1, e.2, low, omega arith, omega arith)
 
-  -- the timestamp taken last
+  -- The timestamp taken last.
   last-at : (other : ℕ) → Timed other y x → drop i y.made ≡ m ∷ rest → (k : ℕ) (b : Made) (rb : List Made) → drop k y.made ≡ b ∷ rb → k + 1 ≡ i + 1
       → m.pdu.ts ≡ b.time % wrap
   last-at other g at k b rb e f =
@@ -252,7 +252,7 @@ module _ (clock now i : ℕ) (m : Made) (rest : List Made) (x y : State) (later 
       let stamp : m.pdu.ts ≡ m.time % wrap = every-at Stamped 0 i y.made m rest g.stamped (omega arith) at in
       stamp ∙ ap (λ (n : Made). n.time % wrap) one
 
-  -- the PDU is behind the end now
+  -- The end has now passed the PDU.
   steps-passed : (other : ℕ) → now < x.confirmed_at + 60000 → Timed other y x → Coming i m rest x y →
       StepsOf now x x.made (i + 1) m.pdu.ts (x.confirmed_at + cts_step (kept_of x) m.pdu) y
   steps-passed other guarded g c =
@@ -275,7 +275,7 @@ module _ (clock now i : ℕ) (m : Made) (rest : List Made) (x y : State) (later 
             omega (arith, b0.4);
       }
 
-  -- without a test of its timestamp
+  -- Without a test of its timestamp.
   steps-over : (other : ℕ) → Timed other y x → x.expected ≤ i → drop i y.made ≡ m ∷ rest → StepsOf now x x.made (i + 1) m.pdu.ts x.confirmed_at y
   steps-over other g beyond at =
       record {
@@ -294,7 +294,7 @@ module _ (clock other now i : ℕ) (m : Made) (rest : List Made) (x y : State) (
   none-stepped : Steps now x x y
   none-stepped = steps-none clock other now x y later h g
 
-  -- the first PDU of the peer, and one in sequence
+  -- The first PDU of the peer, and one in sequence.
   over : Arrival 0 m rest x y → Steps now x (pass m.pdu 0 x) y
   over r = steps-over clock now (x.expected + 0) m rest x y later h other g (omega arith) r.at
 
@@ -333,7 +333,7 @@ module _ (clock other now i : ℕ) (m : Made) (rest : List Made) (x y : State) (
       let k = steps-then now x z t y none-stepped (makes-reply now z) in
       early-cases (λ u. Steps now x u y) m.pdu now x (λ _. steps-then now x t (make RetrReq [] now t) y k (makes-one RetrReq [] now t)) k
 
--- A unit that is taken was carried by a PDU whose basis this end made less than t_max before.
+-- The basis of a PDU whose unit is taken was made by this end less than T_max before.
 pub fresh-take : (clock now i : ℕ) (m : Made) (rest : List Made) (x y : State) (to : ConnectionState) → clock ≤ now → now < x.confirmed_at + x.settings.t_max
     → x.settings.t_max ≤ 60000 → Incoming i m rest x y → Timed clock x y → Fits (kept_of x) m.pdu now (Takes to) → (b : Made) × (rb : List Made)
     × (1 ≤ m.behind) × (drop (m.behind - 1) x.made ≡ b ∷ rb) × (now < b.time + x.settings.t_max)

@@ -9,6 +9,7 @@ use Rattle.safe_machine.proofs.two.Status.{AllTakeBeginnings, OnlyJoinedTake, La
 use Rattle.safe_machine.proofs.two.Status.{takes-fe_lone, fall-more, all-takes, only-weaken, Settled, JoinedTo, Met, Mute, IlLater, FeLater, Status, Untouched}
 use Rattle.safe_machine.proofs.two.Status.{mute-arrive, deaf-arrive, still-arrive, met-loses_nothing, mute-loses_nothing, taken-other, taken-pushed, lone-owes}
 use Rattle.safe_machine.proofs.two.Status.{mute-move}
+use Rattle.safe_machine.proofs.one.Turning.{arrive-is}
 use Rattle.safe_machine.proofs.one.Runs.{legal, requests, answers, count-drop_nil, Every, every-drop_all, no_requests, closed-move, guard-idle, down_or}
 use Rattle.safe_machine.proofs.one.Runs.{closed≢down, arrive-cases}
 use Rattle.safe_machine.proofs.two.Invariant.{NotOpening, Told, Solo, Half, Pair}
@@ -20,7 +21,7 @@ use Rattle.safe_machine.proofs.one.Kept.{moves_law_holds}
 abbrev pub Idle : State → Option ℕ → Type 0
 Idle fe joined = fe.connection ≡ Down → Untouched fe × (joined ≡ None)
 
--- T is what holds beside the law where the two have met, and P where the field element was opened later
+-- T is what else holds if the two have met, and P if the field element was opened later.
 pub record InvOf (T P : Type 0) (il : State) (il_before : List State) (fe : State) (joined : Option ℕ) (fe_before : List Served) (dead_il dead_fe : ℕ)
     : Type 0 where
   pub bounded_il : Bounded il
@@ -30,7 +31,7 @@ pub record InvOf (T P : Type 0) (il : State) (il_before : List State) (fe : Stat
   pub law : LawOf (il ∷ il_before) (record { machine = fe; joined = joined } ∷ fe_before)
   pub loses_nothing : LosesNothingOf il il_before fe joined fe_before
 
--- with this field element, joined to this number
+-- With this field element, joined to this number.
 abbrev InvAt : Type 0 → Type 0 → World → State → Option ℕ → Type 0
 InvAt T P w t p = InvOf T P w.il w.il_before t p w.fe_before w.dead_il w.dead_fe
 
@@ -47,14 +48,14 @@ nothing-left : (us vs : List (List ℕ)) → us ++ vs ≡ [] → us ≡ []
 nothing-left [] vs e = refl
 nothing-left (u ∷ us) vs e = cc
 
--- the law, where the two have met
+-- The law, if the two have met.
 met-law : (s il : State) (before : List State) (fe : State) (joined : Option ℕ) (fe_before : List Served) (old : Served)
     → Met (length before) il fe joined fe_before → AllTakeBeginnings (s ∷ before) fe_before → OnlyJoinedTake (old ∷ fe_before) before
     → ((number : ℕ) → old.joined ≡ Some number → joined ≡ Some number) → LawOf (il ∷ before) (record { machine = fe; joined = joined } ∷ fe_before)
 met-law s il before fe None fe_before old m takes only more = grind (arith, nothing-left, all-takes, takes-other, fall-more, only-weaken)
 met-law s il before fe (Some number) fe_before old m takes only more = grind (arith, linked-latest, all-takes, takes-other, only-weaken)
 
--- the law, where the interlocking takes nothing
+-- The law, if the interlocking takes nothing.
 il_lone-law : (s t : State) (before : List State) (fes : List Served) → Lone s t → LawOf (s ∷ before) fes → LawOf (t ∷ before) fes
 il_lone-law s t before fes l h = grind (arith, all-takes, fall-more, takes-il_lone)
 
@@ -65,7 +66,7 @@ fe_lone-law ils s t p before l h = grind (arith, takes-fe_lone, only-weaken)
 pub nobody-among : (p : Pdu) (n : ℕ) (made : List Made) → made ≡ [] → Among p (drop n made) → ⊥
 nobody-among p n made e h = grind arith
 
--- nothing comes of an end that has made nothing
+-- No genuine PDU arrives from an end that has made nothing.
 pub unheard-arrive : (p : Pdu) (now n : ℕ) (x y : State) → Bounded x → y.made ≡ [] → GenuineAt x p (drop n y.made)
     → Lone x (arrive p now x) × Bounded (arrive p now x)
 unheard-arrive p now n x y b none genuine =
@@ -99,8 +100,8 @@ module _ {T P T' P' : Type 0} where
         status = il_later (record { mute = mute; started = s.started; dead = s.dead; falls = s.falls });
         law = il_lone-law w.il t w.il_before (record { machine = w.fe; joined = w.joined } ∷ w.fe_before) l h.law;
         loses_nothing = record {
-          from_il = λ on. mute-loses_nothing t (taken_from_il (length w.il_before) (record { machine = w.fe; joined = w.joined } ∷ w.fe_before)) mute;
-          from_fe = λ on. omega (arith, h.loses_nothing.from_fe on, taken-other w.il t w.il_before w.joined s.falls.0);
+          from_il = mute-loses_nothing t (taken_from_il (length w.il_before) (record { machine = w.fe; joined = w.joined } ∷ w.fe_before)) mute;
+          from_fe = omega (arith, h.loses_nothing.from_fe, taken-other w.il t w.il_before w.joined s.falls.0);
         };
       }
 
@@ -123,11 +124,11 @@ module _ {T P T' P' : Type 0} where
         loses_nothing = record {
           from_il =
               lone-owes w.il t (taken_from_il (length w.il_before) (record { machine = w.fe; joined = w.joined } ∷ w.fe_before)) l h.loses_nothing.from_il;
-          from_fe = λ on. omega (arith, ap (λ ms. length (units ms)) s.made);
+          from_fe = omega (arith, ap (λ ms. length (units ms)) s.made);
         };
       }
 
-  -- a move of the interlocking that is no arrival
+  -- A move of the interlocking that is not an arrival.
   pub il-quiet : (w : World) (m : Move) → HearsNothing m → (MetIn w → T → T') → (P → P') → Inv T P w → Inv T' P' (with_il (move m w.il) w)
   il-quiet w m quiet times past h = go h.status
     where
@@ -179,7 +180,7 @@ still-lone s t l h = grind arith
 pub on-lone : (s t : State) → Lone s t → s.connection ≢ Down → t.connection ≢ Down
 on-lone s t l on = λ e. elim l.connection [ inl same ↦ on (sym same ∙ e) | inr closed ↦ closed≢down (sym closed ∙ e) ]
 
--- what a field element in Down does
+-- What a field element in Down does.
 abbrev AfterDown : ℕ → State → State → Type 0
 AfterDown index s t =
     JoinedTo index t (if joins s.connection t.connection then Some index else None)
@@ -215,7 +216,7 @@ module _ {T P T' P' : Type 0} where
       → (t.connection ≡ Down) ⊎ (t.connection ≡ Closed) → t.made ≡ w.fe.made → Lone w.fe t → Bounded t → P' → InvAt T' P' w t w.joined
   fe-fe_later w t h s still same l b past = grind arith
 
-  -- a move of the field element that is no arrival
+  -- A move of the field element that is not an arrival.
   pub fe-quiet : (w : World) (m : Move) → HearsNothing m → (MetIn w → T → T') → (P → P') → Inv T P w → Inv T' P' (with_fe (move m w.fe) w)
   fe-quiet w m quiet times past h =
       subst (InvAt T' P' w (move m w.fe))
@@ -244,8 +245,9 @@ module _ {T P T' P' : Type 0} where
           let k = h.idle down in
           let same : guard now w.fe ≡ w.fe = guard-idle now w.fe (ap is_live down) in
           let c = down-carry (length w.il_before) p now w.fe down k.0 (decide (kept_of w.fe) p now) (decide-fits (kept_of w.fe) p now) in
-          let after : AfterDown (length w.il_before) w.fe (arrive p now w.fe) = subst (λ (s : State). AfterDown (length w.il_before) w.fe (respond p now s))
-          (sym same) c in
+          let after : AfterDown (length w.il_before) w.fe (arrive p now w.fe) =
+          subst (AfterDown (length w.il_before) w.fe) (sym (arrive-is p now w.fe))
+          (subst (λ (s : State). AfterDown (length w.il_before) w.fe (respond p now s)) (sym same) c) in
           let joined : JoinedTo (length w.il_before) (arrive p now w.fe) (joined_after w (arrive p now w.fe)) =
           subst (λ (q : Option ℕ). JoinedTo (length w.il_before) (arrive p now w.fe)
           (if joins w.fe.connection (arrive p now w.fe).connection then Some (length w.il_before) else q)) (sym k.1) after.0 in
@@ -295,7 +297,7 @@ mute-il s first now = record { client = refl; connection = inl refl; taken = ref
 pub solo-untouched : (s : State) → s.connection ≡ Down → Untouched s → Solo s
 solo-untouched s down k = grind arith
 
--- the interlocking, opened while the field element is in Down
+-- The interlocking is opened while the field element is in Down.
 pub met-opened : (settings : Settings) (first now : ℕ) (fe : State) → fe.connection ≡ Down → Untouched fe →
     let il = opened (as_role true settings) first now in Half il fe × Half fe il
 met-opened settings first now fe down k =
@@ -379,8 +381,8 @@ module _ {T P T' P' : Type 0} where
                 only_joined = (inl refl, h.law.only_joined);
               };
               loses_nothing = record {
-                from_il = λ live. mute-loses_nothing il (taken_from_il (length ils) (entry ∷ w.fe_before)) (mute-il settings first now);
-                from_fe = λ live. omega (arith, h.loses_nothing.from_fe live, taken-pushed il ils w.joined h.law.joins_fall.0);
+                from_il = mute-loses_nothing il (taken_from_il (length ils) (entry ∷ w.fe_before)) (mute-il settings first now);
+                from_fe = omega (arith, h.loses_nothing.from_fe, taken-pushed il ils w.joined h.law.joins_fall.0);
               };
             }
       ]
@@ -408,10 +410,10 @@ module _ {T P T' P' : Type 0} where
           joins_fall = (tt, h.law.joins_fall);
           only_joined = only-weaken (entry ∷ w.fe_before) (fresh_entry ∷ entry ∷ w.fe_before) ils (λ number is. inr is) h.law.only_joined;
         };
-        loses_nothing = record { from_il = h.loses_nothing.from_il; from_fe = λ on. omega arith };
+        loses_nothing = record { from_il = h.loses_nothing.from_il; from_fe = omega arith };
       }
 
-  -- nothing has happened, but time
+  -- Nothing has happened except the passing of time.
   pub inv-same : (w : World) → (T → T') → (P → P') → Inv T P w → Inv T' P' w
   inv-same w times past h = grind arith
 
@@ -428,14 +430,14 @@ inv-start =
         falls = (tt, tt);
       });
       law = record { beginnings = (refl, tt); joins_fall = (tt, tt); only_joined = (inl refl, tt) };
-      loses_nothing = record { from_il = λ on. absurd (on refl); from_fe = λ on. absurd (on refl) };
+      loses_nothing = record { from_il = omega arith; from_fe = omega arith };
     }
   where
     bounded_unopened : Bounded unopened
     bounded_unopened =
         bounded-low unopened (omega arith) (omega arith) (omega arith) (omega arith) (omega arith) (λ _. omega arith) (λ live. absurd (false≢true live))
 
--- The law alone, which every event keeps.
+-- The law by itself, which every event keeps.
 abbrev pub Lawful : World → Type 0
 Lawful w = Inv (Unit {0}) (Unit {0}) w
 

@@ -1,18 +1,17 @@
-//! What new numbers and confirmed units are in a list with rising numbers.
+//! Laws on renumbered and confirmed units.
 
 ghost use Rattle.std.specs.Prelude.{◌≡◌, ℕ, List, ◌++◌};
 ghost use Rattle.safe_machine.specs.retrans.Units.{Numbered, Rises, above, octets_of, renumbered, up_to};
 
-/// A law, which does nothing when it is called: what stays of units that are numbered anew, and where the
-/// confirmed units stand in a list with rising numbers.
+/// States the laws of lists of unconfirmed units. Calling it has no effect.
 pub fn units_law()
-    // Numbering anew keeps the units.
+    // Renumbering keeps the units and their order.
     ensures kept { (first : ℕ) (units : List (List ℕ)) → octets_of (renumbered first units) ≡ units }
 
-    // Numbers given anew rise.
+    // Consecutive numbers rise.
     ensures rising { (first : ℕ) (units : List (List ℕ)) → Rises (renumbered first units) }
 
-    // Units under rising numbers are those confirmed up to a number, in front, and the others.
+    // If numbers rise, a list is its units up to a number, followed by the others.
     ensures front { (confirmed : ℕ) (units : List Numbered) → Rises units
         → units ≡ up_to confirmed units ++ above confirmed units }
 {}

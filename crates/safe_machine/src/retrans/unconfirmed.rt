@@ -10,15 +10,17 @@ use octets::rings::{next_place, place_at};
 use std::alloc::{AllocError, Allocator, Global};
 use std::marker::Model;
 
-/// The units that were sent and are not confirmed, the one sent first in front, under rising numbers.
-/// All its room is made by `new`; no other call takes memory, and only `keep` copies octets: those that a unit has, over what a place held before.
+/// The units that were sent and are not confirmed, under rising numbers, the one sent first at the front.
+///
+/// Only `new` allocates, and only `keep` copies bytes: those of the unit, over the bytes of an earlier one. No
+/// place is cleared and no unit is moved, so a short unit costs as much as its bytes only.
 #[derive(Drop)]
 pub struct Unconfirmed<A: Allocator = Global> {
-    /// A place for each unit that there is room for.
+    /// One place for each unit that there is room for.
     places: Vec<NumberedUnit, A>,
-    /// The place of the unit sent first. The others stand behind it, and behind the last place the first one comes.
+    /// The place of the unit sent first. The others follow it, and the first place follows the last.
     first: usize,
-    /// How many places hold an unconfirmed unit. What the others hold is never read.
+    /// How many places hold an unconfirmed unit. The other places are never read.
     count: usize,
 }
 
@@ -34,13 +36,13 @@ impl<A: Allocator> Model for Unconfirmed<A> {
 }
 
 impl<A: Allocator> Unconfirmed<A> {
-    /// No unit, and room for `n`; a window has 32 at most.
+    /// Returns an empty list with room for `n` units. A window has at most 32.
     ///
     /// # Errors
     ///
-    /// The error is that memory was refused.
+    /// Returns an error if the allocation fails.
     pub fn new(alloc: A, n: usize) -> Result<Self, AllocError>
-        // A new `Unconfirmed` has no unit, and room for as many as were asked for.
+        // A new `Unconfirmed` is empty and has room for `n` units.
         ensures { IfOk result (λ kept. kept ≡ record { room = n; units = [] }) }
     {
         let mut places = Vec::with_capacity(alloc, n)?;
@@ -54,21 +56,21 @@ impl<A: Allocator> Unconfirmed<A> {
         })
     }
 
-    /// How many units are unconfirmed.
+    /// Returns how many units are unconfirmed.
     pub fn len(&self) -> usize
-        // `len` answers how many units are unconfirmed.
+        // `len` returns the number of units, not the number of places.
         ensures len { result ≡ length self.now.units }
-        // No more units are unconfirmed than there is room for.
+        // There are at most as many units as there is room for.
         ensures within { result ≤ self.now.room }
-        // The numbers of the units rise without wrap.
+        // The numbers of the units rise.
         ensures rising { Rises self.now.units }
     {
         self.count // and not the number of places
     }
 
-    /// The unit at a place, from 0 for the one sent first, with its number.
+    /// Returns the unit at a place, counted from 0 for the one sent first, with its number.
     pub fn get(&self, place: usize) -> Option<&NumberedUnit>
-        // `get` answers the unit at a place with its number, and none where there is none.
+        // `get` returns the number and the bytes of the unit at this place, or `None` if there are fewer units.
         ensures { seen_of result ≡ slice_get self.now.units place }
     {
         if place >= self.count {
@@ -77,22 +79,24 @@ impl<A: Allocator> Unconfirmed<A> {
         Some(&self.places[place_at(self.places.len(), self.first, place)])
     }
 
-    /// Keeps a unit behind the others, under the number of the PDU that carried it. The caller hands
-    /// in a greater number than all that are kept.
+    /// Appends a unit under the number of the PDU that carried it. The number must be greater than those of all
+    /// units kept.
     ///
-    /// The unit comes back exactly where there is no room, and then all stays as it was.
+    /// # Errors
+    ///
+    /// Returns the unit if there is no room, and changes nothing.
     pub fn sent(&mut self, number: u64, unit: Unit) -> Result<(), Unit>
         requires { All (λ u. u.number < number) self.old.units }
-        // `sent` accepts a unit exactly where there is room.
+        // `sent` succeeds if and only if there is room.
         ensures room { IsOk result ↔ (length self.old.units < self.old.room) }
-        // A unit that `sent` accepts stands at the end, under its number, and all others stay.
+        // A unit that `sent` accepts is appended under its number; the other units and the room stay.
         ensures added { OnOk result (self.new ≡ record {
           room = self.old.room;
           units = self.old.units ++ record { number = number; octets = unit.items } ∷ [];
         }) }
-        // Where `sent` refuses a unit nothing changes.
+        // If `sent` refuses a unit, nothing changes.
         ensures full { OnErr result (self.new ≡ self.old) }
-        // A unit that `sent` refuses is given back.
+        // A unit that `sent` refuses is returned unchanged.
         ensures given_back { IfErr result (λ back. back ≡ unit) }
     {
         if self.count == self.places.len() {
@@ -104,13 +108,13 @@ impl<A: Allocator> Unconfirmed<A> {
         Ok(())
     }
 
-    /// Keeps a copy of a unit behind the others, under the number of the PDU that carried it. The caller hands in a greater
-    /// number than all that are kept, and keeps room.
+    /// Appends a copy of a unit under the number of the PDU that carried it. The number must be greater than those
+    /// of all units kept, and there must be room.
     pub fn keep(&mut self, number: u64, octets: &[u8])
         requires above { All (λ u. u.number < number) self.old.units }
         requires short { length octets.now ≤ UNIT_MAX }
         requires room { length self.old.units < self.old.room }
-        // A unit that `keep` copies stands at the end, under its number, and all others stay.
+        // `keep` appends a copy of the bytes under their number; the other units and the room stay.
         ensures { self.new ≡ record {
           room = self.old.room;
           units = self.old.units ++ record { number = number; octets = octets.now } ∷ [];
@@ -121,9 +125,9 @@ impl<A: Allocator> Unconfirmed<A> {
         self.count += 1;
     }
 
-    /// Drops the units whose numbers are at or below a confirmed one. They stand in front.
+    /// Drops the units whose numbers are at most `number`. They are at the front.
     pub fn confirm(&mut self, number: u64)
-        // `confirm` drops exactly the units up to a number.
+        // `confirm` keeps exactly the units with greater numbers, in order (`above`).
         ensures { self.new ≡ record { room = self.old.room; units = above number self.old.units } }
     {
         let (first, count) = behind_confirmed(&self.places, self.first, self.count, number);
@@ -131,18 +135,27 @@ impl<A: Allocator> Unconfirmed<A> {
         self.count = count;
     }
 
-    /// Gives the units consecutive numbers, in order, as they are sent again. The caller keeps the
-    /// last number below 2^64.
+    /// Drops every unit. The room stays.
+    pub fn clear(&mut self)
+        // After `clear`, no unit is unconfirmed, and there is as much room as before.
+        ensures { self.new ≡ record { room = self.old.room; units = [] } }
+    {
+        self.first = 0;
+        self.count = 0;
+    }
+
+    /// Gives the units consecutive numbers from `first` on, in order, as they are sent again. The last number must
+    /// be below 2^64.
     pub fn renumber(&mut self, first: u64)
         requires { first + length self.old.units ≤ 2 ^ 64 }
-        // `renumber` gives consecutive numbers from the one asked for, and keeps the units in order.
+        // `renumber` gives consecutive numbers from `first` on, and keeps the units and their order (`renumbered`).
         ensures { self.new ≡ record { room = self.old.room; units = renumbered first (octets_of self.old.units) } }
     {
         renumber_in(&mut self.places, self.first, self.count, first);
     }
 }
 
-/// From which place on how many units are left, once those up to a number are confirmed.
+/// Returns the first place and the count of the units that remain after those up to a number are confirmed.
 fn behind_confirmed(
     places: &[NumberedUnit],
     first: usize,
@@ -151,7 +164,9 @@ fn behind_confirmed(
 ) -> (usize, usize)
     requires ring { IsRing (length places.now) first count }
     requires rises { Rises (all_shown (units_from places.now first count)) }
+    // The returned place and count fit the ring.
     ensures ring { IsRing (length places.now) result.0 result.1 }
+    // The remaining units are exactly those with greater numbers (`above`).
     ensures left { all_shown (units_from places.now result.0 result.1)
         ≡ above number (all_shown (units_from places.now first count)) }
 {
@@ -167,10 +182,12 @@ fn behind_confirmed(
     (first, count)
 }
 
-/// Writes a number and the octets of a unit over what a place held.
+/// Overwrites a place with a number and the bytes of a unit.
 fn write_unit(place: &mut NumberedUnit, number: u64, octets: &[u8])
     requires { length octets.now ≤ UNIT_MAX }
+    // After `write_unit`, the place has this number.
     ensures number { place.new.0 ≡ number }
+    // After `write_unit`, the unit has exactly these bytes, and none of those before.
     ensures octets { place.new.1.items ≡ octets.now }
 {
     place.0 = number;
@@ -178,7 +195,7 @@ fn write_unit(place: &mut NumberedUnit, number: u64, octets: &[u8])
     let _fits = place.1.try_extend_from_slice(octets);
 }
 
-/// Writes consecutive numbers to the units of a ring.
+/// Writes consecutive numbers to the units of a vector of places.
 fn renumber_in<A: Allocator>(
     places: &mut Vec<NumberedUnit, A>,
     first: usize,
@@ -187,19 +204,25 @@ fn renumber_in<A: Allocator>(
 )
     requires numbers { number + count ≤ 2 ^ 64 }
     requires ring { IsRing (vec_len places.old) first count }
+    // The units of the ring have consecutive numbers from `number` on, and the same bytes in the same order
+    // (`renumbered`).
     ensures numbers { all_shown (units_from places.new.items first count)
         ≡ renumbered number (octets_of (all_shown (units_from places.old.items first count))) }
+    // The number of places in the vector stays the same.
     ensures room { vec_len places.new ≡ vec_len places.old }
 {
     renumber_all(places, first, count, number);
 }
 
-/// Writes consecutive numbers to the units from a place on.
+/// Writes consecutive numbers to the units of a slice of places.
 fn renumber_all(places: &mut [NumberedUnit], first: usize, count: usize, number: u64)
     requires numbers { number + count ≤ 2 ^ 64 }
     requires ring { IsRing (length places.old) first count }
+    // In the slice, the units from `first` on have consecutive numbers from `number` on, and keep their bytes and
+    // their order (`renumbered`).
     ensures numbers { all_shown (units_from places.new first count)
         ≡ renumbered number (octets_of (all_shown (units_from places.old first count))) }
+    // The number of places in the slice stays the same.
     ensures room { length places.new ≡ length places.old }
 {
     for far in 0..count {

@@ -1,4 +1,5 @@
 -- How few PDUs and telegrams one event makes, over every list of events.
+use Rattle.safe_machine.proofs.one.Turning.{send-is}
 use Rattle.stack_engine.proofs.Words.{[], after, after_read, after_release, after_run, AllByRecursion, answered, ap, append-nil, are_fit, AreOctets, AreTyped}
 use Rattle.stack_engine.proofs.Words.{arith, arrival, arrive_octets, Arrives, AtOpened, Bool, by_cond, Call, call, call_fe, call_il, Calls, changed, Close}
 use Rattle.stack_engine.proofs.Words.{ClosedByUser, code_octets, CodeLength, CodeRule, comes_up, Completes, cond, connection_of, Data, Datagram, deferred}
@@ -32,7 +33,7 @@ pub record Passing (arrived : ℕ) (r : Receiver) (passed : List Part) (left : R
   pub count : length passed + length left.waiting ≤ length r.waiting + arrived
   pub few : length r.waiting ≤ r.q → length left.waiting ≤ left.q
 
--- a step that answers so
+-- a step with this result
 abbrev Counts : Receiver → Stepped → Type 0
 Counts r s = Passing 1 r s.passed s.left
 
@@ -130,7 +131,7 @@ takes-unpacked : (u : List ℕ) (d : Dialogue) (r : Result (List (List ℕ)) Pac
 takes-unpacked u d (Ok ms) e = takes-more (length ms) 3 d (judge_messages ms d).left (unit-few u ms e) (takes-messages ms d)
 takes-unpacked u d (Err fault) e = takes-more 0 3 d d (omega arith) (takes-same d d refl)
 
--- the machine hands up one unit at most
+-- the machine delivers at most one unit
 takes-units : (us : List (List ℕ)) (d : Dialogue) → length us ≤ 1 → Takes_ 3 d (judge_units us d).left
 takes-units [] d h = takes-more 0 3 d d (omega arith) (takes-same d d refl)
 takes-units (u ∷ []) d h =
@@ -164,7 +165,7 @@ takes-rises : (b : Bool) (d : Dialogue) → Takes_ 0 d (rises b d)
 takes-rises true d = takes-same d (meets GoesUp d) (append-nil d.history.taken)
 takes-rises false d = takes-same d d refl
 
--- So many PDUs and telegrams more at most, from one state of an end to the next.
+-- At most this many PDUs and telegrams more, from one state of an end to the next.
 pub record Grows (n k : ℕ) (x y : EndState) : Type 0 where
   pub made : length y.machine.made ≤ length x.machine.made + n
   pub takes : Takes_ k x.session y.session
@@ -306,8 +307,9 @@ module _ (laws : Laws) (side : Side) (now : ℕ) where
       let unit = unit_text (take x.settings.n_maxpacket x.session.waiting) in
       let rest = packs-few n y (k.sends x may some h) in
       let one : length y.machine.made ≤ length x.machine.made + 1 =
-      by_cond (λ (t : State). length t.made ≤ length x.machine.made + 1) (may_send x.machine) (make Data unit now x.machine) x.machine
-      (λ _. omega (arith, length-append x.machine.made (next_made x.machine Data unit now ∷ []))) (λ _. omega arith) in
+      subst (λ (t : State). length t.made ≤ length x.machine.made + 1) (sym (send-is unit now x.machine))
+      (by_cond (λ (t : State). length t.made ≤ length x.machine.made + 1) (may_send x.machine) (make Data unit now x.machine) x.machine
+      (λ _. omega (arith, length-append x.machine.made (next_made x.machine Data unit now ∷ []))) (λ _. omega arith)) in
       (omega (arith, rest.0, few.sending unit now may, one), record { few = rest.1.few; small = rest.1.small })) (λ _. same))
 
   grows-sends : (x : EndState) → Sized side x → Grows 32 0 x (sends now x)

@@ -1,4 +1,4 @@
--- What the functions of the crate rely on: what is kept of a pair stands for it, event by event.
+-- What the functions of the crate rely on: what is kept of a pair represents it, event by event.
 use Rattle.stack_engine.proofs.Words.{[], accepted, add-one, AllByRecursion, ap, append-nil, append_assoc, ApplyFault, AreTyped, AreWithin, arith, AtArrivals}
 use Rattle.stack_engine.proofs.Words.{AtOpened, BeforeStand, Bool, BothStand, breaks_at, breaks_by, breaks_with, BreaksLaw, Call, call, call_of, call_refusal}
 use Rattle.stack_engine.proofs.Words.{Calls, channels_of, code_octets, CodeCall, CodeEvent, datagrams_of, Deed, deed_event, Deliver, drop, drop-append-le}
@@ -49,7 +49,7 @@ texts-more o more (k ∷ ks) h = grind (arith, range-more, h.0.0, h.0.1, texts-m
 range-seam : (o more : List ℕ) → slice_range (o ++ more) (length o) (length (o ++ more)) ≡ more
 range-seam o more = grind (arith, length-append o more, drop-append_seam o more, take-length more)
 
--- a text put behind the others, in the octets behind theirs
+-- a text added after the others, in the bytes after theirs
 pub texts-add : {T : Type 0} (o more : List ℕ) (ks : List (Kept T)) (k : Kept T) → AreInside o ks → k.from ≡ length o → k.to ≡ length (o ++ more)
     → texts_in (o ++ more) (ks ++ k ∷ []) ≡ texts_in o ks ++ (k.head, more) ∷ []
 texts-add o more ks k h from to = grind (arith, map-append, texts-more, range-seam)
@@ -60,7 +60,7 @@ or-right a b h = grind (arith, nat_tests)
 or-true : (a : Bool) → (a || true) ≡ true
 or-true a = grind (arith, nat_tests)
 
--- what is not found behind one place is not found behind a later one
+-- what is not found after one place is not found after a later one
 pub none-later : {A : Type 0} (P : A → Bool) (a b : ℕ) (xs : List A) → a ≤ b → list_any P (drop a xs) ≡ false → list_any P (drop b xs) ≡ false
 none-later P zero zero xs le h = h
 none-later P (suc a) zero xs le h = absurd (omega arith)
@@ -69,7 +69,7 @@ none-later P (suc a) (suc b) [] le h = h
 none-later P zero (suc b) (x ∷ xs) le h = none-later P zero b xs (omega arith) (or-right (P x) (list_any P xs) h)
 none-later P (suc a) (suc b) (x ∷ xs) le h = none-later P a b xs (omega arith) h
 
--- what stands at a place is found from before it
+-- the element at a place is found from before it
 pub found-here : {A : Type 0} (P : A → Bool) (a n : ℕ) (xs : List A) (d : A) → a ≤ n → n < length xs → P (get_or xs n d) ≡ true → list_any P (drop a xs) ≡ true
 found-here P a n [] d le lt h = absurd (omega arith)
 found-here P zero zero (x ∷ xs) d le lt h = ap (λ b. b || list_any P xs) h
@@ -122,7 +122,7 @@ gains-one x xs t j a b true false is s before first short room ih =
     absurd (false≢true (sym is ∙ ap (λ n. n == 1) on-one))
 gains-one x xs t j a b false false is s before first short room ih = grind (arith, nat_tests, s.left 1, s.sent, ih, append-nil)
 
--- Where the list after holds sendings on channel 1 alone, and there is room for these, it gained exactly them.
+-- If the list afterwards holds only sends on channel 1, and there is room for these, it gained exactly them.
 gains : (xs : List Sending) (t u : Told) (a b : List Sending) → FoldsTo SendsOne t xs u → t.sent ≡ Some a → u.sent ≡ Some b → AllByRecursion IsFirst b
     → AllByRecursion IsShort xs → length (firsts xs) ≤ t.room 1 → b ≡ a ++ firsts xs
 gains [] t u a b h before after first short room = grind (arith, append-nil)
@@ -186,7 +186,7 @@ pub datagrams-append : (s : EndSettings) (index : ℕ) (ms ns : List Made) → d
 datagrams-append s index [] ns = let e : index ≡ index + 0 = omega arith in ap (λ (i : ℕ). datagrams_of s i ns) e
 datagrams-append s index (m ∷ ms) ns = grind (arith, datagrams-append s (index + 1) ms ns)
 
--- a datagram has these octets behind its header where its PDU has them
+-- a datagram has these bytes after its header if its PDU has them
 pub has-part-made : (s : EndSettings) (index : ℕ) (octets : List ℕ) (dead : ℕ) (ms : List Made) → has_part octets (drop dead (datagrams_of s index ms))
     ≡ has_made (rule_of s) octets (drop dead ms)
 has-part-made s index octets zero [] = refl
@@ -213,7 +213,7 @@ kept-more i j x y t room h few grew sent =
     ∙ (sym (datagrams-append s 0 x.machine.made more)
     ∙ (ap (datagrams_of s 0) (sym grew.made) ∙ ap (λ (q : EndSettings). datagrams_of q 0 y.machine.made) (sym grew.settings)))))
 
--- a call in which nothing is handed out
+-- a call in which nothing is delivered
 pub alone-turns : {A : Type 0} (c : Call) (v w : EndValue Keeping A) (taken : Shelf ℕ) → EndTurnsAlone told_of (turn c) v w
     → EndTurns told_of TakesItem (turn c) v taken w taken
 alone-turns c v w taken h = grind (arith, nat_tests, h.left, h.none, h.sent)
@@ -280,7 +280,7 @@ joins-opened {A} o p opened xs h old new before none =
     no-before None is (x ∷ xs) e h k = absurd h
     no-before (Some i) is xs e h k = cc e
 
--- what is tested before memory is asked for
+-- what is tested before memory is allocated
 present-latest : (side : Side) (w : World) → present side w ≡ latest (ends_at side w)
 present-latest side w = grind (arith, nat_tests)
 
@@ -356,7 +356,7 @@ accepted-append : (es fs : List Event) (w : World) → accepted_of (es ++ fs) w 
 accepted-append [] fs w = refl
 accepted-append (e ∷ es) fs w = grind (arith, accepted-append es fs (happens w e))
 
--- where a history has come by events
+-- if a history has come by events
 ran-world : (old es mid : List Event) → Ran old es mid → run mid start ≡ run es (run old start)
 ran-world old es mid h = grind (arith, nat_tests, run-accepted, run-append)
 
@@ -484,7 +484,7 @@ pub entry-by : {A : Type 0} (f : Incarnation A → ReportEntry) (o : Openings A)
     → option_map f (slice_get (incarnations_of o) place) ≡ slice_get es place
 entry-by f o es place e = sym (ap (λ (ds : List ReportEntry). slice_get ds place) e ∙ slice_get-map f (incarnations_of o) place)
 
--- a place that is not the present one's is one of those before it, or none
+-- a place that is not the present one's is that of an earlier one, or of none
 pub not-present : {A : Type 0} (xs : List (Incarnation A)) (p : Option (Incarnation A)) (n : ℕ) → n ≢ length xs → slice_get (xs ++ present_list p) n
     ≡ slice_get xs n
 not-present [] None n h = refl

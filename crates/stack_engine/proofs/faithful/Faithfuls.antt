@@ -1,4 +1,4 @@
--- Over every faithful list of crossed ends the machines hear one another in order.
+-- Over every faithful list of crossed ends the machines receive each other's PDUs in order.
 use Rattle.stack_engine.proofs.Words.{[], after_along, AllByRecursion, AllFaithful, answered, ap, append-nil, append_assoc, AreFrom, AreTyped, arith, arrivals}
 use Rattle.stack_engine.proofs.Words.{arrivals_of, arrive_octets, AtCall, AtOpened, Bool, Call, call, call_fe, call_il, call_refusal, Calls, Carries, changed}
 use Rattle.stack_engine.proofs.Words.{Close, ClosedByUser, Closes, CodeRule, Completes, cond, Crossed, Datagram, Deliver, drop, end_moved, ends_of, EndSettings}
@@ -21,7 +21,7 @@ use Rattle.stack_engine.proofs.two.Worlds.{at-call, call-timely, machines_as, ma
 use Rattle.stack_engine.proofs.two.Worlds.{texts-latest, typed-call, unless, unserved}
 use Rattle.safe_machine.specs.World as M
 
--- What a call leaves of an end: settings, and lists that only grow.
+-- The end after a call: the same settings, and lists that only grow.
 pub record Grown (x y : EndState) : Type 0 where
   pub set : y.settings ≡ x.settings
   pub more_made : List Made
@@ -77,7 +77,7 @@ grown-call law Q c x t q =
     call-keeps c Q (Grown x) x (grown-keeps law x (time_of c) Q) t q
     record { set = refl; more_made = []; made = sym (append-nil x.machine.made); more_inputs = []; inputs = sym (append-nil x.inputs) }
 
--- The inputs that a call leaves, where it goes on.
+-- The inputs after a call, if the end goes on.
 on-inputs : (now : ℕ) (i : Input) (x : EndState) → is_shut x ≡ false → (goes_on now i x).inputs ≡ x.inputs ++ i ∷ []
 on-inputs now i x on =
     let y = receives now i x in
@@ -148,7 +148,7 @@ pub record OrdWorld (ils : List EndState) (fes : List JoinedEnd) (di df : ℕ) :
   pub no_fe : NoFe fes joined
   pub once : (length ils ≤ 1) × (length fes ≤ 1)
 
--- what stands at the end of a list stands at each of its events
+-- what holds at the end of a list holds at each of its events
 pub record Ahead (il fe : Option EndState) : Type 0 where
   pub il_near : AtOpened IsNear il
   pub fe_near : AtOpened IsNear fe
@@ -253,7 +253,7 @@ pub not-empty : {X : Type 0} (xs : List X) (x : X) → (xs ++ x ∷ []) ≢ []
 not-empty [] x e = cc
 not-empty (y ∷ xs) x e = cc
 
--- the PDUs of a peer that was opened, or of none, as an end reads them
+-- the PDUs of a peer that was opened, or no PDUs, as an end reads them
 record Peer (side : Side) (m : M.World) (x : EndState) (peer : Option EndState) : Type 0 where
   rule : CodeRule
   ms : List Made
@@ -428,7 +428,7 @@ opened-fe law s first now ils [] di df e o w =
       once = (w.once.0, omega arith);
     }
 
--- what stands ahead stands here
+-- what holds later holds here
 near-back : (x y : EndState) → Grown x y → IsNear y → IsNear x
 near-back x y g h = (
   near-front x.settings.q [] x.inputs g.more_inputs
@@ -475,7 +475,7 @@ no-fe (Some g) y h = record { il_near = h.il_near; fe_near = tt; same_rule = tt;
 abbrev pub AheadOf : List EndState → List JoinedEnd → Type 0
 AheadOf ils fes = Ahead (latest ils) (latest (ends_of fes))
 
--- What holds of the two latest ends behind an event of a faithful list holds before it, where it goes back over a call and over an opening.
+-- What holds of the two latest ends after an event of a faithful list holds before it, if it goes back over a call and over an opening.
 module _ (p : Laws) (P : Option EndState → Option EndState → Type 0)
     (over-il : (x y : EndState) (f : Option EndState) → Grown x y → P (Some y) f → P (Some x) f)
     (over-fe : (g : Option EndState) (x y : EndState) → Grown x y → P g (Some y) → P g (Some x))

@@ -1,16 +1,16 @@
--- Nothing is lost over faithful lists: of ends whose identifiers are crossed, and of ends that hear nobody.
+-- Nothing is lost over faithful lists: of ends with crossed identifiers, and of ends that accept no peer.
 use Rattle.stack_engine.proofs.Words.{[], all_heard_by_fe, all_heard_by_il, AllArrived, AllFaithful, Among, answered, ap, append-nil, are_fit, AreFrom}
 use Rattle.stack_engine.proofs.Words.{AreInStep, AreTyped, arith, arrivals, arrive_octets, AsksNothing, AtCall, AtInput, AtOpened, by_cond, by_test, Call, call}
 use Rattle.stack_engine.proofs.Words.{call_fe, call_il, call_refusal, Calls, changed, client_state, Clock, Close, Closed, CodeRule, comes_up, cond}
 use Rattle.stack_engine.proofs.Words.{connection_of, ConnectionState, Crossed, Datagram, Deliver, Dialogue, drop, ends_of, EndSettings, EndState, eq-eqb}
 use Rattle.stack_engine.proofs.Words.{eqb-true, Err, Event, FaithfulCall, FaithfulEvent, false, false≢true, Fe, first_missing, first_version, Fits, Genuine}
 use Rattle.stack_engine.proofs.Words.{GenuineCall, GenuineEvent, goes_on, GuardHolds, Guards, handed_up, happens, heard, heard_as, Hears, History}
-use Rattle.stack_engine.proofs.Words.{IdentifiedLaw, Idle, IfAllArrived, IfOpen, Il, in_turn, incarnation, InitDone, inl, Input, inr, is_closed, is_connected}
+use Rattle.stack_engine.proofs.Words.{IdentifiedLaw, Idle, IfAllArrived, IfOpen, Il, incarnation, InitDone, inl, Input, inr, is_closed, is_connected}
 use Rattle.stack_engine.proofs.Words.{is_early, is_nil, is_shut, is_stranger, IsBeginning, IsGenuine, IsNear, IsRunning, IsTyped, IsUp, items_of, items_waiting}
 use Rattle.stack_engine.proofs.Words.{Joined, JoinedEnd, judge_units, KeepsOrder, latest, leaves, length, List, ltb-false, Made, made_of, Match, MatchOption}
 use Rattle.stack_engine.proofs.Words.{may_send, messages_in, Move, move, moved, nat_tests, new_end, None, NothingLostCrossedLaw, NothingLostLaw, OfBoth, Ok}
 use Rattle.stack_engine.proofs.Words.{Open, Option, OrderlyLaw, Pdu, Phase, phase_in, Put, put_at, RedTick, refl, refusal, Result, rises, rule_of, run}
-use Rattle.stack_engine.proofs.Words.{SafeFault, seen_by, sends, server_state, session_of, session_refusal, Settings, Side, Some, start, State, StaysOpen}
+use Rattle.stack_engine.proofs.Words.{SafeFault, seen_by, server_state, session_of, session_refusal, Settings, Side, Some, start, State, StaysOpen}
 use Rattle.stack_engine.proofs.Words.{subst, suc, sym, taken_at, telegrams_in, Tick, Ticks, time_of, true, unconfirmed, units, UnitsThere, WaitsForWindow}
 use Rattle.stack_engine.proofs.Words.{with_machine, World, zero, ℕ, ⊎_elim, ◌++◌, ◌+◌, ◌<◌, ◌==◌, ◌∙◌, ◌∷◌, ◌≡◌, ◌≢◌, ◌≤◌, ◌⊎◌}
 use Rattle.stack_engine.proofs.faithful.Faithfuls.{AheadOf, back-run, bears, crossed-fe, crossed-il, Grown, grown-call, Known, not-empty, ord-run, ord-start}
@@ -109,7 +109,7 @@ pub waits-by : (x : EndState) → Packs x → (may_send x.machine ≡ false → 
 waits-by x (inl nil) full = λ some. absurd (some (nil-is x.session.waiting nil))
 waits-by x (inr not) full = λ some. full not
 
--- with all units taken, all that was put in is taken but what waits
+-- with all units taken, everything put is taken except what waits
 all-taken : Laws → (a b : Side) (x y : EndState) → Spoken a x → Spoken b y → Heeds y → is_shut y ≡ false → y.machine.taken ≡ units x.machine.made
     → put_at x ≡ taken_at y ++ items_waiting x
 all-taken laws a b x y sx sy he on units-are =
@@ -212,7 +212,7 @@ together p x f di df q (Some number) is =
     })
     (λ _ j t. absurd j) pair takes
 
--- where nothing was put in, nothing was taken, and nothing waits
+-- if nothing was put, nothing was taken, and nothing waits
 nothing-begins : {X : Type 0} (a b : List X) → b ≡ [] → IsBeginning a b → a ≡ []
 nothing-begins a b none h = nil-front a h.0 (h.1 ∙ none)
 
@@ -223,7 +223,7 @@ record Empty (x y : EndState) : Type 0 where
   il : put_at x ≡ []
   fe : put_at y ≡ []
 
--- where a telegram ended one of them, nothing was put in at either
+-- if a telegram ended one of them, nothing was put at either
 own-put : (p : Laws) (side : Side) (x : EndState) → Spoken side x → (phase : Phase) → x.session.history.ended_in ≡ Some phase → is_early phase ≡ true
     → put_at x ≡ []
 own-put p side x sp phase =
@@ -257,7 +257,7 @@ match-stays p x y sy t b m fails =
     ⊎_elim (λ f. f t.il_good both.0)
     (λ f. let s = some-of y.session.history.ended_in (f t.fe_good) in b.ended (s.1 ∙ ap Some (both.1 s.0 s.1))) fails
 
--- a message waits for the window alone
+-- a message waits only for the window
 up-waits : (x : EndState) → x.machine.connection ≡ IsUp → Packs x → WaitsForWindow x
 up-waits x up packs = grind (arith, nat_tests, ltb-false, waits-by)
 
@@ -286,6 +286,9 @@ judged-all : (side : Side) (x y : EndState) → Spoken side y → x.session.hist
     → x.session.history.judged ≡ y.session.history.queue
 judged-all side x y sy whole took none = grind (arith, queue-is side y sy, append-nil)
 
+true-not-false : true ≡ false → ⊥
+true-not-false e = cc
+
 all-there : (p : Laws) (ils : List EndState) (fes : List JoinedEnd) (di df : ℕ) → OrdWorld ils fes di df → AheadOf ils fes
     → Paired ils fes di df → PacksWorld ils fes → BeginsWorld ils fes
     → OfBoth IfAllArrived (latest ils) (latest (ends_of fes))
@@ -306,12 +309,17 @@ all-there p (x ∷ []) (f ∷ []) di df o a q k b = λ from-fe from-il.
     in
     let units-there : o.closed ≡ false → UnitsThere x y = λ none. there p (x ∷ []) (f ∷ []) di df o a q k (from-fe (stays none).0)
     (from-il (stays none).1) (stays none).0 (stays none).1 in
+    let empty : (o.closed ≡ false → ⊥) → Empty x y = λ not.
+    by_test (λ c. o.closed ≡ c → Empty x y) o.closed (λ _ is. empty-by p x y sx sy t (o.fails is)) (λ _ is. absurd (not is)) refl
+    in
     let kept : Match x y → o.closed ≡ false = λ m.
     by_test (λ c. o.closed ≡ c → c ≡ false) o.closed (λ _ is. absurd (match-stays p x y sy t b.1 m (o.fails is))) (λ _ _. refl) refl
     in
     record {
       il_waits = λ on. client-waits x (passed_count (Some x)) (law.client (not-closed x.machine.connection on)) b.0 k.0.1;
       fe_waits = λ on. server-waits y (passed_count (Some y)) (law.server (not-closed y.machine.connection on)) b.1 k.1.1;
+      il_keeps = λ shut. nothing-waits p Il x sx (empty (λ none. true-not-false (sym shut ∙ (stays none).0))).il;
+      fe_keeps = λ shut. nothing-waits p Fe y sy (empty (λ none. true-not-false (sym shut ∙ (stays none).1))).fe;
       commands =
           by_test (λ c. o.closed ≡ c → put_at x ≡ taken_at y ++ items_waiting x) o.closed
           (λ _ is.
@@ -594,11 +602,11 @@ quiet-of : (o : Option EndState) → AtOpened Calm o → AtOpened (λ x. AsksNot
 quiet-of None h = tt
 quiet-of (Some x) h = h.quiet
 
+calm-keeps : (x : EndState) → Calm x → items_waiting x ≡ []
+calm-keeps x a = ap (λ ms. items_of (telegrams_in ms)) a.waiting
+
 calm-nothing : (x y : EndState) → Calm x → Calm y → put_at x ≡ taken_at y ++ items_waiting x
-calm-nothing x y a b = a.put ∙ sym (ap (λ is. is ++ items_waiting x) b.taken ∙ waits x a.waiting)
-  where
-    waits : (x : EndState) → x.session.waiting ≡ [] → items_waiting x ≡ []
-    waits x e = ap (λ ms. items_of (telegrams_in ms)) e
+calm-nothing x y a b = a.put ∙ sym (ap (λ is. is ++ items_waiting x) b.taken ∙ calm-keeps x a)
 
 calm-there : (il fe : Option EndState) → OfBoth Unmet il fe → AtOpened Calm il → AtOpened Calm fe → OfBoth IfAllArrived il fe
 calm-there None fe u a b = tt
@@ -607,6 +615,8 @@ calm-there (Some x) (Some y) u a b = λ from-fe from-il.
     record {
       il_waits = λ on some. absurd (some a.waiting);
       fe_waits = λ on some. absurd (some b.waiting);
+      il_keeps = λ shut. calm-keeps x a;
+      fe_keeps = λ shut. calm-keeps y b;
       commands = calm-nothing x y a b;
       status = calm-nothing y x b a;
       il_up = λ m. absurd (u (record { il_identifier = m.il_identifier; fe_identifier = m.fe_identifier }));

@@ -1,4 +1,4 @@
--- Machines that hear one another in order, and an end during a call while it hears the PDUs of its peer in order.
+-- Machines that receive each other's PDUs in order, and an end during a call in which it does.
 use Rattle.stack_engine.proofs.Words.{[], after, after_along, all_heard_by_fe, all_heard_by_il, AllByRecursion, answered, ap, append-nil, append_assoc, AreFrom}
 use Rattle.stack_engine.proofs.Words.{arith, arrivals, arrivals_of, Arrive, arrive_octets, AtCall, AtInput, AtParts, Bool, by_cond, by_test, Call, call, Closes}
 use Rattle.stack_engine.proofs.Words.{CodeRule, Completes, cond, connection_of, Datagram, Deliver, did, drop, end_moved, EndSettings, EndState, eqb-true}
@@ -18,7 +18,7 @@ use Rattle.stack_engine.proofs.two.Mapping.{TextsOf}
 use Rattle.stack_engine.proofs.two.Pairing.{eqb-same}
 use Rattle.safe_machine.specs.World as M
 
--- the PDU with this index has these octets
+-- the PDU with this index has these bytes
 abbrev pub IsNth : CodeRule → List Made → ℕ → List ℕ → Type 0
 IsNth rule ms n octets = (m : Made) × (later : List Made) × (drop n ms ≡ m ∷ later) × (octets ≡ upper_of rule m)
 
@@ -80,7 +80,7 @@ red-numbered masking missing more r ms q t_seq is i near timely carry =
     subst (λ n. Numbered r ms n (passed_by i (after_along is r0))) (omega arith)
     (numbered-behind r ms 0 (passed_along is r0) (passed_by i (after_along is r0)) (subst (λ ps. Numbered r ms 0 ps) (more is i r0).1 whole))
 
--- beginnings of a list of inputs are near, too
+-- prefixes of a list of inputs are near, too
 pub near-front : (q : ℕ) (before : List Part) (is js : List Input) → QNear q before (is ++ js) → QNear q before is
 near-front q before [] js h = tt
 near-front q before (i ∷ is) js h = (h.0, near-front q (before ++ arrivals_of i) is js h.1)
@@ -160,7 +160,7 @@ abbrev pub WasOpened : Side → M.World → Type 0
 WasOpened Il m = m.il_before ≢ []
 WasOpened Fe m = m.fe_before ≢ []
 
--- what order asks of a move
+-- what order requires of a move
 abbrev pub OrderedMove : Side → M.World → ℕ → State → Move → Type 0
 OrderedMove side m n s (Guards now) = GuardHolds s now
 OrderedMove side m n s (Ticks now) = GuardHolds s now
@@ -200,7 +200,7 @@ pub record Next (side : Side) (m : M.World) (s : EndSettings) (n : ℕ) (octets 
   pub sender : made.pdu.sender ≡ s.connection.peer
   pub opened : WasOpened side m
 
--- the end during a call: the inputs `ins` and `n` parts were heard
+-- the end during a call: the inputs `ins` and `n` parts were processed
 pub record OrdEnd (side : Side) (m : M.World) (k : ℕ) (s : EndSettings) (now : ℕ) (peer_fails : Type 0) (ins : List Input) (n : ℕ) (y : EndState) : Type 0 where
   pub whole : Whole side y
   pub closed : Bool
@@ -213,7 +213,7 @@ pub record OrdEnd (side : Side) (m : M.World) (k : ℕ) (s : EndSettings) (now :
   pub came : y.inputs ≡ ins
   pub red : y.red ≡ after_along ins (red_opened s.q s.t_seq)
 
--- what is asked of a part
+-- what is required of a part
 abbrev pub Faithfully : Option EndState → ℕ → ℕ → EndState → List ℕ → Type 0
 Faithfully peer dead now y octets = GuardHolds y.machine now × Comes peer dead y octets
 
@@ -227,7 +227,7 @@ module _ (laws : Laws) (side : Side) (m : M.World) (k : ℕ) (s : EndSettings) (
   kw : Keeps now OctetsUp (Whole side)
   kw = whole-keeps laws side now
 
-  -- the machine alone
+  -- only the machine
   p-move : (ins : List Input) (n : ℕ) (mv : Move) (x y : EndState) → move_time mv ≡ now → heard_more mv n ≡ n → ((c : Bool) → closed_more mv c ≡ c)
       → GenuineMove x.machine (drop (peer_dead side m) (peer_made side m)) mv → OrderedMove side m n x.machine mv
       → Whole side y → y.machine ≡ move mv x.machine → y.session.history.ended_in ≡ x.session.history.ended_in → y.settings ≡ x.settings
@@ -275,7 +275,7 @@ module _ (laws : Laws) (side : Side) (m : M.World) (k : ℕ) (s : EndSettings) (
       by_cond (P ins n) (is_shut y) (with_session (meets Closes y.session) y) y
       (λ shut. p-same ins n y (with_session (meets Closes y.session) y) (kw.ends y shut h.whole) refl refl refl refl refl h) (λ _. h)
 
-  -- the end may leave once it has heard
+  -- the end may disconnect after it has processed a part
   p-left : (ins : List Input) (n : ℕ) (why : Option Leaving) (y : EndState) (c : Bool) (j : Option ℕ) → (c ≡ true → Fails y ⊎ F)
       → ((w : Leaving) → why ≡ Some w → Fails y) → OrderedBy side c n k (at_side side y.machine j now m) → y.settings ≡ s → y.inputs ≡ ins
       → y.red ≡ after_along ins (red_opened s.q s.t_seq) → Whole side (leaves now why y) → P ins n (leaves now why y)
@@ -381,7 +381,7 @@ module _ (laws : Laws) (side : Side) (m : M.World) (k : ℕ) (s : EndSettings) (
   abbrev pub passed : List Input → ℕ
   passed ins = length (passed_along ins (red_opened s.q s.t_seq))
 
-  -- what a call leaves
+  -- the end after a call
   pub record Left (x : EndState) : Type 0 where
     pub ins : List Input
     pub there : P ins (passed ins) x
@@ -423,7 +423,7 @@ module _ (laws : Laws) (side : Side) (m : M.World) (k : ℕ) (s : EndSettings) (
         there = p-same h.ins (passed h.ins) x (record x { time = now }) (kw.times x h.there.whole) refl refl refl refl refl h.there;
       }
 
-  -- what a call asks of the numbers of its parts
+  -- what a call requires of the numbers of its parts
   abbrev pub Counts : List Input → Call → EndState → Type 0
   Counts ins (Tick t) x = is_shut x ≡ false → is_shut (end_moved (Ticks t) x) ≡ false → Numbers ins (RedTick t)
   Counts ins (Deliver channel octets t) x =

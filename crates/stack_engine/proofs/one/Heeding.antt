@@ -1,4 +1,4 @@
--- What one end keeps, call by call, of what it hears: how its machine moved, what its session judged and took, how it begins and what ends it.
+-- What one end keeps, call by call, of what arrives: how its machine moved, what its session judged and took, how it starts and what ends it.
 use Rattle.stack_engine.proofs.Words.{[], after, AllByRecursion, answered, ap, append-nil, are_fit, AreAmong, AreOctets, AreRead, AreSoundMoves, arith}
 use Rattle.stack_engine.proofs.Words.{arrivals_of, arrive_octets, Arrives, BegunLaw, Bool, by_test, Closed, ClosedByUser, Closes, comes_up, Completes, cond}
 use Rattle.stack_engine.proofs.Words.{connection_of, ConnectionState, Datagram, Dialogue, Down, end_of, ends_by, EndSettings, EndState, Err, false, false≢true}
@@ -16,7 +16,7 @@ use Rattle.stack_engine.proofs.one.Speaking.{all-append, all-parts, came, closed
 use Rattle.stack_engine.proofs.one.Speaking.{kept-units, Laws, legal-of, packs-some, rises-same, Spoken, spoken-hears, spoken-meets, spoken-packed}
 use Rattle.stack_engine.proofs.one.Speaking.{spoken-still, Still, still-by, Talk, talk-units, unit-sized, waits-sized, was-open}
 
--- all octets of a part
+-- all bytes of a part
 abbrev pub OctetPart : Part → Type 0
 OctetPart p = AreOctets p.1
 
@@ -48,10 +48,23 @@ sound-read : (ms : List Move) → AreRead ms → AreSoundMoves ms
 sound-read [] h = tt
 sound-read (m ∷ ms) h = (sound-one m h.0, sound-read ms h.1)
 
--- the machine alone moves
+-- only the machine moves
 pub machined-move : SettingsLaw → (side : Side) (m : Move) (x y : EndState) → IsRead m → y.settings ≡ x.settings → y.red ≡ x.red → y.machine ≡ move m x.machine
     → Machined side x → Machined side y
-machined-move law side m x y read a b c h = grind (arith, nat_tests, moved-push, read-push, h.began, h.first, h.machine, h.moves, h.read, h.same, h.waits)
+machined-move law side m x y read a b c h =
+    let begun = opened (connection_of side x.settings) h.first h.began in
+    record {
+      same = ap (λ (s : State). s.settings) c ∙ (law m x.machine ∙ (h.same ∙ ap (connection_of side) (sym a)));
+      first = h.first;
+      began = h.began;
+      moves = h.moves ++ m ∷ [];
+      read = read-push h.moves m h.read read;
+      machine = c
+          ∙ (ap (move m) h.machine
+          ∙ (sym (moved-push h.moves m begun)
+          ∙ ap (λ (q : EndSettings). moved (h.moves ++ m ∷ []) (opened (connection_of side q) h.first h.began)) (sym a)));
+      waits = subst (λ (r : Receiver). AllByRecursion OctetPart r.waiting) (sym b) h.waits;
+    }
 
 pub machined-same : (side : Side) (x y : EndState) → y.settings ≡ x.settings → y.red ≡ x.red → y.machine ≡ x.machine → Machined side x → Machined side y
 machined-same side x y a b c h = grind (arith, nat_tests, h.began, h.first, h.machine, h.moves, h.read, h.same, h.waits)
@@ -64,7 +77,7 @@ legal-role Fe s h = h
 pub machined-texts : TextsLaw → (side : Side) (x : EndState) → are_fit side x.settings ≡ true → Machined side x → HaveTexts x.machine.made
 machined-texts law side x fit h = grind (arith, nat_tests, legal-of, legal-role, sound-read, h.began, h.first, h.machine, h.moves, h.read)
 
--- the move that octets make was read
+-- the move that bytes cause was read
 pub read-heard : ReadLaw → (now : ℕ) (octets : List ℕ) (s : State) → AreOctets octets → (r : Result Pdu SafeFault) → seen_by s octets ≡ r
     → IsRead (heard_as r now)
 read-heard law now octets s octs (Ok p) e = let text = law p s.settings.rule octets octs e in (text.numbers, text.body)
@@ -81,7 +94,7 @@ machined-hears laws side now octets x octs h =
     (machined-move laws.settings side (heard_as (seen_by x.machine octets) now) x (answered octets x s)
     (read-heard laws.heard now octets x.machine octs (seen_by x.machine octets) refl) refl refl refl h)
 
--- parts among octets are octets
+-- parts among bytes are bytes
 among-one : (p : Part) (qs : List Part) → AllByRecursion OctetPart qs → IsAmong p qs → OctetPart p
 among-one p [] h k = absurd k
 among-one p (q ∷ qs) h (inl e) = rw e h.0
@@ -99,7 +112,7 @@ pub red-keeps : Laws → (i : Input) (r : Receiver) → IsTypedInput i → AllBy
     → AllByRecursion OctetPart (passed_by i r) × AllByRecursion OctetPart (after i r).waiting
 red-keeps law i r t h = grind (arith, nat_tests, all-append, among-all, arrivals-octets, law.origin, law.parts)
 
--- a telegram that does not end a session leaves it on
+-- after a telegram that does not end it, a session goes on
 arrives-on : OverLaw → (s : SessionState) (t : Tele) → is_ended s.phase ≡ false → end_of (judged s t) ≡ None → is_ended (phase_after (Arrives t) s) ≡ false
 arrives-on law s t on none = grind (arith, law (Arrives t) s on)
 
@@ -117,7 +130,7 @@ IsGood u = (ms : List (List ℕ)) × (unit_seen u ≡ Ok ms) × AllByRecursion R
 abbrev pub AreGood : List (List ℕ) → Type 0
 AreGood us = AllByRecursion IsGood us
 
--- judging goes on where nothing that came is malformed and no telegram ends the session
+-- judging goes on if nothing that came is malformed and no telegram ends the session
 pub record Heeding (good : Type 0) (d : Dialogue) (j : Judged) : Type 0 where
   pub on : j.leaving ≡ None → is_ended (phase_in d) ≡ false → is_ended (phase_in j.left) ≡ false
   pub goes : is_ended (phase_in d) ≡ false → good → j.left.history.ended_in ≡ None → j.leaving ≡ None
@@ -175,7 +188,7 @@ pub record Heeds (x : EndState) : Type 0 where
 pub heeds-still : (x : EndState) (s : State) → Still x.machine s → Heeds x → Heeds (with_machine s x)
 heeds-still x s t h = grind (arith, nat_tests, h.judged, h.on, h.taken, t.back, t.taken)
 
--- an event of the session that hands it no telegram and takes none
+-- an event of the session that brings it no telegram and takes none
 heeds-meets : (e : Event) (x : EndState) → handed_by e ≡ [] → taken_by e (session_in x.session) ≡ [] → ends_by e (session_in x.session) ≡ false
     → (is_shut x ≡ false → is_ended (phase_in x.session) ≡ false → is_ended (phase_after e (session_in x.session)) ≡ false) → Heeds x
     → Heeds (with_session (meets e x.session) x)
@@ -194,7 +207,7 @@ heeds-meets e x quiet none no-end on h =
 rises-on : OverLaw → (b : Bool) (d : Dialogue) → is_ended (phase_in d) ≡ false → is_ended (phase_in (rises b d)) ≡ false
 rises-on h b d k = grind (arith, nat_tests)
 
--- what is known before the end may leave
+-- what is known before the end may disconnect
 record Listened (y : EndState) (why : Option Leaving) : Type 0 where
   on : why ≡ None → is_shut y ≡ false → is_ended (phase_in y.session) ≡ false
   judged : y.session.history.ended_in ≡ None → AreGood y.machine.taken → y.session.history.judged ≡ came y.machine
@@ -202,7 +215,7 @@ record Listened (y : EndState) (why : Option Leaving) : Type 0 where
 
 heeds-leaves : MovesLaw → (now : ℕ) (why : Option Leaving) (y : EndState) → Listened y why → Heeds (leaves now why y)
 heeds-leaves law now None y h = record { on = h.on refl; judged = h.judged; taken = h.taken }
-heeds-leaves law now (Some why) y h = grind (arith, nat_tests, still-by, h.judged, h.taken)
+heeds-leaves law now (Some why) y h = grind (arith, nat_tests, still-by, append-nil, h.judged, h.taken)
 
 heeds-hears : Laws → (side : Side) (now : ℕ) (octets : List ℕ) (x : EndState) → Spoken side x → Heeds x → Heeds (heard now octets x)
 heeds-hears laws side now octets x sp h =
@@ -266,7 +279,7 @@ pub record Whole (side : Side) (x : EndState) : Type 0 where
 abbrev pub OctetsUp : EndState → List ℕ → Type 0
 OctetsUp x octets = AreOctets octets
 
--- a move that sends and takes no unit, and an event of the session that hands it no telegram and takes none
+-- a move that sends and takes no unit, and an event of the session that brings it no telegram and takes none
 whole-still : Laws → (side : Side) (m : Move) (x : EndState) → IsRead m → sent_by m x.machine ≡ [] → ((more : List (List ℕ)) → IsTakenBy m more → more ≡ [])
     → Whole side x → Whole side (with_machine (move m x.machine) x)
 whole-still laws side m x read none nothing h =
@@ -288,7 +301,7 @@ whole-meets laws side e x kind quiet none no-end on h =
       heeds = heeds-meets e x quiet none no-end on h.heeds;
     }
 
--- what came, what waits in the redundancy layer, and the time alone
+-- only what came, what waits in the redundancy layer, and the time
 whole-as : (side : Side) (x : EndState) (red : Receiver) (inputs : List Input) (time : ℕ) → AllByRecursion OctetPart red.waiting → Whole side x
     → Whole side (record x { red = red; inputs = inputs; time = time })
 whole-as side x red inputs time waits h = grind (arith, nat_tests, h.heeds.judged, h.heeds.on, h.heeds.taken, h.machined, h.spoken)
@@ -320,7 +333,7 @@ whole-keeps laws side now =
       times = λ x h. whole-as side x x.red x.inputs now h.machined.waits h;
     }
 
--- where all that came is well formed, a telegram ended its session
+-- if all that came is well formed, a telegram ended its session
 abbrev pub Fails : EndState → Type 0
 Fails x = AreGood x.machine.taken → x.session.history.ended_in ≢ None
 
@@ -339,7 +352,7 @@ fails-move law m x y e same h =
     let one = law m x.machine in
     fails-more x y one.more_taken (ap (λ (s : State). s.taken) e ∙ one.taken) same h
 
--- octets that come
+-- bytes that come
 pub record Fates (octets : List ℕ) (x : EndState) (s : State) (leaving : Option Leaving) : Type 0 where
   pub still : Fails x → Fails (answered octets x s)
   pub leaves : (why : Leaving) → leaving ≡ Some why → Fails (answered octets x s)
@@ -399,7 +412,7 @@ early-connected c h k = grind (arith, nat_tests)
 pub closed-early : IsEarly Closed → ⊥
 closed-early h = grind (arith, nat_tests)
 
--- where it is closed nothing is asked of phases
+-- if it is closed, nothing is required of phases
 begins-closed : (c : ConnectionState) (d : Dialogue) → c ≡ Closed → d.history.ended_in ≢ Some Idle → BeginsAs c d
 begins-closed c d closed ended = grind (arith, nat_tests, closed-early)
 
@@ -414,14 +427,14 @@ rises-not law false d some = some
 pub early-stays : (c : ConnectionState) → IsEarly c → comes_up c c ≡ false
 early-stays c h = grind (arith, nat_tests)
 
--- units are judged while a machine is connected, or there are none
+-- units are judged while a machine is connected, or there are no units
 judged-or : (c : ConnectionState) (us : List (List ℕ)) → (IsEarly c → us ≡ []) → (c ≡ Closed → us ≡ []) → (is_connected c ≡ true) ⊎ (us ≡ [])
 judged-or Closed us quiet shut = inr (shut refl)
 judged-or Down us quiet shut = inr (quiet (inl refl))
 judged-or Start us quiet shut = inr (quiet (inr refl))
 judged-or _ us quiet shut = inl refl
 
--- where a machine goes on and is early it was early before; where it is connected it was connected before or comes up
+-- if a machine goes on and is early, it was early before; if it is connected, it was connected before or comes up
 goes-early : (c e : ConnectionState) → GoesOn c e → IsEarly e → IsEarly c × (comes_up c e ≡ false)
 goes-early c e h k = grind (arith, nat_tests, closed-early, early-connected, early-stays)
 
@@ -442,7 +455,7 @@ begins-leaves : (now : ℕ) (why : Option Leaving) (y : EndState) → Begins y �
 begins-leaves now None y h = h
 begins-leaves now (Some why) y h = begins-closed Closed y.session refl h.ended
 
--- nothing is put in while a session is idle
+-- nothing is put while a session is idle
 pub idle-put : (role : Role) → may_put role Idle ≡ false
 idle-put role = grind (arith, nat_tests)
 

@@ -80,7 +80,7 @@ IsTypedCall (Deliver channel octets now) = AreOctets octets
 IsTypedCall (Put kind payload now) = kind < 256 ^ 2
 IsTypedCall _ = Unit {0}
 
--- P is kept by each change of an end at this time, where Q holds of each part when it goes up.
+-- P is kept by each change of an end at this time, if Q holds of each part when it goes up.
 pub record Keeps (now : ℕ) (Q : EndState → List ℕ → Type 0) (P : EndState → Type 0) : Type 0 where
   pub guards : (x : EndState) → P x → P (with_machine (guard now x.machine) x)
   pub ticks : (x : EndState) → P x → P (with_machine (tick now x.machine) x)
@@ -126,7 +126,7 @@ module _ (now : ℕ) (Q : EndState → List ℕ → Type 0) (P : EndState → Ty
       let y : EndState = receives now i x in
       keep-packed (length y.session.waiting) y (keep-parts (passed_by i x.red) (with_input i x) (q open-still) came))
 
--- where nothing is asked of a part
+-- if nothing is required of a part
 abbrev pub AnyPart : EndState → List ℕ → Type 0
 AnyPart x octets = Unit {0}
 
@@ -157,12 +157,12 @@ call-keeps (Deliver channel octets now) Q P x k t q h =
     keep-goes_on now Q P (goes-of now Q P k) (Datagram octets now) (moved (Guards now) x) (q open-still)
     (k.inputs (Datagram octets now) (moved (Guards now) x) t y) y))
 
--- what an end that may leave keeps
+-- what an end that may disconnect keeps
 pub leaves-same : (now : ℕ) (why : Option Leaving) (y : EndState) → ((leaves now why y).settings ≡ y.settings) × ((leaves now why y).request ≡ y.request)
     × ((leaves now why y).inputs ≡ y.inputs) × ((leaves now why y).red ≡ y.red) × ((leaves now why y).session ≡ y.session)
 leaves-same now why y = grind (arith, nat_tests)
 
--- the settings, and the inputs but for the one that comes
+-- the settings, and all inputs except the one that comes
 pub record Steady (x y : EndState) : Type 0 where
   pub set : y.settings ≡ x.settings
   pub inputs : y.inputs ≡ x.inputs
@@ -259,7 +259,7 @@ talk-read laws a r gone (Err fault) d h = h
 pub talk-units : Laws → (a : Addressing) (r : Role) (gone us : List (List ℕ)) (d : Dialogue) → Talk a r gone d → Talk a r gone (judge_units us d).left
 talk-units laws a r gone us d h = kept-units (Talk a r gone) (talk-read laws a r gone) us d h
 
--- What judging adds to the telegrams judged: the first of those that came, and all of them where the end goes on.
+-- What judging adds to the telegrams judged: the first of those that came, and all of them if the end goes on.
 pub record Hearing (d : Dialogue) (came : List Tele) (j : Judged) : Type 0 where
   pub front : List Tele
   pub judged : j.left.history.judged ≡ d.history.judged ++ front
@@ -370,7 +370,7 @@ pub record Spoken (side : Side) (x : EndState) : Type 0 where
 pub closed-is : (c : ConnectionState) → is_closed c ≡ true → c ≡ Closed
 closed-is c h = grind (arith, nat_tests)
 
--- a machine that a move leaves open was open
+-- a machine that is open after a move was open before
 pub was-open : MovesLaw → (m : Move) (s : State) → is_closed (move m s).connection ≡ false → is_closed s.connection ≡ false
 was-open law m s on = grind (arith, (law m s).closed, closed-is)
 
@@ -392,7 +392,7 @@ still-by law m s none nothing =
 pub spoken-still : (side : Side) (x : EndState) (s : State) → Still x.machine s → Spoken side x → Spoken side (with_machine s x)
 spoken-still side x s t h = grind (arith, nat_tests, h.begins, h.fit, h.talk, h.unpack, h.whole, t.back, t.sent, t.taken)
 
--- an event of the session that hands it no telegram
+-- an event of the session that brings it no telegram
 pub spoken-meets : Laws → (side : Side) (e : Event) (x : EndState) → HasKind e → handed_by e ≡ [] → Spoken side x
     → Spoken side (with_session (meets e x.session) x)
 spoken-meets laws side e x kind quiet h =
@@ -417,14 +417,14 @@ nil-behind (x ∷ a) b e = cc
 pub came-more : (taken more : List (List ℕ)) → telegrams_in (messages_in (taken ++ more)) ≡ telegrams_in (messages_in taken) ++ telegrams_in (messages_in more)
 came-more taken more = ap telegrams_in (messages-append taken more) ∙ telegrams-append (messages_in taken) (messages_in more)
 
--- where no unit is taken none is handed up
+-- if no unit is taken, no unit goes up
 pub handed-none : (x : EndState) (s : State) → s.taken ≡ x.machine.taken → handed_up x s ≡ []
 handed-none x s e = ap (drop (length x.machine.taken)) (e ∙ sym (append-nil x.machine.taken)) ∙ drop-append_seam x.machine.taken []
 
 hears-sends : (r : Result Pdu SafeFault) (now : ℕ) (s : State) → sent_by (heard_as r now) s ≡ []
 hears-sends r now s = grind (arith, nat_tests)
 
--- what octets hand up, that they send nothing, and that they change no machine that is closed
+-- what bytes deliver; they send nothing, and change no machine that is closed
 pub record HandsUp (x : EndState) (s : State) : Type 0 where
   pub taken : s.taken ≡ x.machine.taken ++ handed_up x s
   pub all : came s ≡ came x.machine ++ telegrams_in (messages_in (handed_up x s))

@@ -1,4 +1,4 @@
--- Numbers that differ, and what stands in a list of one or of none.
+-- Numbers that differ, and the elements of a list of one or of none.
 use Rattle.stack_engine.proofs.Words.{not, arith, refl, sym, ap, ◌∙◌, nat_tests}
 use Rattle.std.specs.Prelude.{ℕ, zero, suc, ◌≡◌, ◌==◌, true, List, [], ◌∷◌, drop}
 

@@ -1,5 +1,5 @@
 -- A faithful list of events, computed: two channels with losses on either and repeats on both, a window of two that fills, and three messages packed in
--- a unit. At its end both ends are Established, and all that was put in was taken.
+-- a unit. At its end both ends are Established, and everything put was taken.
 use Rattle.stack_engine.proofs.Words.{[], after_block, after_round, ahead, AtOpened, Calls, CodeRule, decoded, Deliver, digest, Eight, EndState, Established}
 use Rattle.stack_engine.proofs.Words.{Event, Faithful, FaithfulInstance, Fe, four_steps, Il, InitDone, INITIAL_VALUE, Item, length, List, Open, Phase, phase_in}
 use Rattle.stack_engine.proofs.Words.{pieces_seen, present, Put, put_at, refl, run, sn_of, start, take, taken_at, tele_seen, true, unconfirmed, unit_seen, ℕ}
@@ -125,7 +125,7 @@ f9 =
     44 ∷ 0 ∷ 0 ∷ 0 ∷ 9 ∷ 0 ∷ 0 ∷ 0 ∷ 36 ∷ 0 ∷ 76 ∷ 24 ∷ 1 ∷ 0 ∷ 0 ∷ 0 ∷ 2 ∷ 0 ∷ 0 ∷ 0 ∷ 253 ∷ 1 ∷ 0 ∷ 0 ∷ 110 ∷ 0 ∷ 0 ∷ 0 ∷ 100 ∷ 0 ∷ 0 ∷ 0 ∷ 100 ∷ 0 ∷ 0 ∷ 0 ∷
     163 ∷ 37 ∷ 180 ∷ 100 ∷ 18 ∷ 77 ∷ 38 ∷ 72 ∷ []
 
--- a session is set up over two channels, a status and five commands are put in
+-- a session is set up over two channels, a status and five commands are put
 abbrev pub events : List Event
 events =
     Open Fe (fe_of 2 1) 500 100 ∷ Open Il (il_of 2 1) 100 100 ∷ Calls Fe (Deliver 1 i0 100) ∷ Calls Il (Deliver 1 f0 100) ∷ Calls Fe (Deliver 2 i1 100) ∷
@@ -149,7 +149,7 @@ told : is_course events start ≡ true
 unfolding sn_of ahead four_steps after_round after_block digest pieces_seen unit_seen tele_seen decoded
 told = refl
 
--- what stands at its end: the phase of an end, what was put in at its peer, and what it took
+-- at its end: the phase of an end, what was put at its peer, and what it took
 record Course (phase : Phase) (put taken : List Item) (x : EndState) : Type 0 where
   phase_is : phase_in x.session ≡ phase
   put_is : put_at x ≡ put
@@ -170,7 +170,7 @@ fe-course : AtOpened (Course Established status commands) (present Fe (run event
 unfolding commands status sn_of ahead four_steps after_round after_block digest pieces_seen unit_seen tele_seen decoded
 fe-course = record { phase_is = refl; put_is = refl; taken_is = refl; nothing_waits = refl }
 
--- behind the fifth put the window of two is full, and three messages wait
+-- after the fifth put the window of two is full, and three messages wait
 window-filled : AtOpened (λ x. (length (unconfirmed x.machine) ≡ 2) × (length x.session.waiting ≡ 3)) (present Il (run (take 31 events) start))
 unfolding sn_of ahead four_steps after_round after_block digest pieces_seen unit_seen tele_seen decoded
 window-filled = (refl, refl)
@@ -181,7 +181,7 @@ three-at-once : AtOpened (λ x. length (taken_at x) ≡ 2) (present Fe (run (tak
 unfolding sn_of ahead four_steps after_round after_block digest pieces_seen unit_seen tele_seen decoded
 three-at-once = (refl, refl)
 
-instance-by : (es : List Event) → Told es start → all_of is_typed es ≡ true → FaithfulInstance es
+pub instance-by : (es : List Event) → Told es start → all_of is_typed es ≡ true → FaithfulInstance es
 instance-by es t typed =
     let events-typed = all-typed es typed in
     let faithful : Faithful es =

@@ -1,4 +1,5 @@
--- What makes a list of events genuine and faithful, and what stands at its end, as tests that a computation answers.
+-- What makes a list of events genuine and faithful, and what holds at its end, as tests that are computed.
+use Rattle.safe_machine.proofs.one.Turning.{guard-is}
 use Rattle.stack_engine.proofs.Words.{[], AllArrived, AllByRecursion, AllFaithful, AreAtMost, AreTyped, arith, arrivals, arrivals_of, Arrived, AtCall, AtOpened}
 use Rattle.stack_engine.proofs.Words.{AtParts, Bool, bytes_eq, bytes_eq-Decides, Call, Calls, Carries, cases_lt, Close, CodeRule, Datagram, Deliver, drop}
 use Rattle.stack_engine.proofs.Words.{EndState, Event, FaithfulCall, FaithfulEvent, false, Fe, first_missing, first_version, Genuine, GenuineCall, GenuineEvent}
@@ -11,7 +12,7 @@ use Rattle.stack_engine.proofs.Words.{◌^◌, ◌||◌, ◌∙◌, ◌∷◌, �
 use Rattle.stack_engine.proofs.one.Speaking.{and-parts, came}
 use Rattle.stack_engine.proofs.two.Confirmed.{nil-is, not-true}
 
--- P holds where the test answers true
+-- P holds if the test is true
 abbrev Tells : {X : Type 0} → (X → Bool) → (X → Type 0) → Type 0
 Tells {X} t P = (x : X) → t x ≡ true → P x
 
@@ -63,7 +64,7 @@ module _ (t : EndState → List ℕ → Bool) (P : EndState → List ℕ → Typ
   at-call (Deliver channel octets now) x h = λ up still. at-parts now _ _ h
   at-call _ x h = tt
 
--- genuine: who is asked about a part finds it live
+-- genuine: a part that an end is asked about is live
 abbrev is_genuine_part : Option EndState → ℕ → EndState → List ℕ → Bool
 is_genuine_part peer dead x octets = not (is_asked_of x octets) || is_live x peer dead octets
 
@@ -74,7 +75,7 @@ implied false b h asked = cc
 genuine-part : (peer : Option EndState) (dead : ℕ) → TellsUp (is_genuine_part peer dead) (IsGenuine peer dead)
 genuine-part peer dead x octets h up asked = implied (is_asked_of x octets) (is_live x peer dead octets) h asked
 
--- a guard that finds neither its time passed nor its limit reached leaves the machine as it is
+-- a timeout check that finds neither its time passed nor its limit reached does not change the machine
 abbrev leaves_by_guard : ℕ → State → Bool
 leaves_by_guard now s = is_alive s.connection && (nat_le (s.confirmed_at + s.settings.t_max) now || nat_le s.settings.pdu_limit (length s.made))
 
@@ -90,7 +91,8 @@ stays_at now x octets = not (leaves_by_guard now x.machine)
 stays-at : (now : ℕ) → TellsUp (stays_at now) (λ x octets. GuardHolds x.machine now)
 stays-at now x octets h =
     let s = x.machine in
-    guard-cases (is_alive s.connection) (nat_le (s.confirmed_at + s.settings.t_max) now) (nat_le s.settings.pdu_limit (length s.made))
+    guard-is now s
+    ∙ guard-cases (is_alive s.connection) (nat_le (s.confirmed_at + s.settings.t_max) now) (nat_le s.settings.pdu_limit (length s.made))
     (leave Timeout Unspecified now s) (leave ProtocolError Limit now s) s (not-true (leaves_by_guard now s) h)
 
 -- what arrives carries a PDU of the peer
@@ -111,7 +113,7 @@ carries-part : (peer : Option EndState) → Tells (carries peer) (Carries peer)
 carries-part None p h = cc
 carries-part (Some peer) p h = carried (rule_of peer.settings) peer.machine.made (drop p.0 peer.machine.made) p.0 p.1 refl h
 
--- a call that is no closing, that brings what the peer made and is live, and at which no guard leaves
+-- a call that is not a close, that brings what the peer made and is live, and at which no timeout check disconnects
 abbrev good_part : Option EndState → ℕ → ℕ → EndState → List ℕ → Bool
 good_part peer dead now x octets = is_genuine_part peer dead x octets && stays_at now x octets
 
@@ -179,6 +181,44 @@ all-genuine [] w h = tt
 all-genuine (e ∷ es) w h =
     let parts = and-parts (is_good e w) (are_good es (happens w e)) h in
     ((λ on. genuine-event e w parts.0), all-genuine es (happens w e) parts.1)
+
+-- a call that brings only parts that are live, or of which the premise does not speak
+abbrev genuine_call : Option EndState → ℕ → Call → EndState → Bool
+genuine_call peer dead (Deliver channel octets now) x =
+    all_of (λ (p : Part). is_genuine_part peer dead x p.1) (arrivals_of (Datagram octets now))
+    && at_call (is_genuine_part peer dead) (Deliver channel octets now) x
+genuine_call peer dead (Tick now) x = at_call (is_genuine_part peer dead) (Tick now) x
+genuine_call peer dead _ x = true
+
+genuine-call : (peer : Option EndState) (dead : ℕ) (c : Call) → Tells (genuine_call peer dead c) (GenuineCall peer dead c)
+genuine-call peer dead (Deliver channel octets now) x h =
+    let ps = arrivals_of (Datagram octets now) in
+    let c = Deliver channel octets now in
+    let parts = and-parts (all_of (λ (p : Part). is_genuine_part peer dead x p.1) ps) (at_call (is_genuine_part peer dead) c x) h in
+    (all-of _ _ (λ p. genuine-part peer dead x p.1) ps parts.0, at-call _ _ (genuine-part peer dead) c x parts.1)
+genuine-call peer dead (Tick now) x h = (tt, at-call _ _ (genuine-part peer dead) (Tick now) x h)
+genuine-call peer dead _ x h = (tt, tt)
+
+abbrev brings_live : Event → World → Bool
+brings_live (Calls Il c) w = if_opened (genuine_call (present Fe w) w.dead_fe c) (present Il w)
+brings_live (Calls Fe c) w = if_opened (genuine_call (present Il w) w.dead_il c) (present Fe w)
+brings_live _ w = true
+
+brings-live : (e : Event) (w : World) → brings_live e w ≡ true → GenuineEvent e w
+brings-live (Calls Il c) w h = at-opened _ _ (genuine-call (present Fe w) w.dead_fe c) (present Il w) h
+brings-live (Calls Fe c) w h = at-opened _ _ (genuine-call (present Il w) w.dead_il c) (present Fe w) h
+brings-live _ w h = tt
+
+-- each event of a list is genuine, whatever else it brings
+abbrev pub are_genuine : List Event → World → Bool
+are_genuine [] w = true
+are_genuine (e ∷ es) w = brings_live e w && are_genuine es (happens w e)
+
+pub genuine-by : (es : List Event) (w : World) → are_genuine es w ≡ true → Genuine es w
+genuine-by [] w h = tt
+genuine-by (e ∷ es) w h =
+    let parts = and-parts (brings_live e w) (are_genuine es (happens w e)) h in
+    ((λ on. brings-live e w parts.0), genuine-by es (happens w e) parts.1)
 
 -- numbers are compared by computing
 at-most : (a b : ℕ) → nat_le a b ≡ true → a ≤ b

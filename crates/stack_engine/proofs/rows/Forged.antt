@@ -10,7 +10,7 @@ use Rattle.stack_engine.proofs.rows.GenuineRow.{i0b, i1b, i2b, i3b, i4b}
 use Rattle.stack_engine.proofs.rows.RowSettings.{fe_of}
 use Rattle.stack_engine.proofs.two.Confirmed.{nil-is, not-true}
 
--- something is taken at the first part, as a test that a computation answers
+-- something is taken at the first part, as a test that is computed
 abbrev takes_first : ℕ → List Part → EndState → Bool
 takes_first now [] x = false
 takes_first now (p ∷ ps) x = not (length (taken_at (part now p.1 x)) == length (taken_at x))

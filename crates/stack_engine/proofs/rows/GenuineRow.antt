@@ -1,5 +1,5 @@
--- A genuine list of events, computed: a command is lost and sent again, the one behind it is deferred, and status is taken; then both ends are opened
--- anew, and in the second session both ways are used. At its end both ends are settled.
+-- A genuine list of events, computed: a command is lost and sent again, the one after it is deferred, and status is taken; then both ends are opened
+-- again, and in the second session both directions are used. At its end both ends are settled.
 use Rattle.stack_engine.proofs.Words.{[], after_block, after_round, ahead, Calls, decoded, Deliver, digest, drop, ends_of, Event, Faithful, Fe, four_steps}
 use Rattle.stack_engine.proofs.Words.{Genuine, GenuineInstance, Il, InitDone, is_settled, joins_in, List, map, Open, option_map, pieces_seen, present, Put}
 use Rattle.stack_engine.proofs.Words.{refl, run, sn_of, Some, start, taken_at, tele_seen, Tick, true, unit_seen, ℕ, ◌++◌, ◌∷◌, ◌≡◌}
@@ -158,7 +158,7 @@ f5b =
     44 ∷ 0 ∷ 0 ∷ 0 ∷ 5 ∷ 0 ∷ 0 ∷ 0 ∷ 36 ∷ 0 ∷ 76 ∷ 24 ∷ 1 ∷ 0 ∷ 0 ∷ 0 ∷ 2 ∷ 0 ∷ 0 ∷ 0 ∷ 193 ∷ 2 ∷ 0 ∷ 0 ∷ 48 ∷ 1 ∷ 0 ∷ 0 ∷ 240 ∷ 20 ∷ 0 ∷ 0 ∷ 160 ∷ 0 ∷ 0 ∷ 0 ∷
     128 ∷ 214 ∷ 6 ∷ 88 ∷ 220 ∷ 184 ∷ 202 ∷ 125 ∷ []
 
--- a command is lost in the first session, both ends are opened anew, and both ways are used in the second
+-- a command is lost in the first session, both ends are opened again, and both directions are used in the second
 abbrev first : List Event
 first =
     Open Fe (fe_of 20 10) 500 5000 ∷ Open Il (il_of 20 10) 100 100 ∷ Calls Fe (Deliver 1 i0 5000) ∷ Calls Il (Deliver 1 f0 100) ∷

@@ -12,7 +12,7 @@ not-itself n h = omega arith
 not-below : 2 < 1 → ⊥
 not-below h = omega arith
 
--- the octet that marks the first item
+-- the byte that marks the first item
 abbrev mark : List Item → ℕ
 mark [] = 0
 mark ((kind, []) ∷ items) = 0
@@ -95,12 +95,15 @@ unsettled (rest, e) = no-item one rest e
 pub settled-instances : (x : EndState) → SettledInstances x
 settled-instances x =
     record {
-      il_confirmed = ((λ h. let w = h.0 refl in untaken w.0 w.1 w.2), λ up. ([], nothing-begins [], refl));
-      fe_confirmed = ((λ h. let w = h.1 refl in untaken w.0 w.1 w.2), λ up. ([], nothing-begins [], refl));
-      confirmed_to_none = λ h. let w = h.1 refl in untaken w.0 w.1 w.2;
+      il_confirmed = ((λ h. untaken h.0.0 h.0.1 h.0.2), ([], nothing-begins [], refl));
+      fe_confirmed = ((λ h. untaken h.1.0 h.1.1 h.1.2), ([], nothing-begins [], refl));
+      confirmed_to_none = λ h. untaken h.1.0 h.1.1 h.1.2;
       il_settled = ((λ h. unsettled (h.0 refl)), (λ settled. nothing-begins []));
       fe_settled = ((λ h. unsettled (h.1 refl)), (λ settled. nothing-begins []));
       settled_to_none = λ h. unsettled (h.1 refl);
+      il_certain = ((λ h. unsettled h.0), nothing-begins []);
+      fe_certain = ((λ h. unsettled h.1), nothing-begins []);
+      certain_to_none = λ h. unsettled h.1;
     }
 
 -- what is fresh upon the one PDU that the end made, carried by the one that the peer made

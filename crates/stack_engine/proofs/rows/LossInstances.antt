@@ -52,6 +52,8 @@ loss-instances x m =
           record {
             il_waits = idle;
             fe_waits = idle;
+            il_keeps = λ shut. refl;
+            fe_keeps = λ shut. refl;
             commands = refl;
             status = refl;
             il_up = up;

@@ -31,3 +31,7 @@ il_of window mwa = settings window mwa 1 2 (codes "IL1") (codes "FE1")
 
 abbrev pub fe_of : (window mwa : ℕ) → EndSettings
 fe_of window mwa = settings window mwa 2 1 (codes "FE1") (codes "IL1")
+
+-- with another T_max
+abbrev pub with_t_max : ℕ → EndSettings → EndSettings
+with_t_max t s = record s { connection = record s.connection { t_max = t } }

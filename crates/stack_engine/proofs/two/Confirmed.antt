@@ -8,7 +8,9 @@ use Rattle.stack_engine.proofs.Words.{length-append, List, made_of, MatchOption,
 use Rattle.stack_engine.proofs.Words.{ReachedLaw, ReachedState, refl, refusal, run, SettledAt, SettledFe, SettledLaw, Side, Some, start, subst, sym, taken_at}
 use Rattle.stack_engine.proofs.Words.{taken_from_fe, taken_from_il, TakesFresh, Tele, telegrams_in, texts, time_of, true, unconfirmed, unit_seen, units}
 use Rattle.stack_engine.proofs.Words.{WasTaken, World, ℕ, ◌++◌, ◌+◌, ◌==◌, ◌∙◌, ◌∷◌, ◌≡◌, ◌≢◌, ◌≤◌}
-use Rattle.stack_engine.specs.Settled.{taken_by}
+use Rattle.stack_engine.specs.Settled.{CertainAt, CertainFe, CertainLaw, taken_by}
+use Rattle.stack_end.specs.Certain.{confirmed_of}
+use Rattle.std.specs.Prelude.{suc, take, zero}
 use Rattle.stack_engine.proofs.one.Heeding.{AreGood, Heeds, IsGood, Machined, Reads, Whole}
 use Rattle.stack_engine.proofs.one.Speaking.{all-parts, and-parts, came, IsTypedCall, Laws, messages-append, nil-front, Spoken, telegrams-append, Unpacks}
 use Rattle.stack_engine.proofs.two.Mapping.{Comes, fe-keeps, FeAt, il-keeps, IlAt}
@@ -19,7 +21,7 @@ use Rattle.stack_engine.proofs.two.Worlds.{il-fresh, il-incarnations, items-appe
 use Rattle.stack_engine.proofs.two.Worlds.{queue-is, queue-put, served, states, states-length, typed-call}
 use Rattle.safe_machine.specs.Law as L
 
--- of two beginnings of a list the shorter is one of the longer
+-- of two prefixes of a list the shorter is a prefix of the longer
 shorter : {X : Type 0} (a x b y : List X) → a ++ x ≡ b ++ y → length a ≤ length b → IsBeginning a b
 shorter [] x b y e le = (b, refl)
 shorter (m ∷ a) x [] y e le = absurd (omega (arith, le))
@@ -37,7 +39,7 @@ begin-items us vs h = (
       ∙ ap (λ ws. telegrams_in (messages_in ws)) h.1),
 )
 
--- what was put in, by units confirmed and not, and messages that wait
+-- what was put, by units confirmed and not, and messages that wait
 put-parts : Laws → (side : Side) (x : EndState) (cb : List (List ℕ)) → Spoken side x → cb ++ unconfirmed x.machine ≡ units x.machine.made
     → put_at x ≡ items_of (telegrams_in (messages_in cb)) ++ items_unconfirmed x ++ items_waiting x
 put-parts laws side x cb sp e = grind (arith, queue-put laws side x sp, queue-is side x sp, messages-append, telegrams-append, items-append, append_assoc)
@@ -65,7 +67,7 @@ was-taken : Laws → (a b : Side) (x y : EndState) → Spoken a x → Heeds y �
     → length (units x.machine.made) ≤ length y.machine.taken + length (unconfirmed x.machine)
     → ((phase : Phase) → y.session.history.ended_in ≡ Some phase → put_at x ≡ []) → (o : Option Phase) → y.session.history.ended_in ≡ o
     → WasTaken x (taken_at y)
-was-taken laws a b x y sp he r begins count early None ended = λ _.
+was-taken laws a b x y sp he r begins count early None ended =
     let cb = r.confirmed_before in
     let good : AreGood y.machine.taken = (all-parts IsGood y.machine.taken begins.0 (subst AreGood (sym begins.1) (good-sent a x sp))).0 in
     let all : taken_at y ≡ items_of (came y.machine) = he.taken ended good ∙ ap items_of (he.judged ended good) in
@@ -77,17 +79,17 @@ was-taken laws a b x y sp he r begins count early None ended = λ _.
       subst (IsBeginning (items_of (telegrams_in (messages_in cb)))) (sym all) (begin-items cb y.machine.taken front),
       put-parts laws a x cb sp r.ends,
     )
-was-taken laws a b x y sp he r begins count early (Some phase) ended = λ _.
+was-taken laws a b x y sp he r begins count early (Some phase) ended =
     let cb = r.confirmed_before in
     let put = put-parts laws a x cb sp r.ends in
     let none : items_of (telegrams_in (messages_in cb)) ≡ [] = nil-front _ (items_unconfirmed x) (nil-front _ (items_waiting x) (sym put ∙ early phase ended))
     in
     (items_of (telegrams_in (messages_in cb)), (taken_at y, ap (λ is. is ++ taken_at y) none), put)
 
--- where nobody is joined, nothing is confirmed
+-- if no end is joined, nothing is confirmed
 none-taken : Laws → (a : Side) (x : EndState) → Spoken a x → ReachedState x.machine → length (units x.machine.made) ≤ length (unconfirmed x.machine)
     → WasTaken x []
-none-taken laws a x sp r count = λ _.
+none-taken laws a x sp r count =
     let cb = r.confirmed_before in
     let nothing : cb ≡ [] = length-none cb (let e = length-append cb (unconfirmed x.machine) in let f = ap length r.ends in omega (arith, e, f, count)) in (
       items_of (telegrams_in (messages_in cb)),
@@ -122,7 +124,7 @@ number-is number o h = grind (arith, nat_tests, eqb-true)
 number-same : (number : ℕ) (o : Option ℕ) → L.is_number number o ≡ is_number number o
 number-same number o = grind (arith, nat_tests)
 
--- a joined pair: each took a beginning of what the other sent, and what it means that one of them was ended early
+-- a joined pair: each took a prefix of what the other sent, and what follows if one of them was ended early
 pair-of : (p : Laws) (ils : List EndState) (f : JoinedEnd) (number : ℕ) (g : EndState) → Whole Fe f.end
     → L.TakesBeginnings (states ils) f.end.machine f.joined → PairAt ils f → f.joined ≡ Some number → incarnation ils number ≡ Some g
     → (IsBeginning f.end.machine.taken (units g.machine.made) × IsBeginning g.machine.taken (units f.end.machine.made))
@@ -184,11 +186,11 @@ fe-joined p ils f wf ws law pair (Some number) is count = fe-from p ils f number
 confirmed-il : (p : Laws) (ils : List EndState) (fes : List JoinedEnd) (di df : ℕ) → Paired ils fes di df
     → AtOpened (λ g. WasTaken g (taken_from_il (length ils) fes)) (latest ils)
 confirmed-il p [] fes di df w = tt
-confirmed-il p (g ∷ before) fes di df w = λ on.
+confirmed-il p (g ∷ before) fes di df w =
     let h = w.mapped in
     let m = machines (g ∷ before) fes di df h.clock_il h.clock_fe in
     let lost = subst L.LosesNothing h.reached.leads (p.lost h.reached.events h.reached.genuine) in
-    let count = lost.from_il (not-closed g.machine.connection on) in
+    let count = lost.from_il in
     let law = law-now p (g ∷ before) fes di df h in
     let number : length (g ∷ before) ≡ length before + 1 = omega arith in
     il-from p g before (length (g ∷ before)) number h.il_whole.0 fes h.fe_whole law.beginnings w.pairs
@@ -196,17 +198,17 @@ confirmed-il p (g ∷ before) fes di df w = λ on.
     (subst (λ fs. length (units g.machine.made) ≤ L.taken_from_il (length (states (g ∷ before))) fs + length (unconfirmed g.machine))
     (fe-incarnations (served fes))
     (subst (λ ss. length (units g.machine.made) ≤ L.taken_from_il (length ss) (L.fe_incarnations m) + length (unconfirmed g.machine))
-    (il-incarnations (states (g ∷ before))) count))) on
+    (il-incarnations (states (g ∷ before))) count)))
 
 confirmed-fe : (p : Laws) (ils : List EndState) (fes : List JoinedEnd) (di df : ℕ) → Paired ils fes di df → FeTaken ils fes
 confirmed-fe p ils [] di df w = tt
-confirmed-fe p ils (f ∷ fs) di df w = λ on.
+confirmed-fe p ils (f ∷ fs) di df w =
     let h = w.mapped in
     let lost = subst L.LosesNothing h.reached.leads (p.lost h.reached.events h.reached.genuine) in
-    let count = lost.from_fe (not-closed f.end.machine.connection on) in
+    let count = lost.from_fe in
     let law = law-now p ils (f ∷ fs) di df h in
     fe-joined p ils f h.fe_whole.0 h.il_whole law.beginnings.0 w.pairs.0 f.joined refl
-    (subst (λ ss. length (units f.end.machine.made) ≤ L.taken_from_fe ss f.joined + length (unconfirmed f.end.machine)) (il-incarnations (states ils)) count) on
+    (subst (λ ss. length (units f.end.machine.made) ≤ L.taken_from_fe ss f.joined + length (unconfirmed f.end.machine)) (il-incarnations (states ils)) count)
 
 pub confirmed-taken : Laws → ConfirmedTakenLaw
 confirmed-taken p es typed genuine =
@@ -238,6 +240,39 @@ settled law es typed genuine =
     let w = run es start in
     let h = law es typed genuine in
     (settled-il w.ils w.fes (length w.ils) h.0, settled-fe w.ils w.fes h.1)
+
+-- of the telegrams put the first are certain
+take-front : {X : Type 0} (n : ℕ) (a b : List X) → n ≤ length a → IsBeginning (take n (a ++ b)) a
+take-front zero a b h = (a, refl)
+take-front (suc n) [] b h = absurd (omega (arith, h))
+take-front (suc n) (x ∷ a) b h = let k = take-front n a b (omega (arith, h)) in (k.0, ap (λ xs. x ∷ xs) k.1)
+
+certain-at : (x : EndState) (taken : List Item) → WasTaken x taken → CertainAt x taken
+certain-at x taken h =
+    let confirmed = h.0 in
+    let rest = items_unconfirmed x ++ items_waiting x in
+    let put : put_at x ≡ confirmed ++ rest = h.2 ∙ append_assoc confirmed (items_unconfirmed x) (items_waiting x) in
+    let long : length (put_at x) ≡ length confirmed + (length (items_unconfirmed x) + length (items_waiting x)) =
+    ap length put ∙ length-append confirmed rest ∙ ap (λ n. length confirmed + n) (length-append (items_unconfirmed x) (items_waiting x)) in
+    let few : confirmed_of x ≤ length confirmed = omega (arith, long) in
+    let front : IsBeginning (take (confirmed_of x) (put_at x)) confirmed =
+    subst (λ put. IsBeginning (take (confirmed_of x) put) confirmed) (sym put) (take-front (confirmed_of x) confirmed rest few) in
+    (front.0 ++ h.1.0, sym (append_assoc _ front.0 h.1.0) ∙ ap (λ xs. xs ++ h.1.0) front.1 ∙ h.1.1)
+
+certain-il : (ils : List EndState) (fes : List JoinedEnd) (number : ℕ) → AtOpened (λ g. WasTaken g (taken_from_il number fes)) (latest ils)
+    → AtOpened (λ g. CertainAt g (taken_from_il number fes)) (latest ils)
+certain-il [] fes number h = tt
+certain-il (g ∷ before) fes number h = certain-at g (taken_from_il number fes) h
+
+certain-fe : (ils : List EndState) (fes : List JoinedEnd) → FeTaken ils fes → CertainFe ils fes
+certain-fe ils [] h = tt
+certain-fe ils (f ∷ fs) h = certain-at f.end (taken_from_fe ils f.joined) h
+
+pub certain : ConfirmedTakenLaw → CertainLaw
+certain law es typed genuine =
+    let w = run es start in
+    let h = law es typed genuine in
+    (certain-il w.ils w.fes (length w.ils) h.0, certain-fe w.ils w.fes h.1)
 
 -- the headline
 pub headline : Laws → HeadlineLaw

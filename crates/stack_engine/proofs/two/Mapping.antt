@@ -38,7 +38,7 @@ il_at s clock m = record m { il = s; clock_il = clock }
 abbrev pub fe_at : State → Option ℕ → ℕ → World → World
 fe_at s joined clock m = record m { fe = s; joined = joined; clock_fe = clock }
 
--- what the premise asks of a move
+-- what the premise requires of a move
 abbrev pub GenuineMove : State → List Made → Move → Type 0
 GenuineMove s live (Hears p now) = GenuineAt s p live
 GenuineMove s live _ = Unit {0}
@@ -77,7 +77,7 @@ texts-dropped zero ms h = h
 texts-dropped (suc n) [] h = h
 texts-dropped (suc n) (m ∷ ms) h = texts-dropped n ms h.1
 
--- octets of a PDU that was made read as that PDU, also under another rule of that length
+-- the bytes of a PDU that was made read as that PDU, also under another rule of that length
 pub has-among : Laws → (r s : CodeRule) (octets : List ℕ) (p : Pdu) (ms : List Made) → r.length ≡ s.length → safe_seen r octets ≡ Ok p → HaveTexts ms
     → has_made s octets ms ≡ true → Among p ms
 has-among law r s octets p [] same read texts h = cc
@@ -95,7 +95,7 @@ not-stranger b h = grind (arith, nat_tests)
 pub not-shut : (c : ConnectionState) → c ≢ Closed → is_closed c ≡ false
 not-shut c h = grind (arith, nat_tests)
 
--- what a role leaves of the settings
+-- the settings without their role
 pub rule-same : (side : Side) (s : EndSettings) → (connection_of side s).rule ≡ rule_of s
 rule-same side s = grind (arith, nat_tests)
 
@@ -109,14 +109,14 @@ peer-same side s = grind (arith, nat_tests)
 abbrev pub TextsOf : Option EndState → Type 0
 TextsOf peer = HaveTexts (made_of peer)
 
--- octets that are live are of a live PDU
+-- bytes that are live are of a live PDU
 pub live-among : Laws → (x : EndState) (peer : Option EndState) (dead : ℕ) (octets : List ℕ) (p : Pdu) → TextsOf peer
     → safe_seen (rule_of x.settings) octets ≡ Ok p
     → is_live x peer dead octets ≡ true → Among p (drop dead (made_of peer))
 live-among law x None dead octets p texts read h = cc
 live-among law x (Some peer) dead octets p texts read h = grind (arith, nat_tests, and-parts, eqb-true, has-among, same-length, texts-dropped)
 
--- an end that hears its own identifiers is asked
+-- the premise speaks of a PDU with the end's identifiers
 pub asked-heard : Laws → (side : Side) (x : EndState) (octets : List ℕ) (p : Pdu) → x.machine.settings ≡ connection_of side x.settings
     → seen_by x.machine octets ≡ Ok p
     → is_stranger x.machine p ≡ false → (safe_seen (rule_of x.settings) octets ≡ Ok p) × (is_asked_of x octets ≡ true)
@@ -143,7 +143,7 @@ genuine-heard law side x peer dead now octets same texts g (Ok p) read = λ list
     let asked = asked-heard law side x octets p same read ours in
     live-among law x peer dead octets p texts asked.0 (g (not-shut x.machine.connection listens) asked.1)
 
--- what is asked of a part that goes up
+-- what is required of a part that goes up
 abbrev pub Comes : Option EndState → ℕ → EndState → List ℕ → Type 0
 Comes peer dead x octets = AreOctets octets × IsGenuine peer dead x octets
 
@@ -185,7 +185,7 @@ il-same m now x y whole e h = grind (arith, nat_tests, h.clock, h.reached, h.wit
 heard-time : (r : Result Pdu SafeFault) (now : ℕ) → move_time (heard_as r now) ≡ now
 heard-time r now = grind (arith, nat_tests)
 
--- the world of machines once octets were heard
+-- the world of machines after bytes arrived
 pub il-heard : Laws → (m : M.World) (peer : Option EndState) (dead now : ℕ) → PeerIs peer dead m.fe m.dead_fe → (octets : List ℕ) (x : EndState)
     → Comes peer dead x octets → IlAt m now x
     → Reached (il_at (arrive_octets octets now x.machine) now m)
@@ -236,7 +236,7 @@ pub record FeAt (ils : List EndState) (f : JoinedEnd) (m : M.World) (now : ℕ) 
 pub joins-both : (a b : ConnectionState) → joins a b ≡ true → (a ≡ Down) × (b ≡ Start)
 joins-both a b h = grind (arith, nat_tests)
 
--- a move that hears nothing joins nobody
+-- a move without an arrival joins nothing
 quiet : MovesLaw → (mv : Move) (s : State) → (HearsOwn mv s → ⊥) → joins s.connection (move mv s).connection ≡ false
 quiet law mv s deaf = grind (arith, (law mv s).starts, joins-both, deaf)
 
@@ -267,7 +267,7 @@ fe-same : (ils : List EndState) (f : JoinedEnd) (m : M.World) (now : ℕ) (x y :
     → FeAt ils f m now x → FeAt ils f m now y
 fe-same ils f m now x y whole e same h = grind (arith, nat_tests, h.clock, h.first, h.idle, h.reached, h.within)
 
--- the latest incarnation has made a PDU of these octets
+-- the latest incarnation has made a PDU of these bytes
 abbrev pub MadeBy : List EndState → List ℕ → Type 0
 MadeBy [] octets = ⊥
 MadeBy (g ∷ before) octets = has_made (rule_of g.settings) octets g.machine.made ≡ true
@@ -284,7 +284,7 @@ live-made : (ils : List EndState) (x : EndState) (dead : ℕ) (octets : List ℕ
 live-made [] x dead octets h = cc
 live-made (g ∷ before) x dead octets h = grind (arith, nat_tests, and-parts, made-dropped)
 
--- who starts on these octets has heard a PDU that the present interlocking made
+-- an end that starts on these bytes has received a PDU that the present interlocking made
 joins-made : Laws → MovesLaw → (ils : List EndState) (x : EndState) (dead now : ℕ) (octets : List ℕ) → Whole Fe x → IsGenuine (latest ils) dead x octets
     → (r : Result Pdu SafeFault) → seen_by x.machine octets ≡ r
     → joins x.machine.connection (move (heard_as r now) x.machine).connection ≡ true → MadeBy ils octets
@@ -313,7 +313,7 @@ noted-none b octets request h k = grind (arith, nat_tests)
 pub noted-first : (b : Bool) (octets : List ℕ) (request : Option (List ℕ)) → noted b octets request ≡ None → request ≡ None
 noted-first b octets request h = grind (arith, nat_tests)
 
--- the part of a call in which octets are heard, before it may leave
+-- the part of a call in which bytes are processed, before the end may disconnect
 pub record FeHeard (ils : List EndState) (f : JoinedEnd) (m : M.World) (now : ℕ) (y : EndState) : Type 0 where
   pub there : Reached (fe_at y.machine (joined_by ils f.joined f.end.request y.request) now m)
   pub idle : y.machine.connection ≡ Down → y.request ≡ None
@@ -401,7 +401,7 @@ fe-keeps laws ils f m dead now count is =
       times = λ x h. fe-same ils f m now x _ (k.times x h.whole) refl refl h;
     }
 
--- All parts that go up in a call are octets, where what waited was and what comes is.
+-- All parts that go up in a call are bytes, if what waited was and what comes is.
 octets-parts : (now : ℕ) (ps : List Part) (x : EndState) → AllByRecursion OctetPart ps → AtParts OctetsUp now ps x
 octets-parts now [] x h = tt
 octets-parts now (p ∷ ps) x h = (h.0, octets-parts now ps (part now p.1 x) h.1)

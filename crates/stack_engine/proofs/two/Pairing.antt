@@ -1,4 +1,4 @@
--- The sessions of each joined pair are joint, whatever calls come.
+-- The sessions of each joined pair are joint, for any calls.
 use Rattle.stack_engine.proofs.Words.{[], AllByRecursion, answered, ap, append-nil, append_assoc, AreTyped, arith, arrive_octets, Arrives, AtFe, AtIl, AtOpened}
 use Rattle.stack_engine.proofs.Words.{Bool, by_test, Call, call, call_fe, call_il, call_refusal, Calls, changed, Closes, comes_up, Completes, cond, Dialogue}
 use Rattle.stack_engine.proofs.Words.{ends_of, EndSettings, EndState, eqb-true, Err, Event, false, Fe, first_version, found_messages, found_telegram, Genuine}
@@ -46,12 +46,12 @@ joint-fe law b x y e next h =
       leads = law.1 h.events (AtFe e) b ∙ ap (happens-joined (AtFe e)) h.leads;
     }
 
--- an event that hands nothing is always in turn
+-- an event that brings nothing is always in turn
 pub next-quiet : (e : SessionEvent) (x y : History) → handed_by e ≡ [] → IsNext e x y
 next-quiet (Arrives t) x y h = cc
 next-quiet _ x y h = tt
 
--- For one of two sessions: J holds of its history, and stays where what happens is in turn.
+-- Of one of two sessions: J holds of its history, and stays if what happens is in turn.
 module _ (y : History) (J : History → Type 0) (more : (e : SessionEvent) (x : History) → IsNext e x y → J x → J (grown e x)) where
   begin-front : (a b : List Tele) → IsBeginning (a ++ b) y.queue → IsBeginning a y.queue
   begin-front a b h = (b ++ h.0, sym (append_assoc a b h.0) ∙ h.1)
@@ -118,7 +118,7 @@ module _ (y : History) (J : History → Type 0) (more : (e : SessionEvent) (x : 
   joint-leaves now None x h = h
   joint-leaves now (Some why) x h = h
 
-  -- octets come to an end whose units are a beginning of what its peer sent
+  -- bytes come to an end whose units are a prefix of what its peer sent
   pub joint-hears : Laws → (side : Side) (now : ℕ) (octets : List ℕ) (x : EndState) → Whole side x
       → IsBeginning (came (arrive_octets octets now x.machine)) y.queue → J x.session.history
       → J (heard now octets x).session.history
@@ -138,7 +138,7 @@ module _ (y : History) (J : History → Type 0) (more : (e : SessionEvent) (x : 
       in
       joint-leaves now j.leaving (answered octets x s) (joint-rises (comes_up x.machine.connection s.connection) j.left left)
 
--- what came to an end that took a beginning of what its peer sent
+-- what came to an end that took a prefix of what its peer sent
 pub begins-queue : (side : Side) (us : List (List ℕ)) (y : EndState) → Spoken side y → IsBeginning us (units y.machine.made)
     → IsBeginning (telegrams_in (messages_in us)) y.session.history.queue
 begins-queue side us y sp begins =
@@ -249,7 +249,7 @@ law-fe s q ils f fs di df ci cf now h = grind (arith, nat_tests, il-incarnations
 pub law-at : L.UnitLaw → (m : M.World) → Reached m → L.Law m
 law-at law m r = subst L.Law r.leads (law r.events r.genuine)
 
--- An end during a call: A of it, which says that it is whole, and J of its session's history and the octets that asked for the connection.
+-- An end during a call: A of it, that it is whole, and J of its session's history and of the bytes that requested the connection.
 record PairOf (A : EndState → Type 0) (J : History → Option (List ℕ) → Type 0) (s : EndSettings) (y : EndState) : Type 0 where
   at : A y
   set : y.settings ≡ s
@@ -333,7 +333,7 @@ JoinedNow ils f x = joined_by ils f.joined f.end.request x.request
 abbrev JointFe : EndSettings → List EndState → ℕ → History → Type 0
 JointFe s ils number h = MatchOption (incarnation ils number) ⊥ (λ g. Joint (new_pair g.settings s) g.session.history h)
 
--- where nobody asked for the connection it is joined to none
+-- if no end requested the connection, it is joined to none
 abbrev FeJoint : EndSettings → List EndState → JoinedEnd → History → Option (List ℕ) → Type 0
 FeJoint s ils f h request =
     (request ≡ None → joined_by ils f.joined f.end.request request ≡ None)
@@ -342,7 +342,7 @@ FeJoint s ils f h request =
 abbrev FePair : EndSettings → List EndState → JoinedEnd → M.World → ℕ → EndState → Type 0
 FePair s ils f m now = PairOf (FeAt ils f m now) (FeJoint s ils f) s
 
--- what octets do to a pair, once the interlocking is known
+-- what bytes do to a pair, if the interlocking is known
 fe-with : (p : Laws) (s : EndSettings) (now : ℕ) (octets : List ℕ) (x g : EndState) → Whole Fe x → Spoken Il g
     → IsBeginning (arrive_octets octets now x.machine).taken (units g.machine.made)
     → Joint (new_pair g.settings s) g.session.history x.session.history → Joint (new_pair g.settings s) g.session.history (heard now octets x).session.history
@@ -359,7 +359,7 @@ none-or : (o : Option ℕ) (number : ℕ) (fs : List M.Served) (g : EndState) �
     → (g.machine.taken ≡ []) ⊎ ((o ≡ Some number) ⊎ L.IsJoined number fs) → g.machine.taken ≡ []
 none-or o number fs g h k l = grind (arith, nat_tests, not-joined)
 
--- the pair before octets come: joined already, or new
+-- the pair before bytes come: joined already, or new
 fe-before : (p : Laws) (s : EndSettings) (ils : List EndState) (f : JoinedEnd) (fs : List JoinedEnd) (m : M.World) (now : ℕ) (octets : List ℕ)
     (x g : EndState) (number : ℕ) (b : Bool)
     → joins x.machine.connection (arrive_octets octets now x.machine).connection ≡ b → FePair s ils f m now x → Whole Il g → incarnation ils number ≡ Some g
@@ -435,7 +435,7 @@ fe-pair-keeps p ils f fs di df ci cf now is wholes =
     ))
 
 -- The events of a world.
--- a new incarnation of the interlocking has a number that none is joined to
+-- a new incarnation of the interlocking has a number to which no field element is joined
 pairs-open : (y : EndState) (ils : List EndState) (bound : ℕ) (fes : List JoinedEnd) → bound ≤ length ils + 1 → L.JoinsFall bound (served fes)
     → AllByRecursion (PairAt ils) fes → AllByRecursion (PairAt (y ∷ ils)) fes
 pairs-open y ils bound [] le fall h = tt

@@ -27,7 +27,7 @@ abbrev pub served : List JoinedEnd → List M.Served
 served [] = []
 served (f ∷ fs) = record { machine = f.end.machine; joined = f.joined } ∷ served fs
 
--- what stands in the world of machines before the first opening
+-- the world of machines before the first opening
 abbrev pub unserved : M.Served
 unserved = record { machine = M.unopened; joined = None }
 
@@ -295,7 +295,7 @@ law-of ils fes di df ci cf h =
     subst (λ fs. L.LawOf (states ils) fs) (fe-incarnations (served fes))
     (subst (λ ss. L.LawOf ss (L.fe_incarnations (machines ils fes di df ci cf))) (il-incarnations (states ils)) h)
 
--- beginnings
+-- prefixes
 pub begin-then : {X : Type 0} (a b c : List X) → IsBeginning a b → IsBeginning b c → IsBeginning a c
 begin-then a b c h k = (h.0 ++ k.0, sym (append_assoc a h.0 k.0) ∙ ap (λ xs. xs ++ k.0) h.1 ∙ k.1)
 
@@ -312,7 +312,7 @@ begin-came us vs h = (
   sym (telegrams-append (messages_in us) (messages_in h.0)) ∙ ap telegrams_in (sym (messages-append us h.0)) ∙ ap (λ ws. telegrams_in (messages_in ws)) h.1,
 )
 
--- what an application took is a beginning of the items judged, and what was put in is the items of the queue
+-- what an application took is a prefix of the items judged, and what was put is the items of the queue
 pub taken-judged : Laws → (side : Side) (x : EndState) → Spoken side x → IsBeginning (taken_at x) (items_of x.session.history.judged)
 taken-judged laws side x h = grind (arith, nat_tests, h.talk.events, h.talk.history, laws.taken)
 
@@ -437,7 +437,8 @@ guard-takes law now s = let one = law (Guards now) s in one.taken ∙ ap (λ us.
 by-read : MovesLaw → (side : Side) (now : ℕ) (octets : List ℕ) (x : EndState) (peer : List Made) → x.machine.settings ≡ connection_of side x.settings
     → ((p : Pdu) → seen_by x.machine octets ≡ Ok p → (move (Hears p now) x.machine).taken ≢ x.machine.taken → Fresh x.machine p now peer)
     → (r : Result Pdu SafeFault) → seen_by x.machine octets ≡ r → TakesFresh now peer x octets
-by-read law side now octets x peer same fresh (Err fault) e takes = grind (arith, nat_tests, guard-takes, nothing-taken)
+by-read law side now octets x peer same fresh (Err fault) e takes =
+    absurd (takes (nothing-taken now octets x (ap (λ q. (move (heard_as q now) x.machine).taken) e ∙ guard-takes law now x.machine)))
 by-read law side now octets x peer same fresh (Ok p) e takes = (
   p,
   ap (λ (r : CodeRule). safe_seen r octets) (sym (ap (λ (s : Settings). s.rule) same ∙ rule-same side x.settings)) ∙ e,

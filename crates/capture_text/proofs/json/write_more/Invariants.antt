@@ -3,7 +3,7 @@ use Rattle.std.specs.Io.KnownBytes.{Appends}
 use Rattle.capture_text.specs.Json.{more_json}
 use Rattle.capture_text.proofs.json.write_more.Given as goal
 
--- Whatever the connections that are left lead to, all lead to.
+-- The text so far and that of the remaining connections make up the whole text.
 abbrev pub invariant-loop-connection : goal.invariant-loop-connection
 invariant-loop-connection g l =
     (end : Option (List ℕ)) → Appends (g.W.Write.contents l.writer) end (more_json (drop l.connection-index l.connections))

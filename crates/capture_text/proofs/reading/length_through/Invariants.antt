@@ -1,4 +1,4 @@
--- No line feed was met so far.
+-- There was no line feed so far.
 use Rattle.std.proofs.Common.{◌≢◌, ◌-◌, ◌≤◌, All, length, take}
 use Rattle.capture_text.proofs.reading.length_through.Given as goal
 

@@ -1,4 +1,4 @@
--- What was taken so far has no line feed, and its front is kept.
+-- The text taken so far has no line feed, and its prefix is kept.
 use Rattle.std.proofs.Common.{◌≡◌, ◌≢◌, ◌≤◌, ℕ, List, All, vec_len, vec_items}
 use Rattle.std.specs.Io.KnownBytes.{Consumes}
 use Rattle.capture_text.specs.Lines.{cut}

@@ -3,7 +3,7 @@ use Rattle.std.specs.Io.KnownBytes.{Appends}
 use Rattle.capture_text.specs.SummaryText.{connections_text}
 use Rattle.capture_text.proofs.summary.write_connections.Given as goal
 
--- Whatever the sums that are left lead to, all sums lead to.
+-- The lines so far and those of the remaining connections make up all lines.
 abbrev pub invariant-loop-connection : goal.invariant-loop-connection
 invariant-loop-connection g l =
     (end : Option (List ℕ)) → Appends (g.W.Write.contents l.writer) end (connections_text l.scale (drop l.connection-index l.connections))

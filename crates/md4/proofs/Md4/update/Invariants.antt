@@ -2,7 +2,7 @@ use Rattle.std.proofs.Common.{◌≡◌, ℕ, List, ◌++◌, ◌+◌, ◌*◌, 
 use Rattle.md4.specs.Md4.{HasTaken, StandsFor}
 use Rattle.md4.proofs.Md4.update.Given as goal
 
--- all up to the block that comes next is taken, and it ends with a block
+-- everything up to the next block is taken in, and ends with a complete block
 abbrev pub invariant-blocks-2 : goal.invariant-blocks-2
 invariant-blocks-2 l =
     (l.self.total ≡ (l.fn.self.total + length l.octets) % 2 ^ 64) × (l.start + 64 * l.i ≤ length l.octets)

@@ -4,7 +4,7 @@ use Rattle.pdu_text.specs.MessageText.{are_telegrams, message_lines}
 use Rattle.pdu_text.proofs.MessageLemmas.{octets_of_all}
 use Rattle.pdu_text.proofs.messages.write_messages.Given as goal
 
--- Whatever the lines that are left lead to, all lines lead to; and what is clean so far says what is left to say.
+-- Writing the lines that are left completes all lines; and the tests so far and those left give the test of all.
 abbrev pub invariant-loop-i : goal.invariant-loop-i
 invariant-loop-i g l = record {
   written : (end : Option (List ℕ)) → Appends (g.W.Write.contents l.writer) end (message_lines (l.i + 1) (octets_of_all (drop l.i l.messages)))

@@ -1,4 +1,4 @@
--- The end is no later than the clock, and the clock is in its bounds.
+-- The end's time is at most that of the clock, which is within its bounds.
 use Rattle.std.proofs.Common.{◌≤◌}
 use Rattle.rasta_run.specs.Ticking.{greatest_time}
 use Rattle.rasta_run.proofs.net.run_until_end.Given as goal

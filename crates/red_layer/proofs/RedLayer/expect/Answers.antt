@@ -4,7 +4,7 @@ use Rattle.red_layer.specs.Redundancy.{Receiver}
 use Rattle.red_layer.proofs.Views.{length-map_parts}
 use Rattle.red_layer.proofs.RedLayer.expect.Goals as goal
 
--- nothing waits in the table
+-- no part is deferred in the table
 pub invariant_of-self : goal.invariant_of-self
 invariant_of-self g c =
     let none : c.self.inside.waiting.waiting ≡ [] =

@@ -6,7 +6,8 @@ use Rattle.safe_machine.proofs.one.Carriers.{reached_law_holds}
 use Rattle.safe_machine.proofs.code.Reaching.{few_law_holds}
 use Rattle.safe_machine.proofs.one.Runs.{ring_of-units}
 use Rattle.safe_machine.proofs.code.Properties.{recent_law_holds}
-use Rattle.safe_machine.proofs.one.Turning.{made_law_holds, octets_law_holds, opening_law_holds, tells_law_holds, turns_law_holds}
+use Rattle.safe_machine.proofs.one.Ahead.{made_law_holds}
+use Rattle.safe_machine.proofs.one.Turning.{octets_law_holds, opening_law_holds, tells_law_holds, turns_law_holds}
 use Rattle.safe_machine.proofs.law.unit_law.Goals as goal
 
 pub returns : goal.returns

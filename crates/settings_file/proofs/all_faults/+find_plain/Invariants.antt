@@ -1,4 +1,4 @@
--- The rest is shorter.
+-- The rest of the list is shorter.
 use Rattle.std.proofs.Common.{length}
 use Rattle.settings_file.proofs.all_faults.+find_plain.Given as goal
 

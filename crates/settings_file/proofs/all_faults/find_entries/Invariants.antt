@@ -1,4 +1,4 @@
--- What is found, and what is left to be found, is all; the next entry has the next number.
+-- The faults found so far, followed by those of the other entries, are all faults; the next entry has the next number.
 use Rattle.std.proofs.Common.{◌≡◌, ◌+◌, ◌++◌, drop, map}
 use Rattle.toml.specs.View.{items_view}
 use Rattle.settings_file.specs.Findings.{entry_faults, finding_seen}

@@ -1,4 +1,4 @@
--- What is found, and what is left to be found, is all.
+-- The faults found so far, followed by those of the other keys, are all faults.
 use Rattle.std.proofs.Common.{◌≡◌, ◌++◌, map}
 use Rattle.std.specs.Prelude.{None}
 use Rattle.toml.specs.View.{members_view, table_view}

@@ -1,4 +1,4 @@
--- With what is left to read, all are read.
+-- The telegrams read so far, followed by those of the other items, are the whole list.
 use Rattle.std.proofs.Common.{◌≡◌, ◌++◌, drop, map, option_map}
 use Rattle.toml.specs.View.{items_view}
 use Rattle.settings_file.specs.Readers.{puts_of}

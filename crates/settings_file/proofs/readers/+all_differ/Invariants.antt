@@ -1,4 +1,4 @@
--- The rest is shorter.
+-- The rest of the list is shorter.
 use Rattle.std.proofs.Common.{length}
 use Rattle.settings_file.proofs.readers.+all_differ.Given as goal
 

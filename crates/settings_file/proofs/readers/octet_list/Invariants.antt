@@ -1,4 +1,4 @@
--- One number for each item so far, and with what is left to read, all are read.
+-- There is one number for each item so far; these and the numbers of the other items are the whole list.
 use Rattle.std.proofs.Common.{◌≡◌, ◌++◌, drop, option_map}
 use Rattle.arrayvec.specs.ArrayVec.{array_vec_len}
 use Rattle.toml.specs.View.{items_view}

@@ -1,4 +1,4 @@
--- The keys so far are known.
+-- All keys so far are known.
 use Rattle.std.proofs.Common.{◌≡◌}
 use Rattle.toml.specs.View.{members_view, table_view}
 use Rattle.settings_file.specs.Whole.{first_unknown}

@@ -3,6 +3,6 @@ use Rattle.std.specs.List.{list_all}
 use Rattle.sim.specs.Ledger.{named_by}
 use Rattle.sim.proofs.labels.first_from.Given as goal
 
--- Each label before the place is named.
+-- All labels before the place are named.
 abbrev pub invariant-loop-place : goal.invariant-loop-place
 invariant-loop-place g l = list_all (named_by l.il l.fe) (take l.place l.order) ≡ true

@@ -3,11 +3,12 @@ use Rattle.stack_end.proofs.Words.{SendsOne, Settings, settings_of, side_of, sub
 use Rattle.end_settings.specs.EndSettings.{connection_of}
 use Rattle.end_settings.specs.declared.Side.TheVariants.{Interlocking}
 use Rattle.safe_machine.proofs.one.Turning.{opening_law_holds}
-use Rattle.safe_machine.specs.State.{opened}
+use Rattle.safe_machine.specs.Step.{opened}
 use Rattle.safe_machine.specs.View.{settings_of as machine_settings}
 use Rattle.std.proofs.Common.{zero-add}
 use Rattle.stack_end.proofs.Going.{datagrams-out}
 use Rattle.stack_end.proofs.Turning.{behind-wrap, datagrams-are, opens-made}
+use Rattle.stack_end.specs.Statistics.{none_made, with_made}
 use Rattle.stack_end.proofs.opening.open_machine.Goals as goal
 
 pub returns-in-Ok-clause-stands : goal.returns-in-Ok-clause-stands
@@ -33,7 +34,7 @@ returns-in-Ok-clause-sent g c =
     let rule : c.machine.result.rule ≡ rule_of settings = ap (λ (s : Settings). s.rule) (c.machine.ensures Interlocking) in
     let machine = machine_settings c.role-role.result c.machine.result in
     let made = (opens machine c.args.first_sn c.args.now).made in
-    let out = datagrams-out (λ s. told s.channels.now) (λ s. s.numbers.now) (λ s. s.count) _ (λ s pdu t r. (r.2, r.3, r.4)) c.machine.result.rule made _ _
+    let out = datagrams-out (λ s. told s.channels.now) (λ s. s.numbers.now) (λ s. s.count) (λ s. s.made.now) _ (λ s pdu t r. (r.3, r.4, r.5, r.6)) c.machine.result.rule made _ _
     c.in-Ok.ensures.made in
     let spelled =
     ap (λ r. datagrams r settings.channels c.args.numbers.now made) rule
@@ -54,7 +55,7 @@ returns-in-Ok-clause-numbered g c =
     ap (λ r. machine_settings r c.machine.result) c.role-role.ensures ∙ c.machine.ensures c.args.side in
     let machine = machine_settings c.role-role.result c.machine.result in
     let made = (opens machine c.args.first_sn c.args.now).made in
-    let out = datagrams-out (λ s. g.C.Channels.told s.channels.now) (λ s. s.numbers.now) (λ s. s.count) _ (λ s pdu t r. (r.2, r.3, r.4)) c.machine.result.rule
+    let out = datagrams-out (λ s. g.C.Channels.told s.channels.now) (λ s. s.numbers.now) (λ s. s.count) (λ s. s.made.now) _ (λ s pdu t r. (r.3, r.4, r.5, r.6)) c.machine.result.rule
     made _ _ c.in-Ok.ensures.made in
     let numbered =
     out.1
@@ -64,3 +65,20 @@ returns-in-Ok-clause-numbered g c =
     ∙ ap (λ (q : Settings). length (opened q c.args.first_sn c.args.now).made % 2 ^ 32) is))) in
     let same = FoldsTo-keeps (λ s. s.numbers.ghost_name) _ (λ s x t h. h.1) _ _ _ c.in-Ok.ensures.made in
     search (rules, numbered, same)
+
+pub returns-in-Ok-clause-made : goal.returns-in-Ok-clause-made
+returns-in-Ok-clause-made g c =
+    let settings : EndSettings = settings_of c.args.config.now in
+    let is : machine_settings c.role-role.result c.machine.result ≡ connection_of (side_of c.args.side) settings =
+    ap (λ r. machine_settings r c.machine.result) c.role-role.ensures ∙ c.machine.ensures c.args.side in
+    let machine = machine_settings c.role-role.result c.machine.result in
+    let made = (opens machine c.args.first_sn c.args.now).made in
+    let out = datagrams-out (λ s. g.C.Channels.told s.channels.now) (λ s. s.numbers.now) (λ s. s.count) (λ s. s.made.now) _
+    (λ s pdu t r. (r.3, r.4, r.5, r.6)) c.machine.result.rule made _ _ c.in-Ok.ensures.made in
+    let counted =
+    out.2
+    ∙ (ap (with_made made) c.requires.none
+    ∙ (ap (λ ms. with_made ms none_made) (sym (opening_law_holds machine c.args.first_sn c.args.now).made)
+    ∙ ap (λ (q : Settings). with_made (opened q c.args.first_sn c.args.now).made none_made) is)) in
+    let same = FoldsTo-keeps (λ s. s.made.ghost_name) _ (λ s x t h. h.2) _ _ _ c.in-Ok.ensures.made in
+    search (rules, counted, same)

@@ -8,4 +8,4 @@ pub returns-clause-does : goal.returns-clause-does
 returns-clause-does c =
     let s : StationValue = record { end = c.self.inside.end; inbox = c.self.inside.inbox; time = c.self.inside.time; reserve = c.self.inside.reserve } in
     let t : StationValue = record { end = c.close.new.self; inbox = c.self.inside.inbox; time = c.args.now; reserve = c.self.inside.reserve } in
-    rw (← c.self.view_is) (does-alone (Close c.args.now) s t c.close.ensures.turns c.close.ensures.time refl)
+    rw (← c.self.view_is) (does-alone (Close c.args.now) s t c.close.ensures.turns c.close.ensures.time refl refl)

@@ -4,7 +4,7 @@ use Rattle.pdi_session.specs.packing.Places.{after, pieces_seen}
 use Rattle.pdi_session.specs.packing.UnitText.{messages_of}
 use Rattle.pdi_session.proofs.packing.unit.messages_in.Given as goal
 
--- what was read, and then what is still to be read, is all
+-- what was read and what is still to be read make up the unit
 abbrev pub invariant-loop-rest : goal.invariant-loop-rest
 invariant-loop-rest l =
     (after (messages_of l.messages) (pieces_seen (UNIT_MESSAGES - length l.messages.items) l.rest) ≡ pieces_seen UNIT_MESSAGES l.octets)

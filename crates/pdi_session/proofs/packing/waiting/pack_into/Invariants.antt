@@ -2,7 +2,7 @@ use Rattle.std.proofs.Common.{◌≡◌, ◌++◌, ◌+◌, ◌-◌, ◌*◌, �
 use Rattle.pdi_session.specs.packing.UnitText.{unit_text}
 use Rattle.pdi_session.proofs.packing.waiting.pack_into.Given as goal
 
--- what is written, and then what is still to be taken, is all
+-- what is written and what is still to be taken stay the same together
 abbrev pub invariant-loop-taken : goal.invariant-loop-taken
 invariant-loop-taken g l =
     record {

@@ -1,4 +1,4 @@
--- Neither end is later than the clock, and the clock is in its bounds.
+-- The times of both ends are at most that of the clock, which is within its bounds.
 use Rattle.std.proofs.Common.{◌≤◌}
 use Rattle.rasta_run.specs.Ticking.{greatest_time}
 use Rattle.rasta_run.proofs.both.Both.run_until_end.Given as goal

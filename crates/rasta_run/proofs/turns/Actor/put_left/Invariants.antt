@@ -1,4 +1,4 @@
--- No time has passed for the end; what was left before is what is done with, one telegram each time round, and what is left.
+-- The end's time has not changed; the telegrams at first are those done with, one for each iteration, and those left.
 use Rattle.std.proofs.Common.{◌≡◌, ◌≤◌, ◌++◌, List, length}
 use Rattle.std.specs.List.{FoldsTo}
 use Rattle.settings_file.specs.declared.values.Put.{Put}

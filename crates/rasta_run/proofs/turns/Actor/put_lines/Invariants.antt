@@ -1,4 +1,4 @@
--- No time has passed for the end.
+-- The end's time has not changed.
 use Rattle.std.proofs.Common.{◌≤◌}
 use Rattle.rasta_run.proofs.turns.Actor.put_lines.Given as goal
 

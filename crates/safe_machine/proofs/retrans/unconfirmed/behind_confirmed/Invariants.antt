@@ -2,7 +2,7 @@ use Rattle.std.proofs.Common.{◌≡◌, length}
 use Rattle.safe_machine.specs.retrans.Units.{IsRing, Rises, above, all_shown, units_from}
 use Rattle.safe_machine.proofs.retrans.unconfirmed.behind_confirmed.Given as goal
 
--- what is left to confirm leaves what is to be left
+-- Confirming the units that are left to check leads to the final list.
 abbrev pub invariant-loop-count : goal.invariant-loop-count
 invariant-loop-count l =
     record {

@@ -2,7 +2,7 @@ use Rattle.std.proofs.Common.{◌≡◌, ◌+◌, ◌++◌, drop, length, take}
 use Rattle.safe_machine.specs.retrans.Units.{all_shown, octets_of, renumbered, units_from}
 use Rattle.safe_machine.proofs.retrans.unconfirmed.renumber_all.Given as goal
 
--- with what is left to be written, all is written
+-- After the numbers that are left to write, all are written.
 abbrev pub invariant-loop-far : goal.invariant-loop-far
 invariant-loop-far l =
     record {

@@ -1,4 +1,4 @@
-use Rattle.stack_end.proofs.Words.{ap, arrives, can_pack, DatagramRecent, Deliver, false, HasHeard, Inside, inside, inside_of, subst, sym, TakesPart, turn, ◌∙◌}
+use Rattle.stack_end.proofs.Words.{arrives, can_pack, DatagramRecent, false, HasHeard, Inside, inside, inside_of, subst, sym, TakesPart}
 use Rattle.stack_end.proofs.Words.{◌≡◌}
 use Rattle.stack_end.proofs.Packing.{arrives-empties, datagram-recent, has-heard, takes-part}
 use Rattle.stack_end.proofs.Turning.{layers-turn}
@@ -6,30 +6,26 @@ use Rattle.stack_end.proofs.end.End.take_datagram.Goals as goal
 
 pub returns-clause-turns : goal.returns-clause-turns
 returns-clause-turns g c =
-    layers-turn g.C.Channels.told g.T.Taker.takes (arrives c.args.now c.args.octets.now) c.self.inside.layers c.arrive.new.self c.self.inside.time c.args.now
-    c.args.self.now c.args.taker.now c.arrive.new.taker c.self.view_is c.arrive.ensures.does
+    layers-turn g.C.Channels.told g.T.Taker.takes (arrives c.args.now c.args.octets.now) c.self.inside.layers c.arrive-event.new.self c.self.inside.time c.args.now c.self.inside.receptions c.count_reception.new.channels
+    c.args.self.now c.args.taker.now c.arrive-event.new.taker c.self.view_is c.arrive-event.ensures.does
 
 pub returns-clause-packs : goal.returns-clause-packs
 returns-clause-packs g c =
-    subst (λ (i : Inside). can_pack i.upper ≡ false) (sym c.arrive.ensures.does.left)
+    subst (λ (i : Inside). can_pack i.upper ≡ false) (sym c.arrive-event.ensures.does.left)
     (arrives-empties c.args.now c.args.octets.now (inside_of c.self.inside.layers) c.self.invariant.some)
 
 pub returns-clause-recent : goal.returns-clause-recent
 returns-clause-recent g c =
-    subst (λ v. DatagramRecent g.T.Taker.takes c.args.now c.args.octets.now (inside v) c.args.taker.now c.arrive.new.taker) c.self.view_is
-    (datagram-recent g.T.Taker.takes c.args.now c.args.octets.now (inside_of c.self.inside.layers) c.args.taker.now c.arrive.new.taker
-    c.arrive.ensures.does.taken)
+    subst (λ v. DatagramRecent g.T.Taker.takes c.args.now c.args.octets.now (inside v) c.args.taker.now c.arrive-event.new.taker) c.self.view_is
+    (datagram-recent g.T.Taker.takes c.args.now c.args.octets.now (inside_of c.self.inside.layers) c.args.taker.now c.arrive-event.new.taker
+    c.arrive-event.ensures.does.taken)
 
 pub returns-clause-hears : goal.returns-clause-hears
 returns-clause-hears g c =
-    subst (λ v. HasHeard c.args.now c.args.octets.now (inside v) (inside_of c.arrive.new.self)) c.self.view_is
-    (has-heard c.args.now c.args.octets.now (inside_of c.self.inside.layers) (inside_of c.arrive.new.self) c.arrive.ensures.does.left)
+    subst (λ v. HasHeard c.args.now c.args.octets.now (inside v) (inside_of c.arrive-event.new.self)) c.self.view_is
+    (has-heard c.args.now c.args.octets.now (inside_of c.self.inside.layers) (inside_of c.arrive-event.new.self) c.arrive-event.ensures.does.left)
 
 pub returns-clause-passes : goal.returns-clause-passes
 returns-clause-passes g c =
-    subst (λ v. TakesPart g.T.Taker.takes c.args.now c.args.octets.now (inside v) c.args.taker.now c.arrive.new.taker) c.self.view_is
-    (takes-part g.T.Taker.takes c.args.now c.args.octets.now (inside_of c.self.inside.layers) c.args.taker.now c.arrive.new.taker c.arrive.ensures.does.taken)
-
-pub returns-clause-any_channel : goal.returns-clause-any_channel
-returns-clause-any_channel g c other =
-    c.arrive.ensures.does.left ∙ ap (λ v. (turn (Deliver other c.args.octets.now c.args.now) (inside v)).left) c.self.view_is
+    subst (λ v. TakesPart g.T.Taker.takes c.args.now c.args.octets.now (inside v) c.args.taker.now c.arrive-event.new.taker) c.self.view_is
+    (takes-part g.T.Taker.takes c.args.now c.args.octets.now (inside_of c.self.inside.layers) c.args.taker.now c.arrive-event.new.taker c.arrive-event.ensures.does.taken)

@@ -1,5 +1,6 @@
-use Rattle.stack_end.proofs.Words.{above, Datagram, followed, goes_on, guards, inside_of}
-use Rattle.stack_end.proofs.Going.{above-went, alone-told, open-went, went-alone, went-then}
+use Rattle.stack_end.proofs.Words.{above, ap, Datagram, followed, goes_on, guards, inside_of, ◌∙◌}
+use Rattle.stack_end.proofs.Going.{above-went, alone-told, open-event, open-went, went-alone, went-then}
+use Rattle.stack_end.specs.Turns.{red_event}
 use Rattle.stack_end.proofs.layers.Layers.arrive.Goals as goal
 
 pub returns-in_default-clause-does : goal.returns-in_default-clause-does
@@ -13,3 +14,12 @@ returns-in_default-clause-does g c =
     in
     open-went takes v (followed t (goes_on now i)) c.state.result _ _ _ _ _ c.state.ensures.state c.in_default.not-Closed
     (went-then takes t (goes_on now i) _ _ _ _ _ _ _ _ one c.deliver.ensures.does)
+
+pub returns-in_default-clause-event : goal.returns-in_default-clause-event
+returns-in_default-clause-event g c =
+    let now = c.args.now in
+    let octets = c.args.octets.now in
+    let v = inside_of c.args.self.now in
+    c.deliver.ensures.event
+    ∙ (ap (λ w. red_event now octets (record { red = v.red; upper = w })) c.guard.ensures.does.left
+    ∙ open-event v c.state.result _ c.state.ensures.state c.in_default.not-Closed)

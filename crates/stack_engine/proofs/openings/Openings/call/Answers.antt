@@ -4,7 +4,7 @@ use Rattle.stack_engine.specs.declared.ApplyFault.{ApplyFault}
 use Rattle.stack_engine.proofs.code.Histories.{call-time}
 use Rattle.stack_engine.proofs.openings.Openings.call.Goals as goal
 
--- where no time refuses it, what the present incarnation answers is what the side does
+-- if no time refuses it, the result of the present incarnation is that of the side
 called : {A R : Type 0} (o : Option (Incarnation A)) (i : Incarnation A) (r : Result R ApplyFault) (c : Call) (xs : List EndState) → o ≡ Some i
     → PresentStands o xs → IsOfSession (call_refusal c (latest xs))
     → ((x : EndState) → IncStands i x → MatchResult r (λ _. session_refusal c x ≡ None) (λ f. NamesRefusal f (session_refusal c x)))

@@ -1,0 +1,96 @@
+--  bekwidas.h for Ada: copy this file into your project, and link with -lbekwidas. Bekwidas.h says what each function and member means.
+with Interfaces.C; use Interfaces.C;
+with Interfaces; use Interfaces;
+with System;
+
+package Bekwidas is
+   Ok : constant int := 0;
+   Nothing : constant int := 1;
+   Datagram_Max : constant := 1258;
+   Payload_Max : constant := 357;
+   Interlocking : constant Unsigned_32 := 1;
+   Field_Element : constant Unsigned_32 := 2;
+
+   type Octets is array (size_t range <>) of aliased Unsigned_8 with Convention => C;
+
+   type Bek_End is limited record
+      Station : System.Address := System.Null_Address;
+      Is_Open : Unsigned_32 := 0;
+   end record with Convention => C;
+
+   type Settings is record
+      Size, Side, Id, Peer_Id, First_Sn, Protocol, Code, Channels, N_Sendmax, N_Maxpacket, Q : Unsigned_32 := 0;
+      T_Max, T_H, T_Seq, Mwa, Pdu_Limit, Telegram_Room, Datagram_Room, Version_Count, Checksum_Length : Unsigned_32 := 0;
+      Versions : Octets (0 .. 3) := (others => 0);
+      Checksum, Initial_Value : Octets (0 .. 15) := (others => 0);
+      Name, Peer_Name : char_array (0 .. 23) := (others => nul);
+   end record with Convention => C;
+
+   Settings_Size : constant size_t := Settings'Size / 8;
+
+   type Counts is record
+      Telegrams, Datagrams, Unsent : Unsigned_64 := 0;
+   end record with Convention => C;
+
+   type Leaving is record
+      Time : Unsigned_64 := 0;
+      By, Reason, Detail, Version : Unsigned_32 := 0;
+   end record with Convention => C;
+
+   --  Last is 2 ** 64 - 1 before the first datagram.
+   type Reception is record
+      Received, Passed, Deferred, Old, Repeated, Far, Full, Damaged, Last : Unsigned_64 := 0;
+   end record with Convention => C;
+   type Receptions is array (1 .. 4) of Reception with Convention => C;
+
+   type Statistics is record
+      Channels : Receptions;
+      Taken, Gaps, Damaged, Strangers, Unopened, Far, Unrequested, Answered, Below, Oldest, Longest_Wait : Unsigned_64 := 0;
+      Units, Resent, Heartbeats, Requests, Answers, Confirmed : Unsigned_64 := 0;
+   end record with Convention => C;
+
+   function Version return Unsigned_32 with Import, Convention => C, External_Name => "bek_version";
+   function Init (S : access Settings; Size : size_t) return int with Import, Convention => C, External_Name => "bek_settings_init";
+   function Fault (S : access constant Settings; Field : access Unsigned_32; Text : System.Address; Size : size_t) return int
+     with Import, Convention => C, External_Name => "bek_settings_fault";
+   function Rooms (S : access constant Settings; Telegrams, Datagrams : access Unsigned_32) return int
+     with Import, Convention => C, External_Name => "bek_rooms";
+   function Open (E : access Bek_End; S : access constant Settings; Now : Unsigned_64) return int
+     with Import, Convention => C, External_Name => "bek_open";
+   function Reopen (E : access Bek_End; First_Sn : Unsigned_32; Now : Unsigned_64) return int
+     with Import, Convention => C, External_Name => "bek_reopen";
+   procedure Free (E : access Bek_End) with Import, Convention => C, External_Name => "bek_free";
+   function Arrive (E : access Bek_End; Channel : Unsigned_32; Buffer : System.Address; Length : size_t; Now : Unsigned_64) return int
+     with Import, Convention => C, External_Name => "bek_arrive";
+   function Tick (E : access Bek_End; Now : Unsigned_64) return int with Import, Convention => C, External_Name => "bek_tick";
+   function Next_Deadline (E : access constant Bek_End; Deadline : access Unsigned_64) return int
+     with Import, Convention => C, External_Name => "bek_next_deadline";
+   function Put (E : access Bek_End; Kind : Unsigned_16; Payload : System.Address; Length : size_t; Now : Unsigned_64) return int
+     with Import, Convention => C, External_Name => "bek_put";
+   function Init_Done (E : access Bek_End; Now : Unsigned_64) return int with Import, Convention => C, External_Name => "bek_init_done";
+   function Close (E : access Bek_End; Now : Unsigned_64) return int with Import, Convention => C, External_Name => "bek_close";
+   function Take (E : access Bek_End; Kind : access Unsigned_16; Buffer : System.Address; Size : size_t; Length : access size_t) return int
+     with Import, Convention => C, External_Name => "bek_take";
+   function Next_Datagram (E : access Bek_End; Channel : access Unsigned_32; Buffer : System.Address; Size : size_t; Length : access size_t)
+     return int with Import, Convention => C, External_Name => "bek_next_datagram";
+   function State (E : access constant Bek_End) return int with Import, Convention => C, External_Name => "bek_state";
+   function Phase (E : access constant Bek_End) return int with Import, Convention => C, External_Name => "bek_phase";
+   function Is_Stale (E : access constant Bek_End) return int with Import, Convention => C, External_Name => "bek_is_stale";
+   function Settled (E : access constant Bek_End) return int with Import, Convention => C, External_Name => "bek_settled";
+   function Confirmed (E : access constant Bek_End; Count : access Unsigned_64) return int
+     with Import, Convention => C, External_Name => "bek_confirmed";
+   function Confirmed_Time (E : access constant Bek_End; Time : access Unsigned_64) return int
+     with Import, Convention => C, External_Name => "bek_confirmed_time";
+   function Departure (E : access constant Bek_End; L : access Leaving) return int
+     with Import, Convention => C, External_Name => "bek_departure";
+   function Leaving_Text (L : access constant Leaving; Text : System.Address; Size : size_t) return size_t
+     with Import, Convention => C, External_Name => "bek_leaving_text";
+   function Counts_Of (E : access constant Bek_End; C : access Counts) return int
+     with Import, Convention => C, External_Name => "bek_counts_of";
+   function Statistics_Of (E : access constant Bek_End; S : access Statistics) return int
+     with Import, Convention => C, External_Name => "bek_statistics_of";
+   function Version_Text (Text : System.Address; Size : size_t) return size_t
+     with Import, Convention => C, External_Name => "bek_version_text";
+   function Fault_Text (Result : int; Text : System.Address; Size : size_t) return size_t
+     with Import, Convention => C, External_Name => "bek_fault_text";
+end Bekwidas;

@@ -1,0 +1,20 @@
+# find_package(bekwidas) defines the targets bekwidas::bekwidas (static), bekwidas::shared and bekwidas::toml (static, with bekwidas::bekwidas).
+get_filename_component(bekwidas_PREFIX "${CMAKE_CURRENT_LIST_DIR}/../../.." ABSOLUTE)
+foreach(bekwidas_TARGET bekwidas;shared;toml)
+    if(NOT TARGET bekwidas::${bekwidas_TARGET})
+        if(bekwidas_TARGET STREQUAL "shared")
+            add_library(bekwidas::shared SHARED IMPORTED)
+            set(bekwidas_FILE libbekwidas.so)
+        elseif(bekwidas_TARGET STREQUAL "toml")
+            add_library(bekwidas::toml STATIC IMPORTED)
+            set(bekwidas_FILE libbekwidas_toml.a)
+            set_target_properties(bekwidas::toml PROPERTIES INTERFACE_LINK_LIBRARIES bekwidas::bekwidas)
+        else()
+            add_library(bekwidas::bekwidas STATIC IMPORTED)
+            set(bekwidas_FILE libbekwidas.a)
+        endif()
+        set_target_properties(bekwidas::${bekwidas_TARGET} PROPERTIES
+            IMPORTED_LOCATION "${bekwidas_PREFIX}/lib/${bekwidas_FILE}"
+            INTERFACE_INCLUDE_DIRECTORIES "${bekwidas_PREFIX}/include")
+    endif()
+endforeach()

@@ -1,0 +1,130 @@
+//! The counts of an end, as C sees them.
+
+ghost use Rattle.std.specs.Prelude.{◌≡◌};
+ghost use Rattle.bekwidas.specs.Statistics as plain;
+
+use octets::limits::CHANNELS_MAX;
+use stack_end::{ReceptionCounts, Statistics};
+
+/// The datagrams that came on one channel since the opening.
+#[repr(C)]
+#[derive(Drop)]
+pub struct PlainReceptions {
+    /// All that came, those to a closed end among them.
+    pub received: u64,
+    /// Those with the expected number.
+    pub passed: u64,
+    /// Those that came early and were deferred.
+    pub deferred: u64,
+    /// Those whose number is below the expected one.
+    pub old: u64,
+    /// Those that came early, with a number that was deferred already.
+    pub repeated: u64,
+    /// Those whose number is too far ahead.
+    pub far: u64,
+    /// Those that came early while every place was taken.
+    pub full: u64,
+    /// Those that are no redundancy PDU.
+    pub damaged: u64,
+    /// The own time of the last redundancy PDU that was not too far ahead, in milliseconds, or 2^64 - 1 if none came.
+    pub last: u64,
+}
+
+/// All that an end has counted since its opening.
+#[repr(C)]
+#[derive(Drop)]
+pub struct PlainStatistics {
+    /// The datagrams that came, by channel, that of number 1 first.
+    pub channels: [PlainReceptions; CHANNELS_MAX],
+    /// PDUs that the safety machine took.
+    pub taken: u64,
+    /// PDUs that revealed a gap.
+    pub gaps: u64,
+    /// Dropped: no safety PDU with a valid safety code.
+    pub damaged: u64,
+    /// Dropped: of another receiver or sender.
+    pub strangers: u64,
+    /// Dropped: no ConnReq, while the end waits for one.
+    pub unopened: u64,
+    /// Dropped: the sequence number is too far ahead.
+    pub far: u64,
+    /// Dropped: not the RetrResp that the end waits for.
+    pub unrequested: u64,
+    /// Dropped: a RetrReq that was answered before.
+    pub answered: u64,
+    /// Dropped: a RetrReq that confirms less than was confirmed before.
+    pub below: u64,
+    /// The greatest age of a timestamp that a PDU confirmed when it was taken, in milliseconds.
+    pub oldest: u64,
+    /// The longest time without a confirmation before a PDU was taken, in milliseconds.
+    pub longest_wait: u64,
+    /// Units sent for the first time.
+    pub units: u64,
+    /// Units sent again.
+    pub resent: u64,
+    /// Heartbeats sent.
+    pub heartbeats: u64,
+    /// Retransmissions requested.
+    pub requests: u64,
+    /// Retransmissions granted.
+    pub answers: u64,
+    /// Units that the peer has confirmed.
+    pub confirmed: u64,
+}
+
+/// Returns the counts of a channel in numbers.
+fn plain_receptions(counts: ReceptionCounts) -> PlainReceptions
+    // Each number is the count of its name. No time is 2^64 - 1.
+    ensures { result ≡ plain.receptions_of counts }
+{
+    let last = match counts.last {
+        Some(time) => time,
+        None => u64::MAX,
+    };
+    PlainReceptions {
+        received: counts.received,
+        passed: counts.passed,
+        deferred: counts.deferred,
+        old: counts.old,
+        repeated: counts.repeated,
+        far: counts.far,
+        full: counts.full,
+        damaged: counts.damaged,
+        last,
+    }
+}
+
+/// Returns all counts of an end in numbers.
+pub(crate) fn plain_statistics(counts: Statistics) -> PlainStatistics
+    // Each number is the count of its name, and the channels are in order.
+    ensures { result ≡ plain.statistics_in counts }
+{
+    let [first, second, third, fourth] = counts.channels;
+    let parts = counts.parts;
+    let made = counts.made;
+    PlainStatistics {
+        channels: [
+            plain_receptions(first),
+            plain_receptions(second),
+            plain_receptions(third),
+            plain_receptions(fourth),
+        ],
+        taken: parts.taken,
+        gaps: parts.gaps,
+        damaged: parts.damaged,
+        strangers: parts.strangers,
+        unopened: parts.unopened,
+        far: parts.far,
+        unrequested: parts.unrequested,
+        answered: parts.answered,
+        below: parts.below,
+        oldest: parts.oldest,
+        longest_wait: parts.longest_wait,
+        units: made.units,
+        resent: made.resent,
+        heartbeats: made.heartbeats,
+        requests: made.requests,
+        answers: made.answers,
+        confirmed: counts.confirmed,
+    }
+}

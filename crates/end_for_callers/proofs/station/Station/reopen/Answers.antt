@@ -1,0 +1,21 @@
+use Rattle.std.proofs.Common.{ap, refl, subst, ◌∙◌}
+use Rattle.stack_end.specs.EndValue.{channels_of, inside}
+use Rattle.stack_end.specs.Reopening.{reopens}
+use Rattle.end_for_callers.specs.Boxes.{cleared, Outgoing, Posted}
+use Rattle.end_for_callers.proofs.Posting.{posted}
+use Rattle.end_for_callers.proofs.station.Station.reopen.Goals as goal
+
+pub returns-clause-does : goal.returns-clause-does
+returns-clause-does c =
+    let xs = (reopens c.args.first_sn c.args.now (inside c.self.inside.end)).sent in
+    let after = channels_of c.reopen.new.self in
+    rw (← c.self.view_is)
+    record {
+      left = c.reopen.ensures.turns.left;
+      called = c.reopen.ensures.time;
+      datagrams = subst (λ (o : Outgoing). Posted o xs after) (c.clear.ensures ∙ ap cleared c.channels.ensures.now)
+          (posted c.clear.new.self xs after c.reopen.ensures.turns.sent);
+      inbox = c.forget_loss.ensures;
+      time = refl;
+      reserve = refl;
+    }

@@ -1,0 +1,37 @@
+-- What the log says of the run itself, beside the events of an end.
+use Rattle.std.specs.Prelude.{ℕ, ◌/◌, ◌%◌, List, [], ◌∷◌, codes}
+use Rattle.std.specs.Fmt.{decimal}
+use Rattle.end_settings.specs.declared.Side.{Side}
+use Rattle.pdu_text.specs.Lines.{joined}
+use Rattle.pdu_text.specs.Names.{side_name}
+use Rattle.pdu_text.specs.Pieces.{three_digits}
+use Rattle.rasta_run.specs.declared.noticing.Notice.{Notice}
+use Rattle.rasta_run.specs.declared.noticing.Notice.TheVariants.{Deaf, Receives, InDoubt, NoTurn}
+
+-- receptions succeed again, after this many turns in which one failed
+unfoldable pub receives_text : ℕ → List ℕ
+receives_text turns = joined (codes "receptions succeed again; one failed in " ∷ decimal turns ∷ codes " turns" ∷ [])
+
+-- the connection is lost, and this many telegrams were put and not confirmed
+unfoldable pub in_doubt_text : ℕ → List ℕ
+in_doubt_text count = joined (codes "the connection is lost; " ∷ decimal count ∷ codes " telegrams are in doubt: put and not confirmed" ∷ [])
+
+-- the end took no turn for this many milliseconds
+unfoldable pub no_turn_text : ℕ → List ℕ
+no_turn_text milliseconds = joined (codes "no turn for " ∷ decimal milliseconds ∷ codes " ms: the process was stopped, or had no processor" ∷ [])
+
+-- the text of a notice
+abbrev pub notice_text : Notice → List ℕ
+notice_text Deaf = codes "a reception fails: the system refuses it"
+notice_text (Receives turns) = receives_text turns
+notice_text (InDoubt count) = in_doubt_text count
+notice_text (NoTurn milliseconds) = no_turn_text milliseconds
+
+-- TIME END, at the start of a line, as in the log of an end
+unfoldable pub notice_front : ℕ → Side → List ℕ
+notice_front at side =
+    joined (decimal (at / 1000) ∷ codes "." ∷ three_digits (at % 1000) ∷ codes " " ∷ side_name side ∷ codes " " ∷ [])
+
+-- TIME END TEXT
+abbrev pub notice_line : ℕ → Side → Notice → List ℕ
+notice_line at side notice = joined (notice_front at side ∷ notice_text notice ∷ codes "\n" ∷ [])

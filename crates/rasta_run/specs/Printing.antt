@@ -1,0 +1,19 @@
+-- What a printer does with the telegrams that an application takes.
+use Rattle.std.specs.Prelude.{◌≡◌, ℕ, ◌+◌, ◌%◌, ◌^◌, Bool, false, List, Option}
+use Rattle.std.specs.Io.KnownBytes.{Appends}
+use Rattle.pdi_session.specs.SessionStep.{Item}
+use Rattle.end_settings.specs.declared.Side.{Side}
+use Rattle.pdu_text.specs.Reports.{take_line}
+
+-- what is known of a printer
+pub record Printed : Type 0 where
+  pub side : Side  -- the end whose telegrams are printed
+  pub taken : ℕ  -- the number of telegrams, modulo 2^64
+  pub failed : Bool  -- a line could not be written
+  pub text : Option (List ℕ)  -- the content of standard output
+
+-- a telegram is counted, and its line is appended to the output; if the output fails, or has failed, nothing is said of it
+abbrev pub Prints : Printed → Item → Printed → Type 0
+Prints p item q =
+    (q.side ≡ p.side) × (q.taken ≡ (p.taken + 1) % 2 ^ 64)
+    × (q.failed ≡ false → (p.failed ≡ false) × Appends p.text q.text (take_line p.side item.0 item.1))

@@ -1,0 +1,146 @@
+-- Why the entries of a subcommand are not a request, and which reason comes first.
+use Rattle.std.specs.Prelude.{◌≡◌, ◌≢◌, ◌⊎◌, ℕ, Bool, false, true, List, codes, Option, None, Some}
+use Rattle.capture.specs.declared.ports.PortRange.{PortRange}
+use Rattle.capture_text.specs.declared.choice.Remarkable.{Remarkable}
+use Rattle.safe_pdu.specs.declared.CodeLength.{CodeLength}
+use Rattle.clap.specs.Words.{Row, Text, first_of}
+use Rattle.settings_file.specs.declared.Word.{Word}
+use Rattle.rasta_words.specs.declared.status.CountsForm.{CountsForm}
+use Rattle.rasta_words.specs.declared.status.Expected.{Expected}
+use Rattle.rasta_words.specs.declared.status.LogLevel.{LogLevel}
+use Rattle.rasta_words.specs.declared.status.RunLength.{RunLength}
+use Rattle.rasta_words.specs.declared.rejection.Choice.{Choice}
+use Rattle.rasta_words.specs.declared.rejection.Choice.TheVariants.{ShowCode, Turns, Log, Expect, Stats, Every, Code, Only, TMax, Ports}
+use Rattle.rasta_words.specs.declared.rejection.Rejection.{Rejection}
+use Rattle.rasta_words.specs.declared.rejection.Rejection.TheVariants.{Value, NoLength, TwoLengths, EveryAlone, Missing}
+use Rattle.rasta_words.specs.Choices.{IsAgeChosen, IsCodeChosen, IsMilliseconds, IsPorts, IsRemarkChosen, IsWritten, code_word, is_flagged}
+use Rattle.rasta_words.specs.Runs.{IsEndChosen, IsLengthChosen, IsLogChosen, IsSeconds, IsTurns, ends_word, expected_word, form_word, log_word}
+
+-- the name of an option, under which clap keeps its value
+abbrev pub option_name : Choice → Text
+option_name ShowCode = codes "code"
+option_name Turns = codes "turns"
+option_name Log = codes "log"
+option_name Expect = codes "expect"
+option_name Stats = codes "stats"
+option_name Every = codes "every"
+option_name Code = codes "code"
+option_name Only = codes "only"
+option_name TMax = codes "t-max"
+option_name Ports = codes "ports"
+
+-- the option does not accept this value
+abbrev pub IsUnfit : Choice → Text → Type 0
+IsUnfit ShowCode word = (code : CodeLength) → word ≢ code_word code
+IsUnfit Turns word = (turns : ℕ) → ¬ IsTurns word turns
+IsUnfit Log word = (level : LogLevel) → word ≢ log_word level
+IsUnfit Expect word = (expected : Expected) → word ≢ expected_word expected
+IsUnfit Stats word = (form : CountsForm) → word ≢ form_word form
+IsUnfit Every word = (seconds : ℕ) → ¬ IsSeconds word seconds
+IsUnfit Code word = (code : CodeLength) → word ≢ code_word code
+IsUnfit Only word = (remark : Option Remarkable) → ¬ IsWritten word remark
+IsUnfit TMax word = (age : ℕ) → ¬ IsMilliseconds word age
+IsUnfit Ports word = (ports : Option (List (Option PortRange))) → ¬ IsPorts word ports
+
+-- the rejection names this option and this value, which the option does not accept
+abbrev pub Names : Choice → Text → Rejection → Type 0
+Names choice word (Value option value) = (option ≡ choice) × (value.now ≡ word) × IsUnfit choice word
+Names choice word NoLength = ⊥
+Names choice word TwoLengths = ⊥
+Names choice word EveryAlone = ⊥
+Names choice word Missing = ⊥
+
+-- the same, of an option that may be absent
+abbrev pub NamesGiven : Choice → Option Text → Rejection → Type 0
+NamesGiven choice None r = ⊥
+NamesGiven choice (Some word) r = Names choice word r
+
+-- why a run has no length: `--turns` is not valid, or both or neither of it and `--until-end` is given
+abbrev pub IsLengthRejected : Option Text → Bool → Rejection → Type 0
+IsLengthRejected (Some word) false r = Names Turns word r
+IsLengthRejected (Some word) true r = r ≡ TwoLengths
+IsLengthRejected None false r = r ≡ NoLength
+IsLengthRejected None true r = ⊥
+
+-- the word names a form of counts
+abbrev pub HasForm : Text → Type 0
+HasForm word = (form : CountsForm) × (word ≡ form_word form)
+
+-- why `--stats` and `--every` choose no counts: one of them is not valid, the form first, or the second is given without the first
+abbrev pub AreCountsRejected : Option Text → Option Text → Rejection → Type 0
+AreCountsRejected None None r = ⊥
+AreCountsRejected None (Some every) r = r ≡ EveryAlone
+AreCountsRejected (Some form) every r = Names Stats form r ⊎ (HasForm form × NamesGiven Every every r)
+
+-- a required argument has no entry
+abbrev pub Lacks : Text → List Row → Rejection → Type 0
+Lacks name rows r = (first_of name rows ≡ None) × (r ≡ Missing)
+
+-- a valid length is given
+abbrev pub HasLength : List Row → Type 0
+HasLength rows = (length : RunLength) × IsLengthChosen (first_of (codes "turns") rows) (is_flagged (first_of (codes "until-end") rows)) length
+
+-- `--log` is valid or absent
+abbrev pub HasLog : List Row → Type 0
+HasLog rows = (level : LogLevel) × IsLogChosen (first_of (codes "log") rows) level
+
+-- `--expect` is valid or absent
+abbrev pub HasEnd : List Row → Type 0
+HasEnd rows = (expected : Option Expected) × IsEndChosen (first_of (codes "expect") rows) expected
+
+-- `--code` of `follow` is valid or absent
+abbrev pub HasCode : List Row → Type 0
+HasCode rows = (code : CodeLength) × IsCodeChosen (first_of (codes "code") rows) code
+
+-- `--only` is valid or absent
+abbrev pub HasRemark : List Row → Type 0
+HasRemark rows = (remark : Option Remarkable) × IsRemarkChosen (first_of (codes "only") rows) remark
+
+-- `--t-max` is valid or absent
+abbrev pub HasAge : List Row → Type 0
+HasAge rows = (age : ℕ) × IsAgeChosen (first_of (codes "t-max") rows) age
+
+-- why the entries of `show` are not a request
+abbrev pub IsShowRejected : List Row → Rejection → Type 0
+IsShowRejected rows r =
+    Lacks (codes "code") rows r ⊎ NamesGiven ShowCode (first_of (codes "code") rows) r ⊎ Lacks (codes "hex") rows r
+
+-- why the entries of `follow` are not a request: the first of its options that is not valid, in the order --code, --only, --t-max, --ports
+abbrev pub IsFollowRejected : List Row → Rejection → Type 0
+IsFollowRejected rows r =
+    NamesGiven Code (first_of (codes "code") rows) r
+    ⊎ (HasCode rows × NamesGiven Only (first_of (codes "only") rows) r)
+    ⊎ (HasCode rows × HasRemark rows × NamesGiven TMax (first_of (codes "t-max") rows) r)
+    ⊎ Lacks (codes "file") rows r
+    ⊎ (HasCode rows × HasRemark rows × HasAge rows × NamesGiven Ports (first_of (codes "ports") rows) r)
+
+-- why the entries of `il`, `fe` and `pair` are not a request: their length, or the first option that is not valid, in the order --log, --expect, --stats, --every
+abbrev pub IsRunRejected : List Row → Rejection → Type 0
+IsRunRejected rows r =
+    Lacks (codes "file") rows r
+    ⊎ IsLengthRejected (first_of (codes "turns") rows) (is_flagged (first_of (codes "until-end") rows)) r
+    ⊎ (HasLength rows × NamesGiven Log (first_of (codes "log") rows) r)
+    ⊎ (HasLength rows × HasLog rows × NamesGiven Expect (first_of (codes "expect") rows) r)
+    ⊎ (HasLength rows × HasLog rows × HasEnd rows × AreCountsRejected (first_of (codes "stats") rows) (first_of (codes "every") rows) r)
+
+-- no subcommand has this name
+abbrev pub IsStrange : Text → Type 0
+IsStrange name =
+    (name ≢ codes "md4") × (name ≢ codes "show") × (name ≢ codes "sim") × (name ≢ codes "follow") × (name ≢ codes "check")
+    × ((word : Word) → name ≢ ends_word word)
+
+-- why the entries of the subcommand of this name are not a request
+abbrev pub IsRejected : Text → List Row → Rejection → Type 0
+IsRejected name rows r =
+    ((name ≡ codes "md4") × Lacks (codes "hex") rows r)
+    ⊎ ((name ≡ codes "show") × IsShowRejected rows r)
+    ⊎ ((name ≡ codes "sim") × Lacks (codes "script") rows r)
+    ⊎ ((name ≡ codes "follow") × IsFollowRejected rows r)
+    ⊎ ((name ≡ codes "check") × Lacks (codes "file") rows r)
+    ⊎ ((word : Word) × (name ≡ ends_word word) × IsRunRejected rows r)
+    ⊎ (IsStrange name × (r ≡ Missing))
+
+-- why the subcommand that was found is not a request, or none was found
+abbrev pub IsReason : Option (Text × List Row) → Rejection → Type 0
+IsReason None r = r ≡ Missing
+IsReason (Some found) r = IsRejected found.0 found.1 r

@@ -1,0 +1,9 @@
+-- Where a fault of a file is.
+use Rattle.std.specs.Prelude.{ℕ, List, [], ◌∷◌, codes, Option, Some, None}
+use Rattle.std.specs.Fmt.{decimal}
+use Rattle.pdu_text.specs.Lines.{joined}
+
+-- the file, and the line if it is known
+unfoldable pub place_text : List ℕ → Option ℕ → List ℕ
+place_text file None = joined (file ∷ codes ": " ∷ [])
+place_text file (Some line) = joined (file ∷ codes ":" ∷ decimal line ∷ codes ": " ∷ [])

@@ -1,0 +1,276 @@
+//! What an end counts of its own work.
+
+ghost use Rattle.std.specs.Prelude.{◌≡◌, ◌≤◌, length};
+ghost use Rattle.stack_end.specs.Statistics as statistics;
+
+use crate::departure::number_at;
+use octets::Milliseconds;
+use octets::limits::CHANNELS_MAX;
+use red_layer::RedEvent;
+use safe_machine::{DropCause, Step};
+use safe_pdu::Kind;
+
+/// The place of the type in a safety PDU: after its length.
+const KIND: usize = 2;
+
+/// The PDUs that an end has made since its opening, by type; each count is modulo 2^64.
+#[derive(Clone, Copy, Debug, PartialEq, Eq)]
+pub struct MadeCounts {
+    /// Units sent for the first time (Data).
+    pub units: u64,
+    /// Units sent again (RetrData).
+    pub resent: u64,
+    /// Heartbeats.
+    pub heartbeats: u64,
+    /// Retransmissions requested (RetrReq).
+    pub requests: u64,
+    /// Retransmissions granted (RetrResp).
+    pub answers: u64,
+}
+
+impl MadeCounts {
+    /// Returns the counts of an end that has made nothing.
+    pub fn none() -> Self
+        // Every count is 0.
+        ensures { result ≡ statistics.none_made }
+    {
+        MadeCounts {
+            units: 0,
+            resent: 0,
+            heartbeats: 0,
+            requests: 0,
+            answers: 0,
+        }
+    }
+
+    /// Counts one PDU more. Those that open or end a connection are not counted.
+    pub fn with_kind(mut self, kind: Kind) -> Self
+        // The count of this type grows by 1, modulo 2^64; the others stay.
+        ensures { result ≡ statistics.with_kind kind self }
+    {
+        match kind {
+            Kind::Data => self.units = self.units.wrapping_add(1),
+            Kind::RetrData => self.resent = self.resent.wrapping_add(1),
+            Kind::Heartbeat => self.heartbeats = self.heartbeats.wrapping_add(1),
+            Kind::RetrReq => self.requests = self.requests.wrapping_add(1),
+            Kind::RetrResp => self.answers = self.answers.wrapping_add(1),
+            Kind::ConnReq | Kind::ConnResp | Kind::DiscReq => {}
+        }
+        self
+    }
+
+    /// Counts the PDU of these bytes by the type in its header.
+    pub(crate) fn with_pdu(self, octets: &[u8]) -> Self
+        // The PDU is counted by the type in its header; bytes without a type count nothing.
+        ensures { result ≡ statistics.with_pdu octets.now self }
+    {
+        match Kind::of(number_at(octets, KIND)) {
+            Some(kind) => self.with_kind(kind),
+            None => self,
+        }
+    }
+}
+
+/// The parts that have gone up to the safety machine since the opening, by what it did with them; each count is modulo
+/// 2^64. A part that ends the connection, or comes to a closed end, is not counted.
+#[derive(Clone, Copy, Debug, PartialEq, Eq)]
+pub struct PartCounts {
+    /// PDUs that it took.
+    pub taken: u64,
+    /// PDUs that revealed a gap, so that a retransmission was requested.
+    pub gaps: u64,
+    /// Dropped: no safety PDU with a valid safety code.
+    pub damaged: u64,
+    /// Dropped: of another receiver or sender.
+    pub strangers: u64,
+    /// Dropped: no ConnReq, while the end waits for one.
+    pub unopened: u64,
+    /// Dropped: the sequence number is too far ahead.
+    pub far: u64,
+    /// Dropped: not the RetrResp that the end waits for.
+    pub unrequested: u64,
+    /// Dropped: a RetrReq that was answered before.
+    pub answered: u64,
+    /// Dropped: a RetrReq that confirms less than was confirmed before.
+    pub below: u64,
+    /// The greatest age of a timestamp that a PDU confirmed when it was taken, in milliseconds.
+    pub oldest: Milliseconds,
+    /// The longest time without a confirmation before a PDU was taken, in milliseconds. What T_max exceeds it by is
+    /// the least margin so far.
+    pub longest_wait: Milliseconds,
+}
+
+impl PartCounts {
+    /// Returns the counts of an end to which nothing has gone up.
+    pub fn none() -> Self
+        // Every count and both times are 0.
+        ensures { result ≡ statistics.none_heard }
+    {
+        PartCounts {
+            taken: 0,
+            gaps: 0,
+            damaged: 0,
+            strangers: 0,
+            unopened: 0,
+            far: 0,
+            unrequested: 0,
+            answered: 0,
+            below: 0,
+            oldest: 0,
+            longest_wait: 0,
+        }
+    }
+
+    /// Counts a part by the machine's step. `waited` is how long before it nothing was confirmed, and `age` how old
+    /// the last confirmed timestamp is after it, both in milliseconds.
+    pub fn with_step(mut self, step: Step, waited: Milliseconds, age: Milliseconds) -> Self
+        // The count of this step grows by 1, modulo 2^64. If the PDU was taken, both times become those of this part
+        // if these are greater. All else stays.
+        ensures { result ≡ statistics.with_step step waited age self }
+    {
+        match step {
+            Step::Taken => {
+                self.taken = self.taken.wrapping_add(1);
+                self.longest_wait = self.longest_wait.max(waited);
+                self.oldest = self.oldest.max(age);
+            }
+            Step::Gap => self.gaps = self.gaps.wrapping_add(1),
+            Step::Dropped(cause) => return self.with_dropped(cause),
+            Step::Left(_, _) | Step::Nothing => {}
+        }
+        self
+    }
+
+    /// Counts a dropped part.
+    fn with_dropped(mut self, cause: DropCause) -> Self
+        // The count of this cause grows by 1, modulo 2^64; all else stays.
+        ensures { result ≡ statistics.with_dropped cause self }
+    {
+        match cause {
+            DropCause::Fault(_) => self.damaged = self.damaged.wrapping_add(1),
+            DropCause::Stranger => self.strangers = self.strangers.wrapping_add(1),
+            DropCause::NotOpened => self.unopened = self.unopened.wrapping_add(1),
+            DropCause::Number => self.far = self.far.wrapping_add(1),
+            DropCause::Request => self.unrequested = self.unrequested.wrapping_add(1),
+            DropCause::Answered => self.answered = self.answered.wrapping_add(1),
+            DropCause::Below => self.below = self.below.wrapping_add(1),
+        }
+        self
+    }
+}
+
+/// The datagrams that came on one channel since the opening, by what the redundancy layer did with them; each count is
+/// modulo 2^64.
+#[derive(Clone, Copy, Debug, PartialEq, Eq)]
+pub struct ReceptionCounts {
+    /// All that came, those to a closed end among them: nothing else counts these.
+    pub received: u64,
+    /// Those with the expected number.
+    pub passed: u64,
+    /// Those that came early and were deferred.
+    pub deferred: u64,
+    /// Those whose number is below the expected one: received before on any channel, or given up.
+    pub old: u64,
+    /// Those that came early, with a number that was deferred already.
+    pub repeated: u64,
+    /// Those whose number is too far ahead.
+    pub far: u64,
+    /// Those that came early while every place was taken.
+    pub full: u64,
+    /// Those that are no redundancy PDU.
+    pub damaged: u64,
+    /// The own time of the last redundancy PDU that was not too far ahead, in milliseconds, or `None` if none came.
+    pub last: Option<Milliseconds>,
+}
+
+impl ReceptionCounts {
+    /// Returns the counts of a channel on which nothing has come.
+    pub fn none() -> Self
+        // Every count is 0, and there is no time.
+        ensures { result ≡ statistics.none_received }
+    {
+        ReceptionCounts {
+            received: 0,
+            passed: 0,
+            deferred: 0,
+            old: 0,
+            repeated: 0,
+            far: 0,
+            full: 0,
+            damaged: 0,
+            last: None,
+        }
+    }
+
+    /// Counts a datagram that came at `now`, by the redundancy layer's event, which is `None` at a closed end.
+    pub fn with_event(mut self, event: Option<RedEvent>, now: Milliseconds) -> Self
+        // `received` and the count of this event grow by 1, modulo 2^64. The time becomes `now` if the datagram is a
+        // redundancy PDU that is not too far ahead. All else stays.
+        ensures { result ≡ statistics.with_event event now self }
+    {
+        self.received = self.received.wrapping_add(1);
+        match event {
+            None => self,
+            Some(event) => self.with_time(event, now).with_answer(event),
+        }
+    }
+
+    /// Keeps the time of a redundancy PDU that is not too far ahead.
+    fn with_time(mut self, event: RedEvent, now: Milliseconds) -> Self
+        // The time becomes `now` unless the event is too far ahead or damaged; all else stays.
+        ensures { result ≡ statistics.with_time event now self }
+    {
+        match event {
+            RedEvent::Far | RedEvent::Fault(_) => {}
+            RedEvent::Passed | RedEvent::Wait | RedEvent::Old | RedEvent::Again | RedEvent::Full =>
+                self.last = Some(now),
+        }
+        self
+    }
+
+    /// Counts an event of the redundancy layer.
+    fn with_answer(mut self, event: RedEvent) -> Self
+        // The count of this event grows by 1, modulo 2^64; all else stays.
+        ensures { result ≡ statistics.with_answer event self }
+    {
+        match event {
+            RedEvent::Passed => self.passed = self.passed.wrapping_add(1),
+            RedEvent::Wait => self.deferred = self.deferred.wrapping_add(1),
+            RedEvent::Old => self.old = self.old.wrapping_add(1),
+            RedEvent::Again => self.repeated = self.repeated.wrapping_add(1),
+            RedEvent::Far => self.far = self.far.wrapping_add(1),
+            RedEvent::Full => self.full = self.full.wrapping_add(1),
+            RedEvent::Fault(_) => self.damaged = self.damaged.wrapping_add(1),
+        }
+        self
+    }
+}
+
+/// Counts a datagram of a channel, numbered from 1. A channel that no end can have counts nothing.
+pub(crate) fn count_reception(
+    channels: &mut [ReceptionCounts; CHANNELS_MAX],
+    channel: usize,
+    event: Option<RedEvent>,
+    now: Milliseconds,
+)
+    // The datagram is counted at its channel; the counts of the other channels stay.
+    ensures { channels.new ≡ statistics.received channel event now channels.old }
+{
+    if channel == 0 || channel > CHANNELS_MAX {
+        return;
+    }
+    channels[channel - 1] = channels[channel - 1].with_event(event, now);
+}
+
+/// All that an end counts of its own work since its opening.
+#[derive(Clone, Copy, Debug, PartialEq, Eq)]
+pub struct Statistics {
+    /// The datagrams that came, by channel, that of number 1 first.
+    pub channels: [ReceptionCounts; CHANNELS_MAX],
+    /// The parts that went up to the safety machine.
+    pub parts: PartCounts,
+    /// The PDUs made.
+    pub made: MadeCounts,
+    /// The units that the peer has confirmed.
+    pub confirmed: u64,
+}

@@ -1,0 +1,21 @@
+use Rattle.station_pair.proofs.Agreeing.{agreed}
+use Rattle.station_pair.proofs.Promising.{promises}
+use Rattle.station_pair.proofs.Refusing.{refused}
+use Rattle.station_pair.proofs.Sessions.{carried}
+use Rattle.station_pair.proofs.Standing.{follows}
+use Rattle.station_pair.proofs.law.station_law.Goals as goal
+
+pub returns : goal.returns
+returns c =
+    let turns = c.end_law.ensures.turns in
+    let all = follows turns in
+    let pair = c.pair_law.ensures in
+    let any = promises all c.end_law.ensures.tells pair.headline pair.settled pair.fresh in
+    let network = carried turns c.order_law.ensures.origin in
+    record {
+      follows = all;
+      promises = any;
+      network = network;
+      session = agreed any network;
+      instances = refused;
+    }

@@ -1,0 +1,507 @@
+//! Lines and datagrams with values from outside.
+
+use capture::{
+    Address, Following, Header, Heard, Host, Judged, LineFault, PAYLOAD_ROOM, Record, Remark,
+    Remarks, Totals, Window, hear, judge, note, read_line, sum_up,
+};
+use red_layer::pdu::RedFault;
+use safe_pdu::{CodeLength, CodeRule, Kind};
+use std::test::Fail;
+
+const HEARTBEAT: &[u8] =
+    b"1700000000.123456789\t10.0.0.1\t8001\t192.168.7.255\t65535\t24000000000000001c004c18020000000100000065000000f40100000a00000005000000";
+
+// A heartbeat as tshark prints it: time in microseconds, both addresses, the octets, and what they say.
+#[test]
+fn reads_a_heartbeat(rt: HostRuntime) {
+    let mut buffer = [0; PAYLOAD_ROOM];
+    let wanted = Record {
+        time: 1_700_000_000_123_456,
+        source: Address {
+            host: Host::V4([10, 0, 0, 1]),
+            port: 8001,
+        },
+        destination: Address {
+            host: Host::V4([192, 168, 7, 255]),
+            port: 65535,
+        },
+        size: 36,
+    };
+    assert_eq!(rt; read_line(HEARTBEAT, &mut buffer), Ok(wanted));
+    let rule = CodeRule {
+        length: CodeLength::Zero,
+        initial_value: [0; 4],
+    };
+    match hear(&buffer[..36], &rule) {
+        Heard::Pdu(seq, header) => {
+            assert_eq!(rt; seq, 0);
+            assert_eq!(rt; header.kind, Kind::Heartbeat);
+            assert_eq!(rt; (header.receiver, header.sender), (2, 1));
+            assert_eq!(rt; (header.sn, header.cs), (101, 500));
+            assert_eq!(rt; (header.ts, header.cts), (10, 5));
+        }
+        _ => assert!(rt; false),
+    }
+    assert_eq!(rt; hear(&buffer[..7], &rule), Heard::NoRed(RedFault::Short));
+}
+
+// Each kind of wrong line, by its name.
+#[test]
+fn names_what_is_wrong(rt: HostRuntime) {
+    let mut buffer = [0; PAYLOAD_ROOM];
+    let cases: [(&[u8], LineFault); 10] = [
+        (b"", LineFault::Fields),
+        (b"1.000000\t1.2.3.4\t1\t1.2.3.4\t2\t00\t", LineFault::Fields),
+        (b"1.00000\t1.2.3.4\t1\t1.2.3.4\t2\t00", LineFault::Time),
+        (b"-1.000000\t1.2.3.4\t1\t1.2.3.4\t2\t00", LineFault::Time),
+        (b"1.000000\t1.2.3.256\t1\t1.2.3.4\t2\t00", LineFault::Source),
+        (
+            b"1.000000\t1.2.3.4,5.6.7.8\t1\t1.2.3.4\t2\t00",
+            LineFault::Source,
+        ),
+        (
+            b"1.000000\t1.2.3.4\t65536\t1.2.3.4\t2\t00",
+            LineFault::Source,
+        ),
+        (
+            b"1.000000\t1.2.3.4\t1\t1.2.3\t2\t00",
+            LineFault::Destination,
+        ),
+        (b"1.000000\t1.2.3.4\t1\t1.2.3.4\t2\t0", LineFault::Payload),
+        (b"1.000000\t1.2.3.4\t1\t1.2.3.4\t2\t0g", LineFault::Payload),
+    ];
+    for (line, wanted) in cases {
+        assert_eq!(rt; read_line(line, &mut buffer), Err(wanted));
+    }
+}
+
+/// A datagram on a channel, from one end or from the other.
+fn record(time: u64, channel: u8, back: bool) -> Record {
+    let near = Address {
+        host: Host::V4([10, 0, channel, 1]),
+        port: 8001,
+    };
+    let far = Address {
+        host: Host::V4([10, 0, channel, 2]),
+        port: 8002,
+    };
+    let (source, destination) = if back { (far, near) } else { (near, far) };
+    Record {
+        time,
+        source,
+        destination,
+        size: 0,
+    }
+}
+
+fn pdu(seq: u32, ends: (u32, u32), sn: u32, stamps: (u32, u32)) -> Heard {
+    let (sender, receiver) = ends;
+    let (ts, cts) = stamps;
+    Heard::Pdu(
+        seq,
+        Header {
+            kind: Kind::Data,
+            receiver,
+            sender,
+            sn,
+            cs: 0,
+            ts,
+            cts,
+            fingerprint: ts as u64,
+            leaving: None,
+        },
+    )
+}
+
+/// What is remarkable in a PDU.
+fn told(remark: Remark) -> Option<Remarks> {
+    match remark {
+        Remark::Pdu(_, _, remarks) => Some(remarks),
+        Remark::NoRed(_) | Remark::NoSafe(_, _) => None,
+    }
+}
+
+/// Remarks on a PDU that is neither sent again nor a DiscReq, of an end to which nothing was confirmed.
+fn remarks(
+    route: usize,
+    channel: Judged,
+    together: Judged,
+    sequence: Option<Judged>,
+    age: Option<u32>,
+) -> Option<Remarks> {
+    Some(Remarks {
+        opens: false,
+        route,
+        channel: Some(channel),
+        together,
+        sequence,
+        resent: false,
+        age,
+        waits: None,
+        leaving: None,
+    })
+}
+
+// Two channels: a copy, a gap that is closed late on the other channel, an answer with its age, and a repeat.
+#[test]
+fn follows_two_channels(rt: HostRuntime) {
+    let mut all = Following::new();
+    let first = told(all.hear(1, &record(1000, 0, false), &pdu(0, (1, 2), 10, (100, 0))));
+    assert_eq!(rt;
+        first,
+        remarks(0, Judged::First, Judged::First, Some(Judged::First), None)
+    );
+    let copy = told(all.hear(2, &record(1001, 1, false), &pdu(0, (1, 2), 10, (100, 0))));
+    assert_eq!(rt;
+        copy,
+        remarks(1, Judged::First, Judged::Repeat(1), None, None)
+    );
+    let gap = told(all.hear(3, &record(4000, 0, false), &pdu(3, (1, 2), 13, (130, 0))));
+    assert_eq!(rt;
+        gap,
+        remarks(
+            0,
+            Judged::Ahead(2),
+            Judged::Ahead(2),
+            Some(Judged::Ahead(2)),
+            None
+        )
+    );
+    let late = told(all.hear(4, &record(4100, 1, false), &pdu(1, (1, 2), 11, (110, 0))));
+    assert_eq!(rt;
+        late,
+        remarks(1, Judged::Next, Judged::Late, Some(Judged::Late), None)
+    );
+    let answer = told(all.hear(5, &record(5000, 0, true), &pdu(7, (2, 1), 500, (9, 100))));
+    assert_eq!(rt;
+        answer,
+        remarks(
+            0,
+            Judged::First,
+            Judged::First,
+            Some(Judged::First),
+            Some(30)
+        )
+    );
+    let again = told(all.hear(6, &record(6000, 0, false), &pdu(3, (1, 2), 13, (130, 0))));
+    assert_eq!(rt;
+        again,
+        remarks(0, Judged::Repeat(3), Judged::Repeat(3), None, Some(9))
+    );
+    let broken = all.hear(7, &record(7000, 0, false), &Heard::NoRed(RedFault::Length));
+    assert_eq!(rt; broken, Remark::NoRed(RedFault::Length));
+    assert_eq!(rt; all.damaged, 1);
+    let wanted = Totals {
+        heard: 3,
+        missing: 1,
+        late: 1,
+        repeats: 2,
+        differing: 0,
+        stale: 0,
+    };
+    assert_eq!(rt; sum_up(all.gone, all.connections.as_slice()), wanted);
+    assert_eq!(rt; all.datagrams, 7);
+}
+
+// The seventeenth connection takes the place of the one that was silent longest.
+#[test]
+fn forgets_the_one_silent_longest(rt: HostRuntime) {
+    let mut all = Following::new();
+    for end in 1..18u32 {
+        let _remark = all.hear(
+            end as u64,
+            &record(end as u64, 0, false),
+            &pdu(0, (end, 100), 1, (1, 0)),
+        );
+    }
+    let ends = all.connections.as_slice();
+    assert_eq!(rt; ends.len(), 16);
+    assert!(rt; ends.iter().all(|connection| connection.low != 1));
+    assert_eq!(rt; all.forgotten, 1);
+    assert_eq!(rt; (all.gone.heard, sum_up(all.gone, ends).heard), (1, 17));
+}
+
+// Numbers go round, and a restart begins them anew without a gap.
+#[test]
+fn goes_round_and_begins_anew(rt: HostRuntime) {
+    let mut window = Window::new();
+    assert_eq!(rt; note(&mut window, u32::MAX, 1, 0), Judged::First);
+    assert_eq!(rt; note(&mut window, 0, 2, 0), Judged::Next);
+    assert_eq!(rt; note(&mut window, 65_536, 3, 0), Judged::Ahead(65_535));
+    assert_eq!(rt; note(&mut window, 4_000_000, 4, 0), Judged::Anew);
+    assert_eq!(rt; note(&mut window, 4_000_001, 5, 0), Judged::Next);
+    assert_eq!(rt; note(&mut window, 0, 6, 0), Judged::Stale);
+    assert_eq!(rt; note(&mut window, 4_000_002, 7, 0), Judged::Next);
+    assert_eq!(rt; (window.missing, window.stale), (65_535, 1));
+}
+
+// The 31 numbers before the newest may come late if they were passed over, and none of them takes the newest's place: a
+// copy of that is told, and so are other octets under its number.
+#[test]
+fn keeps_the_newest(rt: HostRuntime) -> Result<(), Fail> {
+    let mut window = Window::new();
+    assert_eq!(rt; note(&mut window, 60, 1, 0), Judged::First);
+    assert_eq!(rt; judge(&window, 59, 0), Judged::Stale);
+    assert_eq!(rt; note(&mut window, 100, 2, 7), Judged::Ahead(39));
+    assert_eq!(rt; judge(&window, 68, 0), Judged::Stale);
+    assert_eq!(rt; note(&mut window, 69, 3, 0), Judged::Late);
+    assert_eq!(rt; judge(&window, 100, 7), Judged::Repeat(2));
+    assert_eq!(rt; judge(&window, 100, 8), Judged::Differs(2));
+    Ok(())
+}
+
+fn opening(seq: u32, sn: u32, ts: u32) -> Heard {
+    Heard::Pdu(
+        seq,
+        Header {
+            kind: Kind::ConnReq,
+            receiver: 2,
+            sender: 1,
+            sn,
+            cs: 0,
+            ts,
+            cts: 0,
+            fingerprint: ts as u64,
+            leaving: None,
+        },
+    )
+}
+
+// A process that was started anew begins with the same octets: behind another PDU of its end on that channel they open.
+#[test]
+fn opens_with_the_same_octets(rt: HostRuntime) {
+    let mut all = Following::new();
+    for line in [1, 3u64] {
+        let first = told(all.hear(line, &record(line, 0, false), &opening(0, 900, 7)));
+        assert!(rt; first.is_some_and(|remarks| remarks.opens));
+        let beat = told(all.hear(
+            line + 1,
+            &record(line, 0, false),
+            &pdu(1, (1, 2), 901, (9, 0)),
+        ));
+        assert!(rt; beat.is_some_and(|remarks| remarks.together == Judged::Next));
+    }
+    let copy = told(all.hear(5, &record(5, 1, false), &opening(0, 900, 7)));
+    assert!(rt;
+        copy.is_some_and(|remarks| !remarks.opens && remarks.together == Judged::Repeat(3))
+    );
+}
+
+// A copy more than 31 numbers late changes nothing; a new ConnReq begins all numbers, and a copy of it does not.
+#[test]
+fn opens_again(rt: HostRuntime) {
+    let mut all = Following::new();
+    for seq in 0..50u32 {
+        let at = seq as u64 + 1;
+        let _remark = all.hear(at, &record(at, 0, false), &pdu(seq, (1, 2), seq, (100, 0)));
+    }
+    let stale = told(all.hear(51, &record(51, 1, false), &pdu(3, (1, 2), 3, (100, 0))));
+    assert_eq!(rt; stale, remarks(1, Judged::First, Judged::Stale, None, None));
+    let next = told(all.hear(52, &record(52, 0, false), &pdu(50, (1, 2), 50, (150, 0))));
+    assert_eq!(rt;
+        next,
+        remarks(0, Judged::Next, Judged::Next, Some(Judged::Next), None)
+    );
+    let fresh = Remarks {
+        opens: true,
+        route: 0,
+        channel: Some(Judged::First),
+        together: Judged::First,
+        sequence: Some(Judged::First),
+        resent: false,
+        age: None,
+        waits: Some(0),
+        leaving: None,
+    };
+    assert_eq!(rt;
+        told(all.hear(53, &record(53, 0, false), &opening(0, 900, 7))),
+        Some(fresh)
+    );
+    let copy = told(all.hear(54, &record(54, 1, false), &opening(0, 900, 7)));
+    assert_eq!(rt;
+        copy,
+        remarks(1, Judged::First, Judged::Repeat(53), None, None)
+    );
+    let wanted = Totals {
+        heard: 52,
+        missing: 0,
+        late: 0,
+        repeats: 1,
+        differing: 0,
+        stale: 1,
+    };
+    assert_eq!(rt; sum_up(all.gone, all.connections.as_slice()), wanted);
+}
+
+// A client that heard nothing leaves directly behind its ConnReq and confirms nothing; a later DiscReq confirms.
+#[test]
+fn ages_no_goodbye_that_confirms_nothing(rt: HostRuntime) {
+    let mut all = Following::new();
+    let server = Heard::Pdu(9, leaving((2, 1), u32::MAX, (1900, 0)));
+    let _remark = all.hear(1, &record(1, 0, true), &server);
+    let _remark = all.hear(2, &record(2, 0, false), &opening(0, u32::MAX, 1600));
+    let unheard = told(all.hear(
+        3,
+        &record(3, 0, false),
+        &Heard::Pdu(1, leaving((1, 2), 0, (1950, 0))),
+    ));
+    assert!(rt; unheard.is_some_and(|remarks| remarks.age.is_none()));
+    let heard = told(all.hear(
+        4,
+        &record(4, 0, false),
+        &Heard::Pdu(2, leaving((1, 2), 1, (1960, 0))),
+    ));
+    assert!(rt; heard.is_some_and(|remarks| remarks.age == Some(1900)));
+}
+
+/// A DiscReq of an end.
+fn leaving(ends: (u32, u32), sn: u32, stamps: (u32, u32)) -> Header {
+    let (sender, receiver) = ends;
+    let (ts, cts) = stamps;
+    Header {
+        kind: Kind::DiscReq,
+        receiver,
+        sender,
+        sn,
+        cs: 0,
+        ts,
+        cts,
+        fingerprint: ts as u64,
+        leaving: None,
+    }
+}
+
+// A datagram that is no PDU counts on its channel, for the end whose address sent it; where two connections have that
+// channel the one heard last counts it, and on an unknown pair of addresses none does.
+#[test]
+fn counts_damage_by_channel(rt: HostRuntime) {
+    let mut all = Following::new();
+    let _remark = all.hear(1, &record(1, 0, false), &pdu(0, (1, 2), 10, (100, 0)));
+    let _remark = all.hear(2, &record(2, 1, true), &pdu(0, (2, 1), 20, (200, 100)));
+    let _remark = all.hear(3, &record(3, 3, false), &pdu(1, (1, 2), 11, (110, 0)));
+    let _remark = all.hear(4, &record(4, 1, true), &pdu(0, (5, 4), 30, (300, 0)));
+    let broken = Heard::NoRed(RedFault::Length);
+    let _remark = all.hear(5, &record(5, 0, true), &broken);
+    let _remark = all.hear(6, &record(6, 1, false), &broken);
+    let _remark = all.hear(7, &record(7, 1, false), &broken);
+    let _remark = all.hear(8, &record(8, 2, false), &broken);
+    let _remark = all.hear(9, &record(9, 3, false), &broken);
+    assert_eq!(rt; all.damaged, 5);
+    match all.connections.as_slice() {
+        [first, second] => {
+            assert_eq!(rt; first.from_low.damaged, [0, 0, 1, 0]);
+            assert_eq!(rt; first.from_high.damaged, [1, 0, 0, 0]);
+            assert_eq!(rt; second.from_low.damaged, [2, 0, 0, 0]);
+            assert_eq!(rt; second.from_high.damaged, [0, 0, 0, 0]);
+        }
+        _ => assert!(rt; false),
+    }
+}
+
+/// A PDU of an end with these SN and CS, TS and CTS; its redundancy number is the last digit of its SN.
+fn confirming(kind: Kind, ends: (u32, u32), numbers: (u32, u32), stamps: (u32, u32)) -> Heard {
+    let (sender, receiver) = ends;
+    let (sn, cs) = numbers;
+    let (ts, cts) = stamps;
+    Heard::Pdu(
+        sn % 10,
+        Header {
+            kind,
+            receiver,
+            sender,
+            sn,
+            cs,
+            ts,
+            cts,
+            fingerprint: ts as u64,
+            leaving: None,
+        },
+    )
+}
+
+// An end waits from its opening on, and then from the timestamp that the PDU confirms which it took last: one that it did
+// not take does not count. A copy has no wait, and behind a new opening a timestamp from before it has no age.
+#[test]
+fn waits_for_a_confirmation(rt: HostRuntime) {
+    let mut all = Following::new();
+    let il = (1u32, 2u32);
+    let fe = (2u32, 1u32);
+    let cases = [
+        (
+            0,
+            confirming(Kind::ConnReq, il, (900, 0), (5000, 0)),
+            None,
+            Some(0),
+        ),
+        (
+            0,
+            confirming(Kind::ConnResp, fe, (10, 900), (70_000, 5000)),
+            Some(0),
+            Some(0),
+        ),
+        (
+            0,
+            confirming(Kind::Heartbeat, il, (901, 10), (5300, 70_000)),
+            Some(0),
+            Some(300),
+        ),
+        (
+            0,
+            confirming(Kind::Heartbeat, fe, (11, 901), (70_300, 5300)),
+            Some(0),
+            Some(300),
+        ),
+        (
+            0,
+            confirming(Kind::Heartbeat, fe, (12, 901), (70_600, 5300)),
+            Some(0),
+            Some(600),
+        ),
+        (
+            0,
+            confirming(Kind::Heartbeat, il, (902, 11), (5900, 70_300)),
+            Some(300),
+            Some(600),
+        ),
+        (
+            0,
+            confirming(Kind::DiscReq, il, (903, 11), (7100, 70_300)),
+            Some(300),
+            Some(1800),
+        ),
+        (
+            1,
+            confirming(Kind::DiscReq, il, (903, 11), (7100, 70_300)),
+            Some(300),
+            None,
+        ),
+        (
+            0,
+            confirming(Kind::ConnReq, il, (40, 0), (9000, 0)),
+            None,
+            Some(0),
+        ),
+        (
+            0,
+            confirming(Kind::DiscReq, fe, (13, 902), (72_000, 5900)),
+            None,
+            Some(2000),
+        ),
+    ];
+    let mut line = 0u64;
+    for (channel, heard, age, waits) in cases {
+        let back = matches!(heard, Heard::Pdu(_, header) if header.sender == 2);
+        line = line.wrapping_add(1);
+        let remarks = told(all.hear(line, &record(line, channel, back), &heard));
+        assert!(rt; remarks.is_some_and(|remarks| remarks.age == age && remarks.waits == waits));
+    }
+    match all.connections.as_slice() {
+        [pair] => {
+            assert_eq!(rt;
+                (pair.from_low.tally.longest, pair.from_high.tally.longest),
+                (1800, 2000)
+            );
+        }
+        _ => assert!(rt; false),
+    }
+}

@@ -1,0 +1,359 @@
+//! Whole captures, and the text that is to be printed of each, worked out by hand.
+
+use capture::{Judged, Remarks};
+use capture_text::{Asked, FollowStatus, OutputForm, Remarkable, run, write_remarks};
+use md4::INITIAL_VALUE;
+use safe_pdu::{CodeLength, CodeRule, Leaving};
+use std::alloc::Allocator;
+use std::io::Write;
+use std::process::Abort;
+use std::test::Fail;
+
+/// A unit of 45 octets, in hex digits.
+const UNIT: &str =
+    "000000000000000000000000000000000000000000000000000000000000000000000000000000000000000000";
+
+/// The numbers of a PDU without a code.
+#[derive(Clone, Copy)]
+struct Pdu {
+    /// The redundancy number.
+    seq: u32,
+    /// The type.
+    kind: u16,
+    /// SN and CS.
+    numbers: (u32, u32),
+    /// TS and CTS.
+    stamps: (u32, u32),
+    /// The body in hex digits.
+    body: &'static str,
+}
+
+fn plain(kind: u16, seq: u32, numbers: (u32, u32), stamps: (u32, u32), body: &'static str) -> Pdu {
+    Pdu {
+        seq,
+        kind,
+        numbers,
+        stamps,
+        body,
+    }
+}
+
+/// A Data with one unit.
+fn data(seq: u32, numbers: (u32, u32), stamps: (u32, u32)) -> Pdu {
+    plain(6240, seq, numbers, stamps, UNIT)
+}
+
+fn heartbeat(seq: u32, numbers: (u32, u32), stamps: (u32, u32)) -> Pdu {
+    plain(6220, seq, numbers, stamps, "")
+}
+
+/// Puts the front of a line: the time in microseconds, and the addresses of a channel, from the first end or back.
+fn put_front<A: Allocator>(
+    lines: &mut Vec<u8, A>,
+    time: u32,
+    channel: u8,
+    back: bool,
+) -> Result<(), Fail> {
+    let (from, to) = if back { (2, 1) } else { (1, 2) };
+    let seconds = time / 1_000_000;
+    let micros = time % 1_000_000;
+    write!(
+        lines,
+        "170000000{seconds}.{micros:06}000\t10.0.{channel}.{from}\t800{from}\t10.0.{channel}.{to}\t800{to}\t"
+    )?;
+    Ok(())
+}
+
+/// Puts the line of a PDU from end 1 to end 2, or back.
+fn put<A: Allocator>(
+    lines: &mut Vec<u8, A>,
+    time: u32,
+    channel: u8,
+    back: bool,
+    pdu: Pdu,
+) -> Result<(), Fail> {
+    put_front(lines, time, channel, back)?;
+    let size = 28 + (pdu.body.len() / 2 % 2000) as u16;
+    let whole = (size + 8).swap_bytes();
+    let size = size.swap_bytes();
+    let seq = pdu.seq.swap_bytes();
+    write!(lines, "{whole:04x}0000{seq:08x}{size:04x}")?;
+    let kind = pdu.kind.swap_bytes();
+    let (sender, receiver) = if back { (2u32, 1u32) } else { (1u32, 2u32) };
+    let sender = sender.swap_bytes();
+    let receiver = receiver.swap_bytes();
+    write!(lines, "{kind:04x}{receiver:08x}{sender:08x}")?;
+    let (sn, cs) = pdu.numbers;
+    let (ts, cts) = pdu.stamps;
+    let sn = sn.swap_bytes();
+    let cs = cs.swap_bytes();
+    let ts = ts.swap_bytes();
+    let cts = cts.swap_bytes();
+    let body = pdu.body;
+    writeln!(lines, "{sn:08x}{cs:08x}{ts:08x}{cts:08x}{body}")?;
+    Ok(())
+}
+
+/// A line: the time in microseconds, the channel, whether it goes back, and its PDU.
+type Line = (u32, u8, bool, Pdu);
+
+/// Follows the lines of PDUs without codes, and compares what is printed.
+fn follows(
+    rt: &(impl AllocGlobal + Abort),
+    lines: &[Line],
+    asked: &Asked,
+    wanted: &str,
+) -> Result<(), Fail> {
+    let mut text = Vec::new(rt.alloc());
+    for (time, channel, back, pdu) in lines {
+        put(&mut text, *time, *channel, *back, *pdu)?;
+    }
+    prints(rt, text.as_slice(), asked, FollowStatus::Done, wanted, "")
+}
+
+/// Follows a text, and compares how that ends and what is printed on both outputs.
+fn prints(
+    rt: &(impl AllocGlobal + Abort),
+    text: &[u8],
+    asked: &Asked,
+    status: FollowStatus,
+    wanted: &str,
+    faults: &str,
+) -> Result<(), Fail> {
+    let mut out = Vec::new(rt.alloc());
+    let mut err = Vec::new(rt.alloc());
+    assert_eq!(rt; run(rt.alloc(), text, asked, &mut out, &mut err), status);
+    assert!(rt; out.as_slice() == wanted.as_bytes());
+    assert!(rt; err.as_slice() == faults.as_bytes());
+    Ok(())
+}
+
+fn asked(length: CodeLength, only: Option<Remarkable>) -> Asked {
+    Asked {
+        rule: CodeRule {
+            length,
+            initial_value: INITIAL_VALUE,
+        },
+        only,
+        t_max: 1800,
+        messages: false,
+        ports: None,
+        form: OutputForm::Lines,
+    }
+}
+
+// Two channels, of which the second loses a heartbeat.
+#[test]
+fn loses_on_one_channel(rt: HostRuntime) -> Result<(), Fail> {
+    let opens = plain(6200, 0, (100, 0), (1000, 0), "3033303320000000000000000000");
+    let granted = plain(
+        6201,
+        0,
+        (500, 100),
+        (7000, 1000),
+        "3033303320000000000000000000",
+    );
+    let first = heartbeat(1, (101, 500), (1020, 7000));
+    let second = heartbeat(2, (102, 500), (1030, 7000));
+    let lines = [
+        (0, 0, false, opens),
+        (50, 1, false, opens),
+        (10_000, 0, true, granted),
+        (10_060, 1, true, granted),
+        (20_000, 0, false, first),
+        (30_000, 0, false, second),
+        (30_040, 1, false, second),
+    ];
+    let wanted = "\
+0.000000 line 1 1->2 ch 1 red 0 ConnReq sn 100 cs 0 ts 1000 cts 0 opens
+0.000050 line 2 1->2 ch 2 red 0 ConnReq sn 100 cs 0 ts 1000 cts 0 all repeat of line 1
+0.010000 line 3 2->1 ch 1 red 0 ConnResp sn 500 cs 100 ts 7000 cts 1000 opens age 0 ms
+0.010060 line 4 2->1 ch 2 red 0 ConnResp sn 500 cs 100 ts 7000 cts 1000 all repeat of line 3 age 0 ms
+0.020000 line 5 1->2 ch 1 red 1 HB sn 101 cs 500 ts 1020 cts 7000 age 0 ms
+0.030000 line 6 1->2 ch 1 red 2 HB sn 102 cs 500 ts 1030 cts 7000 age 0 ms
+0.030040 line 7 1->2 ch 2 red 2 HB sn 102 cs 500 ts 1030 cts 7000 channel ahead 1 all repeat of line 6 age 0 ms
+sum 1->2 opened by ConnReq times 1 PDUs 3 missing 0 repeats 2 late 0 differs 0 stale 0 heartbeats 2 requests 0 resent 0 disconnects 0 \
+silence 0.020000 age 0 of 1800 waits 30 of 1800 last 0.030000 no DiscReq
+sum 1->2 ch 1 10.0.0.1:8001-10.0.0.2:8002 datagrams 3 PDUs 3 missing 0 repeats 0 late 0 differs 0 stale 0 damaged 0
+sum 1->2 ch 2 10.0.1.1:8001-10.0.1.2:8002 datagrams 2 PDUs 2 missing 1 repeats 0 late 0 differs 0 stale 0 damaged 0
+sum 2->1 opened by ConnResp times 1 PDUs 1 missing 0 repeats 1 late 0 differs 0 stale 0 heartbeats 0 requests 0 resent 0 disconnects 0 \
+silence 0.020040 age 0 of 1800 waits 0 of 1800 last 0.010000 no DiscReq
+sum 2->1 ch 1 10.0.0.1:8001-10.0.0.2:8002 datagrams 1 PDUs 1 missing 0 repeats 0 late 0 differs 0 stale 0 damaged 0
+sum 2->1 ch 2 10.0.1.1:8001-10.0.1.2:8002 datagrams 1 PDUs 1 missing 0 repeats 0 late 0 differs 0 stale 0 damaged 0
+connection 1-2 came up at 0.010000, nobody left, heard last at 0.030040, lost on single channels 1 on all 0, waits 30 of 1800
+sum all datagrams 7 PDUs 4 missing 0 repeats 3 late 0 differs 0 stale 0 damaged 0 forgotten 0 unreadable 0
+";
+    follows(&rt, &lines, &asked(CodeLength::Zero, None), wanted)
+}
+
+// A unit is lost on both channels, asked for and sent again.
+#[test]
+fn asks_again(rt: HostRuntime) -> Result<(), Fail> {
+    let unit = data(10, (200, 600), (2000, 8000));
+    let beat = heartbeat(12, (202, 600), (2020, 8000));
+    let request = plain(6212, 30, (601, 200), (8030, 2000), "");
+    let answer = plain(6213, 13, (203, 601), (2040, 8030), "");
+    let again = plain(6241, 14, (204, 601), (2041, 8030), UNIT);
+    let lines = [
+        (0, 0, false, unit),
+        (100, 1, false, unit),
+        (20_000, 0, false, beat),
+        (30_000, 0, true, request),
+        (40_000, 0, false, answer),
+        (41_000, 0, false, again),
+    ];
+    let wanted = "\
+0.000000 line 1 1->2 ch 1 red 10 Data sn 200 cs 600 ts 2000 cts 8000
+0.000100 line 2 1->2 ch 2 red 10 Data sn 200 cs 600 ts 2000 cts 8000 all repeat of line 1
+0.020000 line 3 1->2 ch 1 red 12 HB sn 202 cs 600 ts 2020 cts 8000 channel ahead 1 all ahead 1 sn ahead 1
+0.030000 line 4 2->1 ch 1 red 30 RetrReq sn 601 cs 200 ts 8030 cts 2000 age 20 ms
+0.040000 line 5 1->2 ch 1 red 13 RetrResp sn 203 cs 601 ts 2040 cts 8030 age 0 ms
+0.041000 line 6 1->2 ch 1 red 14 RetrData sn 204 cs 601 ts 2041 cts 8030 resent age 0 ms
+sum 1->2 opening not seen PDUs 4 missing 1 repeats 1 late 0 differs 0 stale 0 heartbeats 1 requests 0 resent 1 disconnects 0 \
+silence 0.020000 age 0 of 1800 waits 41 of 1800 last 0.041000 no DiscReq
+sum 1->2 ch 1 10.0.0.1:8001-10.0.0.2:8002 datagrams 4 PDUs 4 missing 1 repeats 0 late 0 differs 0 stale 0 damaged 0
+sum 1->2 ch 2 10.0.1.1:8001-10.0.1.2:8002 datagrams 1 PDUs 1 missing 0 repeats 0 late 0 differs 0 stale 0 damaged 0
+sum 2->1 opening not seen PDUs 1 missing 0 repeats 0 late 0 differs 0 stale 0 heartbeats 0 requests 1 resent 0 disconnects 0 \
+silence 0.011000 age 20 of 1800 waits 30 of 1800 last 0.030000 no DiscReq
+sum 2->1 ch 1 10.0.0.1:8001-10.0.0.2:8002 datagrams 1 PDUs 1 missing 0 repeats 0 late 0 differs 0 stale 0 damaged 0
+sum 2->1 ch 2 10.0.1.1:8001-10.0.1.2:8002 datagrams 0 PDUs 0 missing 0 repeats 0 late 0 differs 0 stale 0 damaged 0
+connection 1-2 was not seen to come up, nobody left, heard last at 0.041000, lost on single channels 1 on all 1, waits 41 of 1800
+sum all datagrams 6 PDUs 5 missing 1 repeats 1 late 0 differs 0 stale 0 damaged 0 forgotten 0 unreadable 0
+";
+    follows(&rt, &lines, &asked(CodeLength::Zero, None), wanted)
+}
+
+// Nothing recent is confirmed in time, so an end leaves, and the other opens again; ages of T_max and more alone are printed.
+#[test]
+fn leaves_and_opens_again(rt: HostRuntime) -> Result<(), Fail> {
+    let beat = heartbeat(5, (300, 700), (5000, 9000));
+    let back = heartbeat(8, (701, 300), (9100, 5000));
+    let slow = heartbeat(6, (301, 701), (6801, 9100));
+    let leaves = plain(6216, 9, (702, 300), (10_950, 5000), "00000300");
+    let opens = plain(6200, 0, (42, 0), (8000, 0), "3033303320000000000000000000");
+    let lines = [
+        (0, 0, false, beat),
+        (100_000, 0, true, back),
+        (1_801_000, 0, false, slow),
+        (1_850_000, 0, true, leaves),
+        (3_000_000, 0, false, opens),
+    ];
+    let wanted = "\
+1.850000 line 4 2->1 ch 1 red 9 DiscReq sn 702 cs 300 ts 10950 cts 5000 age 1801 ms waits 1950 ms reason 3 timeout detail 0
+sum 1->2 opened by ConnReq times 1 PDUs 3 missing 0 repeats 0 late 0 differs 0 stale 0 heartbeats 2 requests 0 resent 0 disconnects 0 \
+silence 1.801000 age 0 of 1801 waits 1801 of 1801 reached last 3.000000 no DiscReq
+sum 1->2 ch 1 10.0.0.1:8001-10.0.0.2:8002 datagrams 3 PDUs 3 missing 0 repeats 0 late 0 differs 0 stale 0 damaged 0
+sum 2->1 opening not seen PDUs 2 missing 0 repeats 0 late 0 differs 0 stale 0 heartbeats 1 requests 0 resent 0 disconnects 1 \
+silence 1.750000 age 1801 of 1801 reached waits 1950 of 1801 reached last 1.850000 DiscReq reason 3 timeout detail 0
+sum 2->1 ch 1 10.0.0.1:8001-10.0.0.2:8002 datagrams 2 PDUs 2 missing 0 repeats 0 late 0 differs 0 stale 0 damaged 0
+connection 1-2 was not seen to come up, 2 left at 1.850000 reason 3 timeout detail 0, lost on single channels 0 on all 0, \
+waits 1950 of 1801 reached
+sum all datagrams 5 PDUs 5 missing 0 repeats 0 late 0 differs 0 stale 0 damaged 0 forgotten 0 unreadable 0
+";
+    let mut asked = asked(CodeLength::Zero, Some(Remarkable::Age));
+    asked.t_max = 1801;
+    follows(&rt, &lines, &asked, wanted)
+}
+
+// A datagram under the code of another one is damaged, and a line that is none is named.
+#[test]
+fn names_what_is_forged(rt: HostRuntime) -> Result<(), Fail> {
+    let mut lines = Vec::new(rt.alloc());
+    put_front(&mut lines, 0, 0, false)?;
+    writeln!(
+        lines,
+        "2c0000000700000024004c18020000000100000065000000f40100000a000000050000000ded786fc4bf93f2"
+    )?;
+    put_front(&mut lines, 500, 0, false)?;
+    writeln!(
+        lines,
+        "2c0000000800000024004c18020000000100000066000000f40100000a000000050000000ded786fc4bf93f2"
+    )?;
+    writeln!(lines, "what")?;
+    let wanted = "\
+0.000000 line 1 1->2 ch 1 red 7 HB sn 101 cs 500 ts 10 cts 5
+0.000500 line 2 10.0.0.1:8001->10.0.0.2:8002 red 8 safe fault 3 Code
+sum 1->2 opening not seen PDUs 1 missing 0 repeats 0 late 0 differs 0 stale 0 heartbeats 1 requests 0 resent 0 disconnects 0 \
+silence 0.000000 age 0 of 1800 waits 0 of 1800 last 0.000000 no DiscReq
+sum 1->2 ch 1 10.0.0.1:8001-10.0.0.2:8002 datagrams 2 PDUs 1 missing 0 repeats 0 late 0 differs 0 stale 0 damaged 1
+sum 2->1 opening not seen PDUs 0 missing 0 repeats 0 late 0 differs 0 stale 0 heartbeats 0 requests 0 resent 0 disconnects 0 \
+silence 0.000000 age 0 of 1800 waits 0 of 1800 not heard no DiscReq
+sum 2->1 ch 1 10.0.0.1:8001-10.0.0.2:8002 datagrams 0 PDUs 0 missing 0 repeats 0 late 0 differs 0 stale 0 damaged 0
+connection 1-2 was not seen to come up, nobody left, heard last at 0.000000, lost on single channels 0 on all 0, waits 0 of 1800
+sum all datagrams 2 PDUs 1 missing 0 repeats 0 late 0 differs 0 stale 0 damaged 1 forgotten 0 unreadable 1
+";
+    let fault = "line 3: unreadable: not six fields\n";
+    let asked = asked(CodeLength::Eight, None);
+    prints(
+        &rt,
+        lines.as_slice(),
+        &asked,
+        FollowStatus::Unreadable,
+        wanted,
+        fault,
+    )
+}
+
+// Nothing is said of a PDU that follows as it should, and each remark has its words.
+#[test]
+fn writes_remarks(rt: HostRuntime) -> Result<(), Fail> {
+    let mut text = Vec::new(rt.alloc());
+    let quiet = Remarks {
+        opens: false,
+        route: 0,
+        channel: Some(Judged::First),
+        together: Judged::Next,
+        sequence: Some(Judged::Next),
+        resent: false,
+        age: None,
+        waits: Some(899),
+        leaving: None,
+    };
+    write_remarks(&mut text, 1800, &quiet)?;
+    assert!(rt; text.is_empty());
+    let loud = Remarks {
+        opens: true,
+        route: 0,
+        channel: Some(Judged::Repeat(12)),
+        together: Judged::Late,
+        sequence: Some(Judged::Ahead(2)),
+        resent: true,
+        age: Some(45),
+        waits: Some(900),
+        leaving: Some(Leaving {
+            detail: 3,
+            reason: 4,
+        }),
+    };
+    write_remarks(&mut text, 1800, &loud)?;
+    let wanted =
+        " opens channel repeat of line 12 all late sn ahead 2 resent age 45 ms waits 900 ms \
+reason 4 service not allowed detail 3 not of this pair";
+    assert!(rt; text.as_slice() == wanted.as_bytes());
+    Ok(())
+}
+
+// The telegrams of a datagram stand behind its line, as `show` has them: here a unit of zeros, which is none.
+#[test]
+fn prints_telegrams(rt: HostRuntime) -> Result<(), Fail> {
+    let lines = [
+        (0, 0, false, data(10, (200, 600), (2000, 8000))),
+        (20_000, 0, false, heartbeat(11, (201, 600), (2020, 8000))),
+    ];
+    let mut asked = asked(CodeLength::Zero, None);
+    asked.messages = true;
+    let wanted = "\
+0.000000 line 1 1->2 ch 1 red 10 Data sn 200 cs 600 ts 2000 cts 8000
+unit fault 2 Length
+0.020000 line 2 1->2 ch 1 red 11 HB sn 201 cs 600 ts 2020 cts 8000
+sum 1->2 opening not seen PDUs 2 missing 0 repeats 0 late 0 differs 0 stale 0 heartbeats 1 requests 0 resent 0 disconnects 0 \
+silence 0.020000 age 0 of 1800 waits 0 of 1800 last 0.020000 no DiscReq
+sum 1->2 ch 1 10.0.0.1:8001-10.0.0.2:8002 datagrams 2 PDUs 2 missing 0 repeats 0 late 0 differs 0 stale 0 damaged 0
+sum 2->1 opening not seen PDUs 0 missing 0 repeats 0 late 0 differs 0 stale 0 heartbeats 0 requests 0 resent 0 disconnects 0 \
+silence 0.000000 age 0 of 1800 waits 0 of 1800 not heard no DiscReq
+sum 2->1 ch 1 10.0.0.1:8001-10.0.0.2:8002 datagrams 0 PDUs 0 missing 0 repeats 0 late 0 differs 0 stale 0 damaged 0
+connection 1-2 was not seen to come up, nobody left, heard last at 0.020000, lost on single channels 0 on all 0, waits 0 of 1800
+sum all datagrams 2 PDUs 2 missing 0 repeats 0 late 0 differs 0 stale 0 damaged 0 forgotten 0 unreadable 0
+";
+    follows(&rt, &lines, &asked, wanted)
+}
