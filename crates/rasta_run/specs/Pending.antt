@@ -1,5 +1,5 @@
 -- The lines that wait until a standard stream takes them.
-use Rattle.std.specs.Prelude.{◌≡◌, ◌≢◌, ◌⊎◌, ℕ, suc, ◌+◌, ◌-◌, ◌^◌, ◌≤◌, ◌<◌, ◌==◌, ◌||◌, ◌&&◌, not, nat_lt, nat_le, Bool, true, false, min, max, length, take, drop, reverse, slice_get, Option, None, Some, Result, Ok, Err, List, [], ◌∷◌, codes, if◌then◌else◌}
+use Rattle.std.specs.Prelude.{◌≡◌, ◌≢◌, ◌⊎◌, ℕ, zero, suc, ◌+◌, ◌-◌, ◌^◌, ◌≤◌, ◌<◌, ◌==◌, ◌||◌, ◌&&◌, not, nat_lt, nat_le, Bool, true, false, min, max, length, take, drop, reverse, slice_get, Option, None, Some, Result, Ok, Err, List, [], ◌∷◌, codes, if◌then◌else◌}
 use Rattle.std.specs.Fmt.{decimal}
 use Rattle.std.specs.Io.KnownBytes.{Appends}
 use Rattle.std.specs.Option.{option_map_or}
@@ -66,7 +66,7 @@ pub record PassesOnce {W G : Type 0} (contents : W → Option (List ℕ)) (asks 
 
 -- this many steps, in each of which the writer took something
 abbrev pub Goes : {W G : Type 0} → (W → Option (List ℕ)) → (G → Stream → Bool → G → Type 0) → Stream → ℕ → (s t : Held W G) → Type 0
-Goes contents asks stream 0 s t = t ≡ s
+Goes contents asks stream zero s t = t ≡ s
 Goes {W} {G} contents asks stream (suc n) s t = (mid : Held W G) × Goes contents asks stream n s mid × PassesOnce contents asks stream mid On t
 
 -- the last step: it is over, or it fails, or there were enough
