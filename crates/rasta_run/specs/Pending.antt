@@ -2,7 +2,6 @@
 use Rattle.std.specs.Prelude.{◌≡◌, ◌≢◌, ◌⊎◌, ℕ, zero, suc, ◌+◌, ◌-◌, ◌^◌, ◌≤◌, ◌<◌, ◌==◌, ◌||◌, ◌&&◌, not, nat_lt, nat_le, Bool, true, false, min, max, length, take, drop, reverse, slice_get, Option, None, Some, Result, Ok, Err, List, [], ◌∷◌, codes, if◌then◌else◌}
 use Rattle.std.specs.Fmt.{decimal}
 use Rattle.std.specs.Io.KnownBytes.{Appends}
-use Rattle.std.specs.Option.{option_map_or}
 use Rattle.pdu_text.specs.Lines.{joined}
 use Rattle.rasta_run.specs.Feeding.{feed_place, is_open, lines_left}
 use Rattle.rasta_run.specs.declared.pending.Passing.{Passing}
@@ -26,7 +25,7 @@ write_most = 4_096
 
 -- the greatest number of writes in a row
 abbrev pub writes_most : ℕ
-writes_most = 2 ^ 22
+writes_most = 4_194_304
 
 -- one more line left out
 abbrev pub one_more : ℕ → ℕ
@@ -37,11 +36,14 @@ abbrev pub is_refused : List ℕ → (room left_out : ℕ) → Bool
 is_refused octets room left_out =
     not (is_open (slice_get octets (length octets - 1))) && (nat_lt 0 left_out || nat_le room (length octets))
 
+-- how many of the first bytes are up to the last line feed, if this many come after it; all of them if there is none
+abbrev pub cut_size : ℕ → Option ℕ → ℕ
+cut_size most (Some after) = most - after
+cut_size most None = most
+
 -- the bytes of the next write: up to the last line feed of the first 4,096 bytes, or all of these if they have none
 abbrev pub front_size : List ℕ → ℕ
-front_size octets =
-    option_map_or (λ after. min (length octets) write_most - after) (feed_place (reverse (take (min (length octets) write_most) octets)))
-    (min (length octets) write_most)
+front_size octets = cut_size (min (length octets) write_most) (feed_place (reverse (take (min (length octets) write_most) octets)))
 
 -- a writer, the bytes that wait for it, and the gate that knows whether it is ready
 pub record Held (W G : Type 0) : Type 0 where

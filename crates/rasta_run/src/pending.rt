@@ -1,10 +1,10 @@
 //! The lines that wait until a standard stream takes them, so that a reader that stops does not stop an end.
 
-ghost use Rattle.std.specs.Prelude.{◌≡◌, ◌≢◌, ◌≤◌, ◌<◌, ◌+◌, ◌-◌, ◌^◌, ◌++◌, ◌⊎◌, ◌==◌, ℕ, Bool, false, true, not, List, [], Err, Ok, None, drop, length, min, nat_lt, take, vec_capacity, is_ok, IfOk, OnErr, OnOk};
+ghost use Rattle.std.specs.Prelude.{◌≡◌, ◌≢◌, ◌≤◌, ◌<◌, ◌+◌, ◌-◌, ◌^◌, ◌++◌, ◌⊎◌, ◌==◌, ℕ, Bool, false, true, not, List, [], Err, Ok, None, drop, length, min, nat_lt, reverse, take, vec_capacity, is_ok, IfOk, OnErr, OnOk};
 ghost use Rattle.std.specs.Io.{WritesAtMost};
 ghost use Rattle.std.specs.Io.KnownBytes.{Appends, Keeps, WriteAppends, append_known};
-ghost use Rattle.rasta_run.specs.Feeding.{lines_left};
-ghost use Rattle.rasta_run.specs.Pending.{Held, PassesAll, PassesOnce, front_size, is_refused, left_out_text, one_more};
+ghost use Rattle.rasta_run.specs.Feeding.{feed_place, lines_left};
+ghost use Rattle.rasta_run.specs.Pending.{PassesAll, PassesOnce, cut_size, front_size, is_refused, left_out_text, one_more};
 
 use crate::input::{is_open, is_passing, lines_left};
 use crate::readiness::{Gate, Stream};
@@ -297,9 +297,27 @@ fn front_size(octets: &[u8]) -> usize
     ensures bound { result ≤ length octets.now }
 {
     let most = octets.len().min(WRITE_MAX);
-    let front = &octets[..most];
-    match front.iter().rev().position(|octet| *octet == LINE_FEED) {
-        Some(after) => most - after,
+    let after = feed_from_end(&octets[..most]);
+    cut_size(most, after)
+}
+
+/// Returns how many bytes come after the last line feed.
+fn feed_from_end(octets: &[u8]) -> Option<usize>
+    // `feed_from_end` returns the place of the first line feed from the end, and `None` if there is none.
+    ensures { result ≡ feed_place (reverse octets.now) }
+{
+    octets.iter().rev().position(|octet| *octet == LINE_FEED)
+}
+
+/// Returns how many of the first bytes are up to the last line feed, if this many come after it.
+fn cut_size(most: usize, after: Option<usize>) -> usize
+    // `cut_size` returns `most` less the bytes `after`, and `most` if there is no line feed.
+    ensures value { result ≡ cut_size most after }
+    // The size that `cut_size` returns is at most `most`.
+    ensures bound { result ≤ most }
+{
+    match after {
+        Some(after) => most.saturating_sub(after),
         None => most,
     }
 }
