@@ -51,11 +51,11 @@ pub record Held (W G : Type 0) : Type 0 where
   pub octets : List ℕ
   pub gate : G
 
--- one write at most, of at most this front: exactly what the writer takes of it is removed
+-- one write at most, of at most the front: exactly what the writer takes of it is removed, and only if it takes something the step goes on
 abbrev pub Writes : {W G : Type 0} → (W → Option (List ℕ)) → Held W G → Passing → Held W G → Type 0
 Writes contents s step t =
     (size : ℕ) × (size ≤ front_size s.octets) × (t.octets ≡ drop size s.octets) × Appends (contents s.writer) (contents t.writer) (take size s.octets)
-    × (step ≡ On → 0 < size)
+    × (step ≡ On → 0 < size) × (step ≢ On → size ≡ 0)
 
 -- one step of passing on
 pub record PassesOnce {W G : Type 0} (contents : W → Option (List ℕ)) (asks : G → Stream → Bool → G → Type 0) (stream : Stream) (s : Held W G) (step : Passing) (t : Held W G) : Type 0 where

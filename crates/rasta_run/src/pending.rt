@@ -270,6 +270,8 @@ fn write_front<W: Write>(octets: &[u8], writer: &mut W) -> (Passing, usize)
     ensures whole { Appends (W.contents writer.old) (W.contents writer.new) (take result.1 octets.now) }
     // If more may be written, the stream took something.
     ensures on { result.0 ≡ Passing.On → 0 < result.1 }
+    // If no more may be written, the stream took nothing.
+    ensures none { result.0 ≢ Passing.On → result.1 ≡ 0 }
 {
     let size = front_size(octets);
     match writer.write(&octets[..size]) {
