@@ -67,8 +67,9 @@ pub struct Run {
 ///
 /// A text that is not a settings file is `fault: settings`, followed by its faults. The same holds for a text of
 /// more than 1,048,576 bytes, and for one with a text that is not an address, which shows when channels are
-/// opened. If standard input has ended and a telegram was not put or not confirmed, the status is `Unfinished`; else,
-/// if an end is not in the expected state, it is `Unexpected`.
+/// opened. If a line of standard output was not printed because nobody reads them, the status is `Unread`; else, if
+/// standard input has ended and a telegram was not put or not confirmed, it is `Unfinished`; else, if an end is not in
+/// the expected state, it is `Unexpected`.
 pub fn run_net<R: Net + Clock + Input + Files, O: Write, E: Write>(
     rt: &R,
     alloc: Global,
