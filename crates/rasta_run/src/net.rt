@@ -113,9 +113,26 @@ fn run_streamed<R: Net + Clock + Input + Files, O: Write, E: Write>(
     // If no state is expected, `run_streamed` does not return `Unexpected`.
     ensures expected { run.now.expected ≡ None → IfOk result (λ status. status ≢ Status.Unexpected) }
 {
-    let mut streams = Streams::open(alloc, rt, patience(ends), out, err)?;
+    let mut streams = Streams::open(alloc, rt, patience(ends), &mut *out, &mut *err)?;
+    Ok(run_over(rt, alloc, ends, run, file, &mut streams))
+}
+
+/// Runs ends over these streams, and writes what is left of them.
+fn run_over<R: Net + Clock + Input + Files, O: Write, E: Write>(
+    rt: &R,
+    alloc: Global,
+    ends: &Ends,
+    run: &Run,
+    file: &str,
+    streams: &mut Streams<O, E>,
+) -> Status
+    // `run_over` never returns `WrongWords`.
+    ensures words { result ≢ Status.WrongWords }
+    // If no state is expected, `run_over` does not return `Unexpected`.
+    ensures expected { run.now.expected ≡ None → result ≢ Status.Unexpected }
+{
     let mut unopened = None;
-    let status = match run_ends(rt, alloc, ends, run, &mut unopened, &mut streams) {
+    let status = match run_ends(rt, alloc, ends, run, &mut unopened, streams) {
         Ok(outcome) => run_status(outcome),
         Err(fault) => {
             streams.give_up(fault);
@@ -123,7 +140,7 @@ fn run_streamed<R: Net + Clock + Input + Files, O: Write, E: Write>(
         }
     };
     streams.log_rest();
-    Ok(status)
+    status
 }
 
 /// Returns how long the end of a run waits for a reader that does not go on: T_max, and of two ends the longer.

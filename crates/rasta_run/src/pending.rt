@@ -218,9 +218,9 @@ fn pass_all<W: Write, G: Gate>(
     ensures passed { PassesAll W.contents G.asks stream
         (record { writer = writer.old; octets = octets.now; gate = gate.old }) result.0
         (record { writer = writer.new; octets = drop result.1 octets.now; gate = gate.new }) }
-    // The stream holds what it held, and then the bytes that it took.
+    // After `pass_all` the stream holds what it held, and then the bytes that are gone.
     ensures whole { Appends (W.contents writer.old) (W.contents writer.new) (take result.1 octets.now) }
-    // The stream took at most all bytes.
+    // At most all bytes are gone.
     ensures bound { result.1 ≤ length octets.now }
 {
     let mut gone = 0;
@@ -248,9 +248,9 @@ fn pass_once<W: Write, G: Gate>(
     ensures passed { PassesOnce W.contents G.asks stream
         (record { writer = writer.old; octets = octets.now; gate = gate.old }) result.0
         (record { writer = writer.new; octets = drop result.1 octets.now; gate = gate.new }) }
-    // The stream holds what it held, and then the bytes that it took.
+    // After `pass_once` the stream holds what it held, and then the bytes of this step.
     ensures whole { Appends (W.contents writer.old) (W.contents writer.new) (take result.1 octets.now) }
-    // The stream took at most all bytes.
+    // The step takes at most all bytes.
     ensures bound { result.1 ≤ length octets.now }
 {
     if octets.is_empty() {
@@ -266,7 +266,7 @@ fn pass_once<W: Write, G: Gate>(
 fn write_front<W: Write>(octets: &[u8], writer: &mut W) -> (Passing, usize)
     // `write_front` writes at most the front.
     ensures bound { result.1 ≤ front_size octets.now }
-    // The stream holds what it held, and then the bytes that it took.
+    // After `write_front` the stream holds what it held, and then the bytes that it took.
     ensures whole { Appends (W.contents writer.old) (W.contents writer.new) (take result.1 octets.now) }
     // If more may be written, the stream took something.
     ensures on { result.0 ≡ Passing.On → 0 < result.1 }

@@ -82,7 +82,7 @@ impl<O: Write, E: Write> Streams<O, E> {
     ///
     /// - `Output` if standard output cannot be written.
     pub fn pass_on(&mut self) -> Result<(), Fault>
-        // Standard output and what waits for it are together as before.
+        // `pass_on` loses and repeats no byte of standard output.
         ensures whole { Keeps (append_known (O.contents self.old.out.writer) self.old.out.octets.items)
             (append_known (O.contents self.new.out.writer) self.new.out.octets.items) }
         // `pass_on` leaves no line of standard output out.
@@ -124,7 +124,7 @@ impl<O: Write, E: Write> Streams<O, E> {
     ///
     /// - `Output` if standard output cannot be written.
     pub fn print_rest(&mut self) -> Result<bool, Fault>
-        // Standard output and what waits for it are together as before.
+        // At the end of a run no byte of standard output is lost or repeated.
         ensures whole { Keeps (append_known (O.contents self.old.out.writer) self.old.out.octets.items)
             (append_known (O.contents self.new.out.writer) self.new.out.octets.items) }
         // `print_rest` returns true if and only if nothing waits any more.
