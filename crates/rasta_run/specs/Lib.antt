@@ -17,6 +17,7 @@ pub mod Unopened
 pub mod Putting
 pub mod Noticing
 pub mod Printing
+pub mod Pending
 pub mod Progress
 pub mod Undone
 pub mod Done

@@ -6,7 +6,7 @@ use Rattle.pdu_text.specs.Lines.{joined}
 use Rattle.pdu_text.specs.Names.{side_name}
 use Rattle.pdu_text.specs.Pieces.{three_digits}
 use Rattle.rasta_run.specs.declared.noticing.Notice.{Notice}
-use Rattle.rasta_run.specs.declared.noticing.Notice.TheVariants.{Deaf, Receives, InDoubt, NoTurn}
+use Rattle.rasta_run.specs.declared.noticing.Notice.TheVariants.{Deaf, Receives, InDoubt, NoTurn, Unread}
 
 -- receptions succeed again, after this many turns in which one failed
 unfoldable pub receives_text : ℕ → List ℕ
@@ -26,6 +26,7 @@ notice_text Deaf = codes "a reception fails: the system refuses it"
 notice_text (Receives turns) = receives_text turns
 notice_text (InDoubt count) = in_doubt_text count
 notice_text (NoTurn milliseconds) = no_turn_text milliseconds
+notice_text Unread = codes "leaves: nobody reads standard output"
 
 -- TIME END, at the start of a line, as in the log of an end
 unfoldable pub notice_front : ℕ → Side → List ℕ

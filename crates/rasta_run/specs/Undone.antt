@@ -10,7 +10,7 @@ use Rattle.rasta_run.specs.declared.undone.Origin.{Origin}
 use Rattle.rasta_run.specs.declared.undone.Origin.TheVariants.{Line, Entry}
 use Rattle.rasta_run.specs.declared.undone.Undone.{Undone}
 use Rattle.rasta_words.specs.declared.status.Status.{Status}
-use Rattle.rasta_words.specs.declared.status.Status.TheVariants.{Done, Unexpected, Unfinished}
+use Rattle.rasta_words.specs.declared.status.Status.TheVariants.{Done, Unexpected, Unfinished, Unread}
 
 -- every line and every entry of `puts` was put, and everything put is confirmed
 abbrev pub is_nothing : Undone → Bool
@@ -50,11 +50,13 @@ abbrev pub refused_line : Origin → ℕ → List ℕ → List ℕ
 refused_line origin kind name =
     joined (origin_text origin ∷ encode_lower (to_be_bytes w16 kind) ∷ codes " not put: " ∷ name ∷ codes "\n" ∷ [])
 
--- how a run ends: with status 5 if it left something undone, else with 4 if an end is not in the expected state
-abbrev pub run_status : (is_finished is_met : Bool) → Status
-run_status false is_met = Unfinished
-run_status true true = Done
-run_status true false = Unexpected
+-- how a run ends: with status 6 if a line of standard output was not written, else with 5 if it left something undone, else with 4 if an end is not
+-- in the expected state
+abbrev pub run_status : (is_read is_finished is_met : Bool) → Status
+run_status false is_finished is_met = Unread
+run_status true false is_met = Unfinished
+run_status true true true = Done
+run_status true true false = Unexpected
 
 -- how many telegrams put since the opening are in doubt, if `before` were put before it; numbers are modulo 2^64
 abbrev pub doubt_of : (put before confirmed : ℕ) → ℕ

@@ -4,7 +4,8 @@ ghost use Rattle.std.specs.Prelude.{◌≡◌, ◌≤◌, ◌+◌, ◌%◌, ◌^
 ghost use Rattle.rasta_run.specs.Ticking.{greatest_time};
 
 use crate::input::Feed;
-use crate::net::{Run, TURNS_MOST, limit_after, sent_off, write_lines};
+use crate::net::{Run, TURNS_MOST, limit_after, unless_unread};
+use crate::streams::Streams;
 use crate::ticking::RunClock;
 use crate::turns::Actor;
 use crate::undone::Outcome;
@@ -12,7 +13,7 @@ use crate::waiting::{earlier, take_rest};
 use octets::Milliseconds;
 use rasta_words::{Fault, RunLength};
 use std::alloc::Global;
-use std::io::{Input, Write};
+use std::io::{Input, Read, Write};
 use std::net::Net;
 use std::rt::Files;
 use std::time::Clock;
@@ -42,38 +43,32 @@ impl Both<'_> {
         clock: &mut RunClock,
         watch: &mut Watch,
         turns: u32,
-        out: &mut O,
-        err: &mut E,
+        streams: &mut Streams<O, E>,
     ) -> Result<(), Fault>
         requires later { (self.old.interlocking.end.time ≤ clock.old.last) × (self.old.field_element.end.time ≤ clock.old.last) }
         requires bounded { clock.old.last ≤ greatest_time }
-        // If `take_turns` succeeds, neither end is later than the last reading of the clock, which is at most 2^62
-        // ms.
-        ensures later { OnOk result ((self.new.interlocking.end.time ≤ clock.new.last) × (self.new.field_element.end.time ≤ clock.new.last)
-            × (clock.new.last ≤ greatest_time)) }
+        // After `take_turns` neither end is later than the last reading of the clock, which is at most 2^62 ms.
+        ensures later { (self.new.interlocking.end.time ≤ clock.new.last) × (self.new.field_element.end.time ≤ clock.new.last)
+            × (clock.new.last ≤ greatest_time) }
         // If `take_turns` succeeds, it has read the clock once for each of its `turns`. No clause says that each
         // reading belongs to one turn of both ends.
         ensures taken { OnOk result (clock.new.readings ≡ (clock.old.readings + turns) % 2 ^ 64) }
     {
         'turns: for _ in 0..turns {
             let now = clock.read(rt)?;
-            let heard = self.take_turn(now, out, err)?;
-            let anew = self.keep(rt, alloc, now, err)?;
-            write_lines(out, err)?;
+            let heard = self.take_turn(now, &mut streams.out, &mut streams.err)?;
+            let anew = self.keep(rt, alloc, now, &mut streams.err)?;
+            streams.pass_on()?;
             let found = heard || anew;
-            take_rest(
-                watch,
-                RunLength::Turns(turns),
-                found,
-                now,
-                self.next_deadline(),
-            );
+            let deadline = earlier(self.next_deadline(), streams.next_try(now));
+            take_rest(watch, RunLength::Turns(turns), found, now, deadline);
         }
         Ok(())
     }
 
-    /// Takes turns of both ends until standard input has ended, and everything is put and confirmed or the ends give
-    /// up. The interlocking puts the lines of input. Returns how many of them were not offered to it.
+    /// Runs both ends until standard input has ended, and everything is put and confirmed or the ends give up, or
+    /// until standard output has no room. The interlocking puts the lines of input. Returns how many of them were not
+    /// offered to it.
     ///
     /// # Errors
     ///
@@ -88,35 +83,55 @@ impl Both<'_> {
         alloc: Global,
         clock: &mut RunClock,
         watch: &mut Watch,
-        out: &mut O,
-        err: &mut E,
+        streams: &mut Streams<O, E>,
     ) -> Result<u64, Fault>
         requires later { (self.old.interlocking.end.time ≤ clock.old.last) × (self.old.field_element.end.time ≤ clock.old.last) }
         requires bounded { clock.old.last ≤ greatest_time }
-        // If `run_until_end` succeeds, neither end is later than the last reading of the clock, which is at most
-        // 2^62 ms.
-        ensures { OnOk result ((self.new.interlocking.end.time ≤ clock.new.last) × (self.new.field_element.end.time ≤ clock.new.last)
-            × (clock.new.last ≤ greatest_time)) }
+        // After `run_until_end` neither end is later than the last reading of the clock, which is at most 2^62 ms.
+        ensures { (self.new.interlocking.end.time ≤ clock.new.last) × (self.new.field_element.end.time ≤ clock.new.last)
+            × (clock.new.last ≤ greatest_time) }
     {
-        let mut feed = Feed::open(alloc, rt, watch, rt.reader())?;
+        let mut feed = Feed::open(alloc, &mut streams.gate, watch, rt.reader())?;
+        let ran = self.take_fed_turns(rt, alloc, clock, watch, &mut feed, streams);
+        unless_unread(ran, streams.out.has_left_out())?;
+        Ok(feed.unput())
+    }
+
+    /// Takes turns of both ends until their input has ended, and everything is put and confirmed or the ends give up.
+    fn take_fed_turns<R: Clock + Files, I: Read + Drop, O: Write, E: Write>(
+        &mut self,
+        rt: &R,
+        alloc: Global,
+        clock: &mut RunClock,
+        watch: &mut Watch,
+        feed: &mut Feed<I>,
+        streams: &mut Streams<O, E>,
+    ) -> Result<(), Fault>
+        requires later { (self.old.interlocking.end.time ≤ clock.old.last) × (self.old.field_element.end.time ≤ clock.old.last) }
+        requires bounded { clock.old.last ≤ greatest_time }
+        // After `take_fed_turns` neither end is later than the last reading of the clock, which is at most 2^62 ms.
+        ensures { (self.new.interlocking.end.time ≤ clock.new.last) × (self.new.field_element.end.time ≤ clock.new.last)
+            × (clock.new.last ≤ greatest_time) }
+    {
         'turns: for _ in 0..TURNS_MOST {
             let now = clock.read(rt)?;
-            let heard = self.take_turn(now, out, err)?;
-            let came = feed.read(now)?;
+            let heard = self.take_turn(now, &mut streams.out, &mut streams.err)?;
+            let came = feed.read(&mut streams.gate, now)?;
             let put = self
                 .interlocking
-                .put_lines(alloc, &mut feed, now, out, err)?;
+                .put_lines(alloc, feed, now, &mut streams.out, &mut streams.err)?;
             if feed.ended.is_some() && self.are_over(feed.is_done(), now) {
-                return Ok(feed.unput());
+                return Ok(());
             }
-            let anew = self.keep(rt, alloc, now, err)?;
-            write_lines(out, err)?;
+            let anew = self.keep(rt, alloc, now, &mut streams.err)?;
+            streams.pass_on()?;
             let found = heard || came || put || anew;
             let limit = limit_after(feed.ended, self.limit(), now);
-            let deadline = earlier(self.next_deadline(), limit);
+            let own = earlier(self.next_deadline(), limit);
+            let deadline = earlier(own, streams.next_try(now));
             take_rest(watch, RunLength::UntilEnd, found, now, deadline);
         }
-        Ok(feed.unput())
+        Ok(())
     }
 
     /// Returns whether both ends are over, once input has ended.
@@ -192,8 +207,7 @@ impl Both<'_> {
         run: &Run,
         lines: u64,
         now: Milliseconds,
-        out: &mut O,
-        err: &mut E,
+        streams: &mut Streams<O, E>,
     ) -> Result<Outcome, Fault>
         requires now { now ≤ 2 ^ 62 }
         requires later { (self.old.interlocking.end.time ≤ now) × (self.old.field_element.end.time ≤ now) }
@@ -205,23 +219,40 @@ impl Both<'_> {
         let il_met = self.interlocking.stands_as(run.expected, il_undone);
         let fe_met = self.field_element.stands_as(run.expected, fe_undone);
         let is_until_end = run.length == RunLength::UntilEnd;
-        if is_until_end {
-            self.interlocking.close(now, err);
-            self.field_element.close(now, err);
+        let left_out = streams.out.take_left_out();
+        self.leave(is_until_end, left_out, now, &mut streams.err);
+        if streams.print_rest()? {
+            self.interlocking.report(&mut streams.out)?;
+            self.field_element.report(&mut streams.out)?;
+            let _ = streams.print_rest()?;
         }
-        self.interlocking.report(out)?;
-        self.field_element.report(out)?;
-        sent_off(out)?;
         if is_until_end {
-            self.interlocking.tell_undone(il_undone, err);
-            self.field_element.tell_undone(fe_undone, err);
+            self.interlocking.tell_undone(il_undone, &mut streams.err);
+            self.field_element.tell_undone(fe_undone, &mut streams.err);
         }
-        self.interlocking.conclude(now, il_met, err);
-        self.field_element.conclude(now, fe_met, err);
+        let is_read = streams.tell_unread(left_out);
+        self.interlocking.conclude(now, il_met, &mut streams.err);
+        self.field_element.conclude(now, fe_met, &mut streams.err);
         let is_finished = il_undone.is_nothing() && fe_undone.is_nothing();
         Ok(Outcome {
+            is_read,
             is_finished: !is_until_end || is_finished,
             is_met: il_met && fe_met,
         })
+    }
+
+    /// Disconnects both ends if their input has ended, or if lines of standard output were left out. Logs the latter.
+    fn leave<E: Write>(&mut self, is_until_end: bool, left_out: u64, now: Milliseconds, err: &mut E)
+        requires now { now ≤ 2 ^ 62 }
+        requires later { (self.old.interlocking.end.time ≤ now) × (self.old.field_element.end.time ≤ now) }
+    {
+        if left_out > 0 {
+            self.interlocking.tell_unread(now, err);
+            self.field_element.tell_unread(now, err);
+        }
+        if is_until_end || left_out > 0 {
+            self.interlocking.close(now, err);
+            self.field_element.close(now, err);
+        }
     }
 }

@@ -6,16 +6,13 @@ ghost use Rattle.std.specs.Prelude.{◌≡◌, ◌≤◌, ◌<◌, length, IfOk,
 ghost use Rattle.std.specs.Io.KnownBytes.{Appends};
 ghost use Rattle.rasta_run.specs.Feeding.{cut_after, feed_place, is_open, IsNumbered, left_behind, line_read, line_seen, lines_left, next_line, none_text, unfed_line};
 
-use mio::unix::SourceFd;
-use mio::{Events, Interest, Poll, Token};
+use crate::readiness::{Gate, Readiness, Stream};
 use octets::Milliseconds;
 use rasta_words::Fault;
 use settings_file::{Put, put};
 use std::alloc::{AllocError, Global};
 use std::io;
 use std::io::{ErrorKind, Read, Write};
-use std::net::Net;
-use std::time::Duration;
 use udp_channels::Watch;
 
 /// The number of bytes that are read ahead, and the longest line. Beyond it, input waits until an end can put what
@@ -36,8 +33,6 @@ const INPUT: i32 = 0;
 pub struct Feed<I: Read + Drop> {
     /// Where it is read from.
     reader: I,
-    /// Whether it can be read without waiting.
-    readiness: Readiness,
     /// The bytes that were read and are not yet put.
     lines: Lines,
     /// The telegram that is to be put next.
@@ -54,10 +49,14 @@ impl<I: Read + Drop> Feed<I> {
     /// # Errors
     ///
     /// - `Memory` if an allocation fails;
-    /// - `Network` if the system cannot watch descriptors;
     /// - `File` if there is no standard input.
-    pub fn open<N: Net>(alloc: Global, net: &N, watch: &Watch, reader: I) -> Result<Self, Fault> {
-        let readiness = Readiness::open(alloc, net)?;
+    pub fn open(
+        alloc: Global,
+        gate: &mut Readiness,
+        watch: &Watch,
+        reader: I,
+    ) -> Result<Self, Fault> {
+        gate.watch_input()?;
         // The system does not watch a file, whose reader never waits. If standard input was closed, the watch has its
         // descriptor, and does not watch itself.
         match watch.add_descriptor(INPUT) {
@@ -68,7 +67,6 @@ impl<I: Read + Drop> Feed<I> {
         let lines = Lines::new(alloc);
         Ok(Feed {
             reader,
-            readiness,
             lines,
             next: None,
             unread: 0,
@@ -82,8 +80,8 @@ impl<I: Read + Drop> Feed<I> {
     ///
     /// - `File` if standard input cannot be read, for example because it is a folder;
     /// - `Memory` if an allocation fails.
-    pub fn read(&mut self, now: Milliseconds) -> Result<bool, Fault> {
-        if self.ended.is_some() || !self.lines.has_room() || !self.readiness.is_ready() {
+    pub fn read<G: Gate>(&mut self, gate: &mut G, now: Milliseconds) -> Result<bool, Fault> {
+        if self.ended.is_some() || !self.lines.has_room() || !gate.is_ready(Stream::Input) {
             return Ok(false);
         }
         let mut octets = [0u8; READ_MAX];
@@ -96,7 +94,6 @@ impl<I: Read + Drop> Feed<I> {
             self.ended = Some(now);
             return Ok(false);
         }
-        self.readiness.ask_again();
         match self.lines.add(&octets[..size]) {
             Ok(()) => Ok(true),
             Err(_) => Err(Fault::Memory),
@@ -153,7 +150,7 @@ impl<I: Read + Drop> Feed<I> {
 }
 
 /// Returns whether a read that failed is to be tried again: nothing was there, or a signal came.
-fn is_passing(kind: ErrorKind) -> bool {
+pub(crate) fn is_passing(kind: ErrorKind) -> bool {
     kind == ErrorKind::WouldBlock || kind == ErrorKind::Interrupted
 }
 
@@ -164,64 +161,6 @@ fn write_none<W: Write>(writer: &mut W, number: u64) -> io::Result<()>
     ensures { OnOk result (Appends (W.contents writer.old) (W.contents writer.new) (none_text number)) }
 {
     write!(writer, "line {number}: not a telegram TYPE:HEX\n")
-}
-
-/// Whether standard input can be read without waiting.
-#[derive(Drop)]
-struct Readiness {
-    /// The system's watch.
-    poll: Poll,
-    /// Room for its events.
-    events: Events,
-    /// Whether it is a file, whose reader never waits, and which the system does not watch.
-    is_file: bool,
-}
-
-impl Readiness {
-    /// Starts to watch standard input.
-    fn open<N: Net>(alloc: Global, net: &N) -> Result<Self, Fault> {
-        let Ok(events) = Events::with_capacity(alloc, 1) else {
-            return Err(Fault::Memory);
-        };
-        let Ok(poll) = Poll::new(net) else {
-            return Err(Fault::Network);
-        };
-        let watched = poll
-            .registry()
-            .register(&mut SourceFd(&INPUT), Token(0), Interest::READABLE);
-        let is_file = match watched {
-            Ok(()) => false,
-            Err(error) if error.kind() == ErrorKind::PermissionDenied => true,
-            Err(_) => return Err(Fault::File),
-        };
-        Ok(Readiness {
-            poll,
-            events,
-            is_file,
-        })
-    }
-
-    /// Asks the system without waiting.
-    fn is_ready(&mut self) -> bool {
-        if self.is_file {
-            return true;
-        }
-        match self
-            .poll
-            .poll(&mut self.events, Some(Duration::from_millis(0)))
-        {
-            Ok(()) => self.events.iter().next().is_some(),
-            Err(_) => false,
-        }
-    }
-
-    /// Has the system report again that bytes are left.
-    fn ask_again(&mut self) {
-        let _asked = self
-            .poll
-            .registry()
-            .reregister(&mut SourceFd(&INPUT), Token(0), Interest::READABLE);
-    }
 }
 
 /// The bytes of an input, cut into lines.
@@ -313,7 +252,7 @@ fn line_in(octets: &[u8], ended: bool) -> Option<(usize, usize)>
 }
 
 /// Returns how many lines bytes have; the last one needs no line feed.
-fn lines_left(octets: &[u8]) -> usize
+pub(crate) fn lines_left(octets: &[u8]) -> usize
     // `lines_left` returns the number of line feeds, and one more if bytes come after the last one.
     ensures { result ≡ lines_left octets.now }
 {
@@ -325,7 +264,7 @@ fn lines_left(octets: &[u8]) -> usize
 }
 
 /// Returns whether the last byte belongs to a line without a line feed.
-fn is_open(last: Option<u8>) -> bool
+pub(crate) fn is_open(last: Option<u8>) -> bool
     // `is_open` is true if and only if there is a last byte, and it is not a line feed.
     ensures { result ≡ is_open last }
 {

@@ -6,6 +6,7 @@ ghost use Rattle.std.specs.Prelude.{◌≡◌, ◌≢◌, ◌≤◌, ◌<◌, �
 ghost use Rattle.settings_file.specs.Whole.{ends_of};
 ghost use Rattle.rasta_run.specs.Reading.{settings_most};
 ghost use Rattle.rasta_run.specs.Ticking.{greatest_time};
+ghost use Rattle.rasta_run.specs.Pending.{longest_patience, unless_unread};
 ghost use Rattle.rasta_run.specs.Unopened.{fault_of};
 ghost use Rattle.rasta_words.specs.Status.{status_of};
 ghost use Rattle.rasta_run.specs.Drawing.{MayBegin};
@@ -22,6 +23,7 @@ use crate::input::Feed;
 use crate::keeping::Keeper;
 use crate::logging::Log;
 use crate::settings::{NoAddress, read_ends, warn};
+use crate::streams::Streams;
 use crate::ticking::RunClock;
 use crate::turns::{Actor, fault_of_end};
 use crate::undone::{Outcome, run_status};
@@ -33,14 +35,11 @@ use rasta_words::{Expected, Fault, LogLevel, RunLength, Status, Telling, report}
 use settings_file::{Ends, Settings, Word};
 use stack_end::End;
 use std::alloc::Global;
-use std::io::{BufWriter, Input, Write};
+use std::io::{Input, Read, Write};
 use std::net::Net;
 use std::rt::Files;
 use std::time::Clock;
 use udp_channels::{UdpChannels, UdpFault, Watch, open_udp};
-
-/// The room for the lines of a turn, in bytes. More lines are written before the turn ends.
-const LINES_SIZE: usize = 65_536;
 
 /// The turn limit of a run that lasts until its input ends. It is never reached.
 pub(crate) const TURNS_MOST: u64 = 1 << 63;
@@ -68,8 +67,9 @@ pub struct Run {
 ///
 /// A text that is not a settings file is `fault: settings`, followed by its faults. The same holds for a text of
 /// more than 1,048,576 bytes, and for one with a text that is not an address, which shows when channels are
-/// opened. If standard input has ended and a telegram was not put or not confirmed, the status is `Unfinished`; else,
-/// if an end is not in the expected state, it is `Unexpected`.
+/// opened. If a line of standard output was not printed because nobody reads them, the status is `Unread`; else, if
+/// standard input has ended and a telegram was not put or not confirmed, it is `Unfinished`; else, if an end is not in
+/// the expected state, it is `Unexpected`.
 pub fn run_net<R: Net + Clock + Input + Files, O: Write, E: Write>(
     rt: &R,
     alloc: Global,
@@ -92,33 +92,67 @@ pub fn run_net<R: Net + Clock + Input + Files, O: Write, E: Write>(
         Ok(ends) => ends,
         Err(status) => return status,
     };
-    let mut unopened = None;
-    match run_buffered(rt, alloc, &ends, run, &mut unopened, out, err) {
-        Ok(outcome) => run_status(outcome),
-        Err(fault) => stop(fault, unopened, &ends, file, err),
+    match run_streamed(rt, alloc, &ends, run, file, out, err) {
+        Ok(status) => status,
+        Err(fault) => report(err, fault),
     }
 }
 
-/// Runs ends with buffered outputs, so that the lines of a turn are one write.
-fn run_buffered<R: Net + Clock + Input + Files, O: Write, E: Write>(
+/// Runs ends with outputs that are never waited for while they run.
+fn run_streamed<R: Net + Clock + Input + Files, O: Write, E: Write>(
     rt: &R,
     alloc: Global,
     ends: &Ends,
     run: &Run,
-    unopened: &mut Option<Unopened>,
+    file: &str,
     out: &mut O,
     err: &mut E,
-) -> Result<Outcome, Fault>
-    // If no state is expected, each end was in it when `run_buffered` succeeds.
-    ensures { run.now.expected ≡ None → IfOk result (λ outcome. outcome.is_met ≡ true) }
+) -> Result<Status, Fault>
+    // `run_streamed` never returns `WrongWords`.
+    ensures words { IfOk result (λ status. status ≢ Status.WrongWords) }
+    // If no state is expected, `run_streamed` does not return `Unexpected`.
+    ensures expected { run.now.expected ≡ None → IfOk result (λ status. status ≢ Status.Unexpected) }
 {
-    let Ok(mut out) = BufWriter::with_capacity(alloc, LINES_SIZE, out) else {
-        return Err(Fault::Memory);
+    let mut streams = Streams::open(alloc, rt, patience(ends), &mut *out, &mut *err)?;
+    Ok(run_over(rt, alloc, ends, run, file, &mut streams))
+}
+
+/// Runs ends over these streams, and writes what is left of them.
+fn run_over<R: Net + Clock + Input + Files, O: Write, E: Write>(
+    rt: &R,
+    alloc: Global,
+    ends: &Ends,
+    run: &Run,
+    file: &str,
+    streams: &mut Streams<O, E>,
+) -> Status
+    // `run_over` never returns `WrongWords`.
+    ensures words { result ≢ Status.WrongWords }
+    // If no state is expected, `run_over` does not return `Unexpected`.
+    ensures expected { run.now.expected ≡ None → result ≢ Status.Unexpected }
+{
+    let mut unopened = None;
+    let status = match run_ends(rt, alloc, ends, run, &mut unopened, streams) {
+        Ok(outcome) => run_status(outcome),
+        Err(fault) => {
+            streams.give_up(fault);
+            stop(fault, unopened, ends, file, &mut streams.err)
+        }
     };
-    let Ok(mut err) = BufWriter::with_capacity(alloc, LINES_SIZE, err) else {
-        return Err(Fault::Memory);
-    };
-    run_ends(rt, alloc, ends, run, unopened, &mut out, &mut err)
+    streams.log_rest();
+    status
+}
+
+/// Returns how long the end of a run waits for a reader that does not go on: T_max, and of two ends the longer.
+fn patience(ends: &Ends) -> Milliseconds
+    // `patience` returns T_max of the one end, or the longer T_max of two.
+    ensures { result ≡ longest_patience ends.now }
+{
+    match ends {
+        Ends::Il(il) => il.config.t_max,
+        Ends::Fe(fe) => fe.config.t_max,
+        Ends::Pair(il, fe) => il.config.t_max.max(fe.config.t_max),
+    }
 }
 
 /// Runs the ends of a settings file. Before that it prints what in the file is likely to be a mistake.
@@ -128,17 +162,16 @@ fn run_ends<R: Net + Clock + Input + Files, O: Write, E: Write>(
     ends: &Ends,
     run: &Run,
     unopened: &mut Option<Unopened>,
-    out: &mut O,
-    err: &mut E,
+    streams: &mut Streams<O, E>,
 ) -> Result<Outcome, Fault>
     // If no state is expected, each end was in it when `run_ends` succeeds.
     ensures { run.now.expected ≡ None → IfOk result (λ outcome. outcome.is_met ≡ true) }
 {
-    warn(alloc, run.keep, ends, err);
+    warn(alloc, run.keep, ends, &mut streams.err);
     match ends {
-        Ends::Il(il) => run_one(rt, alloc, Side::Interlocking, il, run, unopened, out, err),
-        Ends::Fe(fe) => run_one(rt, alloc, Side::FieldElement, fe, run, unopened, out, err),
-        Ends::Pair(il, fe) => run_two(rt, alloc, il, fe, run, unopened, out, err),
+        Ends::Il(il) => run_one(rt, alloc, Side::Interlocking, il, run, unopened, streams),
+        Ends::Fe(fe) => run_one(rt, alloc, Side::FieldElement, fe, run, unopened, streams),
+        Ends::Pair(il, fe) => run_two(rt, alloc, il, fe, run, unopened, streams),
     }
 }
 
@@ -171,8 +204,7 @@ fn run_one<R: Net + Clock + Input + Files, O: Write, E: Write>(
     settings: &Settings,
     run: &Run,
     unopened: &mut Option<Unopened>,
-    out: &mut O,
-    err: &mut E,
+    streams: &mut Streams<O, E>,
 ) -> Result<Outcome, Fault>
     // If no state is expected, the end was in it when `run_one` succeeds.
     ensures { run.now.expected ≡ None → IfOk result (λ outcome. outcome.is_met ≡ true) }
@@ -182,19 +214,32 @@ fn run_one<R: Net + Clock + Input + Files, O: Write, E: Write>(
     let mut clock = RunClock::start(rt)?;
     let now = clock.read(rt)?;
     let mut actor = open_end(rt, alloc, channels, side, settings, run, now)?;
-    actor.tell_opened(settings, now, err);
+    actor.tell_opened(settings, now, &mut streams.err);
     let lines = match run.length {
         RunLength::Turns(turns) => {
-            take_turns(
-                rt, alloc, &mut clock, &mut watch, &mut actor, turns, out, err,
-            )?;
+            let ran = take_turns(
+                rt, alloc, &mut clock, &mut watch, &mut actor, turns, streams,
+            );
+            unless_unread(ran, streams.out.has_left_out())?;
             0
         }
         RunLength::UntilEnd => {
-            run_until_end(rt, alloc, &mut clock, &mut watch, &mut actor, out, err)?
+            run_until_end(rt, alloc, &mut clock, &mut watch, &mut actor, streams)?
         }
     };
-    finish(&mut actor, run, lines, clock.last, out, err)
+    finish(&mut actor, run, lines, clock.last, streams)
+}
+
+/// Returns the result of turns. If a line of standard output has no room, that is not a fault of the output, and the
+/// run is concluded.
+pub(crate) fn unless_unread(ran: Result<(), Fault>, has_left_out: bool) -> Result<(), Fault>
+    // `unless_unread` returns success in place of a fault of the output if `has_left_out` is true, and else `ran`.
+    ensures { result ≡ unless_unread ran has_left_out }
+{
+    match (ran, has_left_out) {
+        (Err(Fault::Output), true) => Ok(()),
+        _ => ran,
+    }
 }
 
 /// Ends the run of an end, which leaves this many lines of input: prints its state and what it leaves undone, and
@@ -204,8 +249,7 @@ fn finish<O: Write, E: Write>(
     run: &Run,
     lines: u64,
     now: Milliseconds,
-    out: &mut O,
-    err: &mut E,
+    streams: &mut Streams<O, E>,
 ) -> Result<Outcome, Fault>
     requires now { now ≤ 2 ^ 62 }
     requires later { actor.old.end.time ≤ now }
@@ -215,16 +259,24 @@ fn finish<O: Write, E: Write>(
     let undone = actor.undone(lines);
     let is_met = actor.stands_as(run.expected, undone);
     let is_until_end = run.length == RunLength::UntilEnd;
-    if is_until_end {
-        actor.close(now, err);
+    let left_out = streams.out.take_left_out();
+    if left_out > 0 {
+        actor.tell_unread(now, &mut streams.err);
     }
-    actor.report(out)?;
-    sent_off(out)?;
-    if is_until_end {
-        actor.tell_undone(undone, err);
+    if is_until_end || left_out > 0 {
+        actor.close(now, &mut streams.err);
     }
-    actor.conclude(now, is_met, err);
+    if streams.print_rest()? {
+        actor.report(&mut streams.out)?;
+        let _ = streams.print_rest()?;
+    }
+    if is_until_end {
+        actor.tell_undone(undone, &mut streams.err);
+    }
+    let is_read = streams.tell_unread(left_out);
+    actor.conclude(now, is_met, &mut streams.err);
     Ok(Outcome {
+        is_read,
         is_finished: !is_until_end || undone.is_nothing(),
         is_met,
     })
@@ -238,31 +290,25 @@ fn take_turns<R: Clock + Files, O: Write, E: Write>(
     watch: &mut Watch,
     actor: &mut Actor<'_, UdpChannels>,
     turns: u32,
-    out: &mut O,
-    err: &mut E,
+    streams: &mut Streams<O, E>,
 ) -> Result<(), Fault>
     requires later { actor.old.end.time ≤ clock.old.last }
     requires bounded { clock.old.last ≤ greatest_time }
-    // If `take_turns` succeeds, the end's time is at most the last reading of the clock, which is at most 2^62 ms.
-    ensures later { OnOk result ((actor.new.end.time ≤ clock.new.last) × (clock.new.last ≤ greatest_time)) }
+    // After `take_turns` the end's time is at most the last reading of the clock, which is at most 2^62 ms.
+    ensures later { (actor.new.end.time ≤ clock.new.last) × (clock.new.last ≤ greatest_time) }
     // If `take_turns` succeeds, it has read the clock once for each of the end's `turns`. No clause says that each
     // reading belongs to one turn.
     ensures taken { OnOk result (clock.new.readings ≡ (clock.old.readings + turns) % 2 ^ 64) }
 {
     'turns: for _ in 0..turns {
         let now = clock.read(rt)?;
-        let heard = take_turn(actor, now, out, err)?;
-        let anew = actor.keep(rt, alloc, now, err)?;
-        actor.tell_due(now, err);
-        write_lines(out, err)?;
+        let heard = take_turn(actor, now, &mut streams.out, &mut streams.err)?;
+        let anew = actor.keep(rt, alloc, now, &mut streams.err)?;
+        actor.tell_due(now, &mut streams.err);
+        streams.pass_on()?;
         let found = heard || anew;
-        take_rest(
-            watch,
-            RunLength::Turns(turns),
-            found,
-            now,
-            actor.next_deadline(),
-        );
+        let deadline = earlier(actor.next_deadline(), streams.next_try(now));
+        take_rest(watch, RunLength::Turns(turns), found, now, deadline);
     }
     Ok(())
 }
@@ -284,47 +330,61 @@ fn take_turn<O: Write, E: Write>(
     Ok(actor.received() != before)
 }
 
-/// Takes turns of an end until standard input has ended, and everything is put and confirmed or the end gives up.
-/// Returns how many lines of input were not offered to the end.
+/// Runs an end until standard input has ended, and everything is put and confirmed or the end gives up, or until
+/// standard output has no room. Returns how many lines of input were not offered to the end.
 fn run_until_end<R: Net + Clock + Input + Files, O: Write, E: Write>(
     rt: &R,
     alloc: Global,
     clock: &mut RunClock,
     watch: &mut Watch,
     actor: &mut Actor<'_, UdpChannels>,
-    out: &mut O,
-    err: &mut E,
+    streams: &mut Streams<O, E>,
 ) -> Result<u64, Fault>
     requires later { actor.old.end.time ≤ clock.old.last }
     requires bounded { clock.old.last ≤ greatest_time }
-    // If `run_until_end` succeeds, the end's time is at most the last reading of the clock, which is at most 2^62
-    // ms.
-    ensures { OnOk result ((actor.new.end.time ≤ clock.new.last) × (clock.new.last ≤ greatest_time)) }
+    // After `run_until_end` the end's time is at most the last reading of the clock, which is at most 2^62 ms.
+    ensures { (actor.new.end.time ≤ clock.new.last) × (clock.new.last ≤ greatest_time) }
 {
-    let mut feed = Feed::open(alloc, rt, watch, rt.reader())?;
+    let mut feed = Feed::open(alloc, &mut streams.gate, watch, rt.reader())?;
+    let ran = take_fed_turns(rt, alloc, clock, watch, actor, &mut feed, streams);
+    unless_unread(ran, streams.out.has_left_out())?;
+    Ok(feed.unput())
+}
+
+/// Takes turns of an end until its input has ended, and everything is put and confirmed or the end gives up.
+fn take_fed_turns<R: Clock + Files, I: Read + Drop, O: Write, E: Write>(
+    rt: &R,
+    alloc: Global,
+    clock: &mut RunClock,
+    watch: &mut Watch,
+    actor: &mut Actor<'_, UdpChannels>,
+    feed: &mut Feed<I>,
+    streams: &mut Streams<O, E>,
+) -> Result<(), Fault>
+    requires later { actor.old.end.time ≤ clock.old.last }
+    requires bounded { clock.old.last ≤ greatest_time }
+    // After `take_fed_turns` the end's time is at most the last reading of the clock, which is at most 2^62 ms.
+    ensures { (actor.new.end.time ≤ clock.new.last) × (clock.new.last ≤ greatest_time) }
+{
     'turns: for _ in 0..TURNS_MOST {
         let now = clock.read(rt)?;
-        let heard = take_turn(actor, now, out, err)?;
-        let came = feed.read(now)?;
-        let put = actor.put_lines(alloc, &mut feed, now, out, err)?;
+        let heard = take_turn(actor, now, &mut streams.out, &mut streams.err)?;
+        let came = feed.read(&mut streams.gate, now)?;
+        let put = actor.put_lines(alloc, feed, now, &mut streams.out, &mut streams.err)?;
         actor.note_progress(now);
         if feed.ended.is_some() && actor.is_over(feed.is_done(), now) {
-            return Ok(feed.unput());
+            return Ok(());
         }
-        let anew = actor.keep(rt, alloc, now, err)?;
-        actor.tell_due(now, err);
-        write_lines(out, err)?;
+        let anew = actor.keep(rt, alloc, now, &mut streams.err)?;
+        actor.tell_due(now, &mut streams.err);
+        streams.pass_on()?;
         let found = heard || came || put || anew;
         let limit = limit_after(feed.ended, actor.limit(), now);
-        take_rest(
-            watch,
-            RunLength::UntilEnd,
-            found,
-            now,
-            earlier(actor.next_deadline(), limit),
-        );
+        let own = earlier(actor.next_deadline(), limit);
+        let deadline = earlier(own, streams.next_try(now));
+        take_rest(watch, RunLength::UntilEnd, found, now, deadline);
     }
-    Ok(feed.unput())
+    Ok(())
 }
 
 /// Returns when a run gives up, once its input has ended. A time that has passed does not count: then another end
@@ -343,13 +403,6 @@ pub(crate) fn limit_after(
     }
 }
 
-/// Writes the lines of a turn.
-pub(crate) fn write_lines<O: Write, E: Write>(out: &mut O, err: &mut E) -> Result<(), Fault> {
-    sent_off(out)?;
-    let _ = err.flush();
-    Ok(())
-}
-
 /// Runs both ends, and returns how they were at the end.
 fn run_two<R: Net + Clock + Input + Files, O: Write, E: Write>(
     rt: &R,
@@ -358,8 +411,7 @@ fn run_two<R: Net + Clock + Input + Files, O: Write, E: Write>(
     fe: &Settings,
     run: &Run,
     unopened: &mut Option<Unopened>,
-    out: &mut O,
-    err: &mut E,
+    streams: &mut Streams<O, E>,
 ) -> Result<Outcome, Fault>
     // If no state is expected, both ends were in it when `run_two` succeeds.
     ensures { run.now.expected ≡ None → IfOk result (λ outcome. outcome.is_met ≡ true) }
@@ -370,21 +422,22 @@ fn run_two<R: Net + Clock + Input + Files, O: Write, E: Write>(
     let mut clock = RunClock::start(rt)?;
     let now = clock.read(rt)?;
     let mut field_element = open_end(rt, alloc, fe_channels, Side::FieldElement, fe, run, now)?;
-    field_element.tell_opened(fe, now, err);
+    field_element.tell_opened(fe, now, &mut streams.err);
     let mut interlocking = open_end(rt, alloc, il_channels, Side::Interlocking, il, run, now)?;
-    interlocking.tell_opened(il, now, err);
+    interlocking.tell_opened(il, now, &mut streams.err);
     let mut pair = Both {
         interlocking,
         field_element,
     };
     let lines = match run.length {
         RunLength::Turns(turns) => {
-            pair.take_turns(rt, alloc, &mut clock, &mut watch, turns, out, err)?;
+            let ran = pair.take_turns(rt, alloc, &mut clock, &mut watch, turns, streams);
+            unless_unread(ran, streams.out.has_left_out())?;
             0
         }
-        RunLength::UntilEnd => { pair.run_until_end(rt, alloc, &mut clock, &mut watch, out, err)? }
+        RunLength::UntilEnd => { pair.run_until_end(rt, alloc, &mut clock, &mut watch, streams)? }
     };
-    pair.finish(run, lines, clock.last, out, err)
+    pair.finish(run, lines, clock.last, streams)
 }
 
 /// Opens the watch of a run.
@@ -479,13 +532,5 @@ fn open_end<'a, R: Files>(
             teller,
         )),
         Err((fault, _channels)) => Err(fault_of_end(fault)),
-    }
-}
-
-/// Flushes what was printed.
-pub(crate) fn sent_off<O: Write>(out: &mut O) -> Result<(), Fault> {
-    match out.flush() {
-        Ok(()) => Ok(()),
-        Err(_) => Err(Fault::Output),
     }
 }

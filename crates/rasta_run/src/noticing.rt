@@ -22,6 +22,8 @@ pub enum Notice {
     InDoubt(u64),
     /// The end took no turn for this many milliseconds.
     NoTurn(u64),
+    /// The lines of telegrams taken have no room, because nobody reads standard output.
+    Unread,
 }
 
 /// Writes the line of a notice at a time of the end's clock, in milliseconds.
@@ -81,6 +83,7 @@ fn write_what<W: Write>(writer: &mut W, notice: Notice) -> io::Result<()>
         Notice::Receives(turns) => write_receives(writer, turns),
         Notice::InDoubt(count) => write_in_doubt(writer, count),
         Notice::NoTurn(milliseconds) => write_no_turn(writer, milliseconds),
+        Notice::Unread => write_text(writer, "leaves: nobody reads standard output"),
     }
 }
 

@@ -15,7 +15,7 @@ use std::io::Write;
 /// The longest line of a telegram in bytes: two letters, " takes ", four digits, a blank, 714 digits and the line feed.
 const LINE_MAX: usize = 768;
 
-/// Prints each telegram that the application takes, until an output fails.
+/// Prints each telegram that the application takes. An output that has no room counts the lines that it leaves out.
 #[derive(Drop)]
 pub struct Printer<'a, W> {
     /// The end whose telegrams are printed.
@@ -35,7 +35,7 @@ impl<W: Write> Taker for Printer<'_, W> {
 
     fn take(&mut self, kind: u16, payload: &[u8]) {
         self.taken = self.taken.wrapping_add(1);
-        if !self.failed && print_take(self.writer, self.side, kind, payload).is_err() {
+        if print_take(self.writer, self.side, kind, payload).is_err() {
             self.failed = true;
         }
     }

@@ -278,6 +278,11 @@ impl<'a, C: Channels, A: Allocator + Copy> Actor<'a, C, A> {
         }
     }
 
+    /// Logs that the end leaves, because nobody reads its telegrams.
+    pub fn tell_unread<E: Write>(&self, now: Milliseconds, err: &mut E) {
+        self.log.notice(Notice::Unread, now, err);
+    }
+
     /// Logs how many telegrams are in doubt when the connection is lost.
     fn note_loss<E: Write>(&mut self, now: Milliseconds, err: &mut E)
         // `note_loss` does not change the end.

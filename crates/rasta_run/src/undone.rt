@@ -141,6 +141,8 @@ fn write_entry<W: Write>(writer: &mut W, number: u64) -> io::Result<()>
 /// How a run was at its end.
 #[derive(Clone, Copy, Debug, PartialEq, Eq)]
 pub struct Outcome {
+    /// Whether all lines of standard output were written.
+    pub is_read: bool,
     /// Whether nothing is left undone that a run until the end of input was to do.
     pub is_finished: bool,
     /// Whether each end was in the expected state.
@@ -149,18 +151,19 @@ pub struct Outcome {
 
 /// Returns how a run ends.
 pub fn run_status(outcome: Outcome) -> Status
-    // `run_status` returns `Unfinished` if something is left undone, else `Unexpected` if an end is not in the
-    // expected state, and else `Done`.
-    ensures status { result ≡ undone.run_status outcome.is_finished outcome.is_met }
+    // `run_status` returns `Unread` if a line of standard output was not written, else `Unfinished` if something is
+    // left undone, else `Unexpected` if an end is not in the expected state, and else `Done`.
+    ensures status { result ≡ undone.run_status outcome.is_read outcome.is_finished outcome.is_met }
     // `run_status` never returns `WrongWords`.
     ensures words { result ≢ Status.WrongWords }
     // `run_status` does not return `Unexpected` if each end was in the expected state.
     ensures met { outcome.is_met ≡ true → result ≢ Status.Unexpected }
 {
-    match (outcome.is_finished, outcome.is_met) {
-        (false, _) => Status::Unfinished,
-        (true, true) => Status::Done,
-        (true, false) => Status::Unexpected,
+    match (outcome.is_read, outcome.is_finished, outcome.is_met) {
+        (false, _, _) => Status::Unread,
+        (true, false, _) => Status::Unfinished,
+        (true, true, true) => Status::Done,
+        (true, true, false) => Status::Unexpected,
     }
 }
 

@@ -1,7 +1,7 @@
 -- The exit status of the program.
 use Rattle.std.specs.Prelude.{ℕ}
 use Rattle.rasta_words.specs.declared.status.Status.{Status}
-use Rattle.rasta_words.specs.declared.status.Status.TheVariants.{Done, Refused, WrongWords, Failed, Unexpected, Unfinished}
+use Rattle.rasta_words.specs.declared.status.Status.TheVariants.{Done, Refused, WrongWords, Failed, Unexpected, Unfinished, Unread}
 use Rattle.rasta_words.specs.declared.status.Fault.{Fault}
 use Rattle.rasta_words.specs.declared.status.Fault.TheVariants as fault
 
@@ -13,6 +13,7 @@ status_code WrongWords = 2
 status_code Failed = 3
 status_code Unexpected = 4
 status_code Unfinished = 5
+status_code Unread = 6
 
 -- how the program ends with each fault
 abbrev pub status_of : Fault → Status

@@ -21,13 +21,15 @@ pub enum Status {
     Unexpected,
     /// Standard input has ended, and a telegram was not put or not confirmed.
     Unfinished,
+    /// Nobody read standard output, and lines were not printed.
+    Unread,
 }
 
 impl Status {
     /// Returns the exit status.
     pub fn code(self) -> u8
-        // `code` returns 0 for `Done`, 1 for `Refused`, 2 for `WrongWords`, 3 for `Failed`, 4 for `Unexpected` and
-        // 5 for `Unfinished`.
+        // `code` returns 0 for `Done`, 1 for `Refused`, 2 for `WrongWords`, 3 for `Failed`, 4 for `Unexpected`, 5
+        // for `Unfinished` and 6 for `Unread`.
         ensures { result ≡ status_code self }
     {
         match self {
@@ -37,6 +39,7 @@ impl Status {
             Status::Failed => 3,
             Status::Unexpected => 4,
             Status::Unfinished => 5,
+            Status::Unread => 6,
         }
     }
 }

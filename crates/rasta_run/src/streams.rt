@@ -1,0 +1,191 @@
+//! Standard output and standard error of a run, which are never waited for while it runs.
+
+ghost use Rattle.std.specs.Prelude.{◌≡◌, ◌+◌, ◌==◌, [], true, min, not, length, IfErr, IfOk, OnOk};
+ghost use Rattle.std.specs.Io.KnownBytes.{Appends, Keeps, append_known};
+ghost use Rattle.rasta_run.specs.Feeding.{lines_left};
+ghost use Rattle.rasta_run.specs.Pending.{next_try, unread_lines, unread_text};
+
+use crate::pending::Pending;
+use crate::readiness::{Readiness, Stream};
+use octets::Milliseconds;
+use rasta_words::Fault;
+use std::alloc::Global;
+use std::io;
+use std::io::Write;
+use std::net::Net;
+
+/// The number of bytes of standard output that wait for its reader.
+const OUTPUT_MAX: usize = 1_048_576;
+
+/// The number of bytes of the log that wait for its reader.
+const LOG_MAX: usize = 65_536;
+
+/// How long a run waits before it tries again to write lines that wait, in milliseconds.
+const TRY_WAIT: u64 = 10;
+
+/// Standard output and standard error of a run.
+#[derive(Drop)]
+pub struct Streams<O, E> {
+    /// The lines of standard output.
+    pub out: Pending<O>,
+    /// The lines of standard error.
+    pub err: Pending<E>,
+    /// Which streams are ready.
+    pub gate: Readiness,
+    /// How long the end of a run waits for a reader that does not go on, in milliseconds.
+    patience: Milliseconds,
+}
+
+impl<O: Write + Drop, E: Write + Drop> Streams<O, E> {
+    /// Opens the streams of a run.
+    ///
+    /// # Errors
+    ///
+    /// - `Memory` if an allocation fails;
+    /// - `Network` if the system has no means to wait.
+    pub fn open<N: Net>(
+        alloc: Global,
+        net: &N,
+        patience: Milliseconds,
+        out: O,
+        err: E,
+    ) -> Result<Self, Fault>
+        // In the streams that `open` returns nothing waits, and nothing was left out.
+        ensures empty { IfOk result (λ s. (s.out.octets.items ≡ []) × (s.out.left_out ≡ 0)
+            × (s.err.octets.items ≡ []) × (s.err.left_out ≡ 0)) }
+        // 1 MiB of standard output wait at most, and 64 KiB of the log; in both a line that was begun is completed.
+        ensures rooms { IfOk result (λ s. (s.out.room ≡ 1_048_576) × (s.err.room ≡ 65_536)) }
+        // The streams that `open` returns are over these writers.
+        ensures over { IfOk result (λ s. (s.out.writer ≡ out) × (s.err.writer ≡ err) × (s.patience ≡ patience)) }
+    {
+        let gate = Readiness::open(alloc, net)?;
+        let Ok(out) = Pending::open(alloc, Stream::Output, OUTPUT_MAX, out) else {
+            return Err(Fault::Memory);
+        };
+        let Ok(err) = Pending::open(alloc, Stream::Error, LOG_MAX, err) else {
+            return Err(Fault::Memory);
+        };
+        Ok(Streams {
+            out,
+            err,
+            gate,
+            patience,
+        })
+    }
+}
+
+impl<O: Write, E: Write> Streams<O, E> {
+    /// Writes the lines of a turn, as far as the streams take them without waiting. A log that cannot be written is
+    /// skipped.
+    ///
+    /// # Errors
+    ///
+    /// - `Output` if standard output cannot be written.
+    pub fn pass_on(&mut self) -> Result<(), Fault>
+        // `pass_on` loses and repeats no byte of standard output.
+        ensures whole { Keeps (append_known (O.contents self.old.out.writer) self.old.out.octets.items)
+            (append_known (O.contents self.new.out.writer) self.new.out.octets.items) }
+        // `pass_on` leaves no line of standard output out.
+        ensures kept { self.new.out.left_out ≡ self.old.out.left_out }
+        // `pass_on` fails only with `Output`.
+        ensures refused { IfErr result (λ why. why ≡ Fault.Output) }
+    {
+        let works = self.out.pass_on(&mut self.gate);
+        self.pass_log();
+        if works { Ok(()) } else { Err(Fault::Output) }
+    }
+
+    /// Writes the lines of the log, as far as standard error takes them.
+    fn pass_log(&mut self)
+        // `pass_log` does not change standard output.
+        ensures { (self.new.out ≡ self.old.out) × (self.new.patience ≡ self.old.patience) }
+    {
+        if !self.err.pass_on(&mut self.gate) {
+            self.err.skip();
+        }
+        self.err.note_left_out();
+    }
+
+    /// Returns when lines that wait are tried again, in milliseconds.
+    pub fn next_try(&self, now: Milliseconds) -> Option<Milliseconds>
+        // `next_try` returns 10 ms later if bytes wait for a stream, and else `None`.
+        ensures { result ≡ next_try self.now.out.octets.items self.now.err.octets.items now }
+    {
+        if self.out.has_waiting() || self.err.has_waiting() {
+            return Some(now.saturating_add(TRY_WAIT));
+        }
+        None
+    }
+
+    /// Writes what waits for standard output at the end of a run, as long as its reader goes on. Returns whether
+    /// nothing is left.
+    ///
+    /// # Errors
+    ///
+    /// - `Output` if standard output cannot be written.
+    pub fn print_rest(&mut self) -> Result<bool, Fault>
+        // At the end of a run no byte of standard output is lost or repeated.
+        ensures whole { Keeps (append_known (O.contents self.old.out.writer) self.old.out.octets.items)
+            (append_known (O.contents self.new.out.writer) self.new.out.octets.items) }
+        // `print_rest` returns true if and only if nothing waits any more.
+        ensures rest { IfOk result (λ printed. printed ≡ (length self.new.out.octets.items == 0)) }
+        // `print_rest` leaves no line of standard output out.
+        ensures kept { self.new.out.left_out ≡ self.old.out.left_out }
+        // `print_rest` fails only with `Output`.
+        ensures refused { IfErr result (λ why. why ≡ Fault.Output) }
+    {
+        self.pass_log();
+        self.gate.patience = self.patience;
+        let works = self.out.pass_on(&mut self.gate);
+        self.gate.patience = 0;
+        if works {
+            Ok(!self.out.has_waiting())
+        } else {
+            Err(Fault::Output)
+        }
+    }
+
+    /// Writes what waits for standard output after a fault, and logs how many lines are not printed. An output that
+    /// failed gets nothing more.
+    pub fn give_up(&mut self, fault: Fault) {
+        if fault != Fault::Output && self.print_rest().is_ok() {
+            let _ = self.tell_unread(0);
+        }
+    }
+
+    /// Writes what waits for standard error at the end of a run, as long as its reader goes on.
+    pub fn log_rest(&mut self)
+        // `log_rest` does not change standard output.
+        ensures { self.new.out ≡ self.old.out }
+    {
+        self.gate.patience = self.patience;
+        self.pass_log();
+        self.pass_log();
+        self.gate.patience = 0;
+    }
+
+    /// Logs how many lines of standard output were not printed, if any were not. Returns whether all were.
+    pub fn tell_unread(&mut self, left_out: u64) -> bool
+        // `tell_unread` returns true if and only if no line was left out and none waits.
+        ensures { result ≡ (unread_lines left_out self.old.out.octets.items == 0) }
+    {
+        let unread = left_out.saturating_add(self.out.waiting());
+        if unread == 0 {
+            return true;
+        }
+        let _ = write_unread(&mut self.err, unread);
+        false
+    }
+}
+
+/// Writes how many lines of standard output were not printed.
+#[tactic(auto, unfolding(crate::specs::Pending::unread_text))]
+fn write_unread<W: Write>(writer: &mut W, count: u64) -> io::Result<()>
+    // If `write_unread` succeeds, it has appended the line with the number of lines.
+    ensures { OnOk result (Appends (W.contents writer.old) (W.contents writer.new) (unread_text count)) }
+{
+    write!(
+        writer,
+        "output: {count} lines not printed, nobody reads them\n"
+    )
+}
