@@ -7,14 +7,15 @@ ghost use Rattle.std.specs.Prelude.{◌≡◌, ◌<◌, ◌≤◌, ◌++◌, ◌
 ghost use Rattle.std.specs.List.{remove};
 ghost use Rattle.arrayvec.specs.ArrayVec.{array_vec_len};
 ghost use Rattle.capture.specs.Whole.{forgets};
-ghost use Rattle.capture.specs.Connecting.{behind_of, channel_of, connection_after, connection_damaged, connection_remarks, damage_noted, damaged_at, ends_of, has_channel, is_between, is_from_low, is_held, is_known, is_same_address, is_same_host, is_source_low, known_place_of, left, opened, place_of, room_made, route_from, route_place_of, routes_after, step, step_remarks, taken};
+ghost use Rattle.capture.specs.Connecting.{behind_of, channel_of, connection_after, connection_damaged, connection_remarks, damage_noted, damaged_at, ends_of, has_channel, is_between, is_from_low, is_held, is_known, is_same_address, is_same_host, is_source_low, known_place_of, left, opened, place_of, room_made, route_from, route_place_of, routes_after, step, step_remarks, taken, way_followed, way_remarks};
 
 use crate::direction::{CHANNELS, Direction, Place, Remarks, follow_pdu, see_peer};
 use crate::heard::Header;
 use crate::line::{Address, Host, Record};
+use crate::sessions::{Sessions, note_session};
 use arrayvec::ArrayVec;
 
-/// How many connections are kept: some 230 KiB of memory.
+/// How many connections are kept: some 470 KiB of memory.
 pub const CONNECTIONS: usize = 16;
 
 /// The two addresses of a channel, as in the first PDU on it.
@@ -41,6 +42,8 @@ pub struct Connection {
     pub from_low: Direction,
     /// What the other end sent.
     pub from_high: Direction,
+    /// Its sessions.
+    pub sessions: Sessions,
 }
 
 impl Default for Connection {
@@ -113,7 +116,7 @@ fn bring_to_end(connections: &mut Connections, sender: u32, receiver: u32)
     }
 }
 
-/// Moves the connection at a place to the end of the list. The last one is not moved, since a connection has some 14
+/// Moves the connection at a place to the end of the list. The last one is not moved, since a connection has some 29
 /// KiB.
 fn move_to_end(connections: &mut Connections, place: usize)
     requires { place < array_vec_len connections.old }
@@ -177,6 +180,7 @@ fn open(low: u32, high: u32) -> Connection
         routes: [None; CHANNELS],
         from_low: Direction::new(),
         from_high: Direction::new(),
+        sessions: Sessions::new(),
     }
 }
 
@@ -191,7 +195,7 @@ fn follow_in(
     // The remarks are those in the direction of the end that made the PDU, by what the other end said
     // (`connection_remarks`).
     ensures remarks { result ≡ connection_remarks connection.old line record.now seq header.now }
-    // The time, the channels and the direction of the PDU's end change; the other direction does not
+    // The time, the channels, the direction of the PDU's end and the sessions change; the other direction does not
     // (`connection_after`).
     ensures after { connection.new ≡ connection_after connection.old line record.now seq header.now }
 {
@@ -204,6 +208,30 @@ fn follow_in(
         line,
         channel,
     };
+    let remarks = follow_way(connection, from_low, place, seq, header);
+    note_session(
+        &mut connection.sessions,
+        from_low,
+        time,
+        header.kind,
+        &remarks,
+    );
+    remarks
+}
+
+/// Adds a PDU to the direction of its end.
+fn follow_way(
+    connection: &mut Connection,
+    from_low: bool,
+    place: Place,
+    seq: u32,
+    header: &Header,
+) -> Remarks
+    // The remarks are those in the direction of the end, by what the other end said (`way_remarks`).
+    ensures remarks { result ≡ way_remarks from_low connection.old place seq header.now }
+    // Only the direction of the end changes (`way_followed`).
+    ensures followed { connection.new ≡ way_followed from_low connection.old place seq header.now }
+{
     if from_low {
         let peer = see_peer(&connection.from_high, header);
         follow_pdu(&mut connection.from_low, peer, place, seq, header)

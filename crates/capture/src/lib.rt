@@ -18,6 +18,7 @@ mod law;
 mod line;
 mod places;
 mod ports;
+mod sessions;
 mod window;
 mod words;
 
@@ -36,4 +37,8 @@ pub use interfaces::Interface;
 pub use law::sums_law;
 pub use line::{Address, Buffer, Host, LineFault, PAYLOAD_ROOM, Record, read_line};
 pub use ports::{PortRange, Ports, RANGES, is_followed, read_ports};
+pub use sessions::{
+    Asking, Parting, SESSIONS, Session, SessionTotals, Sessions, Side, add_up_sessions, alone,
+    is_unanswered, lost_alone, lost_everywhere,
+};
 pub use window::{Judged, KEPT, LATE_MAX, PASSED_MAX, Seen, Window, judge, note};

@@ -17,7 +17,7 @@ use std::io::{Read, Write};
 /// the status of the fault that stopped it: of the file, of memory or of an output. An initial value that is not
 /// 32 hex digits is `fault: hex`.
 ///
-/// It is not inlined, since its connections take 230 KiB of stack that no other subcommand needs.
+/// It is not inlined, since its connections take 470 KiB of stack that no other subcommand needs.
 #[inline(never)]
 pub fn run_follow<R: Read + Drop, O: Write, E: Write, A: Allocator + Copy>(
     alloc: A,
