@@ -10,6 +10,7 @@ use crate::pieces::{
 };
 use crate::reasons::write_reasons;
 use crate::sentence::write_sentence;
+use crate::table::write_sessions;
 use capture::{
     CHANNELS, Connection, Direction, Route, SessionOpening, Tally, Totals, Window, silence, sum_up,
 };
@@ -40,8 +41,8 @@ pub struct CaptureCounts {
     pub unreadable: u64,
 }
 
-/// Writes the sums: for each connection a line for each direction, with one for each of its channels, and a sentence;
-/// then a line for all, with the forgotten ones (`gone`).
+/// Writes the sums: for each connection a line for each direction, with one for each of its channels, one for each of
+/// its last sessions, and a sentence; then a line for all, with the forgotten ones (`gone`).
 ///
 /// # Errors
 ///
@@ -53,8 +54,8 @@ pub fn write_summary<W: Write>(
     connections: &[Connection],
     counts: CaptureCounts,
 ) -> io::Result<()>
-    // On success the lines of each connection, with its directions, channels and sentence, are appended, then one
-    // line for all (`summary_text`).
+    // On success the lines of each connection, with its directions, channels, sessions and sentence, are appended,
+    // then one line for all (`summary_text`).
     ensures { OnOk result (Appends (W.contents writer.old) (W.contents writer.new)
         (summary_text scale connections.now (totals_of gone connections.now) counts)) }
 {
@@ -86,7 +87,7 @@ fn write_connection<W: Write>(
     scale: Scale,
     connection: &Connection,
 ) -> io::Result<()>
-    // On success the lines of the lower end, of the other end, and the sentence are appended.
+    // On success the lines of the lower end, of the other end, and of the sessions, and the sentence are appended.
     ensures { OnOk result (Appends (W.contents writer.old) (W.contents writer.new)
         (connection_text scale connection.now)) }
 {
@@ -94,6 +95,7 @@ fn write_connection<W: Write>(
     let back = (connection.high, connection.low);
     write_half(writer, scale, ends, connection, &connection.from_low)?;
     write_half(writer, scale, back, connection, &connection.from_high)?;
+    write_sessions(writer, scale.first, ends, &connection.sessions)?;
     write_sentence(writer, scale, connection)?;
     Ok(())
 }
