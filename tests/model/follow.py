@@ -480,9 +480,26 @@ def ranges(text):
     return [range(low, high + 1) for low, high in pairs]
 
 
+FOREIGN = {b'\x1f\x8b': 'it is compressed by gzip; use gzip -dc FILE | rasta follow -',
+           b'\x28\xb5\x2f\xfd': 'it is compressed by zstd; use zstd -dc FILE | rasta follow -',
+           b'snoo': 'it is a snoop file; use editcap -F pcapng FILE NEW',
+           b'\xa1\xb2\xcd\x34': 'it is a modified pcap file; use editcap -F pcapng FILE NEW',
+           b'\x34\xcd\xb2\xa1': 'it is a modified pcap file; use editcap -F pcapng FILE NEW'}
+
+
+def foreign(front):
+    """Returns why a file that begins with these octets is not followed, or None."""
+    return next((why for octets, why in FOREIGN.items() if front.startswith(octets)), None)
+
+
 def followed(raws, code=8, only=None, t_max=1800, ports=None, as_json=False):
     """Returns standard output, standard error and exit status."""
     follower, first, out, err = Follower(Settings(code=code).rule), None, [], []
+    raws = list(raws)
+    why = foreign(raws[0]) if raws else None
+    if why:
+        follower.unreadable, raws = 1, []
+        err.append('recording: unreadable behind frame 0: %s\n' % why)
     for line, raw in enumerate(raws, 1):
         seen = read(raw)
         if isinstance(seen, str):
@@ -497,6 +514,8 @@ def followed(raws, code=8, only=None, t_max=1800, ports=None, as_json=False):
             words = [word for word in words if not word.startswith('waits ') or is_long(word, t_max)]
             out.append(' '.join([seconds(seen[0] - first), 'line', str(line), said] + words) + '\n')
     out += [said + '\n' for said in ([follower.members(first, t_max)] if as_json else follower.sums(first, t_max))]
+    if follower.forgotten:
+        err.append('connections: %d were forgotten, since more than %d were recorded at once; choose some by --ports\n' % (follower.forgotten, CONNECTIONS))
     return ''.join(out), ''.join(err), 1 if err else 0
 
 
