@@ -29,38 +29,32 @@ remote = [\"127.0.0.1:47351\"]
 puts = [\"0200:1a\"]
 ";
 
-/// A writer with a buffer of its own, which counts lines and flushes.
+/// A writer that counts writes and lines.
 #[derive(Drop)]
-struct Buffered {
-    /// The number of lines in the buffer.
-    held: u64,
-    /// The number of flushes of a buffer that had lines.
-    sent: u64,
-    /// The number of lines that were flushed.
+struct Counted {
+    /// The number of writes.
+    writes: u64,
+    /// The number of lines that were written.
     lines: u64,
-    /// Whether each flush fails.
+    /// Whether each write fails.
     is_lost: bool,
 }
 
-impl Write for Buffered {
+impl Write for Counted {
     fn write(&mut self, octets: &[u8]) -> io::Result<usize> {
+        if self.is_lost {
+            return Err(io::Error::from(ErrorKind::Other));
+        }
         for octet in octets {
             if *octet == b'\n' {
-                self.held = self.held.wrapping_add(1);
+                self.lines = self.lines.wrapping_add(1);
             }
         }
+        self.writes = self.writes.wrapping_add(1);
         Ok(octets.len())
     }
 
     fn flush(&mut self) -> io::Result<()> {
-        if self.is_lost {
-            return Err(io::Error::from(ErrorKind::Other));
-        }
-        if self.held > 0 {
-            self.sent = self.sent.wrapping_add(1);
-        }
-        self.lines = self.lines.wrapping_add(self.held);
-        self.held = 0;
         Ok(())
     }
 }
@@ -80,9 +74,8 @@ fn run_of(turns: u32) -> Run {
 #[test]
 fn writes_the_lines_of_each_turn(rt: HostRuntime) -> Result<(), Fail> {
     let mut err = Vec::new(rt.alloc());
-    let mut out = Buffered {
-        held: 0,
-        sent: 0,
+    let mut out = Counted {
+        writes: 0,
         lines: 0,
         is_lost: false,
     };
@@ -96,19 +89,18 @@ fn writes_the_lines_of_each_turn(rt: HostRuntime) -> Result<(), Fail> {
         &mut err,
     );
     assert_eq!(rt; ended, Status::Done);
-    assert_eq!(rt; (out.lines, out.held), (5, 0));
-    assert!(rt; out.sent > 1);
+    assert_eq!(rt; out.lines, 5);
+    assert!(rt; out.writes > 1);
     assert!(rt; err.is_empty());
     Ok(())
 }
 
-// An output that cannot be flushed has failed, though no telegram was taken.
+// An output that cannot be written has failed, though no telegram was taken.
 #[test]
 fn reports_lines_that_are_lost(rt: HostRuntime) -> Result<(), Fail> {
     let mut err = Vec::new(rt.alloc());
-    let mut out = Buffered {
-        held: 0,
-        sent: 0,
+    let mut out = Counted {
+        writes: 0,
         lines: 0,
         is_lost: true,
     };
