@@ -28,7 +28,7 @@ text_of_refused n =
     else if n == 8 then codes "the time is before that of the last accepted call, or above 2^62"
     else if n == 9 then codes "too many telegrams wait: take them first"
     else if n == 10 then codes "too many datagrams wait: take and send them first"
-    else if n == 11 then codes "a telegram had no room: free this end and open another"
+    else if n == 11 then codes "a telegram had no room: take those that wait, then call bek_reopen"
     else if n == 12 then codes "the buffer is too small"
     else if n == 13 then codes "the session is not in a phase in which this end may put"
     else if n == 14 then codes "64 messages wait: put again later"

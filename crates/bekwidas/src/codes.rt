@@ -191,7 +191,7 @@ pub fn text_of(code: i32) -> &'static str
         -9 => "the time is before that of the last accepted call, or above 2^62",
         -10 => "too many telegrams wait: take them first",
         -11 => "too many datagrams wait: take and send them first",
-        -12 => "a telegram had no room: free this end and open another",
+        -12 => "a telegram had no room: take those that wait, then call bek_reopen",
         -13 => "the buffer is too small",
         -14 => "the session is not in a phase in which this end may put",
         -15 => "64 messages wait: put again later",

@@ -1,5 +1,5 @@
-//! The end of the application: it is opened from a settings file, polled in turns, and opened again if its
-//! connection is lost.
+//! The end of the application: it is opened from a settings file, polled in turns, and reopened if its connection is
+//! lost.
 
 ghost use Rattle.std.specs.Prelude.{◌≡◌, ◌≤◌, ◌^◌, IfOk, OnOk};
 
@@ -24,7 +24,7 @@ const TIME_MAX: u64 = 1 << 62;
 /// The longest wait between two turns, in milliseconds, so that the application can change its wish.
 const REST_MAX: u64 = 100;
 
-/// The limit of turns, and of connections; never reached.
+/// The limit of turns; never reached.
 const MOST: u32 = u32::MAX;
 
 /// Why the application stops before its time.
@@ -63,7 +63,7 @@ impl From<UdpFault> for Stop {
 }
 
 /// Switches for as many seconds as the arguments say, over the channels of a settings file. A lost connection is
-/// opened again.
+/// opened again, with the same sockets and another first number.
 ///
 /// # Errors
 ///
@@ -74,22 +74,43 @@ pub fn run<R: AllocGlobal + Env + Files + Net + Clock, O: Write>(
 ) -> Result<(), Stop> {
     let (path, seconds) = words(rt)?;
     let settings = read_settings(rt, path.as_str())?;
-    let Ok(began) = Instant::now(rt) else {
-        return Err(Stop::System);
-    };
+    let mut watch = Watch::open(rt.alloc(), rt)?;
+    let mut end = open(rt, &settings, &watch)?;
     let mut switch = Switch {
         is_wanted: false,
         is_put: false,
         is_on: None,
     };
-    let until = seconds * 1_000;
+    let Ok(began) = Instant::now(rt) else {
+        return Err(Stop::System);
+    };
     let mut now = 0;
     for _ in 0..MOST {
-        if now >= until {
-            return Ok(());
+        now = read(rt, began, now)?;
+        if now >= seconds * 1_000 {
+            break;
         }
-        now = connect(rt, &settings, began, now, until, &mut switch, out)?;
+        if end.state() == ConnectionState::Closed {
+            end.reopen(first_number(rt, settings.first_sn)?, now);
+            switch.is_put = false;
+        }
+        let before = end.channels_seen().received();
+        switch.want(now);
+        let reported = switch.is_on;
+        // A channel that failed is polled again in the next turn; the others continue.
+        let _ = turn(&mut end, now, &mut switch);
+        tell(&switch, reported, out)?;
+        let rest = if end.state() == ConnectionState::Closed {
+            // The peer must notice the loss, too, before the connection is requested again.
+            settings.config.t_max / 4
+        } else if end.channels_seen().received() == before {
+            rest(end.next_deadline(), now)
+        } else {
+            0
+        };
+        watch.wait(Duration::from_millis(rest));
     }
+    end.close(now);
     Ok(())
 }
 
@@ -123,58 +144,14 @@ fn read_settings<R: AllocGlobal + Files>(rt: &R, path: &str) -> Result<Settings,
     }
 }
 
-/// Runs one connection until it is lost or the time is over. Returns the time of its last turn.
-fn connect<R: AllocGlobal + Files + Net + Clock, O: Write>(
-    rt: &R,
-    settings: &Settings,
-    began: Instant,
-    from: u64,
-    until: u64,
-    switch: &mut Switch,
-    out: &mut O,
-) -> Result<u64, Stop>
-    requires { from ≤ 2 ^ 62 }
-    // The time returned is one that an end accepts, at most 2^62.
-    ensures { IfOk result (λ now. now ≤ 2 ^ 62) }
-{
-    let mut watch = Watch::open(rt.alloc(), rt)?;
-    let mut end = open(rt, settings, &watch, from)?;
-    switch.is_put = false;
-    let mut now = from;
-    for _ in 0..MOST {
-        now = read(rt, began, now)?;
-        switch.want(now);
-        let before = end.channels_seen().received();
-        let told = switch.is_on;
-        // A channel that failed is polled again in the next turn; the others continue.
-        let _ = turn(&mut end, now, switch);
-        tell(switch, told, out)?;
-        if now >= until {
-            end.close(now);
-            return Ok(now);
-        }
-        if end.state() == ConnectionState::Closed {
-            // The peer must notice the loss, too, before the connection is requested again.
-            watch.wait(Duration::from_millis(settings.config.t_max / 4));
-            return Ok(now);
-        }
-        if end.channels_seen().received() == before {
-            watch.wait(Duration::from_millis(rest(end.next_deadline(), now)));
-        }
-    }
-    Ok(now)
-}
-
 /// Opens an end on its channels, and adds them to the watch.
 fn open<R: AllocGlobal + Files + Net>(
     rt: &R,
     settings: &Settings,
     watch: &Watch,
-    now: u64,
 ) -> Result<End<UdpChannels>, Stop>
-    requires { now ≤ 2 ^ 62 }
-    // After `open`, the time of the end is at most `now`.
-    ensures { IfOk result (λ end. end.time ≤ now) }
+    // The time of the opened end is 0.
+    ensures { IfOk result (λ end. end.time ≡ 0) }
 {
     let (local, remote) = (settings.local.as_slice(), settings.remote.as_slice());
     let mut channels = open_udp(rt.alloc(), rt, local, remote)?;
@@ -189,7 +166,7 @@ fn open<R: AllocGlobal + Files + Net>(
         config,
         Side::Interlocking,
         first_sn,
-        now,
+        0,
     ) {
         Ok(end) => Ok(end),
         Err((OpenFault::Memory, _channels)) => Err(Stop::Memory),
