@@ -1,3 +1,4 @@
 pub mod Pieces
 pub mod Posting
 pub mod Rows
+pub mod Loads

@@ -5,3 +5,4 @@ pub mod Calls
 pub mod Answered
 pub mod Plain
 pub mod Numbers
+pub mod Loads

@@ -9,12 +9,14 @@
 #![tactic(auto)]
 
 mod inbox;
+mod law;
 mod outbox;
 mod plain;
 mod queue;
 mod station;
 mod writing;
 
+pub use law::load_law;
 use pdi_session::{InitFault, PutFault};
 pub use plain::{EndOpening, PLAIN_SETTINGS_SIZE, PlainSettings, is_name, numbers_law, text_size};
 pub use queue::{Queue, QueueFull, TooSmall};
