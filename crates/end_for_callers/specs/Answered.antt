@@ -8,7 +8,7 @@ use Rattle.stack_end.specs.Datagrams.{sent_at_opening}
 use Rattle.stack_end.specs.Ends.{Call, opened_end, time_of}
 use Rattle.stack_end.specs.Ends.Call.{Close, Put, InitDone, Tick, Deliver}
 use Rattle.stack_end.specs.EndValue.{EndStands}
-use Rattle.end_for_callers.specs.Boxes.{Posted, told_of}
+use Rattle.end_for_callers.specs.Boxes.{Posted, new_outgoing, told_of}
 use Rattle.end_for_callers.specs.Calls.{Does, SameButDatagrams, SameButTelegrams, StationValue, is_time, outbox_of, outcome_of, refusal, refusal_to_init}
 use Rattle.end_for_callers.specs.Calls.{refusal_to_open, refusal_to_put}
 use Rattle.end_for_callers.specs.Queues.{Popped, new_queue}
@@ -29,9 +29,7 @@ pub record IsOpened (side : Side) (config : EndConfig) (first_sn : ℕ) (rooms :
   -- the end is new
   pub stands : EndStands told_of s.end (opened_end side config first_sn now)
   -- what the opening sends waits, or is counted
-  pub sent :
-      Posted (record { queue = new_queue rooms.datagrams (rooms.datagrams * RED_PDU_MAX); unsent = 0 }) (sent_at_opening (opened_end side config first_sn now))
-      (outbox_of s)
+  pub sent : Posted (new_outgoing rooms.datagrams) (sent_at_opening (opened_end side config first_sn now)) (outbox_of s)
   -- no telegram waits
   pub inbox : s.inbox ≡ record { queue = new_queue rooms.telegrams (rooms.telegrams * PAYLOAD_MAX); lost = false }
   -- the time is that of the opening

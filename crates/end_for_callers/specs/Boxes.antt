@@ -1,10 +1,12 @@
--- The datagrams sent and the telegrams taken that the caller has not fetched, and what the end adds to them.
-use Rattle.std.specs.Prelude.{◌≡◌, ℕ, ◌^◌, ◌<◌, Bool, true, false, not, ◌&&◌, Some, None, List, ◌++◌, length, if◌then◌else◌}
+-- The datagrams sent, the telegrams taken and the notes that the caller has not fetched, and what the end adds to them.
+use Rattle.std.specs.Prelude.{◌≡◌, ℕ, ◌*◌, ◌^◌, ◌<◌, Bool, true, false, not, ◌&&◌, Some, None, List, ◌++◌, length, if◌then◌else◌}
 use Rattle.std.specs.List.{FoldsTo}
 use Rattle.octets.specs.Lists.{IsBeginning}
 use Rattle.pdi_session.specs.SessionStep.{Item}
 use Rattle.channels.specs.Told.{Sending, SendsOne, Told, counted}
-use Rattle.end_for_callers.specs.Queues.{Queued, emptied, fits, with_piece}
+use Rattle.end_for_callers.specs.Queues.{Queued, emptied, fits, new_queue, with_piece}
+use Rattle.end_for_callers.specs.Notes.{NoteQueue, heard_anew}
+use Rattle.octets.specs.declared.limits.TheConstants.{RED_PDU_MAX}
 
 -- the datagrams that wait for the caller
 pub record Outgoing : Type 0 where
@@ -12,10 +14,16 @@ pub record Outgoing : Type 0 where
   pub queue : Queued ℕ
   -- how many found no room, modulo 2^64; these are lost, as on a channel
   pub unsent : ℕ
+  -- the notes that wait for the caller
+  pub notes : NoteQueue
 
--- no datagram waits, and none is counted
+-- no datagram waits, there is room for this number, and no note is kept
+abbrev pub new_outgoing : ℕ → Outgoing
+new_outgoing datagrams = record { queue = new_queue datagrams (datagrams * RED_PDU_MAX); unsent = 0; notes = heard_anew false }
+
+-- no datagram waits, and none is counted; the notes stay
 abbrev pub cleared : Outgoing → Outgoing
-cleared o = record { queue = emptied o.queue; unsent = 0 }
+cleared o = record o { queue = emptied o.queue; unsent = 0 }
 
 -- what the contracts of an end know of these datagrams as its channels
 abbrev pub told_of : Outgoing → Told

@@ -142,6 +142,25 @@ pub record SameButDatagrams (s t : StationValue) : Type 0 where
   pub called : t.end.time ≡ s.end.time
   -- the count of unsent datagrams
   pub unsent : (outbox_of t).unsent ≡ (outbox_of s).unsent
+  -- the notes
+  pub notes : (outbox_of t).notes ≡ (outbox_of s).notes
+  -- the telegrams
+  pub inbox : t.inbox ≡ s.inbox
+  -- the station's time
+  pub time : t.time ≡ s.time
+  -- the reserve
+  pub reserve : t.reserve ≡ s.reserve
+
+-- only the notes may differ
+pub record SameButNotes (s t : StationValue) : Type 0 where
+  -- the end's state
+  pub kept : inside t.end ≡ inside s.end
+  -- the end's time
+  pub called : t.end.time ≡ s.end.time
+  -- the datagrams
+  pub queue : (outbox_of t).queue ≡ (outbox_of s).queue
+  -- the count of unsent datagrams
+  pub unsent : (outbox_of t).unsent ≡ (outbox_of s).unsent
   -- the telegrams
   pub inbox : t.inbox ≡ s.inbox
   -- the station's time

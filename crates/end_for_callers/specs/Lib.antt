@@ -1,5 +1,6 @@
 pub mod Queues
 pub mod Pieces
+pub mod Notes
 pub mod Boxes
 pub mod Calls
 pub mod Answered

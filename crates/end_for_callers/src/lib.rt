@@ -10,6 +10,7 @@
 
 mod inbox;
 mod law;
+mod notes;
 mod outbox;
 mod plain;
 mod queue;
@@ -18,6 +19,7 @@ mod writing;
 
 pub use law::load_law;
 use pdi_session::{InitFault, PutFault};
+pub use notes::{NOTES_MAX, Notes, StationNote};
 pub use plain::{EndOpening, PLAIN_SETTINGS_SIZE, PlainSettings, is_name, numbers_law, text_size};
 pub use queue::{Queue, QueueFull, TooSmall};
 pub use station::{Rooms, Station, refusal_to_open};

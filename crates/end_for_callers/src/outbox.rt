@@ -1,26 +1,29 @@
-//! The channels of a station's end: datagrams sent wait until the caller fetches them; the caller passes in those
-//! received.
+//! The channels of a station's end: datagrams sent and notes wait until the caller fetches them; the caller passes in
+//! the datagrams received.
 
-ghost use Rattle.octets.specs.declared.limits.TheConstants.{RED_PDU_MAX};
-ghost use Rattle.std.specs.Prelude.{◌≡◌, ◌*◌, ◌≤◌, false, is_ok, IfOk, IfSome, length};
+ghost use Rattle.std.specs.Prelude.{◌≡◌, ◌≤◌, false, is_ok, IfOk, IfSome, length};
 ghost use Rattle.channels.specs.Told.{Sends, after_receive};
-ghost use Rattle.end_for_callers.specs.Boxes.{cleared, told_of, with_sending};
-ghost use Rattle.end_for_callers.specs.Queues.{Popped, fits, new_queue};
+ghost use Rattle.end_for_callers.specs.Boxes.{cleared, new_outgoing, told_of, with_sending};
+ghost use Rattle.end_for_callers.specs.Notes.{heard_anew, next_of, note_of, rest_of, with_note};
+ghost use Rattle.end_for_callers.specs.Queues.{Popped, fits};
 
+use crate::notes::{Notes, StationNote};
 use crate::queue::{Queue, TooSmall};
 use channels::{ChannelFault, Channels};
 use octets::limits::RED_PDU_MAX;
-use stack_end::Listener;
+use stack_end::{Listener, Note};
 use std::alloc::{AllocError, Global};
 use std::marker::Model;
 
-/// The datagrams that wait for the caller, each with its channel.
+/// The datagrams that wait for the caller, each with its channel, and the notes.
 #[derive(Drop)]
 pub struct Outbox {
     /// The datagrams.
     queue: Queue<usize>,
     /// The number of datagrams that found no room, modulo 2^64.
     unsent: u64,
+    /// The notes of the end.
+    notes: Notes,
 }
 
 impl Model for Outbox {
@@ -28,7 +31,7 @@ impl Model for Outbox {
 
     ghost Value = { Outgoing };
 
-    ghost view = { λ o. record { queue = o.queue; unsent = o.unsent } };
+    ghost view = { λ o. record { queue = o.queue; unsent = o.unsent; notes = o.notes } };
 }
 
 impl Outbox {
@@ -38,14 +41,15 @@ impl Outbox {
     ///
     /// Returns an error if the allocation fails.
     pub(crate) fn new(alloc: Global, datagrams: u32) -> Result<Outbox, AllocError>
-        // A new outbox is empty, has room for `datagrams` redundancy PDUs of the greatest size, and has counted
-        // none as unsent.
-        ensures { IfOk result (λ o. o ≡ record { queue = new_queue datagrams (datagrams * RED_PDU_MAX); unsent = 0 }) }
+        // A new outbox is empty, has room for `datagrams` redundancy PDUs of the greatest size, has counted none as
+        // unsent, and keeps no notes.
+        ensures { IfOk result (λ o. o ≡ new_outgoing datagrams) }
     {
         let places = datagrams as usize;
         Ok(Outbox {
             queue: Queue::new(alloc, places, places * RED_PDU_MAX)?,
             unsent: 0,
+            notes: Notes::new(alloc)?,
         })
     }
 
@@ -60,13 +64,15 @@ impl Outbox {
         ensures popped { Popped result self.old.queue buffer.old self.new.queue buffer.new }
         // Fetching a datagram does not change the count of unsent ones.
         ensures unsent { self.new.unsent ≡ self.old.unsent }
+        // Fetching a datagram does not change the notes.
+        ensures notes { self.new.notes ≡ self.old.notes }
     {
         self.queue.pop(buffer)
     }
 
-    /// Drops the datagrams that wait, and counts unsent ones from 0 on.
+    /// Drops the datagrams that wait, and counts unsent ones from 0 on. The notes stay.
     pub(crate) fn clear(&mut self)
-        // No datagram waits, all places and room are free, and none is counted as unsent.
+        // No datagram waits, all places and room are free, and none is counted as unsent. The notes stay.
         ensures { self.new ≡ cleared self.old }
     {
         self.queue.clear();
@@ -87,6 +93,24 @@ impl Outbox {
         ensures { result ≡ self.now.unsent }
     {
         self.unsent
+    }
+
+    /// Keeps notes from now on, or no longer. Those that wait are dropped.
+    pub(crate) fn hear_notes(&mut self, hears: bool)
+        // Only the notes change: they are kept if and only if `hears` is true, and none waits.
+        ensures { self.new ≡ record self.old { notes = heard_anew hears } }
+    {
+        self.notes.hear(hears);
+    }
+
+    /// Removes the oldest note, as [`Notes::next`] does.
+    pub(crate) fn next_note(&mut self) -> Option<StationNote>
+        // The result is the note that is next.
+        ensures next { result ≡ next_of self.old.notes }
+        // Only this note is gone.
+        ensures rest { self.new ≡ record self.old { notes = rest_of self.old.notes } }
+    {
+        self.notes.next()
     }
 }
 
@@ -129,11 +153,21 @@ impl Channels for Outbox {
 }
 
 impl Listener for Outbox {
-    /// Returns false: nobody reads notes of this end.
+    /// Returns true if the caller wants notes.
     fn hears_notes(&self) -> bool
-        // The end of a station makes no notes.
-        ensures { result ≡ false }
+        // The end makes notes if and only if they are kept.
+        ensures { result ≡ self.now.notes.hears }
     {
-        false
+        self.notes.hears()
+    }
+
+    /// Keeps a note, if the caller wants notes and there is room.
+    fn note(&mut self, note: &Note<'_>)
+        // The note waits behind the others, if notes are kept and there is room; without room it is counted.
+        ensures kept { self.new ≡ record self.old { notes = with_note (note_of note.now) self.old.notes } }
+        // To the end's contracts nothing has changed.
+        ensures told { told_of self.new ≡ told_of self.old }
+    {
+        self.notes.add(StationNote::of(note));
     }
 }

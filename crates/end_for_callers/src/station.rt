@@ -7,15 +7,17 @@ ghost use Rattle.end_settings.specs.Configured.{settings_of, side_of};
 ghost use Rattle.stack_end.specs.Datagrams.{sent_at_opening};
 ghost use Rattle.stack_end.specs.Ends.{Call, Close, Deliver, InitDone, Put, opened_end};
 ghost use Rattle.stack_end.specs.EndValue.{EndStands};
-ghost use Rattle.end_for_callers.specs.Boxes.{Posted, told_of};
+ghost use Rattle.end_for_callers.specs.Boxes.{Posted, new_outgoing, told_of};
+ghost use Rattle.end_for_callers.specs.Notes.{heard_anew, next_of, rest_of};
 ghost use Rattle.octets.specs.declared.limits.TheConstants.{PAYLOAD_MAX, RED_PDU_MAX, WINDOW_MAX};
 ghost use Rattle.end_for_callers.specs.declared.Outcome.TheVariants as ended;
-ghost use Rattle.end_for_callers.specs.Calls.{Does, Reopens, SameButDatagrams, SameButTelegrams, is_time, outbox_of, outcome_of, refusal, refusal_to_init, refusal_to_open, refusal_to_reopen, refusal_to_put, refusal_to_send, has_room, reserve_of};
+ghost use Rattle.end_for_callers.specs.Calls.{Does, Reopens, SameButDatagrams, SameButNotes, SameButTelegrams, is_time, outbox_of, outcome_of, refusal, refusal_to_init, refusal_to_open, refusal_to_reopen, refusal_to_put, refusal_to_send, has_room, reserve_of};
 ghost use Rattle.end_for_callers.specs.Queues.{Popped, new_queue};
 ghost use Rattle.end_for_callers.specs.declared.StationFault.TheVariants as fault;
 ghost use Rattle.end_for_callers.specs.declared.CallFault.TheVariants as refused;
 
 use crate::inbox::Inbox;
+use crate::notes::StationNote;
 use crate::outbox::Outbox;
 use crate::queue::{Queue, TooSmall};
 use crate::{CALL_TELEGRAMS, CallFault, Outcome, PART_PDUS, StationFault};
@@ -95,7 +97,7 @@ impl Station {
         ensures stands { IfOk result (λ s. EndStands told_of s.end (opened_end side config.now first_sn now)) }
         // The datagrams that the end sends at its opening wait in order; one without room would be counted as
         // unsent.
-        ensures sent { IfOk result (λ s. Posted (record { queue = new_queue rooms.datagrams (rooms.datagrams * RED_PDU_MAX); unsent = 0 })
+        ensures sent { IfOk result (λ s. Posted (new_outgoing rooms.datagrams)
             (sent_at_opening (opened_end side config.now first_sn now)) (outbox_of s)) }
         // A new station has no telegram waiting, none lost, and room for the given number of telegrams of the
         // greatest size.
@@ -364,6 +366,30 @@ impl Station {
         ensures same { SameButDatagrams self.old self.new }
     {
         self.end.channels().pop(buffer)
+    }
+
+    /// Keeps notes of what the end does from now on, or no longer. Those that wait are dropped. Notes cost time only
+    /// if they are kept.
+    pub fn hear_notes(&mut self, hears: bool)
+        // Notes are kept if and only if `hears` is true, and none waits.
+        ensures notes { (outbox_of self.new).notes ≡ heard_anew hears }
+        // Nothing else changes.
+        ensures same { SameButNotes self.old self.new }
+    {
+        self.end.channels().hear_notes(hears);
+    }
+
+    /// Removes the oldest note. Up to 128 wait; later ones have no room, and after the last one that waits `next_note`
+    /// returns once how many these are. If you fetch all notes after each call, they are those of the call.
+    pub fn next_note(&mut self) -> Option<StationNote>
+        // The result is the oldest note; after the last one the number of those without room, if it is not 0; then `None`.
+        ensures next { result ≡ next_of (outbox_of self.old).notes }
+        // The returned note is gone.
+        ensures rest { (outbox_of self.new).notes ≡ rest_of (outbox_of self.old).notes }
+        // Nothing else changes.
+        ensures same { SameButNotes self.old self.new }
+    {
+        self.end.channels().next_note()
     }
 }
 
