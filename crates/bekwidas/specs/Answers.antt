@@ -1,9 +1,13 @@
 -- The result of each exported function, and what it leaves in the slot: for each code exactly when it is returned.
-use Rattle.std.specs.Prelude.{◌≡◌, ◌⊎◌, ℤ, ℕ, pos, Option, Some, None, List, length, if◌then◌else◌}
+use Rattle.std.specs.Prelude.{◌≡◌, ◌==◌, ◌⊎◌, not, ℤ, ℕ, pos, Option, Some, None, List, length, if◌then◌else◌}
 use Rattle.stack_end.specs.Ends.{Call, Close, Deliver, InitDone, Put, time_of}
 use Rattle.stack_end.specs.EndValue.{inside}
 use Rattle.stack_end.specs.Turns.{is_settled}
-use Rattle.end_for_callers.specs.Calls.{Does, IsDeadline, Reopens, StationValue, outbox_of, outcome_of, refusal, refusal_to_close, refusal_to_init, refusal_to_put, refusal_to_reopen}
+use Rattle.end_for_callers.specs.Calls.{Does, IsDeadline, Reopens, StationValue, outbox_of, outcome_of, refusal, refusal_to_close, refusal_to_init, refusal_to_put, refusal_to_reopen, SameButNotes}
+use Rattle.end_for_callers.specs.Notes.{heard_anew, next_of, rest_of}
+use Rattle.end_for_callers.specs.declared.notes.StationNote.{StationNote}
+use Rattle.bekwidas.specs.Notes.{note_in}
+use Rattle.bekwidas.specs.declared.notes.PlainNote.{PlainNote}
 use Rattle.end_for_callers.specs.declared.CallFault.{CallFault}
 use Rattle.stack_end.specs.Certain.{confirmed_in}
 use Rattle.stack_end.specs.Stale.{is_stale}
@@ -123,3 +127,18 @@ TellsDeparture None before after code = (code ≡ NOTHING) × (after ≡ before)
 -- the departure that the end has recorded; the station does not change
 abbrev pub AnswersDeparture : (before after : PlainDeparture) → ℤ → StationValue → StationValue → Type 0
 AnswersDeparture before after code s t = (t ≡ s) × TellsDeparture (inside s.end).upper.departed before after code
+
+-- OK, and notes are kept from now on if and only if this is not 0; none waits, and nothing else changes
+abbrev pub AnswersHearNotes : (hears : ℕ) → ℤ → StationValue → StationValue → Type 0
+AnswersHearNotes hears code s t =
+    (code ≡ OK) × ((outbox_of t).notes ≡ heard_anew (not (hears == 0))) × SameButNotes s t
+
+-- OK and the note is written, if there is one; otherwise NOTHING, and nothing is written
+abbrev pub TellsNote : Option StationNote → (before after : PlainNote) → ℤ → Type 0
+TellsNote (Some note) before after code = (code ≡ OK) × (after ≡ note_in note)
+TellsNote None before after code = (code ≡ NOTHING) × (after ≡ before)
+
+-- the note that is next: it is gone, and nothing else changes
+abbrev pub AnswersNextNote : (before after : PlainNote) → ℤ → StationValue → StationValue → Type 0
+AnswersNextNote before after code s t =
+    TellsNote (next_of (outbox_of s).notes) before after code × ((outbox_of t).notes ≡ rest_of (outbox_of s).notes) × SameButNotes s t

@@ -4,10 +4,10 @@ use base.Stored.{Coded}
 use Rattle.std.specs.Coded.{coded_option}
 use denote.RawPtr.{Ptr}
 use Rattle.std.specs.Prelude.{◌≡◌, ℕ, ◌*◌, false, Option, Some, None}
-use Rattle.octets.specs.declared.limits.TheConstants.{PAYLOAD_MAX, RED_PDU_MAX}
+use Rattle.octets.specs.declared.limits.TheConstants.{PAYLOAD_MAX}
 use Rattle.stack_end.specs.Ends.{new_end}
 use Rattle.stack_end.specs.EndValue.{EndStands}
-use Rattle.end_for_callers.specs.Boxes.{Posted, told_of}
+use Rattle.end_for_callers.specs.Boxes.{Posted, new_outgoing, told_of}
 use Rattle.end_for_callers.specs.Calls.{outbox_of, reserve_of}
 use Rattle.end_for_callers.specs.Queues.{new_queue}
 use Rattle.stack_end.specs.Datagrams.{sent_at_opening}
@@ -43,8 +43,7 @@ pub record IsNew (o : OpeningSeen) (now : ℕ) (s : Held) : Type 0 where
   -- its end is new
   pub end : EndStands told_of s.end (new_end (side_of o.side) o.config o.first_sn now)
   -- what the opening sends waits, or is counted
-  pub sent : Posted (record { queue = new_queue o.rooms.datagrams (o.rooms.datagrams * RED_PDU_MAX); unsent = 0 })
-      (sent_at_opening (new_end (side_of o.side) o.config o.first_sn now)) (outbox_of s)
+  pub sent : Posted (new_outgoing o.rooms.datagrams) (sent_at_opening (new_end (side_of o.side) o.config o.first_sn now)) (outbox_of s)
   -- no telegram waits, and there is the given room
   pub inbox : s.inbox ≡ record { queue = new_queue o.rooms.telegrams (o.rooms.telegrams * PAYLOAD_MAX); lost = false }
   -- its time is that of the opening

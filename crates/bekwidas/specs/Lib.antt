@@ -6,3 +6,4 @@ pub mod Answers
 pub mod Texts
 pub mod Faults
 pub mod Statistics
+pub mod Notes

@@ -1,7 +1,7 @@
 //! The functions that C calls.
 
 ghost use Rattle.std.specs.Prelude.{◌≡◌, ◌≢◌, ◌⊎◌, ◌++◌, IfErr, IfOk, MatchResult, Some, drop, take, length, min};
-ghost use Rattle.bekwidas.specs.Answers.{AnswersArrive, AnswersTick, AnswersPut, AnswersInitDone, AnswersClose, AnswersReopen, AnswersTake, AnswersNextDatagram, AnswersNextDeadline, AnswersState, AnswersPhase, AnswersSettled, AnswersCounts, AnswersConfirmed, AnswersConfirmedTime, AnswersDeparture, AnswersStale, AnswersStatistics, StaysOpen};
+ghost use Rattle.bekwidas.specs.Answers.{AnswersArrive, AnswersTick, AnswersPut, AnswersInitDone, AnswersClose, AnswersReopen, AnswersTake, AnswersNextDatagram, AnswersNextDeadline, AnswersState, AnswersPhase, AnswersSettled, AnswersCounts, AnswersConfirmed, AnswersConfirmedTime, AnswersDeparture, AnswersHearNotes, AnswersNextNote, AnswersStale, AnswersStatistics, StaysOpen};
 ghost use Rattle.bekwidas.specs.Texts.{text_of};
 ghost use Rattle.bekwidas.specs.Codes.{code_to_open};
 ghost use Rattle.bekwidas.specs.Held.{IsOpened};
@@ -13,6 +13,7 @@ use crate::codes::{
     of_call, of_fault, of_leaver, of_opening, of_phase, of_state, of_version, text_of,
 };
 use crate::handle::Slot;
+use crate::notes::{PlainNote, plain_note};
 use crate::statistics::{PlainStatistics, plain_statistics};
 use end_for_callers::{PLAIN_SETTINGS_SIZE, PlainSettings, Station, TooSmall};
 use std::alloc::Global;
@@ -522,6 +523,46 @@ pub extern "C" fn bekr_statistics(
     *statistics = plain_statistics(station.statistics());
     slot.put(station);
     OK
+}
+
+/// Keeps notes from now on, or no longer, as `Station::hear_notes` does.
+#[unsafe(no_mangle)]
+pub extern "C" fn bekr_hear_notes(alloc: Global, slot: &mut Slot, hears: u32) -> i32
+    // A slot that holds an end keeps it. The result is OK. Notes are kept if and only if `hears` is not 0, and none
+    // waits; nothing else changes.
+    ensures open { slot.old.is_open ≡ 1 → StaysOpen (AnswersHearNotes hears result) slot.old slot.new }
+    // If the slot holds no end, `bekr_hear_notes` returns `NOT_OPEN`, and the slot still holds none.
+    ensures none { slot.old.is_open ≢ 1 → (result ≡ NOT_OPEN) × (slot.new.is_open ≡ 0) }
+{
+    let Some(mut station) = slot.take(alloc) else {
+        return NOT_OPEN;
+    };
+    station.hear_notes(hears != 0);
+    slot.put(station);
+    OK
+}
+
+/// Fetches the oldest note, as `Station::next_note` does.
+#[unsafe(no_mangle)]
+pub extern "C" fn bekr_next_note(alloc: Global, slot: &mut Slot, note: &mut PlainNote) -> i32
+    // A slot that holds an end keeps it. OK writes the note that is next and removes it; `NOTHING` means that there is
+    // none, and writes nothing. Nothing else changes.
+    ensures open { slot.old.is_open ≡ 1 → StaysOpen (AnswersNextNote note.old note.new result) slot.old slot.new }
+    // If the slot holds no end, `bekr_next_note` returns `NOT_OPEN` and writes nothing, and the slot still holds none.
+    ensures none { slot.old.is_open ≢ 1 → (result ≡ NOT_OPEN) × (slot.new.is_open ≡ 0) × (note.new ≡ note.old) }
+{
+    let Some(mut station) = slot.take(alloc) else {
+        return NOT_OPEN;
+    };
+    let next = station.next_note();
+    slot.put(station);
+    match next {
+        Some(next) => {
+            *note = plain_note(next);
+            OK
+        }
+        None => NOTHING,
+    }
 }
 
 /// Writes the meaning of a code, cut to the buffer, and returns the length of the complete text.

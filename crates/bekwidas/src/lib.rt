@@ -12,6 +12,7 @@ mod codes;
 mod exports;
 mod faults;
 mod handle;
+mod notes;
 mod statistics;
 
 pub use codes::numbers_law;

@@ -1,6 +1,6 @@
 -- The result of each call of a station, as one relation of the result, the station before and the station after.
 use Rattle.std.specs.Prelude.{◌≡◌, ℕ, ◌*◌, false, Option, Some, None, Result, Ok, Err, List, if◌then◌else◌}
-use Rattle.octets.specs.declared.limits.TheConstants.{PAYLOAD_MAX, RED_PDU_MAX}
+use Rattle.octets.specs.declared.limits.TheConstants.{PAYLOAD_MAX}
 use Rattle.end_settings.specs.Configured.{settings_of}
 use Rattle.end_settings.specs.declared.EndConfig.{EndConfig}
 use Rattle.end_settings.specs.declared.Side.{Side}
