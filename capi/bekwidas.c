@@ -30,6 +30,8 @@ int32_t bekr_confirmed_time(bek_end *end, uint64_t *time);
 int32_t bekr_departure(bek_end *end, bek_leaving *leaving);
 int32_t bekr_statistics(bek_end *end, bek_statistics *statistics);
 int32_t bekr_counts(bek_end *end, bek_counts *counts);
+int32_t bekr_hear_notes(bek_end *end, uint32_t hears);
+int32_t bekr_next_note(bek_end *end, bek_note *note);
 size_t bekr_fault_text(int32_t result, uint8_t *text, size_t size);
 
 /* The pointer of an empty buffer. */
@@ -327,6 +329,66 @@ size_t bek_leaving_text(const bek_leaving *leaving, char *text, size_t size) {
             say_number(&s, leaving->version);
         }
     }
+    return ends(&s, size);
+}
+
+int bek_hear_notes(bek_end *end, int on) { return end == NULL ? BEK_ERR_NULL : bekr_hear_notes(end, on != 0); }
+
+int bek_next_note(bek_end *end, bek_note *note) { return end == NULL || note == NULL ? BEK_ERR_NULL : bekr_next_note(end, note); }
+
+/* Says the word of a value, or its number if it has none. */
+static void say_word(said *s, const char *const *words, size_t count, int32_t value) {
+    if (value >= 0 && (size_t)value < count) {
+        say(s, words[value]);
+    } else {
+        say(s, "number ");
+        say_number(s, (uint32_t)value);
+    }
+}
+
+/* Says what was done with a datagram or PDU. */
+static void say_done(said *s, const bek_note *note, const char *name, const char *const *words, size_t count) {
+    say(s, name);
+    say_number(s, note->number);
+    say(s, ": ");
+    say_word(s, words, count, note->value);
+    if (note->fault == 0) return;
+    say(s, ", test ");
+    say_number(s, note->fault);
+}
+
+/* Says a kind in four hexadecimal digits. */
+static void say_kind(said *s, uint32_t kind) {
+    char digits[5] = {0};
+    int at;
+    for (at = 0; at < 4; at++) digits[at] = "0123456789abcdef"[kind >> (12 - 4 * at) & 15];
+    say(s, digits);
+}
+
+#define WORDS(words) words, sizeof words / sizeof *words
+
+static void say_note(said *s, const bek_note *note) {
+    static const char *const states[] = {"Closed", "Down", "Start", "Up", "RetrReq", "RetrRun"};
+    static const char *const phases[] = {"Idle", "Checking", "Requesting", "AwaitCheck", "AwaitRequest", "Refused", "Initialising", "Established", "Ended"};
+    static const char *const datagrams[] = {"passed", "deferred", "old", "repeated", "too far ahead", "no place", "damaged"};
+    static const char *const pdus[] = {"taken", "after a gap", "the end leaves", "the end is closed", "damaged", "of a stranger", "no ConnReq",
+                                       "too far ahead", "not requested", "answered before", "confirms less than before"};
+    switch (note->what) {
+    case BEK_NOTE_STATE: say(s, "state "), say_word(s, WORDS(states), note->value); break;
+    case BEK_NOTE_PHASE: say(s, "phase "), say_word(s, WORDS(phases), note->value); break;
+    case BEK_NOTE_DATAGRAM: say_done(s, note, "datagram ", WORDS(datagrams)); break;
+    case BEK_NOTE_PDU: say_done(s, note, "PDU ", WORDS(pdus)); break;
+    case BEK_NOTE_TAKE: say(s, "telegram "), say_kind(s, (uint32_t)note->value); break;
+    case BEK_NOTE_LEFT_OUT: say_number(s, note->count > UINT32_MAX ? UINT32_MAX : (uint32_t)note->count), say(s, " notes left out"); break;
+    default: say(s, "no such note");
+    }
+}
+
+size_t bek_note_text(const bek_note *note, char *text, size_t size) {
+    said s;
+    if (text == NULL || !IS_LENGTH(size)) size = 0;
+    s = starts(text, size);
+    if (note != NULL) say_note(&s, note);
     return ends(&s, size);
 }
 

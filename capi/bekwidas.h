@@ -238,6 +238,38 @@ typedef struct bek_leaving {
     uint32_t version; /* the peer's PDI version if this end left because the versions differ, otherwise BEK_NO_VERSION */
 } bek_leaving;
 
+/* What a note is about. */
+enum {
+    BEK_NOTE_STATE = 1,    /* the connection has changed to the state `value` */
+    BEK_NOTE_PHASE = 2,    /* the session has changed to the phase `value` */
+    BEK_NOTE_DATAGRAM = 3, /* what the redundancy layer did with a datagram: `value` is one of BEK_DATAGRAM_.. */
+    BEK_NOTE_PDU = 4,      /* what the safety layer did with a PDU that went up: `value` is one of BEK_PDU_.. */
+    BEK_NOTE_TAKE = 5,     /* a telegram of the kind `value` was taken */
+    BEK_NOTE_LEFT_OUT = 6  /* `count` notes had no room here */
+};
+
+/* What the redundancy layer did with a datagram, as in bek_reception. */
+enum {
+    BEK_DATAGRAM_PASSED = 0, BEK_DATAGRAM_DEFERRED = 1, BEK_DATAGRAM_OLD = 2, BEK_DATAGRAM_REPEATED = 3,
+    BEK_DATAGRAM_FAR = 4, BEK_DATAGRAM_FULL = 5, BEK_DATAGRAM_DAMAGED = 6
+};
+
+/* What the safety layer did with a PDU, as in bek_statistics; with LEFT it closed the connection, and with CLOSED the end was closed, or a DiscReq
+ * closed it. */
+enum {
+    BEK_PDU_TAKEN = 0, BEK_PDU_GAP = 1, BEK_PDU_LEFT = 2, BEK_PDU_CLOSED = 3, BEK_PDU_DAMAGED = 4, BEK_PDU_STRANGER = 5,
+    BEK_PDU_UNOPENED = 6, BEK_PDU_FAR = 7, BEK_PDU_UNREQUESTED = 8, BEK_PDU_ANSWERED = 9, BEK_PDU_BELOW = 10
+};
+
+/* One thing that an end did. bek_note_text says what it means. */
+typedef struct bek_note {
+    uint64_t count;  /* of BEK_NOTE_LEFT_OUT, otherwise 0 */
+    uint32_t what;   /* one of BEK_NOTE_.. */
+    int32_t value;   /* as `what` says */
+    uint32_t number; /* the redundancy number of a datagram or PDU, or 0 */
+    uint32_t fault;  /* the test that a damaged datagram (1 to 3) or PDU (1 to 5) failed, otherwise 0 */
+} bek_note;
+
 /* Returns the version of the library, as BEK_VERSION. */
 BEK_MUST_USE uint32_t bek_version(void);
 
@@ -379,6 +411,22 @@ BEK_MUST_USE int bek_counts_of(const bek_end *end, bek_counts *counts);
 
 /* Writes what the end has counted since it was opened. BEK_OK; BEK_ERR_NULL, BEK_ERR_NOT_OPEN. */
 BEK_MUST_USE int bek_statistics_of(const bek_end *end, bek_statistics *statistics);
+
+/* Keeps notes of what the end does from now on if `on` is not 0, and no longer if it is 0; those that wait are dropped. A new end keeps none, and
+ * bek_reopen leaves this as it is. Notes that are not kept cost nothing.
+ *
+ * BEK_OK; BEK_ERR_NULL, BEK_ERR_NOT_OPEN. */
+BEK_MUST_USE int bek_hear_notes(bek_end *end, int on);
+
+/* Fetches the oldest note. Fetch all after each call: then they are those of the call. Up to 128 wait; if a call makes more, the last one fetched says
+ * how many had no room.
+ *
+ * BEK_OK; BEK_NOTHING if no note waits, and nothing is written; BEK_ERR_NULL, BEK_ERR_NOT_OPEN. */
+BEK_MUST_USE int bek_next_note(bek_end *end, bek_note *note);
+
+/* Writes what a note means, in ASCII, cut to `size` octets with a zero at the end, and returns the length of the whole text without the zero. If
+ * `note` is NULL, the text is empty. */
+size_t bek_note_text(const bek_note *note, char *text, size_t size);
 
 /* Writes what a result means, in ASCII, cut to `size` octets with a zero at the end, and returns the length of the whole text without the zero. It
  * knows the results of bekwidas_toml.h, too. */

@@ -49,6 +49,13 @@ package Bekwidas is
       Units, Resent, Heartbeats, Requests, Answers, Confirmed : Unsigned_64 := 0;
    end record with Convention => C;
 
+   type Note is record
+      Count : Unsigned_64 := 0;
+      What : Unsigned_32 := 0;
+      Value : Integer_32 := 0;
+      Number, Fault : Unsigned_32 := 0;
+   end record with Convention => C;
+
    function Version return Unsigned_32 with Import, Convention => C, External_Name => "bek_version";
    function Init (S : access Settings; Size : size_t) return int with Import, Convention => C, External_Name => "bek_settings_init";
    function Fault (S : access constant Settings; Field : access Unsigned_32; Text : System.Address; Size : size_t) return int
@@ -89,6 +96,10 @@ package Bekwidas is
      with Import, Convention => C, External_Name => "bek_counts_of";
    function Statistics_Of (E : access constant Bek_End; S : access Statistics) return int
      with Import, Convention => C, External_Name => "bek_statistics_of";
+   function Hear_Notes (E : access Bek_End; On : int) return int with Import, Convention => C, External_Name => "bek_hear_notes";
+   function Next_Note (E : access Bek_End; N : access Note) return int with Import, Convention => C, External_Name => "bek_next_note";
+   function Note_Text (N : access constant Note; Text : System.Address; Size : size_t) return size_t
+     with Import, Convention => C, External_Name => "bek_note_text";
    function Version_Text (Text : System.Address; Size : size_t) return size_t
      with Import, Convention => C, External_Name => "bek_version_text";
    function Fault_Text (Result : int; Text : System.Address; Size : size_t) return size_t

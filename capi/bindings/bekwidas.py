@@ -79,6 +79,17 @@ class Leaving(ctypes.Structure):
         return text.value.decode()
 
 
+class Note(ctypes.Structure):
+    """One thing that an end did, as in bekwidas.h."""
+
+    _fields_ = [("count", c_uint64), ("what", c_uint32), ("value", ctypes.c_int32), ("number", c_uint32), ("fault", c_uint32)]
+
+    def __str__(self):
+        text = ctypes.create_string_buffer(200)
+        _library.bek_note_text(byref(self), text, len(text))
+        return text.value.decode()
+
+
 class Refused(Exception):
     """A call was refused: `code` is its result."""
 
@@ -106,6 +117,7 @@ def _declare(end, more):
     _library.bek_free.argtypes, _library.bek_free.restype = [POINTER(end)], None
     _library.bek_fault_text.argtypes, _library.bek_fault_text.restype = [c_int, c_char_p, c_size_t], c_size_t
     _library.bek_leaving_text.argtypes, _library.bek_leaving_text.restype = [POINTER(Leaving), c_char_p, c_size_t], c_size_t
+    _library.bek_note_text.argtypes, _library.bek_note_text.restype = [POINTER(Note), c_char_p, c_size_t], c_size_t
     _library.bek_settings_init.argtypes = [POINTER(Settings), c_size_t]
     _library.bek_settings_fault.argtypes = [POINTER(Settings), POINTER(c_uint32), c_char_p, c_size_t]
     _library.bek_rooms.argtypes = [POINTER(Settings), POINTER(c_uint32), POINTER(c_uint32)]
@@ -118,7 +130,8 @@ _declare(_Handle, {
     "next_deadline": [POINTER(c_uint64)], "put": [c_uint16, c_char_p, c_size_t, c_uint64], "init_done": [c_uint64], "close": [c_uint64],
     "take": [POINTER(c_uint16), c_char_p, c_size_t, POINTER(c_size_t)], "next_datagram": [POINTER(c_uint32), c_char_p, c_size_t, POINTER(c_size_t)],
     "state": [], "phase": [], "is_stale": [], "settled": [], "confirmed": [POINTER(c_uint64)], "confirmed_time": [POINTER(c_uint64)],
-    "departure": [POINTER(Leaving)], "counts_of": [POINTER(Counts)], "statistics_of": [POINTER(Statistics)]})
+    "departure": [POINTER(Leaving)], "counts_of": [POINTER(Counts)], "statistics_of": [POINTER(Statistics)],
+    "hear_notes": [c_int], "next_note": [POINTER(Note)]})
 
 
 def version():
@@ -192,3 +205,12 @@ class End:
     departure = property(lambda self: self._told("departure", Leaving()))
     counts = property(lambda self: self._told("counts_of", Counts()))
     statistics = property(lambda self: self._told("statistics_of", Statistics()))
+
+    def hear_notes(self, on):
+        """Keeps notes from now on, or no longer."""
+        return _must("hear_notes", _library.bek_hear_notes(self._handle, on))
+
+    def notes(self):
+        """Takes all notes that wait; str(note) says what each means."""
+        while (note := self._told("next_note", Note())) is not None:
+            yield note

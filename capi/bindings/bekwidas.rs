@@ -46,6 +46,11 @@ pub struct Statistics {
     pub heartbeats: u64, pub requests: u64, pub answers: u64, pub confirmed: u64,
 }
 
+/// One thing that an end did, as in bekwidas.h.
+#[repr(C)]
+#[derive(Clone, Copy, Debug, Default, PartialEq, Eq)]
+pub struct Note { pub count: u64, pub what: u32, pub value: i32, pub number: u32, pub fault: u32 }
+
 extern "C" {
     fn bek_version() -> u32;
     fn bek_version_text(text: *mut c_char, size: usize) -> usize;
@@ -72,6 +77,9 @@ extern "C" {
     fn bek_departure(e: *const Handle, leaving: *mut Leaving) -> c_int;
     fn bek_counts_of(e: *const Handle, counts: *mut Counts) -> c_int;
     fn bek_statistics_of(e: *const Handle, statistics: *mut Statistics) -> c_int;
+    fn bek_hear_notes(e: *mut Handle, on: c_int) -> c_int;
+    fn bek_next_note(e: *mut Handle, note: *mut Note) -> c_int;
+    fn bek_note_text(note: *const Note, text: *mut c_char, size: usize) -> usize;
     fn bek_fault_text(result: c_int, text: *mut c_char, size: usize) -> usize;
     fn bek_leaving_text(leaving: *const Leaving, text: *mut c_char, size: usize) -> usize;
 }
@@ -197,5 +205,12 @@ impl End {
         let mut statistics = Statistics::default();
         let result = unsafe { bek_statistics_of(&*self.0, &mut statistics) };
         given(result, statistics)
+    }    /// Keeps notes from now on, or no longer.
+    pub fn hear_notes(&mut self, on: bool) -> c_int { unsafe { bek_hear_notes(&mut *self.0, on as c_int) } }
+    /// The oldest note with its text.
+    pub fn next_note(&mut self) -> Option<(Note, String)> {
+        let mut note = Note::default();
+        let result = unsafe { bek_next_note(&mut *self.0, &mut note) };
+        if result == OK { Some((note, text(|at, size| { unsafe { bek_note_text(&note, at, size) }; }))) } else { None }
     }
 }

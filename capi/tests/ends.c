@@ -1,5 +1,5 @@
 /* Two ends with 1 to 4 channels, each code, and times around 2^32: telegrams of every message type and length arrive whole, the longest datagram is made,
- * a run is driven by deadlines only, and the departure and the certain telegrams are correct. */
+ * a run is driven by deadlines only, the departure and the certain telegrams are correct, and notes say what the end counts. */
 #include "bekwidas.h"
 
 #include <stdio.h>
@@ -16,7 +16,7 @@ static void must_at(int holds, int line, const char *what) {
 
 static bek_end il = BEK_END_INIT, fe = BEK_END_INIT;
 static uint64_t now;
-static uint32_t channels, code, seen[5];
+static uint32_t channels, code, seen[5], is_wise;
 static size_t longest;
 static struct {
     uint16_t kind;
@@ -37,6 +37,7 @@ static bek_settings settings(uint32_t side) {
     s.version_count = 1;
     s.versions[0] = 1;
     s.first_sn = 0xfffffff0u;
+    if (is_wise) s.n_sendmax = 7, s.mwa = 3, s.q = 8; /* so that a lost datagram does not overrun the queue of early ones */
     strcpy(s.name, side == 1 ? "IL1" : "FE1");
     strcpy(s.peer_name, side == 1 ? "FE1" : "IL1");
     must(bek_rooms(&s, &s.telegram_room, &s.datagram_room) == BEK_OK && s.telegram_room == 27 && s.datagram_room == 333 * channels);
@@ -213,6 +214,130 @@ static void versions(void) {
     bek_free(&fe);
 }
 
+static uint32_t random_ = 7;
+static uint32_t any(uint32_t below) {
+    random_ = random_ * 1664525u + 1013904223u;
+    return (random_ >> 16) % below;
+}
+
+/* The notes fetched so far: how many of each kind and value, and the last state and phase. */
+typedef struct noted {
+    uint64_t count[8][16];
+    int last[8];
+} noted;
+
+static void fetch_notes(bek_end *end, noted *n) {
+    bek_note note;
+    char text[60];
+    while (bek_next_note(end, &note) == BEK_OK) {
+        must(note.what >= BEK_NOTE_STATE && note.what <= BEK_NOTE_TAKE && note.count == 0 && (note.what == BEK_NOTE_TAKE || (note.value >= 0 && note.value < 16)));
+        must(note.fault == 0 || (note.what == BEK_NOTE_DATAGRAM ? note.value == BEK_DATAGRAM_DAMAGED : note.what == BEK_NOTE_PDU && note.value == BEK_PDU_DAMAGED));
+        n->count[note.what][note.what == BEK_NOTE_TAKE ? 0 : note.value]++;
+        n->last[note.what] = note.value;
+        must(bek_note_text(&note, text, sizeof text) > 5);
+    }
+}
+
+/* Carries what `from` made to `to` over channels that lose (all, if `loses_all`), repeat and damage, and fetches the notes of each arrival. */
+static void disturb(bek_end *from, bek_end *to, noted *n, int loses_all) {
+    uint8_t octets[BEK_DATAGRAM_MAX];
+    uint32_t channel;
+    size_t length;
+    while (bek_next_datagram(from, &channel, octets, sizeof octets, &length) == BEK_OK) {
+        uint32_t fate = loses_all ? 0 : any(100), times;
+        if (fate == 3) octets[any((uint32_t)length)] ^= (uint8_t)(1 + any(255));
+        for (times = fate == 0 ? 0 : fate == 2 ? 2 : 1; times > 0; times--) {
+            int result = bek_arrive(to, channel, octets, length, now);
+            must(result == BEK_OK || result == BEK_ERR_SEND_FIRST); /* it has much to send: the datagram is lost, too */
+            take_all(to);
+            fetch_notes(to, n);
+        }
+    }
+}
+
+static uint64_t sums[4];
+
+/* Tests that the notes since `before` are what the end has counted since. */
+static void noted_is_counted(bek_end *end, const bek_statistics *before, const noted *n) {
+    bek_statistics s;
+    const uint64_t *datagrams = n->count[BEK_NOTE_DATAGRAM], *pdus = n->count[BEK_NOTE_PDU];
+    uint64_t r[7] = {0};
+    uint32_t c;
+    must(bek_statistics_of(end, &s) == BEK_OK);
+    for (c = 0; c < BEK_CHANNELS_MAX; c++) {
+        const bek_reception *a = &before->channels[c], *b = &s.channels[c];
+        r[BEK_DATAGRAM_PASSED] += b->passed - a->passed, r[BEK_DATAGRAM_DEFERRED] += b->deferred - a->deferred, r[BEK_DATAGRAM_OLD] += b->old - a->old;
+        r[BEK_DATAGRAM_REPEATED] += b->repeated - a->repeated, r[BEK_DATAGRAM_FAR] += b->far - a->far, r[BEK_DATAGRAM_FULL] += b->full - a->full;
+        r[BEK_DATAGRAM_DAMAGED] += b->damaged - a->damaged;
+    }
+    for (c = 0; c < 7; c++) must(datagrams[c] == r[c]);
+    must(pdus[BEK_PDU_TAKEN] == s.taken - before->taken && pdus[BEK_PDU_GAP] == s.gaps - before->gaps);
+    must(pdus[BEK_PDU_DAMAGED] == s.damaged - before->damaged && pdus[BEK_PDU_STRANGER] == s.strangers - before->strangers);
+    must(pdus[BEK_PDU_UNOPENED] == s.unopened - before->unopened && pdus[BEK_PDU_FAR] == s.far - before->far);
+    must(pdus[BEK_PDU_UNREQUESTED] == s.unrequested - before->unrequested && pdus[BEK_PDU_ANSWERED] == s.answered - before->answered);
+    must(pdus[BEK_PDU_BELOW] == s.below - before->below);
+    must(n->count[BEK_NOTE_STATE][bek_state(end)] > 0 ? n->last[BEK_NOTE_STATE] == bek_state(end) : bek_state(end) == BEK_UP);
+    sums[0] += r[BEK_DATAGRAM_DAMAGED], sums[1] += pdus[BEK_PDU_DAMAGED], sums[2] += pdus[BEK_PDU_GAP];
+}
+
+/* Over bad channels the notes are what the end counts, the last ones are its state, and each telegram taken has one. */
+static void notes(void) {
+    noted of_il = {0}, of_fe = {0};
+    bek_statistics il_before, fe_before;
+    uint8_t payload[5] = {0};
+    unsigned long was = taken;
+    int n;
+    establishes(1000);
+    must(bek_hear_notes(&il, 1) == BEK_OK && bek_hear_notes(&fe, 2) == BEK_OK);
+    must(bek_statistics_of(&il, &il_before) == BEK_OK && bek_statistics_of(&fe, &fe_before) == BEK_OK);
+    for (n = 0; n < 400 && bek_state(&il) != BEK_CLOSED && bek_state(&fe) != BEK_CLOSED; n++) {
+        int a = bek_put(&il, 0x0100, payload, 5, now), b = bek_put(&fe, 0x0200, payload, 5, now);
+        must((a == BEK_OK || a == BEK_ERR_FULL) && (b == BEK_OK || b == BEK_ERR_FULL));
+        now += 10;
+        must(bek_tick(&il, now) == BEK_OK && bek_tick(&fe, now) == BEK_OK);
+        take_all(&il), take_all(&fe);
+        fetch_notes(&il, &of_il), fetch_notes(&fe, &of_fe);
+        disturb(&il, &fe, &of_fe, n == 100);
+        disturb(&fe, &il, &of_il, n == 200);
+    }
+    noted_is_counted(&il, &il_before, &of_il);
+    noted_is_counted(&fe, &fe_before, &of_fe);
+    must(of_il.count[BEK_NOTE_TAKE][0] + of_fe.count[BEK_NOTE_TAKE][0] == taken - was);
+    sums[3] += taken - was;
+    bek_free(&il);
+    bek_free(&fe);
+}
+
+/* No note waits before notes are asked for; after 128 of them the end says how many it left out; they stay over a reopening. */
+static void left_out(void) {
+    bek_note note;
+    uint8_t octets[BEK_DATAGRAM_MAX];
+    uint32_t channel;
+    size_t length;
+    int n;
+    establishes(1000);
+    must(bek_next_note(&il, &note) == BEK_NOTHING && bek_next_note(&fe, &note) == BEK_NOTHING);
+    must(bek_hear_notes(&il, 1) == BEK_OK && bek_hear_notes(&fe, -1) == BEK_OK);
+    now += 300;
+    must(bek_tick(&il, now) == BEK_OK && bek_next_datagram(&il, &channel, octets, sizeof octets, &length) == BEK_OK);
+    for (n = 0; n < 300; n++) must(bek_arrive(&fe, 1, octets, length, now) == BEK_OK);
+    for (n = 0; n < 128; n++) {
+        must(bek_next_note(&fe, &note) == BEK_OK && note.fault == 0 && note.count == 0 && note.number > 0);
+        must(n == 0 ? note.what == BEK_NOTE_PDU && note.value == BEK_PDU_TAKEN
+                    : note.what == BEK_NOTE_DATAGRAM && note.value == (n == 1 ? BEK_DATAGRAM_PASSED : BEK_DATAGRAM_OLD));
+    }
+    must(bek_next_note(&fe, &note) == BEK_OK && note.what == BEK_NOTE_LEFT_OUT && note.count == 173);
+    must(bek_next_note(&fe, &note) == BEK_NOTHING && note.count == 173);
+    must(bek_close(&il, now) == BEK_OK && bek_next_note(&il, &note) == BEK_OK && note.what == BEK_NOTE_STATE && note.value == BEK_CLOSED);
+    must(bek_reopen(&il, 3, now) == BEK_OK);
+    n = 0;
+    while (bek_next_note(&il, &note) == BEK_OK) n += note.what == BEK_NOTE_STATE && note.value == BEK_START;
+    must(n == 1);
+    must(bek_hear_notes(&fe, 0) == BEK_OK && bek_arrive(&fe, 1, octets, length, now) == BEK_OK && bek_next_note(&fe, &note) == BEK_NOTHING);
+    bek_free(&il);
+    bek_free(&fe);
+}
+
 int main(void) {
     static const uint64_t starts[] = {0, 4294967295u - 100, 4294967296u * 5, ((uint64_t)1 << 62) - 10000000};
     size_t k;
@@ -239,7 +364,12 @@ int main(void) {
                 for (c = 1; c <= channels; c++) must(seen[c] == seen[1] && seen[c] > 800);
             }
     channels = 2, code = 8;
+    at = "2 channels";
     versions();
+    is_wise = 1;
+    for (k = 0; k < 10; k++) notes();
+    must(sums[0] > 3 && sums[1] > 30 && sums[2] > 10 && sums[3] > 1000);
+    left_out();
     puts("ends: each way");
     return 0;
 }

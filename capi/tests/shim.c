@@ -139,6 +139,15 @@ int32_t bekr_counts(bek_end *end, bek_counts *counts) {
     counts->unsent = told[2];
     return notes("counts", end, NULL, 0, 0, 0, 0);
 }
+int32_t bekr_hear_notes(bek_end *end, uint32_t hears) { return notes("hear_notes", end, NULL, 0, hears, 0, 0); }
+int32_t bekr_next_note(bek_end *end, bek_note *note) {
+    note->count = told[0];
+    note->what = (uint32_t)told[1];
+    note->value = (int32_t)told[2];
+    note->number = (uint32_t)told[3];
+    note->fault = (uint32_t)told[4];
+    return notes("next_note", end, NULL, 0, 0, 0, 0);
+}
 size_t bekr_fault_text(int32_t code, uint8_t *text, size_t size) {
     size_t whole = strlen(told_text), n = whole < size ? whole : size;
     memcpy(text, told_text, n);
@@ -169,6 +178,7 @@ static void passes_on(void) {
     bek_counts counts;
     bek_leaving leaving;
     bek_statistics statistics;
+    bek_note note;
     int i;
     for (i = 0; i < 5; i++) told[i] = any();
     end.station_ = (void *)(uintptr_t)any();
@@ -234,6 +244,16 @@ static void passes_on(void) {
     must(statistics.channels[0].received == told[0] && statistics.channels[3].last == told[1]);
     must(statistics.taken == told[2] && statistics.confirmed == told[3]);
     went("statistics", 1);
+    AT, must(bek_hear_notes(&end, (int)told[0]) == result);
+    went("hear_notes", 0);
+    must(got.numbers[0] == ((int)told[0] != 0));
+    AT, must(bek_hear_notes(&end, 0) == result);
+    went("hear_notes", 0);
+    must(got.numbers[0] == 0);
+    AT, must(bek_next_note(&end, &note) == result);
+    must(note.count == told[0] && note.what == (uint32_t)told[1] && note.value == (int32_t)told[2] && note.number == (uint32_t)told[3]);
+    must(note.fault == (uint32_t)told[4]);
+    went("next_note", 0);
 
     got.end = &end;
     AT, must(bek_rooms(&settings, &a, &b) == result && a == (uint32_t)told[0] && b == (uint32_t)told[1] && got.settings == &settings);
@@ -262,6 +282,7 @@ static void refuses(void) {
     bek_counts counts;
     bek_leaving leaving;
     bek_statistics statistics;
+    bek_note note;
     uint64_t number;
     uint32_t a, b;
     uint16_t kind;
@@ -316,6 +337,9 @@ static void refuses(void) {
     must(bek_counts_of(&end, NULL) == BEK_ERR_NULL);
     must(bek_statistics_of(NULL, &statistics) == BEK_ERR_NULL);
     must(bek_statistics_of(&end, NULL) == BEK_ERR_NULL);
+    must(bek_hear_notes(NULL, 1) == BEK_ERR_NULL);
+    must(bek_next_note(NULL, &note) == BEK_ERR_NULL);
+    must(bek_next_note(&end, NULL) == BEK_ERR_NULL);
     none_went(was);
 }
 
@@ -411,6 +435,43 @@ static void texts(void) {
     must(bek_leaving_text(NULL, text, sizeof text) == 0 && text[0] == 0 && text[1] == '#');
 }
 
+static bek_note note_asked;
+static size_t note_text(char *text, size_t size) { return bek_note_text(&note_asked, text, size); }
+
+static void of_note(uint32_t what, int32_t value, uint32_t number, uint32_t fault, const char *wanted) {
+    note_asked.what = what, note_asked.value = value, note_asked.number = number, note_asked.fault = fault;
+    cut(note_text, wanted);
+}
+
+static void note_texts(void) {
+    static const char *const states[] = {"Closed", "Down", "Start", "Up", "RetrReq", "RetrRun"};
+    static const char *const phases[] = {"Idle", "Checking", "Requesting", "AwaitCheck", "AwaitRequest", "Refused", "Initialising", "Established", "Ended"};
+    static const char *const datagrams[] = {"passed", "deferred", "old", "repeated", "too far ahead", "no place", "damaged"};
+    static const char *const pdus[] = {"taken", "after a gap", "the end leaves", "the end is closed", "damaged", "of a stranger", "no ConnReq",
+                                       "too far ahead", "not requested", "answered before", "confirms less than before"};
+    char wanted[60], text[4] = "###";
+    int32_t n;
+    note_asked.count = 0;
+    for (n = 0; n < 6; n++) sprintf(wanted, "state %s", states[n]), of_note(BEK_NOTE_STATE, n, 5, 1, wanted);
+    for (n = 0; n < 9; n++) sprintf(wanted, "phase %s", phases[n]), of_note(BEK_NOTE_PHASE, n, 5, 1, wanted);
+    for (n = 0; n < 7; n++) sprintf(wanted, "datagram 17: %s", datagrams[n]), of_note(BEK_NOTE_DATAGRAM, n, 17, 0, wanted);
+    for (n = 0; n < 11; n++) sprintf(wanted, "PDU 4294967295: %s", pdus[n]), of_note(BEK_NOTE_PDU, n, UINT32_MAX, 0, wanted);
+    of_note(BEK_NOTE_DATAGRAM, BEK_DATAGRAM_DAMAGED, 0, 2, "datagram 0: damaged, test 2");
+    of_note(BEK_NOTE_PDU, BEK_PDU_DAMAGED, 9, 3, "PDU 9: damaged, test 3");
+    of_note(BEK_NOTE_TAKE, 0x1e0f, 5, 1, "telegram 1e0f");
+    of_note(BEK_NOTE_TAKE, 0x0100, 0, 0, "telegram 0100");
+    of_note(BEK_NOTE_STATE, 6, 0, 0, "state number 6");
+    of_note(BEK_NOTE_PDU, 11, 1, 0, "PDU 1: number 11");
+    of_note(BEK_NOTE_PDU, -1, 1, 0, "PDU 1: number 4294967295");
+    of_note(0, 1, 1, 1, "no such note");
+    of_note(7, 1, 1, 1, "no such note");
+    note_asked.count = 12;
+    of_note(BEK_NOTE_LEFT_OUT, 1, 1, 1, "12 notes left out");
+    note_asked.count = UINT64_MAX;
+    of_note(BEK_NOTE_LEFT_OUT, 1, 1, 1, "4294967295 notes left out");
+    must(bek_note_text(NULL, text, sizeof text) == 0 && text[0] == 0 && text[1] == '#');
+}
+
 static void of_setting(uint32_t field, uint32_t value, uint32_t least, uint32_t most, int32_t is, const char *wanted) {
     char text[120], cut_[5];
     static bek_settings settings;
@@ -482,6 +543,7 @@ int main(void) {
     refuses();
     defaults();
     texts();
+    note_texts();
     settings_texts();
     puts("shim: each line");
     return 0;

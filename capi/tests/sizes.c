@@ -1,4 +1,4 @@
-/* Tests that the structs have the layout of the crate `bekwidas`: Slot, PlainSettings, Counts, PlainDeparture, PlainReceptions and PlainStatistics, all #[repr(C)]. */
+/* Tests that the structs have the layout of the crate `bekwidas`: Slot, PlainSettings, Counts, PlainDeparture, PlainReceptions, PlainStatistics and PlainNote, all #[repr(C)]. */
 #include "bekwidas.h"
 
 #include <stddef.h>
@@ -72,5 +72,11 @@ SAME(offsetof(bek_statistics, requests), 400);
 SAME(offsetof(bek_statistics, answers), 408);
 SAME(offsetof(bek_statistics, confirmed), 416);
 SAME(sizeof(bek_statistics), 424);
+SAME(offsetof(bek_note, count), 0);
+SAME(offsetof(bek_note, what), 8);
+SAME(offsetof(bek_note, value), 12);
+SAME(offsetof(bek_note, number), 16);
+SAME(offsetof(bek_note, fault), 20);
+SAME(sizeof(bek_note), 24);
 
 int main(void) { return 0; }
