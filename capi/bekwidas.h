@@ -30,7 +30,7 @@
  * TIME is in whole milliseconds of a clock that never decreases, such as CLOCK_MONOTONIC, and is at most 2^62. A call with an earlier time
  * than the last accepted call of the same end returns BEK_ERR_TIME and does nothing.
  *
- * MEMORY. bek_open allocates all the memory of an end by malloc: about 75,000 octets, 373 for each telegram of telegram_room, and 1,274 for
+ * MEMORY. bek_open allocates all the memory of an end by malloc: about 77,000 octets, 373 for each telegram of telegram_room, and 1,274 for
  * each datagram of datagram_room. Only bek_free returns memory; no other function uses the heap. A program without a heap defines malloc,
  * free and realloc over its own array (examples/arena.c). A call uses less than 22,000 octets of stack.
  *

@@ -18,8 +18,8 @@ mod station;
 mod writing;
 
 pub use law::load_law;
-use pdi_session::{InitFault, PutFault};
 pub use notes::{NOTES_MAX, Notes, StationNote};
+use pdi_session::{InitFault, PutFault};
 pub use plain::{EndOpening, PLAIN_SETTINGS_SIZE, PlainSettings, is_name, numbers_law, text_size};
 pub use queue::{Queue, QueueFull, TooSmall};
 pub use station::{Rooms, Station, refusal_to_open};

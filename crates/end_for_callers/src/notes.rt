@@ -100,7 +100,7 @@ impl Notes {
 
     /// Returns true if notes are kept.
     pub(crate) fn hears(&self) -> bool
-        // The result is what `hear` was told last, and false before.
+        // The result is true if and only if notes are kept.
         ensures { result ≡ self.now.hears }
     {
         self.hears
