@@ -5,9 +5,8 @@ use Rattle.pdi_session.specs.SessionStep.{Item}
 use Rattle.stack_end.specs.Datagrams.{sendings}
 use Rattle.stack_end.specs.Ends.{EndState}
 use Rattle.stack_end.specs.EndValue.{EndStands}
-use Rattle.end_for_callers.specs.Boxes.{Outgoing, Posted, told_of}
+use Rattle.end_for_callers.specs.Boxes.{Outgoing, Posted, new_outgoing, told_of}
 use Rattle.end_for_callers.specs.Calls.{outbox_of}
-use Rattle.end_for_callers.specs.Queues.{new_queue}
 use Rattle.stack_engine.specs.Headline.{put_at, taken_at}
 use Rattle.stack_engine.specs.Pairs.{World, ends_of}
 use Rattle.station_pair.specs.Steps.{Held, Programs}
@@ -18,13 +17,13 @@ seen_by h = h.given ++ h.station.inbox.queue.waiting
 
 -- nothing was sent
 abbrev pub nothing_sent : Outgoing
-nothing_sent = record { queue = new_queue 0 0; unsent = 0 }
+nothing_sent = new_outgoing 0
 
 -- everything sent, as if `next_datagram` had not removed it
 abbrev pub all_sent : Held → Outgoing
 all_sent h =
     let o = outbox_of h.station in
-    record { queue = record { waiting = h.pulled ++ o.queue.waiting; places = o.queue.places; room = o.queue.room }; unsent = o.unsent }
+    record o { queue = record { waiting = h.pulled ++ o.queue.waiting; places = o.queue.places; room = o.queue.room } }
 
 -- a station represents an end of a pair
 pub record HeldStands (h : Held) (x : EndState) : Type 0 where
