@@ -413,7 +413,7 @@ BEK_MUST_USE int bek_counts_of(const bek_end *end, bek_counts *counts);
 BEK_MUST_USE int bek_statistics_of(const bek_end *end, bek_statistics *statistics);
 
 /* Keeps notes of what the end does from now on if `on` is not 0, and no longer if it is 0; those that wait are dropped. A new end keeps none, and
- * bek_reopen leaves this as it is. Notes that are not kept cost nothing.
+ * bek_reopen leaves this as it is. As long as none is kept, this costs one test for each datagram.
  *
  * BEK_OK; BEK_ERR_NULL, BEK_ERR_NOT_OPEN. */
 BEK_MUST_USE int bek_hear_notes(bek_end *end, int on);

@@ -368,8 +368,8 @@ impl Station {
         self.end.channels().pop(buffer)
     }
 
-    /// Keeps notes of what the end does from now on, or no longer. Those that wait are dropped. Notes cost time only
-    /// if they are kept.
+    /// Keeps notes of what the end does from now on, or no longer. Those that wait are dropped. As long as none is kept,
+    /// this costs one test for each datagram.
     pub fn hear_notes(&mut self, hears: bool)
         // Notes are kept if and only if `hears` is true, and none waits.
         ensures notes { (outbox_of self.new).notes ≡ heard_anew hears }
