@@ -1,7 +1,7 @@
 -- How many datagrams one call sends at most, and how long they are.
-use Rattle.std.specs.Prelude.{◌≡◌, ℕ, ◌+◌, ◌*◌, ◌==◌, ◌≤◌, true, List, [], ◌∷◌, length}
+use Rattle.std.specs.Prelude.{◌≡◌, ℕ, ◌+◌, ◌*◌, ◌==◌, ◌≤◌, true, List, length}
 use Rattle.std.specs.List.{AllByRecursion, count_by}
-use Rattle.octets.specs.declared.limits.TheConstants.{MESSAGE_MAX, NAME_LENGTH, Q_MAX, RED_PDU_MAX, UNIT_MAX, UNIT_MESSAGES, WINDOW_MAX}
+use Rattle.octets.specs.declared.limits.TheConstants.{CHANNELS_MAX, MESSAGE_MAX, NAME_LENGTH, Q_MAX, RED_PDU_MAX, UNIT_MAX, UNIT_MESSAGES, WINDOW_MAX}
 use Rattle.safe_machine.specs.retrans.Units.{Numbered}
 use Rattle.pdi_session.specs.Settings.{checksum_of}
 use Rattle.pdi_session.specs.declared.TheConstants.{CHECKSUM_MAX}
@@ -10,7 +10,7 @@ use Rattle.stack_end.specs.Bounds.{IsBounded}
 use Rattle.stack_end.specs.Ends.{Call}
 use Rattle.stack_end.specs.Turns.{Fields, Inside, turn}
 use Rattle.end_for_callers.specs.declared.TheConstants.{PART_PDUS}
-use Rattle.end_for_callers.specs.Boxes.{Outgoing, with_sending}
+use Rattle.end_for_callers.specs.Boxes.{Outgoing}
 use Rattle.end_for_callers.specs.Calls.{has_room}
 
 -- how many of these datagrams are on this channel
@@ -52,17 +52,13 @@ pub record Sized (c : Call) (v : Inside) : Type 0 where
 abbrev pub SizeLaw : Type 0
 SizeLaw = (c : Call) (v : Inside) → IsSized v.upper → Sized c v
 
--- datagrams sent in order: each is appended if it fits, and counted otherwise
-abbrev pub with_sendings : List Sending → Outgoing → Outgoing
-with_sendings [] o = o
-with_sendings (x ∷ xs) o = with_sendings xs (with_sending x o)
+-- what holds of the end of a station at any time: the reserve is for its channels, its numbers are within their limits, and its sizes hold
+pub record IsReady (reserve : ℕ) (v : Inside) : Type 0 where
+  pub reserved : reserve ≡ (WINDOW_MAX + PART_PDUS) * v.upper.count  -- the reserve
+  pub channels : v.upper.count ≤ CHANNELS_MAX  -- the number of channels
+  pub deferring : v.red.q ≤ Q_MAX  -- the length of the deferral queue
+  pub sized : IsSized v.upper  -- units, messages and names
 
 -- the queue has room for whatever one call of an end with this number of channels sends
 abbrev pub has_room_for_call : ℕ → Outgoing → Type 0
 has_room_for_call channels o = has_room (most_on_channel * channels) RED_PDU_MAX o.queue ≡ true
-
--- then each datagram of a call finds room, and none is counted as unsent
-abbrev pub RoomLaw : Type 0
-RoomLaw =
-    (c : Call) (v : Inside) (o : Outgoing) → IsBounded v → length v.red.waiting ≤ Q_MAX → IsSized v.upper → has_room_for_call v.upper.count o
-    → (with_sendings (turn c v).sent o).unsent ≡ o.unsent

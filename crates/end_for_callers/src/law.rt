@@ -1,6 +1,6 @@
 //! The laws of how much one call sends.
 
-ghost use Rattle.end_for_callers.specs.Loads.{LoadLaw, RoomLaw, SizeLaw};
+ghost use Rattle.end_for_callers.specs.Loads.{LoadLaw, SizeLaw};
 
 /// States how much one call sends at most. The function does nothing when it is called.
 pub fn load_law()
@@ -10,7 +10,4 @@ pub fn load_law()
     // If the units, messages and names that an end keeps have their sizes, each datagram of a call is on a channel of the
     // end and has at most 1,258 bytes. After the call the sizes hold again.
     ensures size { SizeLaw }
-    // If a queue has room for 333 datagrams of 1,258 bytes for each channel, the datagrams of a call all find room when
-    // they are sent to it in order: none is counted as unsent.
-    ensures room { RoomLaw }
 {}
