@@ -4,38 +4,33 @@ use Rattle.std.proofs.Common.{◌∙◌, subst, arith, length-append, not, take}
 use Rattle.std.proofs.lemmas.Bool.{and_parts, ltb-true}
 use Rattle.std.proofs.lemmas.Bool.Decides.{nat_tests}
 use Rattle.std.proofs.lemmas.List.Sums.{sum_by-append, count_by-le-length, length-filter}
-use Rattle.std.specs.Prelude.{◌==◌, if◌then◌else◌, nat_le, nat_lt, ◌&&◌, Result, Ok, Err}
+use Rattle.std.specs.Prelude.{◌==◌, if◌then◌else◌, nat_lt, Result, Ok, Err}
 use Rattle.octets.proofs.Choices.{by_cond, by_test}
-use Rattle.octets.specs.declared.limits.TheConstants.{SAFE_FRONT_MAX, SAFE_HEADER, REACH}
-use Rattle.safe_pdu.specs.Bodies.{IsBody, is_body, window_of}
+use Rattle.octets.specs.declared.limits.TheConstants.{REACH}
+use Rattle.safe_pdu.specs.Bodies.{IsBody, window_of}
 use Rattle.safe_pdu.specs.Pdu.{Pdu}
-use Rattle.safe_pdu.specs.Places.{body_of, has_code, kind_of, length_field, read_kind, safe_seen, type_field}
-use Rattle.safe_pdu.specs.SafeText.{code_octets}
+use Rattle.safe_pdu.specs.Places.{safe_seen}
 use Rattle.safe_pdu.specs.declared.CodeRule.{CodeRule}
 use Rattle.safe_pdu.specs.declared.Kind.{Kind}
-use Rattle.safe_pdu.specs.declared.Kind.TheVariants.{ConnReq, ConnResp, Data, Heartbeat, RetrData, RetrReq, RetrResp}
+use Rattle.safe_pdu.specs.declared.Kind.TheVariants.{ConnReq, ConnResp, Heartbeat, RetrData, RetrResp}
 use Rattle.safe_pdu.specs.declared.SafeFault.{SafeFault}
-use Rattle.safe_pdu.specs.declared.SafeFault.TheVariants.{BadType, Body, Code, Length, Short}
 use Rattle.safe_pdu.specs.declared.reasons.Detail.{Detail}
-use Rattle.safe_pdu.specs.declared.reasons.Detail.TheVariants.{ConfirmedNumber, ConfirmedTimestamp, Unspecified}
+use Rattle.safe_pdu.specs.declared.reasons.Detail.TheVariants.{Unspecified}
 use Rattle.safe_pdu.specs.declared.reasons.Reason.{Reason}
-use Rattle.safe_pdu.specs.declared.reasons.Reason.TheVariants.{ProtocolError, RetransmissionImpossible, SequenceError, UnexpectedPdu, WrongVersion}
 use Rattle.safe_pdu.specs.declared.reasons.Reason.TheVariants.{ClosedByUser}
 use Rattle.safe_machine.proofs.one.Lists.{by_guard-cases, octets_of-length}
 use Rattle.safe_machine.specs.Connections.{in_turn, is_closed}
 use Rattle.safe_machine.specs.Deadlines.{beat_due, overdue}
-use Rattle.safe_machine.specs.Decision.{answering, as_client, by_cell, by_connection, by_table, cs_fits, cs_step, cts_fits, distance, in_down, is_foreign}
-use Rattle.safe_machine.specs.Decision.{is_goodbye, is_ours, tested}
+use Rattle.safe_machine.specs.Decision.{distance}
 use Rattle.safe_machine.specs.Made.{Made}
 use Rattle.safe_machine.specs.Octets.{heard, hears as machine_hears, heard_answer}
-use Rattle.safe_machine.specs.Table.{cell, request_row, run_row, start_row, up_row}
 use Rattle.safe_machine.specs.Turned.{turn as machine_turn_of}
-use Rattle.safe_machine.specs.Turns.{Turn as MachineTurn, answers_ahead, answers_early, answers_next, asks, beats, carries_out, goes_on, guards, has_room}
-use Rattle.safe_machine.specs.Turns.{leaves, passed, both_confirmed, replies, requested, resends, responds, says, sends, sends_unit, still, ticks}
-use Rattle.safe_machine.specs.Turns.{units_confirmed, accepts, connects, moved_to, rejects, resumes, takes_next}
+use Rattle.safe_machine.specs.Turns.{Turn as MachineTurn, answers_ahead, answers_early, answers_next, asks, beats, goes_on, guards, has_room, leaves, passed}
+use Rattle.safe_machine.specs.Turns.{both_confirmed, replies, requested, resends, responds, says, sends, sends_unit, still, ticks, units_confirmed, accepts}
+use Rattle.safe_machine.specs.Turns.{connects, moved_to, rejects, resumes, takes_next}
 use Rattle.safe_machine.specs.View.{View, text_of}
 use Rattle.safe_machine.specs.declared.ConnectionState.{ConnectionState}
-use Rattle.safe_machine.specs.declared.ConnectionState.TheVariants.{Closed, Down, RetrReq as Requesting, RetrRun, Start, Up}
+use Rattle.safe_machine.specs.declared.ConnectionState.TheVariants.{Closed}
 use Rattle.safe_machine.specs.declared.Step.{Step as Outcome}
 use Rattle.safe_machine.specs.retrans.Units.{Numbered, above, octets_of, renumbered}
 use Rattle.pdi_session.specs.SessionStep.{Closes, InitDone as Completes, Puts}
@@ -56,6 +51,7 @@ use Rattle.stack_end.specs.Turns.{completes, counts, datagrams, departs, dialogu
 use Rattle.stack_end.specs.Turns.{leaves as end_leaves, machine_turn, next_number, notes, packs, packs_up_to, part, parts, passes, puts, receives}
 use Rattle.stack_end.specs.Turns.{sends as end_sends, session_turn, settles, still as end_still, waited}
 use Rattle.stack_end.specs.declared.departure.Departure.{Departure}
+use Rattle.end_for_callers.proofs.Effects.{read-body, responds-has}
 use Rattle.end_for_callers.specs.Loads.{LoadLaw, sent_on}
 
 -- datagrams of lists of PDUs
@@ -219,115 +215,22 @@ early-few p now v h =
     by_cond (Few 3) (in_turn v.connection) (goes_on (answers_ahead p now v) (asks now)) (answers_ahead p now v)
     (λ _. asks-behind now (answers_ahead p now v) (ahead-few p now v h)) (λ _. few-more 2 3 (answers_ahead p now v) (omega arith) (ahead-few p now v h))
 
-tested-few : (p : Pdu) (now : ℕ) (v : View) (d : _) → Held v → Few 3 (carries_out p now d v) → Few 3 (carries_out p now (tested v p now d) v)
-tested-few p now v d h k =
-    by_cond (λ e. Few 3 (carries_out p now e v)) (cs_fits v p) _ _
-    (λ _. by_cond (λ e. Few 3 (carries_out p now e v)) (cts_fits v p now) _ _ (λ _. k) (λ _. leaves-few ProtocolError ConfirmedTimestamp now v h))
-    (λ _. leaves-few ProtocolError ConfirmedNumber now v h)
-
-down-few : (p : Pdu) (now : ℕ) (v : View) (k : Kind) → p.kind ≡ k → IsBody p.kind p.body → Held v → Few 3 (carries_out p now (in_down p k) v)
-down-few p now v ConnReq e body h =
-    by_cond (λ d. Few 3 (carries_out p now d v)) (is_ours p.body) _ _ (λ _. accepts-few p now v e body h) (λ _. rejects-few p now v h)
-down-few p now v _ e body h = still-few v h
-
-client-few : (p : Pdu) (now : ℕ) (v : View) (k : Kind) → p.kind ≡ k → IsBody p.kind p.body → Held v → Few 3 (carries_out p now (as_client v p now k) v)
-client-few p now v ConnResp e body h =
-    by_cond (λ d. Few 3 (carries_out p now d v)) (is_ours p.body) _ _ (λ _. tested-few p now v _ h (connects-few p now v e body h))
-    (λ _. leaves-few WrongVersion Unspecified now v h)
-client-few p now v _ e body h = leaves-few UnexpectedPdu Unspecified now v h
-
-answering-few : (p : Pdu) (now : ℕ) (v : View) (d : ℕ) → Held v → Few 3 (carries_out p now (answering v p now d) v)
-answering-few p now v d h =
-    by_cond (λ e. Few 3 (carries_out p now e v)) (nat_le (v.expected + d) v.answered) _ _ (λ _. still-few v h)
-    (λ _. by_cond (λ e. Few 3 (carries_out p now e v)) (cs_fits v p) _ _
-    (λ _. by_cond (λ e. Few 3 (carries_out p now e v)) ((d == 0) && in_turn v.connection) _ _
-    (λ _. by_cond (λ e. Few 3 (carries_out p now e v)) (cts_fits v p now) _ _ (λ _. next-few p now v h)
-    (λ _. leaves-few ProtocolError ConfirmedTimestamp now v h))
-    (λ _. early-few p now v h))
-    (λ _. by_cond (λ e. Few 3 (carries_out p now e v)) (nat_le 0x8000_0000 (cs_step v p)) _ _ (λ _. still-few v h)
-    (λ _. leaves-few RetransmissionImpossible Unspecified now v h)))
-
-start-few : (p : Pdu) (now : ℕ) (v : View) (d : ℕ) (next : Bool) (k : Kind) → Held v → Few 3 (carries_out p now (by_cell v p now d (start_row next k)) v)
-start-few p now v d true Heartbeat h = tested-few p now v _ h (takes-few Up p now v h)
-start-few p now v d false Heartbeat h = leaves-few SequenceError Unspecified now v h
-start-few p now v d false Data h = leaves-few SequenceError Unspecified now v h
-start-few p now v d _ _ h = leaves-few UnexpectedPdu Unspecified now v h
-
-up-few : (p : Pdu) (now : ℕ) (v : View) (d : ℕ) (next : Bool) (k : Kind) → Held v → Few 3 (carries_out p now (by_cell v p now d (up_row next k)) v)
-up-few p now v d true Heartbeat h = tested-few p now v _ h (takes-few Up p now v h)
-up-few p now v d true Data h = tested-few p now v _ h (takes-few Up p now v h)
-up-few p now v d false Heartbeat h = asks-few now v h
-up-few p now v d false Data h = asks-few now v h
-up-few p now v d _ RetrReq h = answering-few p now v d h
-up-few p now v d _ _ h = leaves-few UnexpectedPdu Unspecified now v h
-
-run-few : (p : Pdu) (now : ℕ) (v : View) (d : ℕ) (next : Bool) (k : Kind) → Held v → Few 3 (carries_out p now (by_cell v p now d (run_row next k)) v)
-run-few p now v d true Heartbeat h = tested-few p now v _ h (takes-few Up p now v h)
-run-few p now v d true Data h = tested-few p now v _ h (takes-few Up p now v h)
-run-few p now v d true RetrData h = tested-few p now v _ h (takes-few RetrRun p now v h)
-run-few p now v d false Heartbeat h = asks-few now v h
-run-few p now v d false Data h = asks-few now v h
-run-few p now v d false RetrData h = asks-few now v h
-run-few p now v d _ RetrReq h = answering-few p now v d h
-run-few p now v d _ _ h = leaves-few UnexpectedPdu Unspecified now v h
-
-request-few : (p : Pdu) (now : ℕ) (v : View) (d : ℕ) (k : Kind) → Held v → Few 3 (carries_out p now (by_cell v p now d (request_row k)) v)
-request-few p now v d Heartbeat h = still-few v h
-request-few p now v d Data h = still-few v h
-request-few p now v d RetrData h = still-few v h
-request-few p now v d RetrReq h = answering-few p now v d h
-request-few p now v d RetrResp h = tested-few p now v _ h (resumes-few p now v h)
-request-few p now v d _ h = leaves-few UnexpectedPdu Unspecified now v h
-
-cell-few : (p : Pdu) (now : ℕ) (v : View) (d : ℕ) (c : ConnectionState) (next : Bool) (k : Kind) → Held v
-    → Few 3 (carries_out p now (by_cell v p now d (cell c next k)) v)
-cell-few p now v d Start next k h = start-few p now v d next k h
-cell-few p now v d Up next k h = up-few p now v d next k h
-cell-few p now v d RetrRun next k h = run-few p now v d next k h
-cell-few p now v d Requesting next k h = request-few p now v d k h
-cell-few p now v d _ next k h = still-few v h
-
-table-few : (p : Pdu) (now : ℕ) (v : View) (d : ℕ) → Held v → Few 3 (carries_out p now (by_table v p now d) v)
-table-few p now v d h =
-    by_cond (λ e. Few 3 (carries_out p now e v)) (nat_le d (REACH * v.settings.n_sendmax)) _ _
-    (λ _. cell-few p now v d v.connection (d == 0) p.kind h) (λ _. still-few v h)
-
-connection-few : (p : Pdu) (now : ℕ) (v : View) (c : ConnectionState) → IsBody p.kind p.body → Held v
-    → Few 3 (carries_out p now (by_connection v p now c) v)
-connection-few p now v Closed body h = still-few v h
-connection-few p now v Down body h = down-few p now v p.kind refl body h
-connection-few p now v Start body h =
-    by_cond (λ d. Few 3 (carries_out p now d v)) (is_goodbye p.kind) _ _ (λ _. shuts-few v h)
-    (λ _. by_cond (λ d. Few 3 (carries_out p now d v)) v.settings.client _ _ (λ _. client-few p now v p.kind refl body h)
-    (λ _. table-few p now v (distance v p) h))
-connection-few p now v _ body h =
-    by_cond (λ d. Few 3 (carries_out p now d v)) (is_goodbye p.kind) _ _ (λ _. shuts-few v h) (λ _. table-few p now v (distance v p) h)
-
 pub responds-few : (p : Pdu) (now : ℕ) (v : View) → IsBody p.kind p.body → Held v → Few 3 (responds p now v)
 responds-few p now v body h =
-    by_cond (λ d. Few 3 (carries_out p now d v)) (is_closed v.connection) _ _ (λ _. still-few v h)
-    (λ _. by_cond (λ d. Few 3 (carries_out p now d v)) (is_foreign v.settings p) _ _ (λ _. still-few v h)
-    (λ _. connection-few p now v v.connection body h))
-
--- the PDU, if it was read, has a body that fits it
-abbrev Fitting : Result Pdu SafeFault → Type 0
-Fitting read = (p : Pdu) → read ≡ Ok p → IsBody p.kind p.body
-
-fault-fits : (fault : SafeFault) → Fitting (Err fault)
-fault-fits fault p e = grind arith
-
-kind-fits : (kind : Option Kind) (rule : CodeRule) (octets : List ℕ) → Fitting (read_kind kind rule octets)
-kind-fits None rule octets = fault-fits BadType
-kind-fits (Some kind) rule octets =
-    by_cond Fitting (is_body kind (body_of rule octets)) _ _ (λ fits p e. grind (arith, fits, e)) (λ _. fault-fits Body)
-
-read-body : (rule : CodeRule) (octets : List ℕ) → Fitting (safe_seen rule octets)
-read-body rule octets =
-    by_cond Fitting (nat_lt (length octets) (SAFE_HEADER + code_octets rule.length)) _ _ (λ _. fault-fits Short)
-    (λ _. by_cond Fitting (nat_lt (SAFE_FRONT_MAX + code_octets rule.length) (length octets)) _ _ (λ _. fault-fits Length)
-    (λ _. by_cond Fitting (length_field octets == length octets) _ _
-    (λ _. by_cond Fitting (has_code rule octets) _ _ (λ _. kind-fits (kind_of (type_field octets)) rule octets) (λ _. fault-fits Code))
-    (λ _. fault-fits Length)))
+    responds-has (Few 3) p now v
+    (record {
+      stays = still-few v h;
+      leaves = λ reason detail. leaves-few reason detail now v h;
+      shuts = shuts-few v h;
+      rejects = rejects-few p now v h;
+      accepts = λ kind. accepts-few p now v kind body h;
+      connects = λ kind. connects-few p now v kind body h;
+      takes = λ connection. takes-few connection p now v h;
+      asks = asks-few now v h;
+      resumes = resumes-few p now v h;
+      next = next-few p now v h;
+      early = early-few p now v h;
+    })
 
 guarded-few : (now : ℕ) (v : View) (next : View → MachineTurn) (n : ℕ) → Held v → ((w : View) → Held w → Few n (next w))
     → Few (n + 1) (goes_on (guards now v) next)
@@ -549,7 +452,7 @@ short-then k n t next h q =
     record { sent = omega (arith, on-append k t.sent (next t.left).sent, ap (sent_on k) q.sent, h.sent); held = subst Held (sym q.machine) h.held }
 
 -- the machine takes a turn, a closed machine ends the session, and the departure is recorded
-abbrev settled : MachineTurn → Option Departure → Fields → Turn Fields
+abbrev pub settled : MachineTurn → Option Departure → Fields → Turn Fields
 settled t cause v = followed (followed (machine_turn t v) settles) (departs cause)
 
 settled-short : (k n : ℕ) (t : MachineTurn) (cause : Option Departure) (v : Fields) → length t.made ≤ n → Held t.left → Brief k n (settled t cause v)

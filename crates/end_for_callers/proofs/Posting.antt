@@ -5,12 +5,13 @@ use Rattle.std.proofs.lemmas.Bool.{false≢true}
 use Rattle.std.specs.List.{FoldsTo}
 use Rattle.pdi_session.specs.SessionStep.{Item}
 use Rattle.channels.specs.Told.{Sending, Sends, SendsOne, Told}
-use Rattle.end_for_callers.specs.Boxes.{Came, Incoming, Outgoing, Posted, takes_of, told_of}
+use Rattle.std.specs.Global.{Global}
+use Rattle.end_for_callers.specs.Boxes.{Came, Incoming, Outgoing, Posted, Posting, takes_of, told_in, told_of}
 use Rattle.end_for_callers.specs.Queues.{fits, with_piece}
-use Rattle.end_for_callers.specs.Calls.{Does, StationValue, outbox_of}
+use Rattle.end_for_callers.specs.Calls.{Does, StationValue, outbox_of, seen_end}
 use Rattle.stack_end.specs.Ends.{Call, time_of}
-use Rattle.stack_end.specs.EndValue.{EndTurns, EndTurnsAlone, inside}
-use Rattle.stack_end.specs.Turns.{turn}
+use Rattle.stack_end.specs.EndValue.{EndTurns, EndTurnsAlone, EndValue, channels_of, inside}
+use Rattle.stack_end.specs.Turns.{Inside, Turn, turn}
 
 -- Sends of which some failed: the count has grown by their number, and if none failed all are recorded.
 record Counted (a : Told) (xs : List Sending) (b : Told) : Type 0 where
@@ -106,6 +107,39 @@ came n (i ∷ items) m (mid, one, rest) = came-one n mid m i items (not n.lost &
 
 pub came-none : (n : Incoming) → Came n [] n
 came-none n = came n [] n refl
+
+-- what is known without the places that are sure
+abbrev pub roomless : Told → Told
+roomless t = record t { room = λ _. 0 }
+
+sends-roomless : (went : Bool) (a : Told) (x : Sending) (b : Told) → Sends went a x b → Sends went (roomless a) x (roomless b)
+sends-roomless went a x b s =
+    record {
+      sent = s.sent;
+      failed = s.failed;
+      sure = λ sure short. absurd (omega (arith, sure));
+      left = λ k. omega arith;
+      answers = s.answers;
+      asked = s.asked;
+      failed_receives = s.failed_receives;
+    }
+
+pub folds-roomless : (xs : List Sending) (a b : Told) → FoldsTo SendsOne a xs b → FoldsTo SendsOne (roomless a) xs (roomless b)
+folds-roomless [] a b h = ap roomless h
+folds-roomless (x ∷ xs) a b (m, (went, s), rest) = (roomless m, (went, sends-roomless went a x m s), folds-roomless xs m b rest)
+
+-- the turn of an end, as a caller sees the end
+pub seen-turns : (turn : Inside → Turn Inside) (e v w : EndValue Posting Global) (a b : Incoming) → seen_end v ≡ seen_end e
+    → EndTurns told_in takes_of turn v a w b → EndTurns told_of takes_of turn (seen_end e) a (seen_end w) b
+seen-turns turn e v w a b same h =
+    subst (λ (u : EndValue Outgoing Global). EndTurns told_of takes_of turn u a (seen_end w) b) same
+    (record { left = h.left; sent = folds-roomless (turn (inside v)).sent (told_in (channels_of v)) (told_in (channels_of w)) h.sent; taken = h.taken })
+
+pub seen-alone : (turn : Inside → Turn Inside) (e v w : EndValue Posting Global) → seen_end v ≡ seen_end e → EndTurnsAlone told_in turn v w
+    → EndTurnsAlone told_of turn (seen_end e) (seen_end w)
+seen-alone turn e v w same h =
+    subst (λ (u : EndValue Outgoing Global). EndTurnsAlone told_of turn u (seen_end w)) same
+    (record { left = h.left; sent = folds-roomless (turn (inside v)).sent (told_in (channels_of v)) (told_in (channels_of w)) h.sent; none = h.none })
 
 -- a call by its end
 pub does-all : (c : Call) (s t : StationValue) → EndTurns told_of takes_of (turn c) s.end s.inbox t.end t.inbox → t.end.time ≡ time_of c → t.reserve ≡ s.reserve

@@ -1,12 +1,14 @@
 -- The datagrams sent, the telegrams taken and the notes that the caller has not fetched, and what the end adds to them.
-use Rattle.std.specs.Prelude.{◌≡◌, ℕ, ◌*◌, ◌^◌, ◌<◌, Bool, true, false, not, ◌&&◌, Some, None, List, ◌++◌, length, if◌then◌else◌}
+use Rattle.std.specs.Prelude.{◌≡◌, ◌==◌, ℕ, ◌+◌, ◌-◌, ◌*◌, ◌^◌, ◌<◌, Bool, true, false, not, ◌&&◌, nat_le, nat_lt, Some, None}
+use Rattle.std.specs.Prelude.{List, ◌++◌, length, if◌then◌else◌}
 use Rattle.std.specs.List.{FoldsTo}
 use Rattle.octets.specs.Lists.{IsBeginning}
+use Rattle.octets.specs.declared.limits.TheConstants.{RED_PDU_MAX}
 use Rattle.pdi_session.specs.SessionStep.{Item}
 use Rattle.channels.specs.Told.{Sending, SendsOne, Told, counted}
 use Rattle.end_for_callers.specs.Queues.{Queued, emptied, fits, new_queue, with_piece}
 use Rattle.end_for_callers.specs.Notes.{NoteQueue, heard_anew}
-use Rattle.octets.specs.declared.limits.TheConstants.{RED_PDU_MAX}
+use Rattle.end_for_callers.specs.declared.outbox.Shares.{Shares}
 
 -- the datagrams that wait for the caller
 pub record Outgoing : Type 0 where
@@ -29,12 +31,61 @@ cleared o = record o { queue = emptied o.queue; unsent = 0 }
 abbrev pub told_of : Outgoing → Told
 told_of o = record { sent = Some o.queue.waiting; answers = None; asked = None; failed_sends = o.unsent; failed_receives = 0; room = λ _. 0 }
 
--- after a send: the datagram is appended if it fits, and counted otherwise
-abbrev pub with_sending : Sending → Outgoing → Outgoing
-with_sending x o =
-    if fits (length x.1) o.queue
-    then record o { queue = with_piece x o.queue }
-    else record o { unsent = counted false o.unsent }
+-- the places set aside for a channel
+abbrev pub share_of : Shares → ℕ → ℕ
+share_of s channel =
+    if channel == 1 then s.first
+    else if channel == 2 then s.second
+    else if channel == 3 then s.third
+    else if channel == 4 then s.fourth
+    else 0
+
+-- the places set aside for all channels
+abbrev pub shared : Shares → ℕ
+shared s = s.first + s.second + s.third + s.fourth
+
+-- one place less for a channel, if one is set aside for it
+abbrev pub spent_on : ℕ → Shares → Shares
+spent_on channel s =
+    record {
+      first = s.first - (if channel == 1 then 1 else 0);
+      second = s.second - (if channel == 2 then 1 else 0);
+      third = s.third - (if channel == 3 then 1 else 0);
+      fourth = s.fourth - (if channel == 4 then 1 else 0);
+    }
+
+-- this number of places for each of this number of channels
+abbrev pub shares_of : (channels each : ℕ) → Shares
+shares_of channels each =
+    record {
+      first = if nat_le 1 channels then each else 0;
+      second = if nat_le 2 channels then each else 0;
+      third = if nat_le 3 channels then each else 0;
+      fourth = if nat_le 4 channels then each else 0;
+    }
+
+-- the outbox of a station
+pub record Posting : Type 0 where
+  -- the datagrams that wait
+  pub out : Outgoing
+  -- the places set aside for the call that goes on
+  pub shares : Shares
+
+-- what the contracts of an end know of the outbox as its channels: a send on a channel with a place set aside is sure
+abbrev pub told_in : Posting → Told
+told_in p = record (told_of p.out) { room = λ channel. share_of p.shares channel }
+
+-- a datagram of this size leaves this number of places free, each with the room of the longest datagram
+abbrev pub leaves_free : (rest size : ℕ) → Queued ℕ → Bool
+leaves_free rest size q = nat_lt rest q.places && nat_le (rest * RED_PDU_MAX + size) q.room
+
+-- after a send: the datagram is appended if the places set aside for others stay free, and counted otherwise
+abbrev pub with_posting : Sending → Posting → Posting
+with_posting x p =
+    let rest = spent_on x.0 p.shares in
+    if leaves_free (shared rest) (length x.1) p.out.queue
+    then record { out = record p.out { queue = with_piece x p.out.queue }; shares = rest }
+    else record p { out = record p.out { unsent = counted false p.out.unsent } }
 
 -- datagrams were sent in order: each is appended or counted; if the count did not change, all are appended
 pub record Posted (o : Outgoing) (xs : List Sending) (p : Outgoing) : Type 0 where

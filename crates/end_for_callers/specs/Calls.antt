@@ -1,6 +1,7 @@
 -- Why a call of a station is refused, and what it does to the end and to the queues.
-use Rattle.std.specs.Prelude.{◌≡◌, ◌==◌, ℕ, ◌+◌, ◌*◌, ◌^◌, ◌≤◌, Bool, true, false, not, ◌&&◌, nat_le, Option, Some, None, option_map, List, length, if◌then◌else◌}
-use Rattle.octets.specs.declared.limits.TheConstants.{PAYLOAD_MAX, RED_PDU_MAX, WINDOW_MAX}
+use Rattle.std.specs.Prelude.{◌≡◌, ◌==◌, ℕ, ◌+◌, ◌*◌, ◌^◌, ◌≤◌, Bool, true, false, not, ◌&&◌, nat_le, Option, Some, None}
+use Rattle.std.specs.Prelude.{option_map, List, length, if◌then◌else◌}
+use Rattle.octets.specs.declared.limits.TheConstants.{PAYLOAD_MAX, Q_MAX, RED_PDU_MAX, WINDOW_MAX}
 use Rattle.stack_end.specs.Ends.{Call, time_of}
 use Rattle.stack_end.specs.EndValue.{EndValue, channels_of, inside}
 use Rattle.stack_end.specs.Turns.{Inside, init_answer, is_over, put_answer, turn}
@@ -19,8 +20,38 @@ use Rattle.end_settings.specs.EndSettings.{EndSettings, are_fit}
 use Rattle.end_settings.specs.Configured.{side_of}
 use Rattle.end_settings.specs.declared.Side.{Side}
 use Rattle.stack_end.specs.Reopening.{reopens}
-use Rattle.end_for_callers.specs.Boxes.{Came, Incoming, Outgoing, Posted, cleared}
+use Rattle.end_for_callers.specs.Boxes.{Came, Incoming, Outgoing, Posted, Posting, cleared}
 use Rattle.end_for_callers.specs.Queues.{Queued}
+
+-- an end on the outbox of a station as a caller sees it: without the places set aside
+abbrev pub seen_end : EndValue Posting Global → EndValue Outgoing Global
+seen_end v =
+    let u = v.layers.upper in
+    record {
+      layers =
+          record {
+            red = v.layers.red;
+            upper =
+                record {
+                  channels = u.channels.out;
+                  numbers = u.numbers;
+                  machine = u.machine;
+                  session = u.session;
+                  waiting = u.waiting;
+                  unit = u.unit;
+                  request = u.request;
+                  count = u.count;
+                  max = u.max;
+                  accepted = u.accepted;
+                  departed = u.departed;
+                  made = u.made;
+                  parts = u.parts;
+                  code = u.code;
+                };
+          };
+      time = v.time;
+      receptions = v.receptions;
+    }
 
 -- a station
 pub record StationValue : Type 0 where
@@ -57,6 +88,14 @@ refusal_to_open side settings rooms now =
 -- the queue has room for this number of pieces of this size
 abbrev pub has_room : {T : Type 0} → (count size : ℕ) → Queued T → Bool
 has_room count size q = nat_le count q.places && nat_le (count * size) q.room
+
+-- the queue of datagrams has room for whatever one call sends: that of nine parts, each with the reserve
+abbrev pub has_room_for_any : StationValue → Bool
+has_room_for_any s = has_room ((Q_MAX + 1) * s.reserve) RED_PDU_MAX (outbox_of s).queue
+
+-- with such room no datagram is counted as unsent
+abbrev pub LosesNone : StationValue → StationValue → Type 0
+LosesNone s t = has_room_for_any s ≡ true → (outbox_of t).unsent ≡ (outbox_of s).unsent
 
 -- the first reason to refuse a call that only sends
 abbrev pub refusal_to_send : ℕ → StationValue → Option CallFault

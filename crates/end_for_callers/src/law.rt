@@ -1,10 +1,13 @@
-//! The law of how much one call sends.
+//! The laws of how much one call sends.
 
-ghost use Rattle.end_for_callers.specs.Loads.{LoadLaw};
+ghost use Rattle.end_for_callers.specs.Loads.{LoadLaw, SizeLaw};
 
-/// States how many datagrams one call sends at most. The function does nothing when it is called.
+/// States how much one call sends at most. The function does nothing when it is called.
 pub fn load_law()
     // Whatever an end keeps within its bounds, no call sends more than 333 datagrams on any channel: those of nine parts,
     // each with five PDUs and a retransmission of the greatest window.
-    ensures { LoadLaw }
+    ensures load { LoadLaw }
+    // If the units, messages and names that an end keeps have their sizes, each datagram of a call is on a channel of the
+    // end and has at most 1,258 bytes. After the call the sizes hold again.
+    ensures size { SizeLaw }
 {}

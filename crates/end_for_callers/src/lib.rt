@@ -19,6 +19,7 @@ mod writing;
 
 pub use law::load_law;
 pub use notes::{NOTES_MAX, Notes, StationNote};
+use octets::limits::{Q_MAX, WINDOW_MAX};
 use pdi_session::{InitFault, PutFault};
 pub use plain::{EndOpening, PLAIN_SETTINGS_SIZE, PlainSettings, is_name, numbers_law, text_size};
 pub use queue::{Queue, QueueFull, TooSmall};
@@ -29,6 +30,9 @@ pub const CALL_TELEGRAMS: usize = 27;
 
 /// The most PDUs that one part causes, in addition to those of a retransmission.
 pub const PART_PDUS: usize = 5;
+
+/// The most datagrams that one call sends on a channel: nine parts, each with a retransmission of the greatest window.
+pub const CALL_DATAGRAMS: usize = (Q_MAX + 1) * (WINDOW_MAX + PART_PDUS);
 
 /// Why a call was refused. Nothing has changed then.
 #[derive(Clone, Copy, Debug, PartialEq, Eq)]

@@ -6,12 +6,14 @@ ghost use Rattle.end_settings.specs.EndSettings.{are_fit};
 ghost use Rattle.end_settings.specs.Configured.{settings_of, side_of};
 ghost use Rattle.stack_end.specs.Datagrams.{sent_at_opening};
 ghost use Rattle.stack_end.specs.Ends.{Call, Close, Deliver, InitDone, Put, opened_end};
-ghost use Rattle.stack_end.specs.EndValue.{EndStands};
-ghost use Rattle.end_for_callers.specs.Boxes.{Posted, new_outgoing, told_of};
+ghost use Rattle.stack_end.specs.Bounds.{IsBounded};
+ghost use Rattle.stack_end.specs.EndValue.{EndStands, channels_of, inside};
+ghost use Rattle.end_for_callers.specs.Boxes.{Posted, new_outgoing, shares_of, told_of};
 ghost use Rattle.end_for_callers.specs.Notes.{heard_anew, next_of, rest_of};
-ghost use Rattle.octets.specs.declared.limits.TheConstants.{PAYLOAD_MAX, RED_PDU_MAX, WINDOW_MAX};
+ghost use Rattle.end_for_callers.specs.Loads.{has_room_for_call, most_on_channel};
+ghost use Rattle.octets.specs.declared.limits.TheConstants.{CHANNELS_MAX, PAYLOAD_MAX, RED_PDU_MAX, WINDOW_MAX};
 ghost use Rattle.end_for_callers.specs.declared.Outcome.TheVariants as ended;
-ghost use Rattle.end_for_callers.specs.Calls.{Does, Reopens, SameButDatagrams, SameButNotes, SameButTelegrams, is_time, outbox_of, outcome_of, refusal, refusal_to_init, refusal_to_open, refusal_to_reopen, refusal_to_put, refusal_to_send, has_room, reserve_of};
+ghost use Rattle.end_for_callers.specs.Calls.{Does, LosesNone, Reopens, SameButDatagrams, SameButNotes, SameButTelegrams, is_time, outbox_of, outcome_of, refusal, refusal_to_init, refusal_to_open, refusal_to_reopen, refusal_to_put, refusal_to_send, has_room, reserve_of, seen_end};
 ghost use Rattle.end_for_callers.specs.Queues.{Popped, new_queue};
 ghost use Rattle.end_for_callers.specs.declared.StationFault.TheVariants as fault;
 ghost use Rattle.end_for_callers.specs.declared.CallFault.TheVariants as refused;
@@ -60,13 +62,15 @@ pub struct Station {
 
 impl Model for Station {
     ghost use Rattle.std.specs.Prelude.{◌<◌, ◌≤◌, ◌^◌};
-    ghost use Rattle.end_for_callers.specs.Calls.{StationValue};
+    ghost use Rattle.end_for_callers.specs.Calls.{StationValue, seen_end};
+    ghost use Rattle.end_for_callers.specs.Loads.{IsReady};
+    ghost use Rattle.stack_end.specs.EndValue.{inside};
 
     ghost Value = { StationValue };
 
-    ghost view = { λ s. record { end = s.end; inbox = s.inbox; time = s.time; reserve = s.reserve } };
+    ghost view = { λ s. record { end = seen_end s.end; inbox = s.inbox; time = s.time; reserve = s.reserve } };
 
-    ghost invariant = { λ s. (s.end.time ≤ s.time) × (s.time ≤ 2 ^ 62) × (s.reserve < 2 ^ 32) };
+    ghost invariant = { λ s. (s.end.time ≤ s.time) × (s.time ≤ 2 ^ 62) × (s.reserve < 2 ^ 32) × IsReady s.reserve (inside s.end) };
 }
 
 impl Station {
@@ -160,11 +164,16 @@ impl Station {
         // Otherwise the outcome says if a telegram, or else a datagram, found no room (`outcome_of`).
         ensures answer { MatchResult result (λ o. (refusal now self.old ≡ None) × (o ≡ outcome_of self.old self.new))
             (λ f. (refusal now self.old ≡ Some f) × (self.new ≡ self.old)) }
+        // If the queue has room for what any call sends (`has_room_for_any`), an accepted `arrive` counts no datagram as
+        // unsent.
+        ensures room { OnOk result (LosesNone self.old self.new) }
         // An accepted `arrive` sets the station's time to `now`.
         ensures time { OnOk result (self.new.time ≡ now) }
     {
         self.may_hear(now)?;
         let before = self.unsent();
+        let channels = self.channels();
+        set_aside(&mut self.end, channels);
         self.end.arrive(channel, octets, now, &mut self.inbox);
         self.time = now;
         Ok(self.outcome(before))
@@ -188,11 +197,16 @@ impl Station {
         // accepted tick says what found no room (`outcome_of`).
         ensures answer { MatchResult result (λ o. (refusal now self.old ≡ None) × (o ≡ outcome_of self.old self.new))
             (λ f. (refusal now self.old ≡ Some f) × (self.new ≡ self.old)) }
+        // If the queue has room for what any call sends (`has_room_for_any`), an accepted `tick` counts no datagram as
+        // unsent.
+        ensures room { OnOk result (LosesNone self.old self.new) }
         // An accepted `tick` sets the station's time to `now`.
         ensures time { OnOk result (self.new.time ≡ now) }
     {
         self.may_hear(now)?;
         let before = self.unsent();
+        let channels = self.channels();
+        set_aside(&mut self.end, channels);
         self.end.tick(now, &mut self.inbox);
         self.time = now;
         Ok(self.outcome(before))
@@ -226,11 +240,16 @@ impl Station {
             (λ f. refusal_to_put now kind payload.now self.old ≡ Some f) }
         // A refused `put` leaves the station unchanged.
         ensures refused { OnErr result (self.new ≡ self.old) }
+        // If the queue has room for what any call sends (`has_room_for_any`), an accepted `put` counts no datagram as
+        // unsent.
+        ensures room { OnOk result (LosesNone self.old self.new) }
         // An accepted `put` sets the station's time to `now`.
         ensures time { OnOk result (self.new.time ≡ now) }
     {
         self.may_send(now)?;
         let before = self.unsent();
+        let channels = self.channels();
+        set_aside(&mut self.end, channels);
         match self.end.put(kind, payload, now) {
             Ok(()) => {
                 self.time = now;
@@ -263,11 +282,16 @@ impl Station {
             (λ f. refusal_to_init now self.old ≡ Some f) }
         // A refused `init_done` leaves the station unchanged.
         ensures refused { OnErr result (self.new ≡ self.old) }
+        // If the queue has room for what any call sends (`has_room_for_any`), an accepted `init_done` counts no datagram as
+        // unsent.
+        ensures room { OnOk result (LosesNone self.old self.new) }
         // An accepted `init_done` sets the station's time to `now`.
         ensures time { OnOk result (self.new.time ≡ now) }
     {
         self.may_send(now)?;
         let before = self.unsent();
+        let channels = self.channels();
+        set_aside(&mut self.end, channels);
         match self.end.init_done(now) {
             Ok(()) => {
                 self.time = now;
@@ -290,6 +314,9 @@ impl Station {
         // the outcome says if a telegram or a datagram found no room.
         ensures answer { MatchResult result (λ o. (is_time now self.old ≡ true) × (o ≡ outcome_of self.old self.new))
             (λ f. (is_time now self.old ≡ false) × (f ≡ refused.Time) × (self.new ≡ self.old)) }
+        // If the queue has room for what any call sends (`has_room_for_any`), an accepted `close` counts no datagram as
+        // unsent.
+        ensures room { OnOk result (LosesNone self.old self.new) }
         // An accepted `close` sets the station's time to `now`.
         ensures time { OnOk result (self.new.time ≡ now) }
     {
@@ -297,6 +324,8 @@ impl Station {
             return Err(CallFault::Time);
         }
         let before = self.unsent();
+        let channels = self.channels();
+        set_aside(&mut self.end, channels);
         self.end.close(now);
         self.time = now;
         Ok(self.outcome(before))
@@ -510,6 +539,14 @@ impl Station {
         self.end.channels_seen().queue().len()
     }
 
+    /// Returns the number of channels.
+    fn channels(&self) -> usize
+        // The result is the number of channels of the station's end.
+        ensures { result ≡ (inside self.now.end).upper.count }
+    {
+        self.reserve / (WINDOW_MAX + PART_PDUS)
+    }
+
     /// Returns true if a call may have this time.
     fn is_time(&self, now: Milliseconds) -> bool
         // The result is true if and only if `now` is not before the last accepted call and at most 2^62.
@@ -598,6 +635,22 @@ pub fn refusal_to_open(
         return Some(StationFault::Rooms);
     }
     None
+}
+
+/// Sets places aside for what a call sends on each of the channels, if there is room.
+fn set_aside(end: &mut End<Outbox>, channels: usize)
+    requires few { channels ≤ CHANNELS_MAX }
+    // For a caller of the station nothing changes.
+    ensures same { seen_end end.new ≡ seen_end end.old }
+    // With room for whatever a call sends, so many places are set aside for each channel.
+    ensures shares { has_room_for_call channels (channels_of end.old).out → (channels_of end.new).shares ≡ shares_of channels most_on_channel }
+    // The end is within its bounds.
+    ensures bounded { IsBounded (inside end.new) }
+    // It defers no more parts than it may.
+    ensures deferred { length (inside end.new).red.waiting ≤ (inside end.new).red.q }
+{
+    end.channels().set_aside(channels);
+    end.bounds();
 }
 
 /// Returns true if the queue has room for this number of pieces of this size.

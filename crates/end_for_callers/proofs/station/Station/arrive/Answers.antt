@@ -1,11 +1,37 @@
-use Rattle.std.proofs.Common.{refl}
+use Rattle.std.proofs.Common.{ap, refl, rules, sym, ◌∙◌, ◌≡◌}
+use Rattle.std.specs.Global.{Global}
 use Rattle.stack_end.specs.Ends.Call.{Deliver}
-use Rattle.end_for_callers.specs.Calls.{StationValue}
-use Rattle.end_for_callers.proofs.Posting.{does-all}
+use Rattle.stack_end.specs.EndValue.{EndValue, inside}
+use Rattle.stack_end.specs.Turns.{turn}
+use Rattle.end_for_callers.specs.Boxes.{Outgoing}
+use Rattle.end_for_callers.specs.Calls.{StationValue, seen_end}
+use Rattle.end_for_callers.proofs.Keeping.{loses-none, turned-ready}
+use Rattle.end_for_callers.proofs.Posting.{does-all, seen-turns}
 use Rattle.end_for_callers.proofs.station.Station.arrive.Goals as goal
 
 pub returns-clause-does : goal.returns-clause-does
 returns-clause-does c =
-    let s : StationValue = record { end = c.self.inside.end; inbox = c.self.inside.inbox; time = c.self.inside.time; reserve = c.self.inside.reserve } in
-    let t : StationValue = record { end = c.arrive.new.self; inbox = c.arrive.new.taker; time = c.args.now; reserve = c.self.inside.reserve } in
-    rw (← c.self.view_is) (does-all (Deliver c.args.channel c.args.octets.now c.args.now) s t c.arrive.ensures.turns c.arrive.ensures.time refl)
+    let call = Deliver c.args.channel c.args.octets.now c.args.now in
+    let end = c.self.inside.end in
+    let s : StationValue = record { end = seen_end end; inbox = c.self.inside.inbox; time = c.self.inside.time; reserve = c.self.inside.reserve } in
+    let t : StationValue = record { end = seen_end c.arrive.new.self; inbox = c.arrive.new.taker; time = c.args.now; reserve = c.self.inside.reserve } in
+    rw (← c.self.view_is)
+    (does-all call s t
+    (seen-turns (turn call) end c.set_aside.new.end c.arrive.new.self c.self.inside.inbox c.arrive.new.taker c.set_aside.ensures.same c.arrive.ensures.turns)
+    c.arrive.ensures.time refl)
+
+pub returns-clause-room : goal.returns-clause-room
+returns-clause-room c =
+    let call = Deliver c.args.channel c.args.octets.now c.args.now in
+    let count = c.channels-channels.ensures ∙ ap (λ (s : StationValue). (inside s.end).upper.count) (sym c.self.view_is) in
+    rw (← c.self.view_is)
+    (loses-none call c.self.inside.reserve c.channels-channels.result c.self.inside.end c.set_aside.new.end c.arrive.new.self count
+    c.set_aside.ensures.same c.self.invariant.3 c.set_aside.ensures.bounded c.set_aside.ensures.deferred c.set_aside.ensures.shares c.arrive.ensures.turns.sent)
+
+pub invariant_of-self : goal.invariant_of-self
+invariant_of-self c =
+    let call = Deliver c.args.channel c.args.octets.now c.args.now in
+    let is : inside c.arrive.new.self ≡ (turn call (inside c.self.inside.end)).left =
+    c.arrive.ensures.turns.left ∙ ap (λ (e : EndValue Outgoing Global). (turn call (inside e)).left) c.set_aside.ensures.same in
+    let ready = turned-ready c.self.inside.reserve call (inside c.self.inside.end) (inside c.arrive.new.self) is c.self.invariant.3 in
+    (search rules, search rules, search rules, ready)

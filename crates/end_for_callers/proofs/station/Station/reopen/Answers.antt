@@ -1,8 +1,8 @@
 use Rattle.std.proofs.Common.{ap, refl, subst, ◌∙◌}
 use Rattle.stack_end.specs.EndValue.{channels_of, inside}
 use Rattle.stack_end.specs.Reopening.{reopens}
-use Rattle.end_for_callers.specs.Boxes.{cleared, Outgoing, Posted}
-use Rattle.end_for_callers.proofs.Posting.{posted}
+use Rattle.end_for_callers.specs.Boxes.{cleared, Outgoing, Posted, Posting, told_in}
+use Rattle.end_for_callers.proofs.Posting.{folds-roomless, posted}
 use Rattle.end_for_callers.proofs.station.Station.reopen.Goals as goal
 
 pub returns-clause-does : goal.returns-clause-does
@@ -13,8 +13,8 @@ returns-clause-does c =
     record {
       left = c.reopen.ensures.turns.left;
       called = c.reopen.ensures.time;
-      datagrams = subst (λ (o : Outgoing). Posted o xs after) (c.clear.ensures ∙ ap cleared c.channels.ensures.now)
-          (posted c.clear.new.self xs after c.reopen.ensures.turns.sent);
+      datagrams = subst (λ (o : Outgoing). Posted o xs after.out) (c.clear.ensures ∙ ap (λ (p : Posting). cleared p.out) c.channels.ensures.now)
+          (posted c.clear.new.self.out xs after.out (folds-roomless xs (told_in c.clear.new.self) (told_in after) c.reopen.ensures.turns.sent));
       inbox = c.forget_loss.ensures;
       time = refl;
       reserve = refl;

@@ -1,0 +1,18 @@
+-- Places set aside: what a datagram takes of them.
+use Rattle.std.proofs.Common.{◌≡◌, ℕ, ◌+◌, ◌≤◌, arith}
+use Rattle.std.proofs.lemmas.Bool.Decides.{nat_tests}
+use Rattle.std.specs.Prelude.{◌==◌, if◌then◌else◌}
+use Rattle.end_for_callers.specs.Boxes.{share_of, shared, spent_on}
+use Rattle.end_for_callers.specs.declared.outbox.Shares.{Shares}
+
+-- no more than there were
+pub spent-least : (channel : ℕ) (s : Shares) → shared (spent_on channel s) ≤ shared s
+spent-least channel s = omega arith
+
+-- one less, if the channel has one
+pub spent-own : (channel : ℕ) (s : Shares) → 1 ≤ share_of s channel → shared (spent_on channel s) + 1 ≡ shared s
+spent-own channel s h = grind (arith, nat_tests)
+
+-- the other channels keep theirs
+pub spent-others : (channel k : ℕ) (s : Shares) → share_of s k ≤ share_of (spent_on channel s) k + (if k == channel then 1 else 0)
+spent-others channel k s = grind (arith, nat_tests)
