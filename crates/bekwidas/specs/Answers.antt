@@ -3,7 +3,7 @@ use Rattle.std.specs.Prelude.{◌≡◌, ◌==◌, ◌⊎◌, not, ℤ, ℕ, pos
 use Rattle.stack_end.specs.Ends.{Call, Close, Deliver, InitDone, Put, time_of}
 use Rattle.stack_end.specs.EndValue.{inside}
 use Rattle.stack_end.specs.Turns.{is_settled}
-use Rattle.end_for_callers.specs.Calls.{Does, IsDeadline, Reopens, StationValue, outbox_of, outcome_of, refusal, refusal_to_close, refusal_to_init, refusal_to_put, refusal_to_reopen, SameButNotes}
+use Rattle.end_for_callers.specs.Calls.{Does, IsDeadline, Reopens, StationValue, outbox_of, outcome_of, refusal, refusal_to_close, refusal_to_init, refusal_to_put, refusal_to_reopen, LosesNone, SameButNotes}
 use Rattle.end_for_callers.specs.Notes.{heard_anew, next_of, rest_of}
 use Rattle.end_for_callers.specs.declared.notes.StationNote.{StationNote}
 use Rattle.bekwidas.specs.Notes.{note_in}
@@ -27,10 +27,11 @@ use Rattle.bekwidas.specs.declared.handle.Slot.{Slot}
 abbrev pub StaysOpen : (StationValue → StationValue → Type 0) → Slot → Slot → Type 0
 StaysOpen R before after = (after.is_open ≡ 1) × Became R before.handle.held after.handle.held
 
--- if there is a reason to refuse a call, its code is returned and nothing changes; otherwise the call is done, and the code is that of its outcome
+-- if there is a reason to refuse a call, its code is returned and nothing changes; otherwise the call is done, and the code is that of its outcome. With
+-- the room for whatever one call sends, no datagram is lost.
 abbrev pub AnswersCall : Call → Option CallFault → ℤ → StationValue → StationValue → Type 0
 AnswersCall c (Some why) code s t = (code ≡ code_of_fault why) × (t ≡ s)
-AnswersCall c None code s t = (code ≡ code_of_outcome (outcome_of s t)) × Does c s t × (t.time ≡ time_of c)
+AnswersCall c None code s t = (code ≡ code_of_outcome (outcome_of s t)) × Does c s t × (t.time ≡ time_of c) × LosesNone s t
 
 -- a received datagram
 abbrev pub AnswersArrive : (channel : ℕ) (octets : List ℕ) (now : ℕ) → ℤ → StationValue → StationValue → Type 0

@@ -4,6 +4,7 @@ use Rattle.pdi_session.specs.Settings.{are_versions}
 use Rattle.octets.specs.declared.limits.TheConstants.{WINDOW_MAX}
 use Rattle.end_for_callers.specs.Calls.{or_else}
 use Rattle.end_for_callers.specs.Plain.{name_in, text_size}
+use Rattle.end_for_callers.specs.Loads.{most_on_channel}
 use Rattle.end_for_callers.specs.declared.TheConstants.{CALL_TELEGRAMS, PART_PDUS}
 use Rattle.end_for_callers.specs.declared.plain.PlainSettings.{PlainSettings}
 use Rattle.end_for_callers.specs.declared.plain.TheConstants.{PLAIN_SETTINGS_SIZE}
@@ -87,6 +88,6 @@ code_of_warning (Some fault) = UNWISE
 abbrev pub are_channels : ℕ → Bool
 are_channels n = nat_le 1 n && nat_le n 4
 
--- the room for what nine parts can send, as many as one call can release
+-- the room for whatever one call sends
 abbrev pub ample_room : ℕ → ℕ
-ample_room channels = channels * (9 * (WINDOW_MAX + PART_PDUS))
+ample_room channels = channels * most_on_channel

@@ -9,8 +9,8 @@ ghost use Rattle.end_for_callers.specs.declared.TheConstants.{CALL_TELEGRAMS};
 
 use crate::codes::{BAD_SETTINGS, OK, SETTINGS_SIZE, UNWISE, of_opening};
 use end_for_callers::{
-    CALL_TELEGRAMS, PART_PDUS, PLAIN_SETTINGS_SIZE, PlainSettings, is_name, refusal_to_open,
-    text_size,
+    CALL_DATAGRAMS, CALL_TELEGRAMS, PART_PDUS, PLAIN_SETTINGS_SIZE, PlainSettings, is_name,
+    refusal_to_open, text_size,
 };
 use octets::limits::WINDOW_MAX;
 use pdi_session::are_versions;
@@ -57,8 +57,8 @@ pub extern "C" fn bekr_rooms(
     telegrams: &mut u32,
     datagrams: &mut u32,
 ) -> i32
-    // With 1 to 4 channels the result is OK, and the rooms are those for nine parts in one call: 27 telegrams, and 333
-    // datagrams for each channel.
+    // With 1 to 4 channels the result is OK, and the rooms are those for whatever one call takes and sends: 27 telegrams, and
+    // 333 datagrams for each channel.
     ensures known { are_channels settings.now.channels ≡ true → (result ≡ OK) × (telegrams.new ≡ CALL_TELEGRAMS)
         × (datagrams.new ≡ ample_room settings.now.channels) }
     // With any other number of channels the result of `bekr_rooms` is `BAD_SETTINGS`, and nothing is written.
@@ -70,7 +70,7 @@ pub extern "C" fn bekr_rooms(
         return BAD_SETTINGS;
     }
     *telegrams = CALL_TELEGRAMS as u32;
-    *datagrams = channels * (9 * (WINDOW_MAX + PART_PDUS) as u32);
+    *datagrams = channels * CALL_DATAGRAMS as u32;
     OK
 }
 

@@ -40,7 +40,7 @@ use Rattle.end_for_callers.proofs.Loads.{load_law_holds, on-append}
 use Rattle.end_for_callers.proofs.Sizes.{size_law_holds}
 use Rattle.end_for_callers.specs.Boxes.{Outgoing, Posting, share_of, shares_of, told_in}
 use Rattle.end_for_callers.specs.Calls.{has_room, reserve_of, seen_end}
-use Rattle.end_for_callers.specs.Loads.{IsPlaced, IsReady, has_room_for_call, most_on_channel, sent_on}
+use Rattle.end_for_callers.specs.Loads.{IsPlaced, IsReady, each_aside, most_on_channel, sent_on}
 use Rattle.end_for_callers.specs.declared.outbox.Shares.{Shares}
 
 -- The length of the deferral queue stays.
@@ -242,21 +242,21 @@ within-shares n k xs few h most = within-by n k xs (nat_le 1 k) (nat_le k n) ref
 pub loses-none : (c : Call) (reserve k : ℕ) (e v w : EndValue Posting Global) → k ≡ (inside e).upper.count → seen_end v ≡ seen_end e
     → IsReady reserve (inside e) → IsBounded (inside v)
     → length (inside v).red.waiting ≤ (inside v).red.q
-    → (has_room_for_call k (channels_of e).out → (channels_of v).shares ≡ shares_of k most_on_channel)
+    → (channels_of v).shares ≡ shares_of k (each_aside k (channels_of e).out)
     → FoldsTo SendsOne (told_in (channels_of v)) (turn c (inside v)).sent (told_in (channels_of w))
     → has_room ((Q_MAX + 1) * reserve) RED_PDU_MAX (channels_of e).out.queue ≡ true → (channels_of w).out.unsent ≡ (channels_of e).out.unsent
 loses-none c reserve k e v w is same ready bounded deferring aside sent room =
     let n = (inside e).upper.count in
-    let set : has_room_for_call n (channels_of e).out → (channels_of v).shares ≡ shares_of n most_on_channel =
-    subst (λ m. has_room_for_call m (channels_of e).out → (channels_of v).shares ≡ shares_of m most_on_channel) is aside in
     let xs = (turn c (inside v)).sent in
     let now_ready : IsReady reserve (inside v) = subst (λ (u : EndValue Outgoing Global). IsReady reserve (inside u)) (sym same) ready in
     let count : (inside v).upper.count ≡ n = ap (λ (u : EndValue Outgoing Global). (inside u).upper.count) same in
-    let enough : has_room_for_call n (channels_of e).out =
-    subst (λ m. has_room m RED_PDU_MAX (channels_of e).out.queue ≡ true) (omega (arith, ready.reserved)) room in
+    let enough : has_room (most_on_channel * k) RED_PDU_MAX (channels_of e).out.queue ≡ true =
+    subst (λ m. has_room m RED_PDU_MAX (channels_of e).out.queue ≡ true) (omega (arith, ready.reserved, is)) room in
+    let set : (channels_of v).shares ≡ shares_of n 333 =
+    aside ∙ ap (λ (b : Bool). shares_of k (if b then most_on_channel else 0)) enough ∙ ap (λ m. shares_of m 333) is in
     let placed : AllByRecursion (IsPlaced n) xs =
     subst (λ m. AllByRecursion (IsPlaced m) xs) count (size_law_holds c (inside v) now_ready.sized).placed in
     let most = load_law_holds c (inside v) bounded (omega (arith, deferring, now_ready.deferring)) in
     let kept : (channels_of w).out.unsent ≡ (channels_of v).out.unsent = sure-all n xs (told_in (channels_of v)) (told_in (channels_of w)) sent placed
-    (λ j. subst (λ (s : Shares). sent_on j xs ≤ share_of s j) (sym (set enough)) (within-shares n j xs ready.channels placed (most j))) in
+    (λ j. subst (λ (s : Shares). sent_on j xs ≤ share_of s j) (sym set) (within-shares n j xs ready.channels placed (most j))) in
     kept ∙ ap (λ (u : EndValue Outgoing Global). (channels_of u).unsent) same

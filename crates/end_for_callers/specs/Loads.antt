@@ -1,5 +1,5 @@
 -- How many datagrams one call sends at most, and how long they are.
-use Rattle.std.specs.Prelude.{◌≡◌, ℕ, ◌+◌, ◌*◌, ◌==◌, ◌≤◌, true, List, length}
+use Rattle.std.specs.Prelude.{◌≡◌, ℕ, ◌+◌, ◌*◌, ◌==◌, ◌≤◌, List, length, if◌then◌else◌}
 use Rattle.std.specs.List.{AllByRecursion, count_by}
 use Rattle.octets.specs.declared.limits.TheConstants.{CHANNELS_MAX, MESSAGE_MAX, NAME_LENGTH, Q_MAX, RED_PDU_MAX, UNIT_MAX, UNIT_MESSAGES, WINDOW_MAX}
 use Rattle.safe_machine.specs.retrans.Units.{Numbered}
@@ -59,6 +59,6 @@ pub record IsReady (reserve : ℕ) (v : Inside) : Type 0 where
   pub deferring : v.red.q ≤ Q_MAX  -- the length of the deferral queue
   pub sized : IsSized v.upper  -- units, messages and names
 
--- the queue has room for whatever one call of an end with this number of channels sends
-abbrev pub has_room_for_call : ℕ → Outgoing → Type 0
-has_room_for_call channels o = has_room (most_on_channel * channels) RED_PDU_MAX o.queue ≡ true
+-- how many places are set aside for each of this number of channels: with room for whatever one call sends, as many as that, and otherwise none
+abbrev pub each_aside : ℕ → Outgoing → ℕ
+each_aside channels o = if has_room (most_on_channel * channels) RED_PDU_MAX o.queue then most_on_channel else 0

@@ -2,10 +2,10 @@
 //! the datagrams received.
 
 ghost use Rattle.octets.specs.declared.limits.TheConstants.{CHANNELS_MAX, RED_PDU_MAX};
-ghost use Rattle.std.specs.Prelude.{◌≡◌, ◌*◌, ◌<◌, ◌^◌, ◌≤◌, false, true, is_ok, IfOk, IfSome, length};
+ghost use Rattle.std.specs.Prelude.{◌≡◌, ◌*◌, ◌<◌, ◌^◌, ◌≤◌, false, is_ok, IfOk, IfSome, length};
 ghost use Rattle.channels.specs.Told.{Sends, after_receive};
 ghost use Rattle.end_for_callers.specs.Boxes.{cleared, leaves_free, new_outgoing, shared, shares_of, spent_on, told_in, with_posting};
-ghost use Rattle.end_for_callers.specs.Loads.{has_room_for_call, most_on_channel};
+ghost use Rattle.end_for_callers.specs.Loads.{each_aside};
 ghost use Rattle.end_for_callers.specs.Notes.{heard_anew, next_of, note_of, rest_of, with_note};
 ghost use Rattle.end_for_callers.specs.Queues.{Popped};
 
@@ -146,8 +146,8 @@ impl Outbox {
         requires few { channels ≤ CHANNELS_MAX }
         // The datagrams stay as they are.
         ensures out { self.new.out ≡ self.old.out }
-        // If there is room for what any call sends, so many places are set aside for each channel.
-        ensures shares { has_room_for_call channels self.old.out → self.new.shares ≡ shares_of channels most_on_channel }
+        // With room for whatever a call sends so many places are set aside for each channel, otherwise none.
+        ensures shares { self.new.shares ≡ shares_of channels (each_aside channels self.old.out) }
     {
         let places = channels * CALL_DATAGRAMS;
         let has_room = self.queue.places() >= places && self.queue.room() >= places * RED_PDU_MAX;

@@ -10,7 +10,7 @@ ghost use Rattle.stack_end.specs.Bounds.{IsBounded};
 ghost use Rattle.stack_end.specs.EndValue.{EndStands, channels_of, inside};
 ghost use Rattle.end_for_callers.specs.Boxes.{Posted, new_outgoing, shares_of, told_of};
 ghost use Rattle.end_for_callers.specs.Notes.{heard_anew, next_of, rest_of};
-ghost use Rattle.end_for_callers.specs.Loads.{has_room_for_call, most_on_channel};
+ghost use Rattle.end_for_callers.specs.Loads.{each_aside};
 ghost use Rattle.octets.specs.declared.limits.TheConstants.{CHANNELS_MAX, PAYLOAD_MAX, RED_PDU_MAX, WINDOW_MAX};
 ghost use Rattle.end_for_callers.specs.declared.Outcome.TheVariants as ended;
 ghost use Rattle.end_for_callers.specs.Calls.{Does, LosesNone, Reopens, SameButDatagrams, SameButNotes, SameButTelegrams, is_time, outbox_of, outcome_of, refusal, refusal_to_init, refusal_to_open, refusal_to_reopen, refusal_to_put, refusal_to_send, has_room, reserve_of, seen_end};
@@ -642,8 +642,8 @@ fn set_aside(end: &mut End<Outbox>, channels: usize)
     requires few { channels ≤ CHANNELS_MAX }
     // For a caller of the station nothing changes.
     ensures same { seen_end end.new ≡ seen_end end.old }
-    // With room for whatever a call sends, so many places are set aside for each channel.
-    ensures shares { has_room_for_call channels (channels_of end.old).out → (channels_of end.new).shares ≡ shares_of channels most_on_channel }
+    // With room for whatever a call sends so many places are set aside for each channel, otherwise none.
+    ensures shares { (channels_of end.new).shares ≡ shares_of channels (each_aside channels (channels_of end.old).out) }
     // The end is within its bounds.
     ensures bounded { IsBounded (inside end.new) }
     // It defers no more parts than it may.
