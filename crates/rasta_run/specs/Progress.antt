@@ -5,6 +5,10 @@ use Rattle.rasta_run.specs.declared.progress.Progress.{Progress}
 use Rattle.safe_machine.specs.declared.ConnectionState.{ConnectionState}
 use Rattle.safe_machine.specs.declared.ConnectionState.TheVariants.{Closed, Down, Start, Up, RetrReq, RetrRun}
 
+-- at the opening of an end nothing is gained
+abbrev pub beginning : ℕ → Progress
+beginning at = record { gained = record { put = 0; confirmed = 0; openings = 0 }; at = at }
+
 -- the same telegrams were put and confirmed, in as many openings
 abbrev pub is_same : Gained → Gained → Bool
 is_same a b = nat_eq a.put b.put && (nat_eq a.confirmed b.confirmed && nat_eq a.openings b.openings)
