@@ -4,6 +4,7 @@
 
 ghost use Rattle.std.specs.Prelude.{◌≡◌, ◌+◌, ◌<◌, OnOk};
 ghost use Rattle.std.specs.Io.KnownBytes.{Appends};
+ghost use Rattle.std.specs.List.{flat_map};
 ghost use Rattle.octets.specs.declared.limits.TheConstants.{CHANNELS_MAX};
 ghost use Rattle.rasta_run.specs.Counting as counting;
 ghost use Rattle.rasta_run.specs.Counts as counts;
@@ -15,7 +16,7 @@ use octets::Milliseconds;
 use octets::limits::CHANNELS_MAX;
 use pdu_text::{side_name, write_text};
 use rasta_words::{CountsForm, Telling};
-use stack_end::{MadeCounts, ReceptionCounts};
+use stack_end::ReceptionCounts;
 use std::io;
 use std::io::Write;
 
@@ -199,84 +200,26 @@ pub fn write_channel<W: Write>(
     ensures { OnOk result (Appends (W.contents writer.old) (W.contents writer.new)
         (counts.channel_text form at side channel receptions.now beside.now heard)) }
 {
-    write_channel_front(writer, form, at, side, channel)?;
-    write_traffic(writer, form, receptions, beside)?;
-    write_order(writer, form, receptions)?;
-    write_refused(writer, form, receptions, beside)?;
-    write_field(writer, form, "heard", heard)?;
-    write_text(writer, end_of(form))
-}
-
-/// Writes the end, the time and the channel.
-#[tactic(auto, unfolding(crate::specs::Counts::channel_front))]
-fn write_channel_front<W: Write>(
-    writer: &mut W,
-    form: CountsForm,
-    at: u64,
-    side: Side,
-    channel: usize,
-) -> io::Result<()>
-    // If `write_channel_front` succeeds, it has appended the end, the time and the number of the channel.
-    ensures { OnOk result (Appends (W.contents writer.old) (W.contents writer.new)
-        (counts.channel_front form at side channel)) }
-{
-    write_front(writer, form, side)?;
-    write_field(writer, form, "time", at)?;
-    write_field(writer, form, "channel", channel as u64)
-}
-
-/// Writes the datagrams sent, failed and received.
-#[tactic(auto, unfolding(crate::specs::Counts::traffic_text))]
-fn write_traffic<W: Write>(
-    writer: &mut W,
-    form: CountsForm,
-    receptions: &ReceptionCounts,
-    beside: &ChannelCounts,
-) -> io::Result<()>
-    // If `write_traffic` succeeds, it has appended the counts of datagrams sent, failed and received.
-    ensures { OnOk result (Appends (W.contents writer.old) (W.contents writer.new)
-        (counts.traffic_text form receptions.now beside.now)) }
-{
-    write_field(writer, form, "sent", beside.sent)?;
-    write_field(writer, form, "failed", beside.failed)?;
-    write_field(writer, form, "received", receptions.received)
-}
-
-/// Writes the datagrams in order, deferred, old and repeated.
-#[tactic(auto, unfolding(crate::specs::Counts::order_text))]
-fn write_order<W: Write>(
-    writer: &mut W,
-    form: CountsForm,
-    receptions: &ReceptionCounts,
-) -> io::Result<()>
-    // If `write_order` succeeds, it has appended the counts of datagrams passed, deferred, old and repeated.
-    ensures { OnOk result (Appends (W.contents writer.old) (W.contents writer.new)
-        (counts.order_text form receptions.now)) }
-{
-    write_field(writer, form, "passed", receptions.passed)?;
-    write_field(writer, form, "deferred", receptions.deferred)?;
-    write_field(writer, form, "old", receptions.old)?;
-    write_field(writer, form, "repeats", receptions.repeated)
-}
-
-/// Writes the datagrams that were dropped.
-#[tactic(auto, unfolding(crate::specs::Counts::refused_text))]
-fn write_refused<W: Write>(
-    writer: &mut W,
-    form: CountsForm,
-    receptions: &ReceptionCounts,
-    beside: &ChannelCounts,
-) -> io::Result<()>
-    // If `write_refused` succeeds, it has appended the counts of datagrams too far ahead, without a place,
-    // damaged for either layer, and of strangers.
-    ensures { OnOk result (Appends (W.contents writer.old) (W.contents writer.new)
-        (counts.refused_text form receptions.now beside.now)) }
-{
     let damaged = receptions.damaged.wrapping_add(beside.damaged);
-    write_field(writer, form, "far", receptions.far)?;
-    write_field(writer, form, "full", receptions.full)?;
-    write_field(writer, form, "damaged", damaged)?;
-    write_field(writer, form, "strangers", beside.strangers)
+    let fields = [
+        ("time", at),
+        ("channel", channel as u64),
+        ("sent", beside.sent),
+        ("failed", beside.failed),
+        ("received", receptions.received),
+        ("passed", receptions.passed),
+        ("deferred", receptions.deferred),
+        ("old", receptions.old),
+        ("repeats", receptions.repeated),
+        ("far", receptions.far),
+        ("full", receptions.full),
+        ("damaged", damaged),
+        ("strangers", beside.strangers),
+        ("heard", heard),
+    ];
+    write_front(writer, form, side)?;
+    write_fields(writer, form, &fields)?;
+    write_text(writer, end_of(form))
 }
 
 /// Writes the line of the connection of an end with this T_max in milliseconds.
@@ -298,73 +241,43 @@ pub fn write_connection<W: Write>(
     ensures { OnOk result (Appends (W.contents writer.old) (W.contents writer.new)
         (counts.connection_text form at side counted.now t_max)) }
 {
-    write_connection_front(writer, form, at, side)?;
-    write_made(writer, form, &counted.sums.made)?;
-    write_heard(writer, form, counted)?;
-    write_confirmed(writer, form, counted, t_max)?;
-    write_telegrams(writer, form, counted)?;
+    write_front(writer, form, side)?;
+    write_pdus(writer, form, at, counted)?;
+    write_some(writer, form, "oldest", counted.oldest())?;
+    write_some(writer, form, "margin", margin_of(counted.oldest(), t_max))?;
+    write_fields(
+        writer,
+        form,
+        &[("put", counted.put), ("taken", counted.taken)],
+    )?;
     write_text(writer, end_of(form))
 }
 
-/// Writes the end and the time.
-#[tactic(auto, unfolding(crate::specs::Counts::connection_front))]
-fn write_connection_front<W: Write>(
+/// Writes the time, and the counts of PDUs.
+#[tactic(auto, unfolding(crate::specs::Counts::pdus_text))]
+fn write_pdus<W: Write>(
     writer: &mut W,
     form: CountsForm,
     at: u64,
-    side: Side,
-) -> io::Result<()>
-    // If `write_connection_front` succeeds, it has appended the end and the time.
-    ensures { OnOk result (Appends (W.contents writer.old) (W.contents writer.new)
-        (counts.connection_front form at side)) }
-{
-    write_front(writer, form, side)?;
-    write_field(writer, form, "time", at)
-}
-
-/// Writes the PDUs that the end made.
-#[tactic(auto, unfolding(crate::specs::Counts::made_text))]
-fn write_made<W: Write>(writer: &mut W, form: CountsForm, made: &MadeCounts) -> io::Result<()>
-    // If `write_made` succeeds, it has appended the counts of units, resent units and heartbeats.
-    ensures { OnOk result (Appends (W.contents writer.old) (W.contents writer.new)
-        (counts.made_text form made.now)) }
-{
-    write_field(writer, form, "units", made.units)?;
-    write_field(writer, form, "resent", made.resent)?;
-    write_field(writer, form, "heartbeats", made.heartbeats)
-}
-
-/// Writes the requests of both sides and the PDUs received.
-#[tactic(auto, unfolding(crate::specs::Counts::heard_text))]
-fn write_heard<W: Write>(writer: &mut W, form: CountsForm, counted: &Counted) -> io::Result<()>
-    // If `write_heard` succeeds, it has appended the counts of retransmissions requested and granted, and of PDUs
-    // accepted and dropped.
-    ensures { OnOk result (Appends (W.contents writer.old) (W.contents writer.new)
-        (counts.heard_text form counted.now)) }
-{
-    write_field(writer, form, "asked", counted.sums.made.requests)?;
-    write_field(writer, form, "answered", counted.sums.made.answers)?;
-    write_field(writer, form, "accepted", counted.accepted())?;
-    write_field(writer, form, "dropped", counted.dropped())
-}
-
-/// Writes the confirmed units, and the greatest age of a confirmation.
-#[tactic(auto, unfolding(crate::specs::Counts::confirmed_text))]
-fn write_confirmed<W: Write>(
-    writer: &mut W,
-    form: CountsForm,
     counted: &Counted,
-    t_max: u64,
 ) -> io::Result<()>
-    // If `write_confirmed` succeeds, it has appended the confirmed units, the greatest age of a confirmed
-    // timestamp, and its margin to T_max.
+    // If `write_pdus` succeeds, it has appended the time, the PDUs made, accepted and dropped, and the confirmed units.
     ensures { OnOk result (Appends (W.contents writer.old) (W.contents writer.new)
-        (counts.confirmed_text form counted.now t_max)) }
+        (counts.pdus_text form at counted.now)) }
 {
-    let oldest = counted.oldest();
-    write_field(writer, form, "confirmed", counted.sums.confirmed)?;
-    write_some(writer, form, "oldest", oldest)?;
-    write_some(writer, form, "margin", margin_of(oldest, t_max))
+    let made = &counted.sums.made;
+    let fields = [
+        ("time", at),
+        ("units", made.units),
+        ("resent", made.resent),
+        ("heartbeats", made.heartbeats),
+        ("asked", made.requests),
+        ("answered", made.answers),
+        ("accepted", counted.accepted()),
+        ("dropped", counted.dropped()),
+        ("confirmed", counted.sums.confirmed),
+    ];
+    write_fields(writer, form, &fields)
 }
 
 /// Returns the least time that was left to T_max, in milliseconds.
@@ -376,17 +289,6 @@ fn margin_of(oldest: Option<u64>, t_max: u64) -> Option<u64>
         None => None,
         Some(oldest) => Some(t_max.saturating_sub(oldest)),
     }
-}
-
-/// Writes the telegrams put and taken.
-#[tactic(auto, unfolding(crate::specs::Counts::telegrams_text))]
-fn write_telegrams<W: Write>(writer: &mut W, form: CountsForm, counted: &Counted) -> io::Result<()>
-    // If `write_telegrams` succeeds, it has appended the numbers of telegrams put and taken.
-    ensures { OnOk result (Appends (W.contents writer.old) (W.contents writer.new)
-        (counts.telegrams_text form counted.now)) }
-{
-    write_field(writer, form, "put", counted.put)?;
-    write_field(writer, form, "taken", counted.taken)
 }
 
 /// Writes the start of a line.
@@ -418,6 +320,22 @@ fn write_json_front<W: Write>(writer: &mut W, side: Side) -> io::Result<()>
 {
     let end = side_name(side);
     write!(writer, "{{\"end\":\"{end}\"")
+}
+
+/// Writes numbers, each with its name.
+fn write_fields<W: Write>(
+    writer: &mut W,
+    form: CountsForm,
+    fields: &[(&str, u64)],
+) -> io::Result<()>
+    // If `write_fields` succeeds, it has appended each name and its number in this form, in order.
+    ensures { OnOk result (Appends (W.contents writer.old) (W.contents writer.new)
+        (flat_map (λ f. counts.field_text form f.0.now f.1) fields.now)) }
+{
+    for (name, number) in fields {
+        write_field(writer, form, name, *number)?;
+    }
+    Ok(())
 }
 
 /// Writes a number with its name.
