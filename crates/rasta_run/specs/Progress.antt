@@ -1,5 +1,5 @@
 -- When a run until the end of input gives up: T_max after it last got on.
-use Rattle.std.specs.Prelude.{ℕ, ◌+◌, ◌-◌, ◌^◌, min, nat_eq, nat_le, nat_lt, Bool, true, false, not, ◌&&◌, ◌||◌, Option, Some, None, if◌then◌else◌}
+use Rattle.std.specs.Prelude.{ℕ, ◌+◌, ◌-◌, ◌^◌, min, nat_eq, nat_le, nat_lt, Bool, false, not, ◌&&◌, ◌||◌, Option, Some, None, if◌then◌else◌}
 use Rattle.rasta_run.specs.declared.progress.Gained.{Gained}
 use Rattle.rasta_run.specs.declared.progress.Progress.{Progress}
 use Rattle.safe_machine.specs.declared.ConnectionState.{ConnectionState}
