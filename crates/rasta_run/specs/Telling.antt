@@ -1,5 +1,7 @@
 -- The events that are recorded for the log.
 use Rattle.std.specs.Prelude.{ℕ, Bool, true, false, ◌-◌, ◌%◌, nat_le, nat_lt, List, slice_index_or, Option, Some, None, if◌then◌else◌}
+use Rattle.end_settings.specs.declared.Side.{Side}
+use Rattle.end_settings.specs.declared.Side.TheVariants.{Interlocking, FieldElement}
 use Rattle.red_layer.specs.declared.RedEvent.{RedEvent}
 use Rattle.red_layer.specs.declared.RedEvent.TheVariants as event
 use Rattle.safe_machine.specs.declared.DropCause.{DropCause}
@@ -99,6 +101,12 @@ told_by by.Peer leaving = Peer leaving
 abbrev pub departure_told : Option Stated → Option Departure
 departure_told None = None
 departure_told (Some d) = Some (told_by d.by (record { detail = d.detail; reason = d.reason }))
+
+-- the departure of an end of this side, as the log tells it: a field element that has accepted no ConnReq had no connection
+abbrev pub departure_of : Side → (request : Option (List ℕ)) → Option Stated → Option Departure
+departure_of Interlocking request d = departure_told d
+departure_of FieldElement None d = None
+departure_of FieldElement (Some octets) d = departure_told d
 
 -- the event with this number, if it is one of the last 256, which are kept at the places of their numbers
 abbrev pub kept_as : List Happening → ℕ → ℕ → Option Happening

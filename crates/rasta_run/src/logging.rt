@@ -6,6 +6,7 @@
 ghost use Rattle.std.specs.Prelude.{◌≡◌};
 ghost use Rattle.rasta_run.specs.Silence.{hears, said_of};
 ghost use Rattle.rasta_run.specs.Telling as telling;
+ghost use Rattle.stack_end.specs.EndValue.{inside};
 
 use crate::Recorder;
 use crate::noticing::{Notice, write_notice};
@@ -20,7 +21,8 @@ use red_layer::RedEvent;
 use safe_machine::ConnectionState;
 use safe_pdu::Leaving;
 use settings_file::Settings;
-use stack_end::{Leaver, Statistics};
+use stack_end::{End, Leaver, Listener, Statistics};
+use std::alloc::Allocator;
 use std::io::Write;
 
 /// The greatest number of causes for dropping that are logged once at the level of states.
@@ -227,6 +229,21 @@ impl Log {
         }
     }
 
+    /// Returns how an end disconnected, if it had a connection: a field element has none before it accepts a ConnReq.
+    pub fn departure<C: Listener, A: Allocator>(&self, end: &End<C, A>) -> Option<Departure>
+        // `departure` returns how the end came to be closed, and `None` for a field element that accepted no ConnReq.
+        ensures { result ≡ telling.departure_of self.now.side (inside end.now).upper.request
+            (inside end.now).upper.departed }
+    {
+        match self.side {
+            Side::Interlocking => departure_told(end.departure()),
+            Side::FieldElement => match end.request() {
+                None => None,
+                Some(_) => departure_told(end.departure()),
+            },
+        }
+    }
+
     /// Logs why the end is in its state.
     pub fn end<E: Write>(&self, ending: &Ending, now: Milliseconds, err: &mut E) {
         let _ = write_ending(err, now, self.side, ending);
@@ -255,7 +272,7 @@ fn explanation_of(happening: Happening, departure: Option<Departure>) -> Option<
 }
 
 /// Returns a departure as the log tells it.
-pub fn departure_told(departure: Option<stack_end::Departure>) -> Option<Departure>
+fn departure_told(departure: Option<stack_end::Departure>) -> Option<Departure>
     // `departure_told` returns who disconnected with its reason and detail, and `None` if nobody did.
     ensures { result ≡ telling.departure_told departure }
 {

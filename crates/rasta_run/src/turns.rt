@@ -22,7 +22,7 @@ use crate::counts::Counted;
 use crate::drawing::first_number;
 use crate::input::Feed;
 use crate::keeping::{Keeper, is_wait_over};
-use crate::logging::{Log, departure_told};
+use crate::logging::Log;
 use crate::noticing::Notice;
 use crate::printing::Printer;
 use crate::progress::{Gained, Progress, is_finished, is_over, waits_for_peer};
@@ -169,7 +169,7 @@ impl<'a, C: Channels, A: Allocator + Copy> Actor<'a, C, A> {
         if self.log.is_off() {
             return;
         }
-        let departure = departure_told(self.end.departure());
+        let departure = self.log.departure(&self.end);
         let counted = self.counted();
         let recorder = &self.end.channels_seen().recorder;
         self.log.catch_up(recorder, departure, now, err);
@@ -356,7 +356,7 @@ impl<'a, C: Channels, A: Allocator + Copy> Actor<'a, C, A> {
             let ending = Ending {
                 state: self.end.state(),
                 phase: self.end.phase(),
-                departure: departure_told(self.end.departure()),
+                departure: self.log.departure(&self.end),
                 came: received_on(&counted.sums),
                 taken: counted.accepted(),
                 last: self.end.channels_seen().recorder.last_cause,
