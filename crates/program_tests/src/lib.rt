@@ -4,7 +4,7 @@
 #![tactic(auto)]
 
 #[cfg(test)]
-mod overheard_tests;
+mod counts_tests;
 #[cfg(test)]
 mod poor;
 #[cfg(test)]

@@ -1,13 +1,16 @@
--- The counts of a channel and of a connection, modulo 2^64.
-use Rattle.std.specs.Prelude.{ℕ, ◌+◌, ◌%◌, ◌^◌, nat_eq, Bool, true, false, List, slice_index_or, max, Option, Some, None, if◌then◌else◌}
-use Rattle.red_layer.specs.declared.RedEvent.{RedEvent}
-use Rattle.red_layer.specs.declared.RedEvent.TheVariants as event
+-- What is counted of an end in a run, modulo 2^64: by itself, and beside it.
+use Rattle.std.specs.Prelude.{ℕ, ◌+◌, ◌-◌, ◌%◌, ◌^◌, ◌==◌, ◌||◌, nat_eq, nat_lt, Bool, true, false, List, [], ◌∷◌, slice_index_or, slice_set, Option, Some, None, if◌then◌else◌}
+use Rattle.octets.specs.declared.limits.TheConstants.{CHANNELS_MAX}
 use Rattle.safe_machine.specs.declared.DropCause.{DropCause}
 use Rattle.safe_machine.specs.declared.DropCause.TheVariants as cause
 use Rattle.safe_machine.specs.declared.Step.{Step}
 use Rattle.safe_machine.specs.declared.Step.TheVariants as step
 use Rattle.rasta_run.specs.declared.counts.ChannelCounts.{ChannelCounts}
-use Rattle.rasta_run.specs.declared.counts.PduCounts.{PduCounts}
+use Rattle.rasta_run.specs.declared.counts.Counted.{Counted}
+use Rattle.rasta_run.specs.declared.header.Header.{Header}
+use Rattle.rasta_run.specs.declared.recorder.Recorder.{Recorder}
+use Rattle.rasta_run.specs.Totals.{plus, sum}
+use Rattle.stack_end.specs.declared.statistics.Statistics.{Statistics}
 
 -- the next count
 abbrev pub one_more : ℕ → ℕ
@@ -15,44 +18,16 @@ one_more n = (n + 1) % 2 ^ 64
 
 -- a channel of which nothing was counted
 abbrev pub no_datagrams : ChannelCounts
-no_datagrams =
-    record {
-      sent = 0;
-      failed = 0;
-      came = 0;
-      passed = 0;
-      deferred = 0;
-      old = 0;
-      repeats = 0;
-      far = 0;
-      full = 0;
-      damaged = 0;
-      strangers = 0;
-    }
+no_datagrams = record { sent = 0; failed = 0; damaged = 0; strangers = 0 }
 
--- a connection of which nothing was counted
-abbrev pub no_pdus : PduCounts
-no_pdus =
-    record { units = 0; resent = 0; heartbeats = 0; asked = 0; answered = 0; taken = 0; dropped = 0; confirmed = 0; oldest = None }
+-- four channels of which nothing was counted
+abbrev pub no_channels : List ChannelCounts
+no_channels = no_datagrams ∷ no_datagrams ∷ no_datagrams ∷ no_datagrams ∷ []
 
 -- a datagram that was to be sent, and was or was not
 abbrev pub with_sent : Bool → ChannelCounts → ChannelCounts
 with_sent true c = record c { sent = one_more c.sent }
 with_sent false c = record c { failed = one_more c.failed }
-
--- a datagram that was received
-abbrev pub with_came : ChannelCounts → ChannelCounts
-with_came c = record c { came = one_more c.came }
-
--- an event of the redundancy layer for a datagram
-abbrev pub with_event : RedEvent → ChannelCounts → ChannelCounts
-with_event event.Passed c = record c { passed = one_more c.passed }
-with_event event.Wait c = record c { deferred = one_more c.deferred }
-with_event event.Old c = record c { old = one_more c.old }
-with_event event.Again c = record c { repeats = one_more c.repeats }
-with_event event.Far c = record c { far = one_more c.far }
-with_event event.Full c = record c { full = one_more c.full }
-with_event (event.Fault why) c = record c { damaged = one_more c.damaged }
 
 -- a part that the safety machine dropped; only a damaged one and that of a stranger count
 abbrev pub with_dropped : DropCause → ChannelCounts → ChannelCounts
@@ -64,58 +39,56 @@ with_dropped cause.Request c = c
 with_dropped cause.Answered c = c
 with_dropped cause.Below c = c
 
--- a step of the safety machine for a part
-abbrev pub with_step : Step → PduCounts → PduCounts
-with_step (step.Dropped why) c = record c { dropped = one_more c.dropped }
-with_step step.Taken c = record c { taken = one_more c.taken }
-with_step step.Gap c = record c { taken = one_more c.taken }
-with_step (step.Left reason detail) c = record c { taken = one_more c.taken }
-with_step step.Nothing c = record c { taken = one_more c.taken }
+-- a change of the counts of a channel, from 1 on; those of the others stay
+abbrev pub changed_on : (channel : ℕ) → (ChannelCounts → ChannelCounts) → List ChannelCounts → List ChannelCounts
+changed_on channel change cs =
+    if channel == 0 || nat_lt CHANNELS_MAX channel then cs
+    else slice_set cs (channel - 1) (change (slice_index_or cs (channel - 1) no_datagrams))
 
--- a PDU of this type that the end made
-abbrev pub with_made : ℕ → PduCounts → PduCounts
-with_made kind c =
-    if nat_eq kind 6240 then record c { units = one_more c.units }
-    else if nat_eq kind 6241 then record c { resent = one_more c.resent }
-    else if nat_eq kind 6220 then record c { heartbeats = one_more c.heartbeats }
-    else if nat_eq kind 6212 then record c { asked = one_more c.asked }
-    else if nat_eq kind 6213 then record c { answered = one_more c.answered }
-    else c
+-- a datagram that was to be sent on a channel
+abbrev pub sent_on : (channel : ℕ) → Bool → List ChannelCounts → List ChannelCounts
+sent_on channel went cs = changed_on channel (with_sent went) cs
 
--- units that a PDU of the peer confirmed
-abbrev pub with_confirmed : ℕ → PduCounts → PduCounts
-with_confirmed units c = record c { confirmed = (c.confirmed + units) % 2 ^ 64 }
+-- a dropped part of a channel
+abbrev pub dropped_on : (channel : ℕ) → DropCause → List ChannelCounts → List ChannelCounts
+dropped_on channel why cs = changed_on channel (with_dropped why) cs
 
--- the greater of two ages, if they are there
-abbrev pub older_of : Option ℕ → Option ℕ → Option ℕ
-older_of None age = age
-older_of (Some oldest) None = Some oldest
-older_of (Some oldest) (Some age) = Some (max oldest age)
+-- the channel of the part with this number, or 0 if it is not that of the last datagram
+abbrev pub channel_under : (number : ℕ) → (channel : ℕ) → Option Header → ℕ
+channel_under number channel None = 0
+channel_under number channel (Some h) = if nat_eq h.number number then channel else 0
 
--- the age of a confirmed timestamp in milliseconds, if the PDU confirmed one
-abbrev pub with_age : Option ℕ → PduCounts → PduCounts
-with_age age c = record c { oldest = older_of c.oldest age }
+-- the counts of channels after a step of the safety machine for the part with this number: only a dropped one changes them
+abbrev pub stepped_on : Step → (number channel : ℕ) → Option Header → List ChannelCounts → List ChannelCounts
+stepped_on (step.Dropped why) number channel h cs = dropped_on (channel_under number channel h) why cs
+stepped_on step.Taken number channel h cs = cs
+stepped_on step.Gap number channel h cs = cs
+stepped_on step.Nothing number channel h cs = cs
+stepped_on (step.Left reason detail) number channel h cs = cs
 
--- the sum of two counts
-abbrev pub plus : ℕ → ℕ → ℕ
-plus m n = (m + n) % 2 ^ 64
+-- the parts that ended a connection, or came after its end, after a step of the safety machine
+abbrev pub closing_after : Step → ℕ → ℕ
+closing_after (step.Left reason detail) n = one_more n
+closing_after step.Nothing n = one_more n
+closing_after (step.Dropped why) n = n
+closing_after step.Taken n = n
+closing_after step.Gap n = n
 
--- the datagrams received on one of the four channels
-abbrev pub came_at : List ChannelCounts → ℕ → ℕ
-came_at channels place = (slice_index_or channels place no_datagrams).came
+-- all that is counted of an end: its own counts added to those of its earlier openings, those of its recorder, and the telegrams put and taken
+abbrev pub counted_of : (earlier own : Statistics) → Recorder → (put taken : ℕ) → Counted
+counted_of earlier own r put taken =
+    record { sums = plus earlier own; channels = r.channels; closing = r.closing; put = put; taken = taken }
 
--- the datagrams received on all four
-abbrev pub came_on : List ChannelCounts → ℕ
-came_on channels = plus (plus (plus (came_at channels 0) (came_at channels 1)) (came_at channels 2)) (came_at channels 3)
+-- the PDUs that the safety machine did not drop: taken, with a gap before them, or at the end of a connection or after it
+abbrev pub accepted : Counted → ℕ
+accepted c = sum (sum c.sums.parts.taken c.sums.parts.gaps) c.closing
 
--- the datagrams that the redundancy layer passed on or deferred
-abbrev pub let_in : ChannelCounts → ℕ
-let_in c = plus c.passed c.deferred
+-- the PDUs that it dropped, for any of the seven causes
+abbrev pub dropped : Counted → ℕ
+dropped c =
+    let p = c.sums.parts in
+    sum (sum (sum (sum (sum (sum p.damaged p.strangers) p.unopened) p.far) p.unrequested) p.answered) p.below
 
--- these datagrams of one of the four channels
-abbrev pub let_in_at : List ChannelCounts → ℕ → ℕ
-let_in_at channels place = let_in (slice_index_or channels place no_datagrams)
-
--- these datagrams of all four
-abbrev pub let_in_on : List ChannelCounts → ℕ
-let_in_on channels = plus (plus (plus (let_in_at channels 0) (let_in_at channels 1)) (let_in_at channels 2)) (let_in_at channels 3)
+-- the greatest age of a confirmed timestamp in milliseconds, if a PDU was taken
+abbrev pub oldest : Counted → Option ℕ
+oldest c = if nat_eq c.sums.parts.taken 0 then None else Some c.sums.parts.oldest

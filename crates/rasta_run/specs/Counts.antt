@@ -1,9 +1,17 @@
 -- The printed counts of an end: a line for each channel, and one for the connection, in words or as JSON.
-use Rattle.std.specs.Prelude.{ℕ, ◌+◌, ◌-◌, ◌*◌, nat_le, Bool, false, List, [], ◌∷◌, codes, Option, Some, None}
+use Rattle.std.specs.Prelude.{ℕ, ◌+◌, ◌-◌, nat_le, Bool, true, false, List, [], ◌∷◌, codes, slice_index_or, Option, Some, None, if◌then◌else◌}
 use Rattle.std.specs.Fmt.{decimal}
+use Rattle.std.specs.List.{flat_map}
 use Rattle.end_settings.specs.declared.Side.{Side}
 use Rattle.rasta_run.specs.declared.counts.ChannelCounts.{ChannelCounts}
-use Rattle.rasta_run.specs.declared.counts.PduCounts.{PduCounts}
+use Rattle.rasta_run.specs.declared.counts.Counted.{Counted}
+use Rattle.rasta_run.specs.declared.counting.Teller.{Teller}
+use Rattle.rasta_run.specs.declared.logging.Listening.{Listening}
+use Rattle.rasta_run.specs.Counting.{accepted, dropped, no_datagrams, oldest}
+use Rattle.rasta_run.specs.Totals.{sum}
+use Rattle.stack_end.specs.Statistics.{none_received}
+use Rattle.stack_end.specs.declared.statistics.ReceptionCounts.{ReceptionCounts}
+use Rattle.rasta_words.specs.declared.status.Telling.{Telling}
 use Rattle.pdu_text.specs.Lines.{joined}
 use Rattle.rasta_words.specs.declared.status.CountsForm.{CountsForm}
 use Rattle.rasta_words.specs.declared.status.CountsForm.TheVariants.{Text, Json}
@@ -58,76 +66,79 @@ abbrev pub end_of : CountsForm → List ℕ
 end_of Text = codes "\n"
 end_of Json = codes "}\n"
 
--- the datagrams sent, failed and received
-unfoldable pub traffic_text : CountsForm → ChannelCounts → List ℕ
-traffic_text form c =
-    joined (field_text form (codes "sent") c.sent ∷ field_text form (codes "failed") c.failed ∷ field_text form (codes "received") c.came ∷ [])
+-- numbers with their names, in order
+abbrev pub fields_text : CountsForm → List (List ℕ × ℕ) → List ℕ
+fields_text form fields = flat_map (λ f. field_text form f.0 f.1) fields
 
--- the datagrams passed on, deferred, old and repeated
-unfoldable pub order_text : CountsForm → ChannelCounts → List ℕ
-order_text form c =
-    joined
-    (field_text form (codes "passed") c.passed ∷ field_text form (codes "deferred") c.deferred ∷ field_text form (codes "old") c.old
-    ∷ field_text form (codes "repeats") c.repeats ∷ [])
+-- the numbers of a channel: the time in milliseconds of the run, the channel, from 1, what it sent and received, and when something last came. Damaged
+-- are the datagrams of the redundancy layer and those of the safety machine.
+abbrev pub channel_fields : ℕ → ℕ → ReceptionCounts → ChannelCounts → ℕ → List (List ℕ × ℕ)
+channel_fields at channel r c heard =
+    (codes "time", at) ∷ (codes "channel", channel) ∷ (codes "sent", c.sent) ∷ (codes "failed", c.failed) ∷ (codes "received", r.received)
+    ∷ (codes "passed", r.passed) ∷ (codes "deferred", r.deferred) ∷ (codes "old", r.old) ∷ (codes "repeats", r.repeated) ∷ (codes "far", r.far)
+    ∷ (codes "full", r.full) ∷ (codes "damaged", sum r.damaged c.damaged) ∷ (codes "strangers", c.strangers) ∷ (codes "heard", heard) ∷ []
 
--- the datagrams that were dropped
-unfoldable pub refused_text : CountsForm → ChannelCounts → List ℕ
-refused_text form c =
-    joined
-    (field_text form (codes "far") c.far ∷ field_text form (codes "full") c.full ∷ field_text form (codes "damaged") c.damaged
-    ∷ field_text form (codes "strangers") c.strangers ∷ [])
+-- the line of a channel
+unfoldable pub channel_text : CountsForm → ℕ → Side → ℕ → ReceptionCounts → ChannelCounts → ℕ → List ℕ
+channel_text form at side channel r c heard =
+    joined (front_of form side ∷ fields_text form (channel_fields at channel r c heard) ∷ end_of form ∷ [])
 
--- the end, the time in milliseconds of the run, and the channel, from 1
-unfoldable pub channel_front : CountsForm → ℕ → Side → ℕ → List ℕ
-channel_front form at side channel =
-    joined (front_of form side ∷ field_text form (codes "time") at ∷ field_text form (codes "channel") channel ∷ [])
-
--- the line of a channel; `heard` is when something last came, in milliseconds of the run
-unfoldable pub channel_text : CountsForm → ℕ → Side → ℕ → ChannelCounts → ℕ → List ℕ
-channel_text form at side channel c heard =
-    joined
-    (channel_front form at side channel ∷ traffic_text form c ∷ order_text form c ∷ refused_text form c
-    ∷ field_text form (codes "heard") heard ∷ end_of form ∷ [])
-
--- the PDUs that the end made
-unfoldable pub made_text : CountsForm → PduCounts → List ℕ
-made_text form c =
-    joined
-    (field_text form (codes "units") c.units ∷ field_text form (codes "resent") c.resent ∷ field_text form (codes "heartbeats") c.heartbeats ∷ [])
-
--- the retransmissions requested and granted, and the PDUs accepted and dropped
-unfoldable pub heard_text : CountsForm → PduCounts → List ℕ
-heard_text form c =
-    joined
-    (field_text form (codes "asked") c.asked ∷ field_text form (codes "answered") c.answered ∷ field_text form (codes "accepted") c.taken
-    ∷ field_text form (codes "dropped") c.dropped ∷ [])
+-- the time in milliseconds of the run, the PDUs that the end made, the retransmissions requested and granted, the PDUs accepted and dropped, and the
+-- units that the peer confirmed
+unfoldable pub pdus_text : CountsForm → ℕ → Counted → List ℕ
+pdus_text form at c =
+    let m = c.sums.made in
+    fields_text form
+    ((codes "time", at) ∷ (codes "units", m.units) ∷ (codes "resent", m.resent) ∷ (codes "heartbeats", m.heartbeats) ∷ (codes "asked", m.requests)
+    ∷ (codes "answered", m.answers) ∷ (codes "accepted", accepted c) ∷ (codes "dropped", dropped c) ∷ (codes "confirmed", c.sums.confirmed) ∷ [])
 
 -- the least time in milliseconds that was left to T_max when a PDU confirmed a timestamp: T_max minus the greatest age of a confirmed timestamp
 abbrev pub margin_of : Option ℕ → ℕ → Option ℕ
 margin_of None t_max = None
 margin_of (Some oldest) t_max = Some (t_max - oldest)
 
--- the units that the peer confirmed, the greatest age and its margin
-unfoldable pub confirmed_text : CountsForm → PduCounts → ℕ → List ℕ
-confirmed_text form c t_max =
+-- the line of the connection: PDUs, the greatest age and its margin, and the telegrams put and taken
+unfoldable pub connection_text : CountsForm → ℕ → Side → Counted → (t_max : ℕ) → List ℕ
+connection_text form at side c t_max =
     joined
-    (field_text form (codes "confirmed") c.confirmed ∷ some_text form (codes "oldest") c.oldest
-    ∷ some_text form (codes "margin") (margin_of c.oldest t_max) ∷ [])
+    (front_of form side ∷ pdus_text form at c ∷ some_text form (codes "oldest") (oldest c) ∷ some_text form (codes "margin") (margin_of (oldest c) t_max)
+    ∷ fields_text form ((codes "put", c.put) ∷ (codes "taken", c.taken) ∷ []) ∷ end_of form ∷ [])
 
--- the telegrams that were put, and those that the application took
-unfoldable pub telegrams_text : CountsForm → ℕ → ℕ → List ℕ
-telegrams_text form put taken = joined (field_text form (codes "put") put ∷ field_text form (codes "taken") taken ∷ [])
+-- when the channel at a place last received something
+abbrev pub heard_at : List Listening → ℕ → ℕ
+heard_at heard place = (slice_index_or heard place (record { came = 0; at = 0; silent = false })).at
 
--- the end and the time in milliseconds of the run
-unfoldable pub connection_front : CountsForm → ℕ → Side → List ℕ
-connection_front form at side = joined (front_of form side ∷ field_text form (codes "time") at ∷ [])
+-- the line of the channel at a place, from 0, if the end has it
+unfoldable pub place_text : Teller → CountsForm → ℕ → Counted → ℕ → List ℕ
+place_text t form at c place =
+    if nat_le t.count place then []
+    else channel_text form at t.side (place + 1) (slice_index_or c.sums.channels place none_received) (slice_index_or c.channels place no_datagrams)
+    (heard_at t.heard place)
 
--- the line of the connection
-unfoldable pub connection_text : CountsForm → ℕ → Side → PduCounts → (t_max put taken : ℕ) → List ℕ
-connection_text form at side c t_max put taken =
+-- the lines of the channels and of the connection
+unfoldable pub all_text : Teller → CountsForm → ℕ → Counted → List ℕ
+all_text t form at c =
     joined
-    (connection_front form at side ∷ made_text form c ∷ heard_text form c ∷ confirmed_text form c t_max ∷ telegrams_text form put taken
-    ∷ end_of form ∷ [])
+    (place_text t form at c 0 ∷ place_text t form at c 1 ∷ place_text t form at c 2 ∷ place_text t form at c 3
+    ∷ connection_text form at t.side c t.t_max ∷ [])
+
+-- these lines, if there is a form
+abbrev pub text_by : Option Telling → Teller → ℕ → Counted → List ℕ
+text_by None t at c = []
+text_by (Some telling) t at c = all_text t telling.form at c
+
+-- what is printed of the counts at this time in milliseconds of the run
+abbrev pub told_text : Teller → ℕ → Counted → List ℕ
+told_text t at c = text_by t.telling t at c
+
+-- nothing is printed
+abbrev pub is_off_by : Option Telling → Bool
+is_off_by None = true
+is_off_by (Some telling) = false
+
+-- there is no form
+abbrev pub is_off : Teller → Bool
+is_off t = is_off_by t.telling
 
 -- counts are due: the next time for them is reached
 abbrev pub is_due : Option ℕ → ℕ → Bool

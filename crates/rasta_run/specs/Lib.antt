@@ -1,6 +1,6 @@
 pub mod Headers
 pub mod Counting
-pub mod Confirming
+pub mod Totals
 pub mod Telling
 pub mod ShownHex
 pub mod Shown

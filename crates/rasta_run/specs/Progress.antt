@@ -1,9 +1,13 @@
 -- When a run until the end of input gives up: T_max after it last got on.
-use Rattle.std.specs.Prelude.{ℕ, ◌+◌, ◌-◌, ◌^◌, min, nat_eq, nat_le, nat_lt, Bool, true, false, not, ◌&&◌, ◌||◌, Option, Some, None, if◌then◌else◌}
+use Rattle.std.specs.Prelude.{ℕ, ◌+◌, ◌-◌, ◌^◌, min, nat_eq, nat_le, nat_lt, Bool, false, not, ◌&&◌, ◌||◌, Option, Some, None, if◌then◌else◌}
 use Rattle.rasta_run.specs.declared.progress.Gained.{Gained}
 use Rattle.rasta_run.specs.declared.progress.Progress.{Progress}
 use Rattle.safe_machine.specs.declared.ConnectionState.{ConnectionState}
 use Rattle.safe_machine.specs.declared.ConnectionState.TheVariants.{Closed, Down, Start, Up, RetrReq, RetrRun}
+
+-- at the opening of an end nothing is gained
+abbrev pub beginning : ℕ → Progress
+beginning at = record { gained = record { put = 0; confirmed = 0; openings = 0 }; at = at }
 
 -- the same telegrams were put and confirmed, in as many openings
 abbrev pub is_same : Gained → Gained → Bool

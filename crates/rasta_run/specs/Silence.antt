@@ -1,5 +1,5 @@
 -- When a channel is logged as silent, and when it receives again.
-use Rattle.std.specs.Prelude.{◌≡◌, ℕ, ◌-◌, nat_eq, nat_lt, Bool, true, false, if◌then◌else◌}
+use Rattle.std.specs.Prelude.{ℕ, ◌-◌, nat_eq, nat_lt, Bool, true, false, if◌then◌else◌}
 use Rattle.rasta_run.specs.declared.logging.Listening.{Listening}
 use Rattle.rasta_run.specs.declared.logging.Said.{Said}
 use Rattle.rasta_run.specs.declared.logging.Said.TheVariants.{Nothing, Silent, Heard}

@@ -1,5 +1,7 @@
 -- The events that are recorded for the log.
-use Rattle.std.specs.Prelude.{ℕ, Bool, true, false, ◌-◌, ◌%◌, nat_eq, nat_le, nat_lt, List, slice_index_or, Option, Some, None, if◌then◌else◌}
+use Rattle.std.specs.Prelude.{ℕ, Bool, true, false, ◌-◌, ◌%◌, nat_le, nat_lt, List, slice_index_or, Option, Some, None, if◌then◌else◌}
+use Rattle.end_settings.specs.declared.Side.{Side}
+use Rattle.end_settings.specs.declared.Side.TheVariants.{Interlocking, FieldElement}
 use Rattle.red_layer.specs.declared.RedEvent.{RedEvent}
 use Rattle.red_layer.specs.declared.RedEvent.TheVariants as event
 use Rattle.safe_machine.specs.declared.DropCause.{DropCause}
@@ -8,7 +10,16 @@ use Rattle.safe_pdu.specs.declared.Leaving.{Leaving}
 use Rattle.pdu_text.specs.declared.causes.Cause.{Cause}
 use Rattle.pdu_text.specs.declared.causes.Cause.TheVariants.{Early, Part, Stranger}
 use Rattle.pdu_text.specs.declared.lines.Happening.{Happening}
-use Rattle.pdu_text.specs.declared.lines.Happening.TheVariants.{Left, Asked, Resent}
+use Rattle.pdu_text.specs.declared.lines.Happening.TheVariants.{State, Left, PeerLeft, Asked, Resent}
+use Rattle.pdu_text.specs.declared.endings.Departure.{Departure}
+use Rattle.pdu_text.specs.declared.endings.Departure.TheVariants.{Own, Peer}
+use Rattle.safe_machine.specs.declared.ConnectionState.{ConnectionState}
+use Rattle.safe_machine.specs.declared.ConnectionState.TheVariants as state
+use Rattle.safe_pdu.specs.declared.Kind.{Kind}
+use Rattle.safe_pdu.specs.declared.Kind.TheVariants.{ConnReq, ConnResp, RetrReq, RetrResp, DiscReq, Heartbeat, Data, RetrData}
+use Rattle.stack_end.specs.declared.departure.Departure.{Departure as Stated}
+use Rattle.stack_end.specs.declared.departure.Leaver.{Leaver}
+use Rattle.stack_end.specs.declared.departure.Leaver.TheVariants as by
 use Rattle.rasta_run.specs.declared.header.Header.{Header}
 
 -- why the redundancy layer dropped a datagram; none if it did not
@@ -49,18 +60,53 @@ abbrev pub last_of : Option Cause → Cause → Cause
 last_of None cause = cause
 last_of (Some before) cause = if is_copy cause then before else cause
 
--- the event of a DiscReq with this body
-abbrev pub left_with : Option Leaving → Option Happening
-left_with None = None
-left_with (Some leaving) = Some (Left leaving)
+-- the event of a PDU of this type that the end made
+abbrev pub made_told : Option Kind → Option Happening
+made_told (Some RetrReq) = Some Asked
+made_told (Some RetrResp) = Some Resent
+made_told (Some ConnReq) = None
+made_told (Some ConnResp) = None
+made_told (Some DiscReq) = None
+made_told (Some Heartbeat) = None
+made_told (Some Data) = None
+made_told (Some RetrData) = None
+made_told None = None
 
--- the event of a PDU that the end made, by its type
-abbrev pub made_told : Header → Option Happening
-made_told header =
-    if nat_eq header.kind 6216 then left_with header.leaving
-    else if nat_eq header.kind 6212 then Some Asked
-    else if nat_eq header.kind 6213 then Some Resent
-    else None
+-- the event of a departure: the end or its peer disconnects
+abbrev pub leaving_told : Option Departure → Option Happening
+leaving_told None = None
+leaving_told (Some (Own leaving)) = Some (Left leaving)
+leaving_told (Some (Peer leaving)) = Some (PeerLeft leaving)
+
+-- the event that explains that a connection is in this state: the departure, if it is closed
+abbrev pub explained_state : ConnectionState → Option Departure → Option Happening
+explained_state state.Closed d = leaving_told d
+explained_state state.Down d = None
+explained_state state.Start d = None
+explained_state state.Up d = None
+explained_state state.RetrReq d = None
+explained_state state.RetrRun d = None
+
+-- the event that explains another one: only that of a closed connection is explained
+abbrev pub explained : Happening → Option Departure → Option Happening
+explained (State s) d = explained_state s d
+explained _ d = None
+
+-- a departure by this end or its peer, as the log tells it
+abbrev pub told_by : Leaver → Leaving → Departure
+told_by by.Own leaving = Own leaving
+told_by by.Peer leaving = Peer leaving
+
+-- the departure that an end states, as the log tells it
+abbrev pub departure_told : Option Stated → Option Departure
+departure_told None = None
+departure_told (Some d) = Some (told_by d.by (record { detail = d.detail; reason = d.reason }))
+
+-- the departure of an end of this side, as the log tells it: a field element that has accepted no ConnReq had no connection
+abbrev pub departure_of : Side → (request : Option (List ℕ)) → Option Stated → Option Departure
+departure_of Interlocking request d = departure_told d
+departure_of FieldElement None d = None
+departure_of FieldElement (Some octets) d = departure_told d
 
 -- the event with this number, if it is one of the last 256, which are kept at the places of their numbers
 abbrev pub kept_as : List Happening → ℕ → ℕ → Option Happening

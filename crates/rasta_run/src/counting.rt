@@ -2,16 +2,21 @@
 //!
 //! Each channel has one flat line and the connection one, so that `grep` and `jq` can read them.
 
-ghost use Rattle.std.specs.Prelude.{◌≡◌, OnOk};
+ghost use Rattle.std.specs.Prelude.{◌≡◌, ◌+◌, ◌<◌, OnOk};
 ghost use Rattle.std.specs.Io.KnownBytes.{Appends};
+ghost use Rattle.std.specs.List.{flat_map};
+ghost use Rattle.octets.specs.declared.limits.TheConstants.{CHANNELS_MAX};
+ghost use Rattle.rasta_run.specs.Counting as counting;
 ghost use Rattle.rasta_run.specs.Counts as counts;
 
 use crate::logging::Listening;
-use crate::{ChannelCounts, Ear, PduCounts};
+use crate::{ChannelCounts, Counted};
 use end_settings::Side;
+use octets::Milliseconds;
 use octets::limits::CHANNELS_MAX;
 use pdu_text::{side_name, write_text};
 use rasta_words::{CountsForm, Telling};
+use stack_end::ReceptionCounts;
 use std::io;
 use std::io::Write;
 
@@ -50,48 +55,103 @@ impl Teller {
         }
     }
 
-    /// Records which channels received something, and prints the counts if they are due. Without a form it does
-    /// nothing.
-    pub fn look<E: Write>(&mut self, ear: &Ear, put: u64, taken: u64, now: u64, err: &mut E) {
-        if self.telling.is_none() {
-            return;
+    /// Returns whether nothing is printed.
+    pub fn is_off(&self) -> bool
+        // `is_off` is true if and only if there is no form.
+        ensures { result ≡ counts.is_off self.now }
+    {
+        self.telling.is_none()
+    }
+
+    /// Records which channels received something, and returns whether the counts are due.
+    pub fn look(&mut self, counted: &Counted, now: Milliseconds) -> bool
+        // `look` returns true if and only if there is a next time and it is reached.
+        ensures { result ≡ counts.is_due self.old.next now }
+    {
+        let is_due = is_due(self.next, now);
+        if is_due {
+            self.next = next_after(self.telling, now);
         }
         for channel in 0..self.count.min(CHANNELS_MAX) {
-            let _said = self.heard[channel].look(ear.channels[channel].came, now, u64::MAX);
+            let came = counted.sums.channels[channel].received;
+            let _said = self.heard[channel].look(came, now, u64::MAX);
         }
-        if is_due(self.next, now) {
-            self.tell(ear, put, taken, now, err);
-            self.next = next_after(self.telling, now);
+        is_due
+    }
+
+    /// Prints the counts, if there is a form for them.
+    ///
+    /// # Errors
+    ///
+    /// - The error of the writer; what it wrote before stays written.
+    pub fn tell<E: Write>(
+        &self,
+        counted: &Counted,
+        now: Milliseconds,
+        err: &mut E,
+    ) -> io::Result<()>
+        // If `tell` succeeds, it has appended a line for each channel and one for the connection, or nothing without
+        // a form.
+        ensures { OnOk result (Appends (E.contents err.old) (E.contents err.new)
+            (counts.told_text self.now now counted.now)) }
+    {
+        match self.telling {
+            None => write_text(err, ""),
+            Some(telling) => self.write(err, telling.form, counted, now),
         }
     }
 
-    /// Prints the counts. A failing output is ignored.
-    pub fn tell<E: Write>(&self, ear: &Ear, put: u64, taken: u64, now: u64, err: &mut E) {
-        let Some(telling) = self.telling else {
-            return;
-        };
-        for channel in 0..self.count.min(CHANNELS_MAX) {
-            let number = channel.saturating_add(1);
-            let _ = write_channel(
-                err,
-                telling.form,
-                now,
-                self.side,
-                number,
-                &ear.channels[channel],
-                self.heard[channel].at,
-            );
+    /// Writes the lines of the channels and of the connection.
+    #[tactic(auto, unfolding(crate::specs::Counts::all_text))]
+    fn write<W: Write>(
+        &self,
+        writer: &mut W,
+        form: CountsForm,
+        counted: &Counted,
+        now: Milliseconds,
+    ) -> io::Result<()>
+        // If `write` succeeds, it has appended a line for each channel in order, and one for the connection.
+        ensures { OnOk result (Appends (W.contents writer.old) (W.contents writer.new)
+            (counts.all_text self.now form now counted.now)) }
+    {
+        self.write_place(writer, form, counted, now, 0)?;
+        self.write_place(writer, form, counted, now, 1)?;
+        self.write_place(writer, form, counted, now, 2)?;
+        self.write_place(writer, form, counted, now, 3)?;
+        write_connection(writer, form, now, self.side, counted, self.t_max)
+    }
+
+    /// Writes the line of the channel at a place, from 0, if the end has it.
+    #[tactic(auto, unfolding(crate::specs::Counts::place_text))]
+    fn write_place<W: Write>(
+        &self,
+        writer: &mut W,
+        form: CountsForm,
+        counted: &Counted,
+        now: Milliseconds,
+        place: usize,
+    ) -> io::Result<()>
+        requires { place < CHANNELS_MAX }
+        // If `write_place` succeeds, it has appended the line of this channel, or nothing if the end has fewer.
+        ensures { OnOk result (Appends (W.contents writer.old) (W.contents writer.new)
+            (counts.place_text self.now form now counted.now place)) }
+    {
+        if place >= self.count {
+            return write_text(writer, "");
         }
-        let _ = write_connection(
-            err,
-            telling.form,
+        let receptions = &counted.sums.channels[place];
+        let beside = &counted.channels[place];
+        let heard = self.heard[place].at;
+        write_channel(
+            writer,
+            form,
             now,
             self.side,
-            &ear.pdus,
-            self.t_max,
-            put,
-            taken,
-        );
+            place + 1,
+            receptions,
+            beside,
+            heard,
+        )
     }
 }
 
@@ -131,93 +191,38 @@ pub fn write_channel<W: Write>(
     at: u64,
     side: Side,
     channel: usize,
-    counted: &ChannelCounts,
+    receptions: &ReceptionCounts,
+    beside: &ChannelCounts,
     heard: u64,
 ) -> io::Result<()>
     // If `write_channel` succeeds, it has appended the line of this channel with its traffic, order and refusals
     // and when it last received something.
     ensures { OnOk result (Appends (W.contents writer.old) (W.contents writer.new)
-        (counts.channel_text form at side channel counted.now heard)) }
+        (counts.channel_text form at side channel receptions.now beside.now heard)) }
 {
-    write_channel_front(writer, form, at, side, channel)?;
-    write_traffic(writer, form, counted)?;
-    write_order(writer, form, counted)?;
-    write_refused(writer, form, counted)?;
-    write_field(writer, form, "heard", heard)?;
+    let damaged = receptions.damaged.wrapping_add(beside.damaged);
+    let fields = [
+        ("time", at),
+        ("channel", channel as u64),
+        ("sent", beside.sent),
+        ("failed", beside.failed),
+        ("received", receptions.received),
+        ("passed", receptions.passed),
+        ("deferred", receptions.deferred),
+        ("old", receptions.old),
+        ("repeats", receptions.repeated),
+        ("far", receptions.far),
+        ("full", receptions.full),
+        ("damaged", damaged),
+        ("strangers", beside.strangers),
+        ("heard", heard),
+    ];
+    write_front(writer, form, side)?;
+    write_fields(writer, form, &fields)?;
     write_text(writer, end_of(form))
 }
 
-/// Writes the end, the time and the channel.
-#[tactic(auto, unfolding(crate::specs::Counts::channel_front))]
-fn write_channel_front<W: Write>(
-    writer: &mut W,
-    form: CountsForm,
-    at: u64,
-    side: Side,
-    channel: usize,
-) -> io::Result<()>
-    // If `write_channel_front` succeeds, it has appended the end, the time and the number of the channel.
-    ensures { OnOk result (Appends (W.contents writer.old) (W.contents writer.new)
-        (counts.channel_front form at side channel)) }
-{
-    write_front(writer, form, side)?;
-    write_field(writer, form, "time", at)?;
-    write_field(writer, form, "channel", channel as u64)
-}
-
-/// Writes the datagrams sent, failed and received.
-#[tactic(auto, unfolding(crate::specs::Counts::traffic_text))]
-fn write_traffic<W: Write>(
-    writer: &mut W,
-    form: CountsForm,
-    counted: &ChannelCounts,
-) -> io::Result<()>
-    // If `write_traffic` succeeds, it has appended the counts of datagrams sent, failed and received.
-    ensures { OnOk result (Appends (W.contents writer.old) (W.contents writer.new)
-        (counts.traffic_text form counted.now)) }
-{
-    write_field(writer, form, "sent", counted.sent)?;
-    write_field(writer, form, "failed", counted.failed)?;
-    write_field(writer, form, "received", counted.came)
-}
-
-/// Writes the datagrams in order, deferred, old and repeated.
-#[tactic(auto, unfolding(crate::specs::Counts::order_text))]
-fn write_order<W: Write>(
-    writer: &mut W,
-    form: CountsForm,
-    counted: &ChannelCounts,
-) -> io::Result<()>
-    // If `write_order` succeeds, it has appended the counts of datagrams passed, deferred, old and repeated.
-    ensures { OnOk result (Appends (W.contents writer.old) (W.contents writer.new)
-        (counts.order_text form counted.now)) }
-{
-    write_field(writer, form, "passed", counted.passed)?;
-    write_field(writer, form, "deferred", counted.deferred)?;
-    write_field(writer, form, "old", counted.old)?;
-    write_field(writer, form, "repeats", counted.repeats)
-}
-
-/// Writes the datagrams that were dropped.
-#[tactic(auto, unfolding(crate::specs::Counts::refused_text))]
-fn write_refused<W: Write>(
-    writer: &mut W,
-    form: CountsForm,
-    counted: &ChannelCounts,
-) -> io::Result<()>
-    // If `write_refused` succeeds, it has appended the counts of datagrams too far ahead, without a place,
-    // damaged, and of strangers.
-    ensures { OnOk result (Appends (W.contents writer.old) (W.contents writer.new)
-        (counts.refused_text form counted.now)) }
-{
-    write_field(writer, form, "far", counted.far)?;
-    write_field(writer, form, "full", counted.full)?;
-    write_field(writer, form, "damaged", counted.damaged)?;
-    write_field(writer, form, "strangers", counted.strangers)
-}
-
-/// Writes the line of the connection of an end with this T_max in milliseconds, and how many telegrams were put
-/// and taken.
+/// Writes the line of the connection of an end with this T_max in milliseconds.
 ///
 /// # Errors
 ///
@@ -228,94 +233,51 @@ pub fn write_connection<W: Write>(
     form: CountsForm,
     at: u64,
     side: Side,
-    counted: &PduCounts,
+    counted: &Counted,
     t_max: u64,
-    put: u64,
-    taken: u64,
 ) -> io::Result<()>
     // If `write_connection` succeeds, it has appended the line of the connection with its PDUs made and received,
     // its confirmations and its telegrams.
     ensures { OnOk result (Appends (W.contents writer.old) (W.contents writer.new)
-        (counts.connection_text form at side counted.now t_max put taken)) }
+        (counts.connection_text form at side counted.now t_max)) }
 {
-    write_connection_front(writer, form, at, side)?;
-    write_made(writer, form, counted)?;
-    write_heard(writer, form, counted)?;
-    write_confirmed(writer, form, counted, t_max)?;
-    write_telegrams(writer, form, put, taken)?;
+    write_front(writer, form, side)?;
+    write_pdus(writer, form, at, counted)?;
+    write_some(writer, form, "oldest", counted.oldest())?;
+    write_some(writer, form, "margin", margin_of(counted.oldest(), t_max))?;
+    write_fields(
+        writer,
+        form,
+        &[("put", counted.put), ("taken", counted.taken)],
+    )?;
     write_text(writer, end_of(form))
 }
 
-/// Writes the end and the time.
-#[tactic(auto, unfolding(crate::specs::Counts::connection_front))]
-fn write_connection_front<W: Write>(
+/// Writes the time, and the counts of PDUs.
+#[tactic(auto, unfolding(crate::specs::Counts::pdus_text))]
+fn write_pdus<W: Write>(
     writer: &mut W,
     form: CountsForm,
     at: u64,
-    side: Side,
+    counted: &Counted,
 ) -> io::Result<()>
-    // If `write_connection_front` succeeds, it has appended the end and the time.
+    // If `write_pdus` succeeds, it has appended the time, the PDUs made, accepted and dropped, and the confirmed units.
     ensures { OnOk result (Appends (W.contents writer.old) (W.contents writer.new)
-        (counts.connection_front form at side)) }
+        (counts.pdus_text form at counted.now)) }
 {
-    write_front(writer, form, side)?;
-    write_field(writer, form, "time", at)
-}
-
-/// Writes the PDUs that the end made.
-#[tactic(auto, unfolding(crate::specs::Counts::made_text))]
-fn write_made<W: Write>(writer: &mut W, form: CountsForm, counted: &PduCounts) -> io::Result<()>
-    // If `write_made` succeeds, it has appended the counts of units, resent units and heartbeats.
-    ensures { OnOk result (Appends (W.contents writer.old) (W.contents writer.new)
-        (counts.made_text form counted.now)) }
-{
-    write_field(writer, form, "units", counted.units)?;
-    write_field(writer, form, "resent", counted.resent)?;
-    write_field(writer, form, "heartbeats", counted.heartbeats)
-}
-
-/// Writes the requests of both sides and the PDUs received.
-#[tactic(auto, unfolding(crate::specs::Counts::heard_text))]
-fn write_heard<W: Write>(writer: &mut W, form: CountsForm, counted: &PduCounts) -> io::Result<()>
-    // If `write_heard` succeeds, it has appended the counts of retransmissions requested and granted, and of PDUs
-    // accepted and dropped.
-    ensures { OnOk result (Appends (W.contents writer.old) (W.contents writer.new)
-        (counts.heard_text form counted.now)) }
-{
-    write_field(writer, form, "asked", counted.asked)?;
-    write_field(writer, form, "answered", counted.answered)?;
-    write_field(writer, form, "accepted", counted.taken)?;
-    write_field(writer, form, "dropped", counted.dropped)
-}
-
-/// Writes the confirmed units, and the greatest age of a confirmation.
-#[tactic(auto, unfolding(crate::specs::Counts::confirmed_text))]
-fn write_confirmed<W: Write>(
-    writer: &mut W,
-    form: CountsForm,
-    counted: &PduCounts,
-    t_max: u64,
-) -> io::Result<()>
-    // If `write_confirmed` succeeds, it has appended the confirmed units, the greatest age of a confirmed
-    // timestamp, and its margin to T_max.
-    ensures { OnOk result (Appends (W.contents writer.old) (W.contents writer.new)
-        (counts.confirmed_text form counted.now t_max)) }
-{
-    let oldest = in_long(counted.oldest);
-    write_field(writer, form, "confirmed", counted.confirmed)?;
-    write_some(writer, form, "oldest", oldest)?;
-    write_some(writer, form, "margin", margin_of(oldest, t_max))
-}
-
-/// Returns the same number of milliseconds in 64 bits.
-fn in_long(age: Option<u32>) -> Option<u64>
-    // `in_long` does not change the number.
-    ensures { result ≡ age }
-{
-    match age {
-        None => None,
-        Some(age) => Some(u64::from(age)),
-    }
+    let made = &counted.sums.made;
+    let fields = [
+        ("time", at),
+        ("units", made.units),
+        ("resent", made.resent),
+        ("heartbeats", made.heartbeats),
+        ("asked", made.requests),
+        ("answered", made.answers),
+        ("accepted", counted.accepted()),
+        ("dropped", counted.dropped()),
+        ("confirmed", counted.sums.confirmed),
+    ];
+    write_fields(writer, form, &fields)
 }
 
 /// Returns the least time that was left to T_max, in milliseconds.
@@ -327,22 +289,6 @@ fn margin_of(oldest: Option<u64>, t_max: u64) -> Option<u64>
         None => None,
         Some(oldest) => Some(t_max.saturating_sub(oldest)),
     }
-}
-
-/// Writes the telegrams put and taken.
-#[tactic(auto, unfolding(crate::specs::Counts::telegrams_text))]
-fn write_telegrams<W: Write>(
-    writer: &mut W,
-    form: CountsForm,
-    put: u64,
-    taken: u64,
-) -> io::Result<()>
-    // If `write_telegrams` succeeds, it has appended the numbers of telegrams put and taken.
-    ensures { OnOk result (Appends (W.contents writer.old) (W.contents writer.new)
-        (counts.telegrams_text form put taken)) }
-{
-    write_field(writer, form, "put", put)?;
-    write_field(writer, form, "taken", taken)
 }
 
 /// Writes the start of a line.
@@ -374,6 +320,22 @@ fn write_json_front<W: Write>(writer: &mut W, side: Side) -> io::Result<()>
 {
     let end = side_name(side);
     write!(writer, "{{\"end\":\"{end}\"")
+}
+
+/// Writes numbers, each with its name.
+fn write_fields<W: Write>(
+    writer: &mut W,
+    form: CountsForm,
+    fields: &[(&str, u64)],
+) -> io::Result<()>
+    // If `write_fields` succeeds, it has appended each name and its number in this form, in order.
+    ensures { OnOk result (Appends (W.contents writer.old) (W.contents writer.new)
+        (flat_map (λ f. counts.field_text form f.0.now f.1) fields.now)) }
+{
+    for (name, number) in fields {
+        write_field(writer, form, name, *number)?;
+    }
+    Ok(())
 }
 
 /// Writes a number with its name.

@@ -5,13 +5,10 @@
 #![tactic(auto)]
 
 mod both;
-mod channel;
 mod check;
-mod confirming;
 mod counting;
 mod counts;
 mod drawing;
-mod ear;
 mod follow;
 mod header;
 mod input;
@@ -24,25 +21,29 @@ mod printing;
 mod program;
 mod progress;
 mod readiness;
+mod recorded_channels;
+mod recorder;
 mod scripts;
 mod settings;
 mod show;
+mod standing;
 mod streams;
 mod ticking;
+mod totals;
 mod turns;
 mod undone;
 mod unopened;
 mod waiting;
 
-pub use channel::Overheard;
 pub use check::run_check;
-pub use confirming::Awaiting;
-pub use counts::{ChannelCounts, PduCounts};
-pub use ear::Ear;
+pub use counts::{ChannelCounts, Counted};
 pub use follow::run_follow;
 pub use header::{Header, header_of};
 pub use net::{Run, run_net};
 pub use program::{run, run_words};
+pub use recorded_channels::RecordedChannels;
+pub use recorder::Recorder;
 pub use scripts::run_sim;
 pub use settings::{SETTINGS_MAX, refuse_long};
 pub use show::{run_md4, run_show};
+pub use totals::Totals;

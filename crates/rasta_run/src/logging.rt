@@ -5,18 +5,24 @@
 
 ghost use Rattle.std.specs.Prelude.{◌≡◌};
 ghost use Rattle.rasta_run.specs.Silence.{hears, said_of};
+ghost use Rattle.rasta_run.specs.Telling as telling;
+ghost use Rattle.stack_end.specs.EndValue.{inside};
 
-use crate::Ear;
+use crate::Recorder;
 use crate::noticing::{Notice, write_notice};
 use end_settings::Side;
 use octets::Milliseconds;
 use octets::limits::CHANNELS_MAX;
 use pdu_text::{
-    Cause, Ending, Happening, write_channel, write_ending, write_happening, write_missed,
+    Cause, Departure, Ending, Happening, write_channel, write_ending, write_happening, write_missed,
 };
 use rasta_words::LogLevel;
 use red_layer::RedEvent;
+use safe_machine::ConnectionState;
+use safe_pdu::Leaving;
 use settings_file::Settings;
+use stack_end::{End, Leaver, Listener, Statistics};
+use std::alloc::Allocator;
 use std::io::Write;
 
 /// The greatest number of causes for dropping that are logged once at the level of states.
@@ -132,23 +138,42 @@ impl Log {
         }
     }
 
-    /// Logs the events since the last call.
-    pub fn catch_up<E: Write>(&mut self, ear: &Ear, now: Milliseconds, err: &mut E) {
+    /// Logs the events since the last call, of an end that came to be closed by this departure, if it is.
+    pub fn catch_up<E: Write>(
+        &mut self,
+        recorder: &Recorder,
+        departure: Option<Departure>,
+        now: Milliseconds,
+        err: &mut E,
+    ) {
         if self.level == LogLevel::Off {
             return;
         }
         let mut missed = 0u64;
-        for number in self.told..ear.happened {
-            match ear.happening(number) {
-                Some(happening) => self.tell(happening, now, err),
+        for number in self.told..recorder.happened {
+            match recorder.happening(number) {
+                Some(happening) => self.tell_explained(happening, departure, now, err),
                 None => missed = missed.wrapping_add(1),
             }
         }
-        self.told = ear.happened;
+        self.told = recorder.happened;
         if missed > 0 {
             let _ = write_missed(err, now, self.side, missed);
         }
-        self.look(ear, now, err);
+    }
+
+    /// Logs one event, after the one that explains it.
+    fn tell_explained<E: Write>(
+        &mut self,
+        happening: Happening,
+        departure: Option<Departure>,
+        now: Milliseconds,
+        err: &mut E,
+    ) {
+        if let Some(explanation) = explanation_of(happening, departure) {
+            self.tell(explanation, now, err);
+        }
+        self.tell(happening, now, err);
     }
 
     /// Logs one event, if the level includes it. At the level of states, each cause for dropping is logged once.
@@ -191,9 +216,9 @@ impl Log {
     }
 
     /// Logs the channels that became silent, and those that receive again.
-    fn look<E: Write>(&mut self, ear: &Ear, now: Milliseconds, err: &mut E) {
+    pub fn look<E: Write>(&mut self, sums: &Statistics, now: Milliseconds, err: &mut E) {
         for channel in 0..self.count.min(CHANNELS_MAX) {
-            let came = ear.channels[channel].came;
+            let came = sums.channels[channel].received;
             let said = self.channels[channel].look(came, now, self.t_max);
             let number = channel.saturating_add(1);
             match said {
@@ -201,6 +226,21 @@ impl Log {
                 Said::Silent => self.tell(Happening::Silent(number), now, err),
                 Said::Heard => self.tell(Happening::Heard(number), now, err),
             }
+        }
+    }
+
+    /// Returns how an end disconnected, if it had a connection: a field element has none before it accepts a ConnReq.
+    pub fn departure<C: Listener, A: Allocator>(&self, end: &End<C, A>) -> Option<Departure>
+        // `departure` returns how the end came to be closed, and `None` for a field element that accepted no ConnReq.
+        ensures { result ≡ telling.departure_of self.now.side (inside end.now).upper.request
+            (inside end.now).upper.departed }
+    {
+        match self.side {
+            Side::Interlocking => departure_told(end.departure()),
+            Side::FieldElement => match end.request() {
+                None => None,
+                Some(_) => departure_told(end.departure()),
+            },
         }
     }
 
@@ -212,5 +252,41 @@ impl Log {
     /// Returns whether nothing is logged.
     pub fn is_off(&self) -> bool {
         self.level == LogLevel::Off
+    }
+}
+
+/// Returns the event that explains another one: that of a closed connection, by how the end came to be closed.
+fn explanation_of(happening: Happening, departure: Option<Departure>) -> Option<Happening>
+    // `explanation_of` returns who disconnects for a connection that is closed, and `None` for any other event.
+    ensures { result ≡ telling.explained happening departure }
+{
+    match (happening, departure) {
+        (Happening::State(ConnectionState::Closed), Some(Departure::Own(leaving))) => {
+            Some(Happening::Left(leaving))
+        }
+        (Happening::State(ConnectionState::Closed), Some(Departure::Peer(leaving))) => {
+            Some(Happening::PeerLeft(leaving))
+        }
+        _ => None,
+    }
+}
+
+/// Returns a departure as the log tells it.
+fn departure_told(departure: Option<stack_end::Departure>) -> Option<Departure>
+    // `departure_told` returns who disconnected with its reason and detail, and `None` if nobody did.
+    ensures { result ≡ telling.departure_told departure }
+{
+    match departure {
+        None => None,
+        Some(departure) => {
+            let leaving = Leaving {
+                detail: departure.detail,
+                reason: departure.reason,
+            };
+            match departure.by {
+                Leaver::Own => Some(Departure::Own(leaving)),
+                Leaver::Peer => Some(Departure::Peer(leaving)),
+            }
+        }
     }
 }

@@ -15,7 +15,7 @@ ghost use Rattle.stack_end.specs.EndValue.{EndStands};
 ghost use Rattle.stack_end.specs.Ends.{opened_end};
 ghost use Rattle.udp_channels.specs.Sockets.{told_of};
 
-use crate::Overheard;
+use crate::RecordedChannels;
 use crate::both::Both;
 use crate::counting::Teller;
 use crate::drawing::first_number;
@@ -25,9 +25,9 @@ use crate::logging::Log;
 use crate::settings::{NoAddress, read_ends, warn};
 use crate::streams::Streams;
 use crate::ticking::RunClock;
-use crate::turns::{Actor, fault_of_end};
+use crate::turns::Actor;
 use crate::undone::{Outcome, run_status};
-use crate::unopened::Unopened;
+use crate::unopened::{Unopened, fault_of_end};
 use crate::waiting::{earlier, take_rest};
 use end_settings::Side;
 use octets::Milliseconds;
@@ -516,12 +516,12 @@ fn open_end<'a, R: Files>(
     let keeper = Keeper::new(settings.config, now);
     let t_max = settings.config.t_max;
     let teller = Teller::new(side, t_max, run.counts, settings.local.len(), now);
-    let Ok(overheard) = Overheard::over(alloc, channels, listens) else {
+    let Ok(recorded) = RecordedChannels::over(alloc, channels, listens) else {
         return Err(Fault::Memory);
     };
     let log = Log::new(side, run.log, settings, now);
     let first_sn = first_number(rt, settings.first_sn)?;
-    match End::open(alloc, overheard, settings.config, side, first_sn, now) {
+    match End::open(alloc, recorded, settings.config, side, first_sn, now) {
         Ok(end) => Ok(Actor::new(
             end,
             side,

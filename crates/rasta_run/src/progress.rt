@@ -28,6 +28,19 @@ pub struct Progress {
 }
 
 impl Progress {
+    /// Returns the progress of an end that is opened at a time, in milliseconds.
+    pub fn beginning(at: Milliseconds) -> Self
+        // `beginning` returns a progress without any gain at this time.
+        ensures { result ≡ progress.beginning at }
+    {
+        let gained = Gained {
+            put: 0,
+            confirmed: 0,
+            openings: 0,
+        };
+        Progress { gained, at }
+    }
+
     /// Compares what an end has gained by now. While it waits for its peer, the time does not count.
     pub fn look(&mut self, gained: Gained, waits: bool, now: Milliseconds)
         // After `look` the end last got on `now`, if it has gained anything or waits for its peer, and else when it

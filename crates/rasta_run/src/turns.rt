@@ -1,21 +1,24 @@
 //! One end in a turn: it receives, puts its telegrams, and reports its state.
 
-ghost use Rattle.std.specs.Prelude.{◌≡◌, ℕ, ◌≤◌, ◌^◌, None, Some, true, false, IfErr, IfOk, IfSome, OnOk};
+ghost use Rattle.std.specs.Prelude.{◌≡◌, ℕ, ◌≤◌, ◌^◌, None, Some, true, false, IfErr, IfOk, IfSome, OnOk, if◌then◌else◌};
 ghost use Rattle.pdi_session.specs.declared.PutFault.TheVariants.{Full};
 ghost use Rattle.rasta_run.specs.Putting.{Answers, Passes, PutsBeginning};
-ghost use Rattle.rasta_run.specs.Standing.{meets, takes_lines};
 ghost use Rattle.rasta_run.specs.Keeping.{opens_anew};
-ghost use Rattle.rasta_run.specs.Unopened.{fault_of_end};
+ghost use Rattle.rasta_run.specs.Counting.{counted_of};
+ghost use Rattle.rasta_run.specs.Counts.{told_text};
+ghost use Rattle.rasta_run.specs.Totals as totals;
+ghost use Rattle.std.specs.Io.KnownBytes.{Appends};
 ghost use Rattle.std.specs.List.{FoldsTo};
 ghost use Rattle.channels.specs.Told.{SendsOne};
 ghost use Rattle.udp_channels.specs.Sockets.{told_of};
 ghost use Rattle.stack_end.specs.Datagrams.{sent_at_opening};
-ghost use Rattle.stack_end.specs.EndValue.{EndStands, channels_of, inside};
+ghost use Rattle.stack_end.specs.EndValue.{EndStands, channels_of, inside, statistics_of};
 ghost use Rattle.stack_end.specs.Stale.{is_stale};
 ghost use Rattle.stack_end.specs.Ends.{opened_end};
 
-use crate::Overheard;
+use crate::RecordedChannels;
 use crate::counting::Teller;
+use crate::counts::Counted;
 use crate::drawing::first_number;
 use crate::input::Feed;
 use crate::keeping::{Keeper, is_wait_over};
@@ -23,7 +26,10 @@ use crate::logging::Log;
 use crate::noticing::Notice;
 use crate::printing::Printer;
 use crate::progress::{Gained, Progress, is_finished, is_over, waits_for_peer};
+use crate::standing::{is_met, may_put_lines};
+use crate::totals::{Totals, received_on};
 use crate::undone::{Origin, Undone, doubt_of, write_refused};
+use crate::unopened::fault_of_end;
 use crate::waiting::earlier;
 use channels::Channels;
 use end_settings::{EndConfig, Side};
@@ -33,11 +39,11 @@ use pdu_text::{Ending, Happening, Standing, write_refusal, write_report};
 use rasta_words::{Expected, Fault};
 use safe_machine::ConnectionState;
 use settings_file::{Put, Settings};
-use stack_end::{End, Listener, OpenFault};
+use stack_end::{End, Listener};
 use std::alloc::{Allocator, Global};
 use std::io::{Read, Write};
-use std::mem;
 use std::rt::Files;
+use std::{io, mem};
 use udp_channels::{SocketChannels, UdpChannels};
 
 /// The greatest number of lines of input that are put in one turn, so that a turn ends: more than fit into one
@@ -54,7 +60,7 @@ const GAP_MAX: u64 = 1_500;
 #[derive(Drop)]
 pub struct Actor<'a, C, A: Allocator = Global> {
     /// The end.
-    pub end: End<Overheard<C>, A>,
+    pub end: End<RecordedChannels<C>, A>,
     /// The side of the end.
     side: Side,
     /// The telegrams that it still has to put, in order.
@@ -91,6 +97,8 @@ pub struct Actor<'a, C, A: Allocator = Global> {
     keeper: Keeper,
     /// When it is to be opened again, in milliseconds, if that is known.
     anew_at: Option<u64>,
+    /// What the end counted in its earlier openings.
+    earlier: Totals,
     /// The printer of its counts.
     teller: Teller,
 }
@@ -98,7 +106,7 @@ pub struct Actor<'a, C, A: Allocator = Global> {
 impl<'a, C: Channels, A: Allocator + Copy> Actor<'a, C, A> {
     /// Returns an end that was opened, with the telegrams that it is to put.
     pub fn new(
-        end: End<Overheard<C>, A>,
+        end: End<RecordedChannels<C>, A>,
         side: Side,
         puts: &'a [Put],
         log: Log,
@@ -116,12 +124,9 @@ impl<'a, C: Channels, A: Allocator + Copy> Actor<'a, C, A> {
         ensures keeper { result.keeper ≡ keeper }
         // A new `Actor` is opened again if and only if `is_kept` is true.
         ensures kept { result.is_kept ≡ is_kept }
+        // A new `Actor` has no earlier opening.
+        ensures earlier { result.earlier.sums ≡ totals.none }
     {
-        let gained = Gained {
-            put: 0,
-            confirmed: 0,
-            openings: 0,
-        };
         Actor {
             end,
             side,
@@ -133,10 +138,7 @@ impl<'a, C: Channels, A: Allocator + Copy> Actor<'a, C, A> {
             refused_lines: 0,
             refused_entries: 0,
             openings: 0,
-            progress: Progress {
-                gained,
-                at: keeper.opened,
-            },
+            progress: Progress::beginning(keeper.opened),
             last_turn: keeper.opened,
             deaf_turns: 0,
             is_closed: false,
@@ -145,6 +147,7 @@ impl<'a, C: Channels, A: Allocator + Copy> Actor<'a, C, A> {
             is_kept,
             keeper,
             anew_at: None,
+            earlier: Totals::none(),
             teller,
         }
     }
@@ -155,7 +158,54 @@ impl<'a, C: Channels, A: Allocator + Copy> Actor<'a, C, A> {
         ensures { self.new.end ≡ self.old.end }
     {
         self.log.open(settings, now, err);
-        self.log.catch_up(&self.end.channels_seen().ear, now, err);
+        self.log_events(now, err);
+    }
+
+    /// Logs the events since the last call, and the channels that became silent or receive again.
+    fn log_events<E: Write>(&mut self, now: Milliseconds, err: &mut E)
+        // `log_events` changes nothing but the log.
+        ensures { self.new ≡ record self.old { log = self.new.log } }
+    {
+        if self.log.is_off() {
+            return;
+        }
+        let departure = self.log.departure(&self.end);
+        let counted = self.counted();
+        let recorder = &self.end.channels_seen().recorder;
+        self.log.catch_up(recorder, departure, now, err);
+        self.log.look(&counted.sums, now, err);
+    }
+
+    /// Returns all that is counted of the end.
+    fn counted(&self) -> Counted
+        // `counted` adds the end's own counts to those of its earlier openings, and has those of the recorder and
+        // the numbers of telegrams put and taken.
+        ensures { result ≡ counted_of self.now.earlier.sums (statistics_of self.now.end)
+            (channels_of self.now.end).recorder.value self.now.put self.now.taken }
+    {
+        let recorder = &self.end.channels_seen().recorder;
+        Counted {
+            sums: self.earlier.plus(&self.end.statistics()).sums,
+            channels: recorder.channels,
+            closing: recorder.closing,
+            put: self.put,
+            taken: self.taken,
+        }
+    }
+
+    /// Prints the counts, if there is a form for them.
+    ///
+    /// # Errors
+    ///
+    /// - The error of the writer; what it wrote before stays written.
+    fn tell_counts<E: Write>(&self, now: Milliseconds, err: &mut E) -> io::Result<()>
+        // If `tell_counts` succeeds, it has appended the lines of what the end counted in all its openings, and of
+        // what is counted beside.
+        ensures { OnOk result (Appends (E.contents err.old) (E.contents err.new)
+            (told_text self.now.teller now (counted_of self.now.earlier.sums (statistics_of self.now.end)
+            (channels_of self.now.end).recorder.value self.now.put self.now.taken))) }
+    {
+        self.teller.tell(&self.counted(), now, err)
     }
 
     /// Takes one turn: the end receives. Then an interlocking with an established session, or a field element that
@@ -179,7 +229,7 @@ impl<'a, C: Channels, A: Allocator + Copy> Actor<'a, C, A> {
     {
         self.note_gap(now, err);
         let works = self.hear(now, writer)?;
-        self.log.catch_up(&self.end.channels_seen().ear, now, err);
+        self.log_events(now, err);
         self.note_reception(works, now, err);
         self.note_loss(now, err);
         match (self.side, self.end.phase()) {
@@ -299,17 +349,17 @@ impl<'a, C: Channels, A: Allocator + Copy> Actor<'a, C, A> {
     /// Logs the last events, and prints the counts. Then it logs why the end is in its state, if the log is on or
     /// the end is not in the expected state.
     pub fn conclude<E: Write>(&mut self, now: Milliseconds, met: bool, err: &mut E) {
-        let ear = &self.end.channels_seen().ear;
-        self.log.catch_up(ear, now, err);
-        self.teller.tell(ear, self.put, self.taken, now, err);
+        self.log_events(now, err);
+        let _ = self.tell_counts(now, err);
         if !met || !self.log.is_off() {
+            let counted = self.counted();
             let ending = Ending {
                 state: self.end.state(),
                 phase: self.end.phase(),
-                departure: ear.departure,
-                came: ear.came(),
-                taken: ear.pdus.taken,
-                last: ear.last_cause,
+                departure: self.log.departure(&self.end),
+                came: received_on(&counted.sums),
+                taken: counted.accepted(),
+                last: self.end.channels_seen().recorder.last_cause,
             };
             self.log.end(&ending, now, err);
         }
@@ -358,7 +408,6 @@ impl<'a, C: Channels, A: Allocator + Copy> Actor<'a, C, A> {
             taken: 0,
             failed: false,
         };
-        self.end.channels().ear.time = now;
         let works = poll_or_tick(&mut self.end, now, &mut printer);
         self.taken = self.taken.wrapping_add(printer.taken);
         if printer.failed {
@@ -547,7 +596,7 @@ impl<'a, C: Channels, A: Allocator + Copy> Actor<'a, C, A> {
         ensures time { self.new.end.time ≤ now }
     {
         self.end.close(now);
-        self.log.catch_up(&self.end.channels_seen().ear, now, err);
+        self.log_events(now, err);
     }
 
     /// Ends the initialisation, once no telegram is left. If that is refused as `Full`, the next turn tries again.
@@ -599,31 +648,6 @@ fn poll_or_tick<C: Listener, A: Allocator, T: Taker>(
     }
 }
 
-/// Returns whether the telegrams of input are put now: once the session is established and the list is done, and
-/// also if the connection is closed for good, so that each is refused by name and input is read to its end. An end
-/// that is kept is never closed for good.
-fn may_put_lines(is_kept: bool, state: ConnectionState, phase: Phase, is_empty: bool) -> bool
-    // `may_put_lines` is true for an established session if nothing of the list is left, and for a closed end that
-    // is not kept; else it is false.
-    ensures { result ≡ takes_lines is_kept state phase is_empty }
-{
-    (state == ConnectionState::Closed && !is_kept) || (phase == Phase::Established && is_empty)
-}
-
-/// Returns whether an end is in the expected state: `settled` if everything put is confirmed, `done` if everything
-/// was tried.
-fn is_met(expected: Option<Expected>, phase: Phase, settled: bool, done: bool) -> bool
-    // `is_met` is true if no state is expected; for `Up` if the session is established; for `Settled` if it also
-    // is `settled` and `done`.
-    ensures { result ≡ meets expected phase settled done }
-{
-    match expected {
-        None => true,
-        Some(Expected::Up) => phase == Phase::Established,
-        Some(Expected::Settled) => phase == Phase::Established && settled && done,
-    }
-}
-
 impl<C: Channels + Drop, A: Allocator + Copy> Actor<'_, C, A> {
     /// Opens the end again on its channels, in place of the old one. Telegrams that were put into that one are not
     /// put again.
@@ -634,7 +658,7 @@ impl<C: Channels + Drop, A: Allocator + Copy> Actor<'_, C, A> {
     fn open_anew(
         &mut self,
         alloc: A,
-        spare: Overheard<C>,
+        spare: RecordedChannels<C>,
         config: EndConfig,
         first_sn: u32,
         now: Milliseconds,
@@ -647,6 +671,9 @@ impl<C: Channels + Drop, A: Allocator + Copy> Actor<'_, C, A> {
         // are now those of the new one.
         ensures sent { OnOk result (FoldsTo SendsOne (C.told (channels_of self.old.end).inner)
             (sent_at_opening (opened_end self.old.side config first_sn now)) (C.told (channels_of self.new.end).inner)) }
+        // If `open_anew` succeeds, the counts of the old end are added to those of earlier openings.
+        ensures earlier { OnOk result (self.new.earlier.sums
+            ≡ totals.plus self.old.earlier.sums (statistics_of self.old.end)) }
         // `open_anew` does not change the telegrams that are left.
         ensures left { self.new.left ≡ self.old.left }
         // `open_anew` does not change the number of telegrams put.
@@ -654,26 +681,16 @@ impl<C: Channels + Drop, A: Allocator + Copy> Actor<'_, C, A> {
         // After `open_anew` the end's time is at most `now`.
         ensures time { self.new.end.time ≤ now }
     {
-        let mut channels = mem::replace(self.end.channels(), spare);
-        channels.ear.begin_anew();
+        let earlier = self.earlier.plus(&self.end.statistics());
+        let channels = mem::replace(self.end.channels(), spare);
         match End::open(alloc, channels, config, self.side, first_sn, now) {
             Ok(end) => {
                 self.end = end;
+                self.earlier = earlier;
                 Ok(())
             }
             Err((fault, _channels)) => Err(fault_of_end(fault)),
         }
-    }
-}
-
-/// Returns the fault of a run whose end was not opened.
-pub(crate) fn fault_of_end(fault: OpenFault) -> Fault
-    // `fault_of_end` returns `Settings` for settings that are not valid, and `Memory` for want of memory.
-    ensures { result ≡ fault_of_end fault }
-{
-    match fault {
-        OpenFault::Memory => Fault::Memory,
-        OpenFault::BadConfig => Fault::Settings,
     }
 }
 
@@ -702,6 +719,10 @@ impl Actor<'_, UdpChannels> {
         // If `keep` returns true, the end is newly opened with the settings of its keeper and some first number.
         ensures opened { IfOk result (λ anew. anew ≡ true → (number : ℕ)
             × EndStands (λ o. told_of o.inner) self.new.end (opened_end self.old.side self.old.keeper.config number now)) }
+        // If `keep` returns true, the counts of the old end are added to those of earlier openings, and else these
+        // stay.
+        ensures earlier { IfOk result (λ anew. self.new.earlier.sums
+            ≡ (if anew then totals.plus self.old.earlier.sums (statistics_of self.old.end) else self.old.earlier.sums)) }
         // `keep` does not change the telegrams that are left.
         ensures left { self.new.left ≡ self.old.left }
         // `keep` does not change the number of telegrams put.
@@ -727,12 +748,13 @@ impl Actor<'_, UdpChannels> {
         self.openings = self.openings.wrapping_add(1);
         let config = self.keeper.config;
         let first_sn = first_number(rt, None)?;
-        let Ok(spare) = Overheard::over(alloc, SocketChannels::over(Vec::new(alloc)), false) else {
+        let Ok(spare) = RecordedChannels::over(alloc, SocketChannels::over(Vec::new(alloc)), false)
+        else {
             return Err(Fault::Memory);
         };
         self.open_anew(alloc, spare, config, first_sn, now)?;
         self.log.tell(Happening::Anew(first_sn), now, err);
-        self.log.catch_up(&self.end.channels_seen().ear, now, err);
+        self.log_events(now, err);
         Ok(true)
     }
 
@@ -741,8 +763,13 @@ impl Actor<'_, UdpChannels> {
         // `tell_due` does not change the end.
         ensures end { self.new.end ≡ self.old.end }
     {
-        let ear = &self.end.channels_seen().ear;
-        self.teller.look(ear, self.put, self.taken, now, err);
+        if self.teller.is_off() {
+            return;
+        }
+        let counted = self.counted();
+        if self.teller.look(&counted, now) {
+            let _ = self.tell_counts(now, err);
+        }
     }
 
     /// Returns when the end has something to do without a datagram, in milliseconds. After a reception that failed

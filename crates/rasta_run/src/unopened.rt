@@ -6,7 +6,9 @@ ghost use Rattle.rasta_run.specs.Unopened as unopened;
 
 use end_settings::Side;
 use pdu_text::{side_name, write_text};
+use rasta_words::Fault;
 use settings_file::{Ends, Settings};
+use stack_end::OpenFault;
 use std::io;
 use std::io::Write;
 use udp_channels::{UdpFault, is_address};
@@ -75,6 +77,17 @@ fn number_of(error: Option<i32>) -> Option<u32> {
     match error {
         Some(error) => u32::try_from(error).ok(),
         None => None,
+    }
+}
+
+/// Returns the fault of a run whose end was not opened.
+pub(crate) fn fault_of_end(fault: OpenFault) -> Fault
+    // `fault_of_end` returns `Settings` for settings that are not valid, and `Memory` for want of memory.
+    ensures { result ≡ unopened.fault_of_end fault }
+{
+    match fault {
+        OpenFault::Memory => Fault::Memory,
+        OpenFault::BadConfig => Fault::Settings,
     }
 }
 

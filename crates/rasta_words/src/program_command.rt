@@ -102,7 +102,7 @@ fn digest_command<'a>(alloc: Global) -> Result<Command<'a>, AllocError>
         .about("Runs, simulates and analyses RaSTA connections.")
         .version(VERSION)
         .after_help(
-            "Exit status: 0 success, 1 invalid input, 2 invalid command line, 3 failure of a socket, the clock or an output, 4 an end is not as --expect demands.",
+            "Exit status: 0 success, 1 invalid input, 2 invalid command line, 3 failure of a socket, the clock or an output, 4 an end is not as --expect demands, 5 input has ended and a telegram was not put or not confirmed, 6 nobody read standard output.",
         )
         .subcommand_required(true)
         .subcommand(md4_command(alloc)?)

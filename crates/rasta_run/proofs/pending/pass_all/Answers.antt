@@ -1,5 +1,4 @@
 use Rattle.std.proofs.Common.{◌-◌, length, take, drop, refl, arith, inl, inr, length-drop}
-use Rattle.std.proofs.lemmas.Grind.{common_steps}
 use Rattle.rasta_run.proofs.Kept.{goes-on, rest-all, step-at, whole-on}
 use Rattle.rasta_run.proofs.pending.pass_all.Goals as goal
 

@@ -1,5 +1,5 @@
 -- So many steps were made, in each of which the writer took something, and nothing was lost.
-use Rattle.std.proofs.Common.{◌≡◌, ◌≤◌, length, take, drop}
+use Rattle.std.proofs.Common.{◌≤◌, length, take, drop}
 use Rattle.std.specs.Io.KnownBytes.{Appends}
 use Rattle.rasta_run.specs.Pending.{Goes}
 use Rattle.rasta_run.proofs.pending.pass_all.Given as goal

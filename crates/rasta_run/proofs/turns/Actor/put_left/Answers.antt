@@ -1,4 +1,4 @@
-use Rattle.std.proofs.Common.{ap, sym}
+use Rattle.std.proofs.Common.{ap}
 use Rattle.rasta_run.proofs.Putting.{one-more, stops}
 use Rattle.rasta_run.proofs.turns.Actor.put_left.Goals as goal
 

@@ -6,21 +6,21 @@
 ghost use Rattle.std.specs.Prelude.{◌≡◌, ◌≤◌, true, length, is_ok, IfOk, IfSome};
 ghost use Rattle.channels.specs.Told.{Sends, after_receive};
 
-use crate::ear::Ear;
+use crate::recorder::Recorder;
 use channels::{ChannelFault, Channels};
 use stack_end::{Listener, Note};
 use std::alloc::{AllocError, Global};
 
 /// Channels that record. Everything sent and received goes through unchanged; notes of the end are recorded, too.
 #[derive(Drop)]
-pub struct Overheard<C> {
+pub struct RecordedChannels<C> {
     /// The channels themselves.
     pub inner: C,
     /// The recorder. It is on the heap, so that an end stays small enough to be moved.
-    pub ear: Box<Ear>,
+    pub recorder: Box<Recorder>,
 }
 
-impl<C: Drop> Overheard<C> {
+impl<C: Drop> RecordedChannels<C> {
     /// Wraps channels with a recorder, or with one that keeps nothing.
     ///
     /// # Errors
@@ -30,42 +30,42 @@ impl<C: Drop> Overheard<C> {
         // If `over` succeeds, the channels inside are the ones given.
         ensures inner { IfOk result (λ o. o.inner ≡ inner) }
         // If `over` succeeds, the recorder listens if and only if `listens` is true.
-        ensures listens { IfOk result (λ o. o.ear.value.listens ≡ listens) }
+        ensures listens { IfOk result (λ o. o.recorder.value.listens ≡ listens) }
     {
-        let ear = Box::new(alloc, Ear::new(listens))?;
-        Ok(Overheard { inner, ear })
+        let recorder = Box::new(alloc, Recorder::new(listens))?;
+        Ok(RecordedChannels { inner, recorder })
     }
 }
 
-impl<C: Channels> Channels for Overheard<C> {
+impl<C: Channels> Channels for RecordedChannels<C> {
     // The datagrams, results and failures are those of the channels inside.
     ghost told = { λ o. C.told o.inner };
 
     fn send(&mut self, channel: usize, datagram: &[u8]) -> Result<(), ChannelFault> {
         let result = self.inner.send(channel, datagram);
-        self.ear.hear_sent(channel, datagram, result.is_ok());
+        self.recorder.hear_sent(channel, datagram, result.is_ok());
         result
     }
 
     fn receive(&mut self, buffer: &mut [u8]) -> Result<Option<(usize, usize)>, ChannelFault> {
         let result = self.inner.receive(buffer);
         if let Ok(Some((channel, size))) = result {
-            self.ear.hear_came(channel, &buffer[..size]);
+            self.recorder.hear_came(channel, &buffer[..size]);
         }
         result
     }
 }
 
-impl<C: Channels> Listener for Overheard<C> {
+impl<C: Channels> Listener for RecordedChannels<C> {
     /// Returns whether notes of the end are recorded.
     fn hears_notes(&self) -> bool
         // `hears_notes` is true if and only if the recorder listens.
-        ensures { result ≡ self.now.ear.value.listens }
+        ensures { result ≡ self.now.recorder.value.listens }
     {
-        self.ear.listens
+        self.recorder.listens
     }
 
     fn note(&mut self, note: &Note<'_>) {
-        self.ear.hear_note(note);
+        self.recorder.hear_note(note);
     }
 }

@@ -1,0 +1,99 @@
+-- The sums of what an end counted in its openings, modulo 2^64.
+use Rattle.std.specs.Prelude.{ℕ, ◌+◌, ◌%◌, ◌^◌, max, Option, Some, None, List, [], ◌∷◌, slice_index_or}
+use Rattle.stack_end.specs.declared.statistics.MadeCounts.{MadeCounts}
+use Rattle.stack_end.specs.declared.statistics.PartCounts.{PartCounts}
+use Rattle.stack_end.specs.declared.statistics.ReceptionCounts.{ReceptionCounts}
+use Rattle.stack_end.specs.declared.statistics.Statistics.{Statistics}
+use Rattle.stack_end.specs.Statistics.{none_heard, none_made, none_received}
+
+-- the sum of two counts
+abbrev pub sum : ℕ → ℕ → ℕ
+sum m n = (m + n) % 2 ^ 64
+
+-- the later of two times: the second, if there is one
+abbrev pub later : Option ℕ → Option ℕ → Option ℕ
+later first None = first
+later first (Some time) = Some time
+
+-- the counts of a channel together
+abbrev pub receptions : ReceptionCounts → ReceptionCounts → ReceptionCounts
+receptions c d =
+    record {
+      received = sum c.received d.received;
+      passed = sum c.passed d.passed;
+      deferred = sum c.deferred d.deferred;
+      old = sum c.old d.old;
+      repeated = sum c.repeated d.repeated;
+      far = sum c.far d.far;
+      full = sum c.full d.full;
+      damaged = sum c.damaged d.damaged;
+      last = later c.last d.last;
+    }
+
+-- the counts of the channel at a place
+abbrev pub counts_at : List ReceptionCounts → ℕ → ReceptionCounts
+counts_at cs place = slice_index_or cs place none_received
+
+-- those of the channel at a place together
+abbrev pub receptions_at : List ReceptionCounts → List ReceptionCounts → ℕ → ReceptionCounts
+receptions_at cs ds place = receptions (counts_at cs place) (counts_at ds place)
+
+-- those of each of the four channels together
+abbrev pub channels : List ReceptionCounts → List ReceptionCounts → List ReceptionCounts
+channels cs ds = receptions_at cs ds 0 ∷ receptions_at cs ds 1 ∷ receptions_at cs ds 2 ∷ receptions_at cs ds 3 ∷ []
+
+-- the counts of parts together: an age or a wait is the greater one
+abbrev pub parts : PartCounts → PartCounts → PartCounts
+parts c d =
+    record {
+      taken = sum c.taken d.taken;
+      gaps = sum c.gaps d.gaps;
+      damaged = sum c.damaged d.damaged;
+      strangers = sum c.strangers d.strangers;
+      unopened = sum c.unopened d.unopened;
+      far = sum c.far d.far;
+      unrequested = sum c.unrequested d.unrequested;
+      answered = sum c.answered d.answered;
+      below = sum c.below d.below;
+      oldest = max c.oldest d.oldest;
+      longest_wait = max c.longest_wait d.longest_wait;
+    }
+
+-- the counts of PDUs made together
+abbrev pub made : MadeCounts → MadeCounts → MadeCounts
+made c d =
+    record {
+      units = sum c.units d.units;
+      resent = sum c.resent d.resent;
+      heartbeats = sum c.heartbeats d.heartbeats;
+      requests = sum c.requests d.requests;
+      answers = sum c.answers d.answers;
+    }
+
+-- of no opening
+abbrev pub none : Statistics
+none =
+    record {
+      channels = none_received ∷ none_received ∷ none_received ∷ none_received ∷ [];
+      parts = none_heard;
+      made = none_made;
+      confirmed = 0;
+    }
+
+-- all counts together
+abbrev pub plus : Statistics → Statistics → Statistics
+plus s t =
+    record {
+      channels = channels s.channels t.channels;
+      parts = parts s.parts t.parts;
+      made = made s.made t.made;
+      confirmed = sum s.confirmed t.confirmed;
+    }
+
+-- the datagrams received on one of the four channels
+abbrev pub received_at : List ReceptionCounts → ℕ → ℕ
+received_at cs place = (counts_at cs place).received
+
+-- the datagrams received on all four
+abbrev pub received_on : List ReceptionCounts → ℕ
+received_on cs = sum (sum (sum (received_at cs 0) (received_at cs 1)) (received_at cs 2)) (received_at cs 3)

@@ -1,0 +1,244 @@
+//! The recorder of an end: the events for its log, and what it does not count itself.
+
+ghost use Rattle.std.specs.Prelude.{◌≡◌, ◌%◌, ℕ, List, None, true, false, slice_set};
+ghost use Rattle.safe_machine.specs.declared.Step.{Step};
+ghost use Rattle.rasta_run.specs.Counting as counting;
+ghost use Rattle.rasta_run.specs.Headers.{header_seen};
+ghost use Rattle.rasta_run.specs.Telling as telling;
+
+use crate::counts::{ChannelCounts, count_dropped, count_sent};
+use crate::header::{Header, header_of, kind_of};
+use octets::limits::CHANNELS_MAX;
+use pdu_text::{Cause, Happening};
+use red_layer::RedEvent;
+use safe_machine::{DropCause, Step};
+use safe_pdu::Kind;
+use stack_end::Note;
+
+/// The greatest number of events that are kept. A turn receives at most 64 datagrams, and few of them make more
+/// than two events.
+const KEPT: usize = 256;
+
+/// The recorder of an end. If it does not listen, it keeps nothing, and costs one test a datagram.
+#[derive(Drop)]
+pub struct Recorder {
+    /// Whether it listens.
+    pub listens: bool,
+    /// The counts of each channel, the first one first.
+    pub channels: [ChannelCounts; CHANNELS_MAX],
+    /// The number of parts that ended a connection or came after its end, modulo 2^64.
+    pub closing: u64,
+    /// Why the last datagram was dropped. A copy of an earlier datagram does not change it.
+    pub last_cause: Option<Cause>,
+    /// The channel of the last datagram received, and the fields of its header.
+    came: (usize, Option<Header>),
+    /// The events, each at the place of its number.
+    pub kept: [Happening; KEPT],
+    /// The number of events so far, modulo 2^64.
+    pub happened: u64,
+}
+
+impl Recorder {
+    /// Returns a recorder that has recorded nothing.
+    pub fn new(listens: bool) -> Self
+        // A new recorder listens if and only if `listens` is true.
+        ensures listens { result.listens ≡ listens }
+        // A new recorder has no events.
+        ensures happened { result.happened ≡ 0 }
+        // In a new recorder nothing is counted of any channel.
+        ensures channels { result.channels ≡ counting.no_channels }
+        // In a new recorder no part has ended a connection.
+        ensures closing { result.closing ≡ 0 }
+        // In a new recorder no datagram was dropped.
+        ensures last_cause { result.last_cause ≡ None }
+    {
+        Recorder {
+            listens,
+            channels: [ChannelCounts::none(); CHANNELS_MAX],
+            closing: 0,
+            last_cause: None,
+            came: (0, None),
+            kept: [Happening::Asked; KEPT],
+            happened: 0,
+        }
+    }
+
+    /// Returns the event with this number, from 0. Returns `None` if it is forgotten, or has not happened.
+    pub fn happening(&self, number: u64) -> Option<Happening>
+        // `happening` returns each of the last 256 events by its number, and `None` for any other.
+        ensures { result ≡ telling.kept_as self.now.kept self.now.happened number }
+    {
+        if number >= self.happened || self.happened - number > KEPT as u64 {
+            return None;
+        }
+        Some(self.kept[(number % KEPT as u64) as usize])
+    }
+
+    /// Records a datagram that was to be sent on a channel, and whether it was. Its event counts only on the first
+    /// channel, since all channels carry the same.
+    pub(crate) fn hear_sent(&mut self, channel: usize, datagram: &[u8], went: bool)
+        // If the recorder listens, the datagram is counted at its channel, by whether it was sent.
+        ensures channels { self.old.listens ≡ true
+            → self.new.channels ≡ counting.sent_on channel went self.old.channels }
+        // `hear_sent` does not change the number of parts that ended a connection.
+        ensures closing { self.new.closing ≡ self.old.closing }
+    {
+        if !self.listens {
+            return;
+        }
+        count_sent(&mut self.channels, channel, went);
+        if channel == 1 {
+            if let Some(happening) = made_told(kind_of(datagram)) {
+                self.keep(happening);
+            }
+        }
+    }
+
+    /// Records a datagram that was received on a channel.
+    pub(crate) fn hear_came(&mut self, channel: usize, datagram: &[u8])
+        // If the recorder listens, it keeps the channel and the header of the datagram, and changes nothing else.
+        ensures came { self.old.listens ≡ true
+            → self.new ≡ record self.old { came = (channel, header_seen datagram.now) } }
+    {
+        if self.listens {
+            self.came = (channel, header_of(datagram));
+        }
+    }
+
+    /// Records a note of the end.
+    pub(crate) fn hear_note(&mut self, note: &Note<'_>)
+        // If the recorder listens and the note is a step that dropped the part of the last datagram, it counts at
+        // the datagram's channel.
+        ensures channels { self.old.listens ≡ true → (number : ℕ) (step : Step) → note.now ≡ Note.Step number step
+            → self.new.channels
+            ≡ counting.stepped_on step number self.old.came.0 self.old.came.1 self.old.channels }
+        // If the recorder listens and the note is a step that ended the connection, or did nothing, it counts.
+        ensures closing { self.old.listens ≡ true → (number : ℕ) (step : Step) → note.now ≡ Note.Step number step
+            → self.new.closing ≡ counting.closing_after step self.old.closing }
+    {
+        if !self.listens {
+            return;
+        }
+        match note {
+            Note::Redundancy(_, event) => self.hear_event(*event),
+            Note::Step(number, step) => self.hear_step(*number, *step),
+            Note::State(state) => self.keep(Happening::State(*state)),
+            Note::Phase(phase) => self.keep(Happening::Phase(*phase)),
+            Note::Take(_, _) => {}
+        }
+    }
+
+    /// Records how the redundancy layer handled a datagram.
+    fn hear_event(&mut self, event: RedEvent) {
+        let (channel, _) = self.came;
+        if let Some(cause) = event_cause(event) {
+            self.drop_for(channel, cause);
+        }
+    }
+
+    /// Records how the safety machine handled a part.
+    fn hear_step(&mut self, number: u32, step: Step)
+        // A dropped part of the last datagram counts at its channel; no other step changes the counts of channels.
+        ensures channels { self.new.channels
+            ≡ counting.stepped_on step number self.old.came.0 self.old.came.1 self.old.channels }
+        // A part that ended the connection or came after its end is counted, and no other.
+        ensures closing { self.new.closing ≡ counting.closing_after step self.old.closing }
+    {
+        match step {
+            Step::Dropped(cause) => self.hear_dropped(number, cause),
+            Step::Left(_, _) | Step::Nothing => self.closing = self.closing.wrapping_add(1),
+            Step::Taken | Step::Gap => {}
+        }
+    }
+
+    /// Records a part that was dropped. If it is not that of the last datagram, it was deferred, and its channel
+    /// is not known.
+    fn hear_dropped(&mut self, number: u32, cause: DropCause)
+        // `hear_dropped` counts the part at the channel of the last datagram, if it is its part.
+        ensures channels { self.new.channels ≡ counting.dropped_on
+            (counting.channel_under number self.old.came.0 self.old.came.1) cause self.old.channels }
+        // `hear_dropped` does not change the number of parts that ended a connection.
+        ensures closing { self.new.closing ≡ self.old.closing }
+    {
+        let (channel, header) = match self.came {
+            (channel, Some(header)) if header.number == number => (channel, Some(header)),
+            _ => (0, None),
+        };
+        count_dropped(&mut self.channels, channel, cause);
+        self.drop_for(channel, drop_cause(cause, header));
+    }
+
+    /// Records a dropped datagram with its cause.
+    fn drop_for(&mut self, channel: usize, cause: Cause)
+        // `drop_for` does not change the counts of channels.
+        ensures channels { self.new.channels ≡ self.old.channels }
+        // `drop_for` does not change the number of parts that ended a connection.
+        ensures closing { self.new.closing ≡ self.old.closing }
+        // `drop_for` keeps the cause as the last one, but no copy of an earlier datagram.
+        ensures last_cause { self.new.last_cause ≡ Some (telling.last_of self.old.last_cause cause) }
+    {
+        self.last_cause = Some(last_of(self.last_cause, cause));
+        self.keep(Happening::Dropped(channel, cause));
+    }
+
+    /// Keeps an event, in place of the oldest if there is no room.
+    fn keep(&mut self, happening: Happening)
+        // `keep` puts the event at the place of its number and counts it, and changes nothing else.
+        ensures { self.new ≡ record self.old {
+          kept = slice_set self.old.kept (self.old.happened % 256) happening;
+          happened = counting.one_more self.old.happened;
+        } }
+    {
+        self.kept[(self.happened % KEPT as u64) as usize] = happening;
+        self.happened = self.happened.wrapping_add(1);
+    }
+}
+
+/// Returns why the redundancy layer dropped a datagram.
+fn event_cause(event: RedEvent) -> Option<Cause>
+    // `event_cause` returns the event as the cause, and `None` if the datagram was passed on or deferred.
+    ensures { result ≡ telling.event_cause event }
+{
+    match event {
+        RedEvent::Passed | RedEvent::Wait => None,
+        _ => Some(Cause::Early(event)),
+    }
+}
+
+/// Returns which of two causes explains that nothing was taken.
+fn last_of(before: Option<Cause>, cause: Cause) -> Cause
+    // `last_of` returns the later cause, but the earlier one, if there is one, when the later is a copy of an
+    // earlier datagram.
+    ensures { result ≡ telling.last_of before cause }
+{
+    match (before, cause) {
+        (Some(before), Cause::Early(RedEvent::Old)) => before,
+        _ => cause,
+    }
+}
+
+/// Returns why the safety machine dropped a part, with the identifiers of its header if they are known.
+fn drop_cause(cause: DropCause, header: Option<Header>) -> Cause
+    // `drop_cause` returns the cause itself, and for a stranger with a known header the identifiers in it.
+    ensures { result ≡ telling.drop_cause cause header }
+{
+    match (cause, header) {
+        (DropCause::Stranger, Some(header)) => Cause::Stranger {
+            sender: header.sender,
+            receiver: header.receiver,
+        },
+        (cause, _) => Cause::Part(cause),
+    }
+}
+
+/// Returns the event of a PDU that the end made, by its type.
+fn made_told(kind: Option<Kind>) -> Option<Happening>
+    // `made_told` returns an event for a RetrReq and a RetrResp, and `None` for any other type.
+    ensures { result ≡ telling.made_told kind }
+{
+    match kind {
+        Some(Kind::RetrReq) => Some(Happening::Asked),
+        Some(Kind::RetrResp) => Some(Happening::Resent),
+        _ => None,
+    }
+}

@@ -1,0 +1,33 @@
+//! What the state of an end allows, and whether it is the expected one.
+
+ghost use Rattle.std.specs.Prelude.{◌≡◌};
+ghost use Rattle.rasta_run.specs.Standing.{meets, takes_lines};
+
+use pdi_session::Phase;
+use rasta_words::Expected;
+use safe_machine::ConnectionState;
+
+/// Returns whether the telegrams of input are put now: once the session is established and the list is done, and
+/// also if the connection is closed for good, so that each is refused by name and input is read to its end. An end
+/// that is kept is never closed for good.
+pub fn may_put_lines(is_kept: bool, state: ConnectionState, phase: Phase, is_empty: bool) -> bool
+    // `may_put_lines` is true for an established session if nothing of the list is left, and for a closed end that
+    // is not kept; else it is false.
+    ensures { result ≡ takes_lines is_kept state phase is_empty }
+{
+    (state == ConnectionState::Closed && !is_kept) || (phase == Phase::Established && is_empty)
+}
+
+/// Returns whether an end is in the expected state: `settled` if everything put is confirmed, `done` if everything
+/// was tried.
+pub fn is_met(expected: Option<Expected>, phase: Phase, settled: bool, done: bool) -> bool
+    // `is_met` is true if no state is expected; for `Up` if the session is established; for `Settled` if it also
+    // is `settled` and `done`.
+    ensures { result ≡ meets expected phase settled done }
+{
+    match expected {
+        None => true,
+        Some(Expected::Up) => phase == Phase::Established,
+        Some(Expected::Settled) => phase == Phase::Established && settled && done,
+    }
+}
