@@ -16,7 +16,7 @@ use std::alloc::{AllocError, Global};
 use std::marker::Model;
 
 /// How many connections are kept, each in some 29 KiB.
-pub const CONNECTIONS: usize = 16;
+pub const CONNECTIONS: usize = 64;
 
 /// The two addresses of a channel, as in the first PDU on it.
 #[derive(Clone, Copy, Debug, PartialEq, Eq)]
@@ -153,9 +153,9 @@ pub fn follow(
 ) -> Remarks
     // The remarks are those in the PDU's own connection, a new one if none has its identifiers (`step_remarks`).
     ensures remarks { result ≡ step_remarks connections.old line record.now seq header.now }
-    // The PDU's connection changes and is then the last; no other one that stays changes. If there are 16 and it is a
-    // further one, the first is forgotten (`room_made`). A channel is a pair of addresses in either direction. A
-    // fifth channel of a connection is not distinguished (`routes_after`, `channel_of`).
+    // The PDU's connection changes and is then the last; no other one that stays changes. If there are
+    // `CONNECTIONS` and it is a further one, the first is forgotten (`room_made`). A channel is a pair of addresses in
+    // either direction. A fifth channel of a connection is not distinguished (`routes_after`, `channel_of`).
     ensures step { connections.new ≡ step connections.old line record.now seq header.now }
 {
     bring_to_end(connections, header.sender, header.receiver);
@@ -181,7 +181,7 @@ fn follow_entry(entry: &mut Entry, line: u64, record: &Record, seq: u32, header:
 
 /// Returns `true` if a PDU needs a further connection and one must be forgotten.
 pub(crate) fn has_no_room(connections: &Connections, header: &Header) -> bool
-    // The result is true exactly if 16 connections are kept and none has the PDU's identifiers.
+    // The result is true exactly if `CONNECTIONS` are kept and none has the PDU's identifiers.
     ensures { result ≡ forgets connections.now header.now }
 {
     if connections.list.len() < CONNECTIONS {

@@ -204,11 +204,11 @@ fn follows_two_channels(rt: HostRuntime) -> Result<(), Fail> {
     Ok(())
 }
 
-// The seventeenth connection takes the place of the one that was silent longest.
+// One connection too many takes the place of the one that was silent longest.
 #[test]
 fn forgets_the_one_silent_longest(rt: HostRuntime) -> Result<(), Fail> {
     let mut all = Following::new(rt.alloc())?;
-    for end in 1..18u32 {
+    for end in 1..66u32 {
         let _remark = all.hear(
             end as u64,
             &record(end as u64, 0, false),
@@ -216,10 +216,10 @@ fn forgets_the_one_silent_longest(rt: HostRuntime) -> Result<(), Fail> {
         );
     }
     let ends = all.connections.as_slice();
-    assert_eq!(rt; ends.len(), 16);
+    assert_eq!(rt; ends.len(), 64);
     assert!(rt; ends.iter().all(|entry| entry.connection.low != 1));
     assert_eq!(rt; all.forgotten, 1);
-    assert_eq!(rt; (all.gone.heard, sum_up(all.gone, ends).heard), (1, 17));
+    assert_eq!(rt; (all.gone.heard, sum_up(all.gone, ends).heard), (1, 65));
     Ok(())
 }
 
