@@ -13,7 +13,8 @@ sys.dont_write_bytecode = True
 from settings import Settings  # noqa: E402
 from texts import OPENINGS, red_seen, safe_seen  # noqa: E402
 
-KEPT, PASSED_MAX, CHANNELS, CONNECTIONS, WRAP = 32, 65535, 4, 16, 2 ** 32
+KEPT, PASSED_MAX, CHANNELS, CONNECTIONS, WRAP = 32, 65535, 4, 64, 2 ** 32
+SESSIONS, TIMEOUT = 64, 3  # sessions that have ended and are printed
 LINE_MAX, PAYLOAD_MAX = 8192, 2048
 ONLY = ('opens', 'repeat', 'differs', 'ahead', 'late', 'stale', 'anew', 'resent', 'age', 'waits', 'reason', 'fault')
 FAULTS = {'red': ('Short', 'Length', 'Reserve'), 'safe': ('Short', 'Length', 'Code', 'Type', 'Body')}
@@ -123,7 +124,7 @@ class Direction:
             self.counts(time, p.kind, age, waits, left)
             self.parting = (time, *p.body[::-1]) if left else self.parting
         words += ['resent' if p.kind == 'RetrData' else '', '' if age is None else 'age %d ms' % age, '' if waits is None else 'waits %d ms' % waits, left]
-        return [word for word in words if word]
+        return [word for word in words if word], is_new
 
     def waits(self, p, peer):
         """Returns the time since the own timestamp that was last confirmed: by the PDU of the other end that this one confirms."""
@@ -180,11 +181,84 @@ def leaving(reason, detail):
     return ' '.join(('reason', str(reason), *why, 'detail', str(detail), *more))
 
 
+class Side:
+    """What one end did in a session, by the remarks on its PDUs."""
+
+    def __init__(self):
+        self.left, self.waits, self.resent, self.repeats = None, 0, 0, 0
+        self.missing, self.lost = [0] * CHANNELS, 0
+
+    def take(self, time, channel, p, words, is_new, other):
+        for word in words:
+            first, _, rest = word.partition(' ')
+            if first == 'channel':
+                self.repeats += rest.startswith('repeat')
+                self.missing[channel] = missed(self.missing[channel], rest)
+            elif first == 'all':
+                self.lost = missed(self.lost, rest)
+            elif first == 'waits':
+                self.waits = max(self.waits, int(rest.split()[0]))
+        if is_new:
+            self.resent += p.kind == 'RetrData'
+            if p.kind == 'DiscReq' and self.left is None:
+                self.left = (time, *p.body[::-1], other.left is not None)
+
+    def alone(self):
+        """Returns how many datagrams one channel lost whose PDU came on another."""
+        return sum(max(0, missing - self.lost) for missing in self.missing)
+
+    def members(self):
+        return {'left': dict(zip(('time', 'reason', 'detail', 'follows'), self.left)) if self.left else None, 'waits': self.waits,
+                'lost_on_every_channel': self.lost, 'lost_on_one_channel': self.alone(), 'resent': self.resent, 'repeats': self.repeats}
+
+
+def missed(count, said):
+    """Returns how many numbers are missing after one that followed as the remark says."""
+    word, *number = said.split()
+    return count + int(number[0]) if word == 'ahead' else max(0, count - 1) if word == 'late' else count
+
+
+class Session:
+    """What happened from an opening to the next one."""
+
+    def __init__(self, number, asked=None, up=None):
+        self.number, self.asked, self.up, self.sides = number, asked, up, (Side(), Side())
+
+    def is_unanswered(self):
+        return self.asked is not None and self.up is None and self.sides[1 - self.asked[1]].left is None
+
+    def is_timeout(self):
+        return any(side.left and side.left[1] == TIMEOUT for side in self.sides)
+
+    def line(self, ends, first):
+        def at(time):
+            return seconds(time - first)
+
+        words = ['session %d of %d-%d' % (self.number, *ends),
+                 '%d asked at %s' % (ends[self.asked[1]], at(self.asked[0])) if self.asked else 'its ConnReq was not recorded',
+                 'came up at ' + at(self.up) if self.up is not None else 'nobody answered' if self.is_unanswered() else 'was not seen to come up']
+        left = ['%d left at %s %s %s' % (end, at(side.left[0]), 'after the other' if side.left[3] else 'by itself', leaving(*side.left[1:3]))
+                for end, side in zip(ends, self.sides) if side.left]
+        words += left or ['nobody left']
+        words += ['%d waited %d ms' % (end, side.waits) for end, side in zip(ends, self.sides)]
+        return ', '.join(words + [losses(sum(side.lost for side in self.sides), sum(side.alone() for side in self.sides)),
+                                  'sent again %d' % sum(side.resent for side in self.sides),
+                                  'repeats on one channel %d' % sum(side.repeats for side in self.sides)])
+
+    def members(self, ends):
+        return {'session': self.number, 'asked': self.asked and self.asked[0], 'asked_by': self.asked and ends[self.asked[1]], 'up': self.up,
+                'unanswered': self.is_unanswered(), 'low': self.sides[0].members(), 'high': self.sides[1].members()}
+
+
+def losses(everywhere, alone):
+    return 'PDUs lost on every channel %d, datagrams lost on one channel whose PDU came on another %d' % (everywhere, alone)
+
+
 class Connection:
     """Two ends, by their identifiers, the lower one first, and the channels between them."""
 
     def __init__(self, ends):
-        self.ends, self.routes, self.directions, self.last = ends, [], (Direction(), Direction()), 0
+        self.ends, self.routes, self.directions, self.last, self.sessions = ends, [], (Direction(), Direction()), 0, []
 
     def known(self, source, destination):
         """Returns the number of the channel between two addresses, in either direction."""
@@ -208,30 +282,47 @@ class Connection:
         asks, answers = ([d for d in self.directions if d.opening and d.opening[0] == kind] for kind in OPENINGS)
         return answers[0].opened if asks and answers and asks[0].opened <= answers[0].opened else None
 
+    def takes(self, time, channel, is_from_low, p, words, is_new):
+        """Adds a PDU to its session, by the remarks on it."""
+        end = 0 if is_from_low else 1
+        current = self.sessions[-1] if self.sessions else None
+        if 'opens' in words and p.kind == 'ConnResp' and current and current.up is None and current.asked and current.asked[1] != end:
+            current.up = time
+        elif 'opens' in words or not current:
+            asked, up = [time if 'opens' in words and p.kind == kind else None for kind in OPENINGS]
+            self.sessions.append(Session(len(self.sessions) + 1, None if asked is None else (asked, end), up))
+        session = self.sessions[-1]
+        session.sides[end].take(time, channel, p, words, is_new, session.sides[1 - end])
+
+    def session_sums(self):
+        """Returns how many sessions there were, came up, were not answered, were left, were left by a timeout."""
+        return (len(self.sessions), sum(one.up is not None for one in self.sessions), sum(one.is_unanswered() for one in self.sessions),
+                sum(any(side.left for side in one.sides) for one in self.sessions), sum(one.is_timeout() for one in self.sessions))
+
     def losses(self):
-        """Returns the numbers lost on single channels, and on all."""
-        return (sum(numbers.missing for direction in self.directions for numbers in direction.channels),
-                sum(direction.together.missing for direction in self.directions))
+        """Returns the PDUs lost on every channel, and the datagrams lost on one channel whose PDU came on another."""
+        return (sum(direction.together.missing for direction in self.directions),
+                sum(side.alone() for one in self.sessions for side in one.sides))
 
     def sentence(self, first, t_max):
-        up, longest = self.up(), max(direction.longest for direction in self.directions)
-        parts = ['connection %d-%d %s' % (*self.ends, 'was not seen to come up' if up is None else 'came up at ' + seconds(up - first))]
-        gone = [(end, direction) for end, direction in zip(self.ends, self.directions) if direction.left]
-        parts += ['%d left at %s %s' % (end, seconds(direction.parting[0] - first), direction.left) for end, direction in gone]
-        parts += [] if gone else ['nobody left', 'heard last at ' + seconds(self.last - first)]
-        parts += ['lost on single channels %d on all %d' % self.losses(), 'waits %d of %d%s' % (longest, t_max, ' reached' if longest >= t_max else '')]
-        return ', '.join(parts)
+        longest = max(direction.longest for direction in self.directions)
+        return ', '.join((
+            'connection %d-%d sessions %d, came up %d, nobody answered %d, ended by a DiscReq %d, by timeout %d' % (*self.ends, *self.session_sums()),
+            'last PDU at ' + seconds(self.last - first), losses(*self.losses()),
+            'waits %d of %d%s' % (longest, t_max, ' reached' if longest >= t_max else '')))
 
     def members(self):
-        channels, everywhere = self.losses()
+        everywhere, alone = self.losses()
         directions = []
         for (sender, receiver), direction in zip((self.ends, self.ends[::-1]), self.directions):
             routes = [{'channel': place + 1, 'low': route[0], 'high': route[1],
                        'datagrams': sum(n.counts()) - n.missing + direction.damaged[place], **n.members(), 'damaged': direction.damaged[place]}
                       for place, (route, n) in enumerate(zip(self.routes, direction.channels))]
             directions.append({'from': sender, 'to': receiver, **direction.members(self.last), 'channels': routes})
-        return {'low': self.ends[0], 'high': self.ends[1], 'up': self.up(), 'last': self.last, 'lost_on_channels': channels, 'lost_on_all': everywhere,
-                **{name: max(direction[name] for direction in directions) for name in ('age', 'waits')}, 'directions': directions}
+        sessions = dict(zip(('number', 'up', 'unanswered', 'left', 'timeouts'), self.session_sums()))
+        sessions['table'] = [one.members(self.ends) for one in self.sessions[-SESSIONS - 1:]]
+        return {'low': self.ends[0], 'high': self.ends[1], 'up': self.up(), 'last': self.last, 'lost_on_every_channel': everywhere, 'lost_on_one_channel': alone,
+                **{name: max(direction[name] for direction in directions) for name in ('age', 'waits')}, 'sessions': sessions, 'directions': directions}
 
     def sums(self, first, t_max):
         for (sender, receiver), direction in zip((self.ends, self.ends[::-1]), self.directions):
@@ -241,6 +332,8 @@ class Connection:
                 yield 'sum %d->%d ch %d %s-%s datagrams %d %s damaged %d' % (
                     sender, receiver, place + 1, *route, sum(n.counts()) - n.missing + direction.damaged[place], n.sums(),
                     direction.damaged[place])
+        for one in self.sessions[-SESSIONS - 1:]:
+            yield one.line(self.ends, first)
         yield self.sentence(first, t_max)
 
     def counts(self):
@@ -267,7 +360,8 @@ class Follower:
         is_from_low = p.sender == connection.ends[0]
         channel = connection.channel(source, destination, is_from_low)
         own, other = connection.directions[::1 if is_from_low else -1]
-        words = own.follow(time, line, channel, number, p, seen[1], other)
+        words, is_new = own.follow(time, line, channel, number, p, seen[1], other)
+        connection.takes(time, channel, is_from_low, p, words, is_new)
         return '%d->%d ch %s red %d %s sn %d cs %d ts %d cts %d' % (
             p.sender, p.receiver, channel + 1 if channel < CHANNELS else 'other', number, p.kind, p.sn, p.cs, p.ts, p.cts), words
 
@@ -386,9 +480,26 @@ def ranges(text):
     return [range(low, high + 1) for low, high in pairs]
 
 
+FOREIGN = {b'\x1f\x8b': 'it is compressed by gzip; use gzip -dc FILE | rasta follow -',
+           b'\x28\xb5\x2f\xfd': 'it is compressed by zstd; use zstd -dc FILE | rasta follow -',
+           b'snoo': 'it is a snoop file; use editcap -F pcapng FILE NEW',
+           b'\xa1\xb2\xcd\x34': 'it is a modified pcap file; use editcap -F pcapng FILE NEW',
+           b'\x34\xcd\xb2\xa1': 'it is a modified pcap file; use editcap -F pcapng FILE NEW'}
+
+
+def foreign(front):
+    """Returns why a file that begins with these octets is not followed, or None."""
+    return next((why for octets, why in FOREIGN.items() if front.startswith(octets)), None)
+
+
 def followed(raws, code=8, only=None, t_max=1800, ports=None, as_json=False):
     """Returns standard output, standard error and exit status."""
     follower, first, out, err = Follower(Settings(code=code).rule), None, [], []
+    raws = list(raws)
+    why = foreign(raws[0]) if raws else None
+    if why:
+        follower.unreadable, raws = 1, []
+        err.append('recording: unreadable behind frame 0: %s\n' % why)
     for line, raw in enumerate(raws, 1):
         seen = read(raw)
         if isinstance(seen, str):
@@ -403,6 +514,8 @@ def followed(raws, code=8, only=None, t_max=1800, ports=None, as_json=False):
             words = [word for word in words if not word.startswith('waits ') or is_long(word, t_max)]
             out.append(' '.join([seconds(seen[0] - first), 'line', str(line), said] + words) + '\n')
     out += [said + '\n' for said in ([follower.members(first, t_max)] if as_json else follower.sums(first, t_max))]
+    if follower.forgotten:
+        err.append('connections: %d were forgotten, since more than %d were recorded at once; choose some by --ports\n' % (follower.forgotten, CONNECTIONS))
     return ''.join(out), ''.join(err), 1 if err else 0
 
 

@@ -18,7 +18,7 @@ use Rattle.capture.specs.declared.line.Record.{Record}
 use Rattle.capture.specs.declared.window.Window.{Window}
 use Rattle.capture.specs.Numbers.{judged}
 use Rattle.capture.specs.Following.{followed, is_opened, opened_as, opened_with, opening_of, peer_of}
-use Rattle.capture.specs.Connecting.{behind_of, connection_after, connection_damaged, damage_at, damage_noted, damaged_by, damaged_on, ends_of, found, is_from_low, is_source_low, known_place_of, left, left_at, opened, place_in, place_of, step, taken, taken_at}
+use Rattle.capture.specs.Connecting.{behind_of, connection_after, connection_damaged, damage_at, damage_noted, damaged_by, damaged_on, ends_of, found, heard_in, is_from_low, is_source_low, known_place_of, left, left_at, opened, place_in, place_of, step, taken, taken_at, way_followed}
 use Rattle.capture.specs.Whole.{counted_in, gone_with, totals_of, window_counted}
 use Rattle.capture.specs.Laws.{Came, Kept, SumsAddUp, datagrams_in, datagrams_of, kept_after, kept_along, none_came}
 use Rattle.capture.proofs.Sums.{one_noted}
@@ -46,16 +46,17 @@ one_followed d peer place seq h room =
     in
     omega (arith, same, one)
 
-either : (b : Bool) (x y : Connection) (n : ℕ) → weight x ≡ n → weight y ≡ n → weight (cond b x y) ≡ n
-either true x y n hx hy = hx
-either false x y n hx hy = hy
+either : (b : Bool) (c : Connection) (place : Place) (seq : ℕ) (h : Header) (n : ℕ) → weight (way_followed true c place seq h) ≡ n
+    → weight (way_followed false c place seq h) ≡ n → weight (way_followed b c place seq h) ≡ n
+either true c place seq h n low high = low
+either false c place seq h n low high = high
 
 one_more : (c : Connection) (line : ℕ) (r : Record) (seq : ℕ) (h : Header) → weight c < 2 ^ 64 - 1
     → weight (connection_after c line r seq h) ≡ weight c + 1
 one_more c line r seq h room =
     let low = one_followed c.from_low (peer_of c.from_high h) (place_in c line r) seq h (omega arith) in
     let high = one_followed c.from_high (peer_of c.from_low h) (place_in c line r) seq h (omega arith) in
-    either (is_from_low c h) _ _ _ (omega (arith, low)) (omega (arith, high))
+    either (is_from_low c h) (heard_in c r h) (place_in c line r) seq h _ (omega (arith, low)) (omega (arith, high))
 
 window_sum : (t : Totals) (w : Window) → datagrams_of t + datagrams_in w < 2 ^ 64
     → datagrams_of (window_counted t w) ≡ datagrams_of t + datagrams_in w

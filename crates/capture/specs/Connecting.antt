@@ -16,6 +16,7 @@ use Rattle.capture.specs.declared.connections.Route.{Route}
 use Rattle.capture.specs.declared.connections.Connection.{Connection}
 use Rattle.capture.specs.Numbers.{counted}
 use Rattle.capture.specs.Following.{followed, open_direction, peer_of, remarks_of}
+use Rattle.capture.specs.Sessions.{open_sessions, sessions_after}
 
 -- A connection between two ends without PDUs.
 abbrev pub opened : ℕ → ℕ → Connection
@@ -27,6 +28,7 @@ opened low high =
       routes = replicate CHANNELS None;
       from_low = open_direction;
       from_high = open_direction;
+      sessions = open_sessions;
     }
 
 -- The identifiers of two ends, the lower one first.
@@ -125,21 +127,34 @@ place_in c line r = record { time = r.time; line = line; channel = channel_of c.
 abbrev pub is_from_low : Connection → Header → Bool
 is_from_low c h = h.sender == c.low
 
+-- The remarks on a PDU of the end with the lower identifier (`true`), or of the other end, by what both ends sent before.
+abbrev pub way_remarks : Bool → Connection → Place → ℕ → Header → Remarks
+way_remarks true c place seq h = remarks_of c.from_low (peer_of c.from_high h) place seq h
+way_remarks false c place seq h = remarks_of c.from_high (peer_of c.from_low h) place seq h
+
+-- The connection with the PDU in the direction of its end.
+abbrev pub way_followed : Bool → Connection → Place → ℕ → Header → Connection
+way_followed true c place seq h = record c { from_low = followed c.from_low (peer_of c.from_high h) place seq h }
+way_followed false c place seq h = record c { from_high = followed c.from_high (peer_of c.from_low h) place seq h }
+
 -- The remarks on a PDU, by what its own end and the other end sent before.
 abbrev pub connection_remarks : Connection → ℕ → Record → ℕ → Header → Remarks
-connection_remarks c line r seq h =
-    if is_from_low c h then remarks_of c.from_low (peer_of c.from_high h) (place_in c line r) seq h
-    else remarks_of c.from_high (peer_of c.from_low h) (place_in c line r) seq h
+connection_remarks c line r seq h = way_remarks (is_from_low c h) c (place_in c line r) seq h
 
 -- The connection with the time and channel of a PDU.
 abbrev pub heard_in : Connection → Record → Header → Connection
 heard_in c r h = record c { last = r.time; routes = routes_after c.routes (is_from_low c h) r }
 
+-- The connection with the direction of a PDU followed.
+abbrev pub followed_along : Connection → ℕ → Record → ℕ → Header → Connection
+followed_along c line r seq h = way_followed (is_from_low c h) (heard_in c r h) (place_in c line r) seq h
+
 -- The connection after a PDU.
 abbrev pub connection_after : Connection → ℕ → Record → ℕ → Header → Connection
 connection_after c line r seq h =
-    if is_from_low c h then record (heard_in c r h) { from_low = followed c.from_low (peer_of c.from_high h) (place_in c line r) seq h }
-    else record (heard_in c r h) { from_high = followed c.from_high (peer_of c.from_low h) (place_in c line r) seq h }
+    record (followed_along c line r seq h) {
+      sessions = sessions_after c.sessions (is_from_low c h) r.time h.kind (connection_remarks c line r seq h);
+    }
 
 -- The remarks on a PDU of a line.
 abbrev pub step_remarks : List Connection → ℕ → Record → ℕ → Header → Remarks

@@ -3,19 +3,20 @@
 //! A connection is found by the identifiers of its ends. A damaged datagram is counted by its addresses only, since
 //! its identifiers cannot be trusted.
 
-ghost use Rattle.std.specs.Prelude.{◌≡◌, ◌<◌, ◌≤◌, ◌++◌, ◌∷◌, [], length, IfSome, reverse, slice_index_or};
+ghost use Rattle.std.specs.Prelude.{◌≡◌, ◌+◌, ◌<◌, ◌≤◌, ◌==◌, ◌&&◌, ◌++◌, ◌∷◌, [], length, IfOk, IfSome, reverse, slice_index_or, vec_capacity, vec_len};
 ghost use Rattle.std.specs.List.{remove};
-ghost use Rattle.arrayvec.specs.ArrayVec.{array_vec_len};
 ghost use Rattle.capture.specs.Whole.{forgets};
-ghost use Rattle.capture.specs.Connecting.{behind_of, channel_of, connection_after, connection_damaged, connection_remarks, damage_noted, damaged_at, ends_of, has_channel, is_between, is_from_low, is_held, is_known, is_same_address, is_same_host, is_source_low, known_place_of, left, opened, place_of, room_made, route_from, route_place_of, routes_after, step, step_remarks, taken};
+ghost use Rattle.capture.specs.Connecting.{behind_of, channel_of, connection_after, connection_damaged, connection_remarks, damage_noted, damaged_at, ends_of, has_channel, is_between, is_from_low, is_held, is_known, is_same_address, is_same_host, is_source_low, known_place_of, left, opened, place_of, room_made, route_from, route_place_of, routes_after, step, step_remarks, taken, way_followed, way_remarks};
 
 use crate::direction::{CHANNELS, Direction, Place, Remarks, follow_pdu, see_peer};
 use crate::heard::Header;
 use crate::line::{Address, Host, Record};
-use arrayvec::ArrayVec;
+use crate::sessions::{Sessions, note_session};
+use std::alloc::{AllocError, Global};
+use std::marker::Model;
 
-/// How many connections are kept: some 230 KiB of memory.
-pub const CONNECTIONS: usize = 16;
+/// How many connections are kept, each in some 29 KiB.
+pub const CONNECTIONS: usize = 64;
 
 /// The two addresses of a channel, as in the first PDU on it.
 #[derive(Clone, Copy, Debug, PartialEq, Eq)]
@@ -41,6 +42,8 @@ pub struct Connection {
     pub from_low: Direction,
     /// What the other end sent.
     pub from_high: Direction,
+    /// Its sessions.
+    pub sessions: Sessions,
 }
 
 impl Default for Connection {
@@ -53,8 +56,90 @@ impl Default for Connection {
     }
 }
 
-/// The connections that are kept; the last one has the latest PDU.
-pub type Connections = ArrayVec<Connection, CONNECTIONS>;
+/// A connection on the heap, so that a list of entries changes its order without a copy of connections. Contracts see
+/// the connection.
+#[derive(Drop)]
+pub struct Entry {
+    /// The connection.
+    pub connection: Box<Connection>,
+}
+
+impl Model for Entry {
+    ghost use Rattle.capture.specs.declared.connections.Connection.{Connection as Inner};
+
+    ghost Value = { Inner };
+
+    ghost view = { λ entry. entry.connection.value };
+}
+
+impl Entry {
+    /// Makes it a connection between two ends without PDUs.
+    fn reopen(&mut self, low: u32, high: u32)
+        // The connection is new, whatever it was before.
+        ensures { self.new ≡ opened low high }
+    {
+        *self.connection = open(low, high);
+    }
+}
+
+/// The connections that are kept; the last one has the latest PDU. Contracts see the list of them.
+///
+/// The memory for all of them is there from the beginning, so no PDU needs more.
+#[derive(Drop)]
+pub struct Connections {
+    list: Vec<Entry>,
+    spare: Vec<Entry>,
+}
+
+impl Model for Connections {
+    ghost use Rattle.std.specs.Prelude.{◌≡◌, ◌+◌, ◌≤◌, List, vec_capacity, vec_len};
+    ghost use Rattle.capture.specs.declared.connections.Connection.{Connection as Inner};
+    ghost use Rattle.capture.specs.declared.connections.TheConstants.{CONNECTIONS as MOST};
+
+    ghost Value = { List Inner };
+
+    ghost view = { λ all. all.list.items };
+
+    ghost invariant = { λ all. (vec_len all.list + vec_len all.spare ≡ MOST) × (MOST ≤ vec_capacity all.list) };
+}
+
+impl Connections {
+    /// Returns a list without connections, and the memory for all that it may have.
+    ///
+    /// # Errors
+    ///
+    /// `AllocError` if there is too little memory.
+    pub fn new(alloc: Global) -> Result<Self, AllocError>
+        // A new list has no connection.
+        ensures { IfOk result (λ connections. connections ≡ []) }
+    {
+        Ok(Connections {
+            list: Vec::with_capacity(alloc, CONNECTIONS)?,
+            spare: spare_entries(alloc)?,
+        })
+    }
+
+    /// Returns the connections in order.
+    pub fn as_slice(&self) -> &[Entry]
+        // The slice has exactly the connections of the list.
+        ensures { result.now ≡ self.now }
+    {
+        self.list.as_slice()
+    }
+}
+
+/// Returns as many entries as connections are kept.
+fn spare_entries(alloc: Global) -> Result<Vec<Entry>, AllocError>
+    // Their number is `CONNECTIONS`.
+    ensures { IfOk result (λ spare. vec_len spare ≡ CONNECTIONS) }
+{
+    let mut spare = Vec::with_capacity(alloc, CONNECTIONS)?;
+    for _ in 0..CONNECTIONS {
+        let connection = Box::new(alloc, open(0, 0))?;
+        spare.push(Entry { connection })?;
+    }
+    Ok(spare)
+}
 
 /// Adds a PDU on this line to its connection and returns what is remarkable in it.
 ///
@@ -67,16 +152,16 @@ pub fn follow(
     header: &Header,
 ) -> Remarks
     // The remarks are those in the PDU's own connection, a new one if none has its identifiers (`step_remarks`).
-    ensures remarks { result ≡ step_remarks connections.old.items line record.now seq header.now }
-    // The PDU's connection changes and is then the last; no other one that stays changes. If there are 16 and it is a
-    // further one, the first is forgotten (`room_made`). A channel is a pair of addresses in either direction. A
-    // fifth channel of a connection is not distinguished (`routes_after`, `channel_of`).
-    ensures step { connections.new.items ≡ step connections.old.items line record.now seq header.now }
+    ensures remarks { result ≡ step_remarks connections.old line record.now seq header.now }
+    // The PDU's connection changes and is then the last; no other one that stays changes. If there are
+    // `CONNECTIONS` and it is a further one, the first is forgotten (`room_made`). A channel is a pair of addresses in
+    // either direction. A fifth channel of a connection is not distinguished (`routes_after`, `channel_of`).
+    ensures step { connections.new ≡ step connections.old line record.now seq header.now }
 {
     bring_to_end(connections, header.sender, header.receiver);
-    let last = connections.len() - 1;
-    follow_in(
-        &mut connections.as_mut_slice()[last],
+    let last = connections.list.len() - 1;
+    follow_entry(
+        &mut connections.list.as_mut_slice()[last],
         line,
         record,
         seq,
@@ -84,48 +169,73 @@ pub fn follow(
     )
 }
 
+/// Adds a PDU to the connection of an entry.
+fn follow_entry(entry: &mut Entry, line: u64, record: &Record, seq: u32, header: &Header) -> Remarks
+    // The remarks are those in the connection (`connection_remarks`).
+    ensures remarks { result ≡ connection_remarks entry.old line record.now seq header.now }
+    // The connection changes as `connection_after` says.
+    ensures after { entry.new ≡ connection_after entry.old line record.now seq header.now }
+{
+    follow_in(&mut entry.connection, line, record, seq, header)
+}
+
 /// Returns `true` if a PDU needs a further connection and one must be forgotten.
 pub(crate) fn has_no_room(connections: &Connections, header: &Header) -> bool
-    // The result is true exactly if 16 connections are kept and none has the PDU's identifiers.
-    ensures { result ≡ forgets connections.now.items header.now }
+    // The result is true exactly if `CONNECTIONS` are kept and none has the PDU's identifiers.
+    ensures { result ≡ forgets connections.now header.now }
 {
-    if !connections.is_full() {
+    if connections.list.len() < CONNECTIONS {
         return false;
     }
     let (low, high) = ends(header.sender, header.receiver);
-    place(connections, low, high).is_none()
+    place(connections.list.as_slice(), low, high).is_none()
 }
 
 /// Moves the connection between two ends to the end of the list, or adds a new one.
 fn bring_to_end(connections: &mut Connections, sender: u32, receiver: u32)
     // The list is the others that stay, in order, then the connection between `sender` and `receiver`, new if there
     // was none (`left`, `taken`).
-    ensures { connections.new.items
-        ≡ left sender receiver connections.old.items ++ taken sender receiver connections.old.items ∷ [] }
+    ensures { connections.new ≡ left sender receiver connections.old ++ taken sender receiver connections.old ∷ [] }
 {
     let (low, high) = ends(sender, receiver);
-    match place(connections, low, high) {
-        Some(place) => move_to_end(connections, place),
+    match place(connections.list.as_slice(), low, high) {
+        Some(place) => move_to_end(&mut connections.list, place),
         None => {
-            make_room(connections);
-            connections.push(open(low, high));
+            let mut entry = free_entry(&mut connections.list, &mut connections.spare);
+            entry.reopen(low, high);
+            push(&mut connections.list, entry);
         }
     }
 }
 
-/// Moves the connection at a place to the end of the list. The last one is not moved, since a connection has some 14
-/// KiB.
-fn move_to_end(connections: &mut Connections, place: usize)
-    requires { place < array_vec_len connections.old }
+/// Moves the connection at a place to the end of the list.
+fn move_to_end(list: &mut Vec<Entry>, place: usize)
+    requires { place < vec_len list.old }
     // The list is the others in order, then the connection at `place`.
-    ensures { connections.new.items
-        ≡ remove connections.old.items place ++ slice_index_or connections.old.items place (opened 0 0) ∷ [] }
+    ensures items { list.new.items ≡ remove list.old.items place ++ slice_index_or list.old.items place (opened 0 0) ∷ [] }
+    // The list has as many connections as before.
+    ensures len { vec_len list.new ≡ vec_len list.old }
+    // The room of the list does not become less.
+    ensures capacity { vec_capacity list.old ≤ vec_capacity list.new }
 {
-    let last = connections.len() - 1;
+    let last = list.len() - 1;
     if place < last {
-        let connection = connections.remove(place);
-        connections.push(connection);
+        let entry = list.remove(place);
+        push(list, entry);
     }
+}
+
+/// Adds an entry at the end of a list that has room.
+fn push(list: &mut Vec<Entry>, entry: Entry)
+    requires { vec_len list.old < vec_capacity list.old }
+    // The connection of the entry is the last one.
+    ensures items { list.new.items ≡ list.old.items ++ entry ∷ [] }
+    // The list has one connection more.
+    ensures len { vec_len list.new ≡ vec_len list.old + 1 }
+    // No room of the list is lost.
+    ensures capacity { vec_capacity list.old ≤ vec_capacity list.new }
+{
+    let _pushed = list.push(entry);
 }
 
 /// Returns the identifiers of two ends, the lower one first.
@@ -141,27 +251,37 @@ fn ends(sender: u32, receiver: u32) -> (u32, u32)
 }
 
 /// Returns the place of the connection with these identifiers.
-fn place(connections: &Connections, low: u32, high: u32) -> Option<usize>
+fn place(list: &[Entry], low: u32, high: u32) -> Option<usize>
     // The place is the first whose connection has exactly `low` and `high`.
-    ensures value { result ≡ place_of low high connections.now.items }
+    ensures value { result ≡ place_of low high list.now }
     // The place of a connection is within the list.
-    ensures bound { IfSome result (λ place. place < array_vec_len connections.now) }
-    // The list has at most `CONNECTIONS` connections.
-    ensures fits { array_vec_len connections.now ≤ CONNECTIONS }
+    ensures bound { IfSome result (λ place. place < length list.now) }
 {
-    connections.as_slice().iter().position(|connection| connection.low == low
-        && connection.high == high)
+    list.iter()
+        .position(|entry| has_ends(&entry.connection, low, high))
 }
 
-/// Forgets the connection silent longest, if the list is full.
-fn make_room(connections: &mut Connections)
-    // A full list loses its first connection; any other list does not change.
-    ensures left { connections.new.items ≡ room_made connections.old.items }
-    // After the call there is room for one more connection.
-    ensures room { array_vec_len connections.new < CONNECTIONS }
+/// Returns `true` if a connection has these identifiers.
+fn has_ends(connection: &Connection, low: u32, high: u32) -> bool
+    // Both identifiers are compared.
+    ensures { result ≡ ((connection.now.low == low) && (connection.now.high == high)) }
 {
-    if connections.is_full() {
-        let _forgotten = connections.remove(0);
+    connection.low == low && connection.high == high
+}
+
+/// Takes an entry for a further connection: a spare one, or that of the connection silent longest.
+fn free_entry(list: &mut Vec<Entry>, spare: &mut Vec<Entry>) -> Entry
+    requires { vec_len list.old + vec_len spare.old ≡ CONNECTIONS }
+    // A full list loses its first connection; any other list does not change.
+    ensures left { list.new.items ≡ room_made list.old.items }
+    // The entry is missing in one of both lists.
+    ensures taken { vec_len list.new + vec_len spare.new + 1 ≡ CONNECTIONS }
+    // The list keeps its room.
+    ensures capacity { vec_capacity list.new ≡ vec_capacity list.old }
+{
+    match spare.pop() {
+        Some(entry) => entry,
+        None => list.remove(0),
     }
 }
 
@@ -177,6 +297,7 @@ fn open(low: u32, high: u32) -> Connection
         routes: [None; CHANNELS],
         from_low: Direction::new(),
         from_high: Direction::new(),
+        sessions: Sessions::new(),
     }
 }
 
@@ -191,7 +312,7 @@ fn follow_in(
     // The remarks are those in the direction of the end that made the PDU, by what the other end said
     // (`connection_remarks`).
     ensures remarks { result ≡ connection_remarks connection.old line record.now seq header.now }
-    // The time, the channels and the direction of the PDU's end change; the other direction does not
+    // The time, the channels, the direction of the PDU's end and the sessions change; the other direction does not
     // (`connection_after`).
     ensures after { connection.new ≡ connection_after connection.old line record.now seq header.now }
 {
@@ -204,6 +325,30 @@ fn follow_in(
         line,
         channel,
     };
+    let remarks = follow_way(connection, from_low, place, seq, header);
+    note_session(
+        &mut connection.sessions,
+        from_low,
+        time,
+        header.kind,
+        &remarks,
+    );
+    remarks
+}
+
+/// Adds a PDU to the direction of its end.
+fn follow_way(
+    connection: &mut Connection,
+    from_low: bool,
+    place: Place,
+    seq: u32,
+    header: &Header,
+) -> Remarks
+    // The remarks are those in the direction of the end, by what the other end said (`way_remarks`).
+    ensures remarks { result ≡ way_remarks from_low connection.old place seq header.now }
+    // Only the direction of the end changes (`way_followed`).
+    ensures followed { connection.new ≡ way_followed from_low connection.old place seq header.now }
+{
     if from_low {
         let peer = see_peer(&connection.from_high, header);
         follow_pdu(&mut connection.from_low, peer, place, seq, header)
@@ -293,26 +438,32 @@ fn joins(route: &Route, record: &Record) -> bool
 pub(crate) fn note_damage(connections: &mut Connections, record: &Record)
     // Only the count of damage on that channel grows, in the last connection that has it; without one, nothing
     // changes (`damage_at`).
-    ensures { connections.new.items ≡ damage_noted connections.old.items record.now }
+    ensures { connections.new ≡ damage_noted connections.old record.now }
 {
-    if let Some(behind) = behind(connections, record) {
-        let place = connections.len() - 1 - behind;
-        damage(&mut connections.as_mut_slice()[place], record);
+    if let Some(behind) = behind(connections.list.as_slice(), record) {
+        let place = connections.list.len() - 1 - behind;
+        damage_entry(&mut connections.list.as_mut_slice()[place], record);
     }
 }
 
-/// Returns how many connections come after the last one that has a datagram's channel.
-fn behind(connections: &Connections, record: &Record) -> Option<usize>
-    // The number counts from the end of the list; `None` if no connection has the channel (`behind_of`).
-    ensures value { result ≡ behind_of connections.now.items record.now }
-    // The number is below the length of the list, so it names a connection.
-    ensures bound { IfSome result (λ behind. behind < array_vec_len connections.now) }
+/// Counts a datagram that is not a PDU in the connection of an entry.
+fn damage_entry(entry: &mut Entry, record: &Record)
+    // The connection changes as `connection_damaged` says.
+    ensures { entry.new ≡ connection_damaged entry.old record.now }
 {
-    connections
-        .as_slice()
-        .iter()
+    damage(&mut entry.connection, record);
+}
+
+/// Returns how many connections come after the last one that has a datagram's channel.
+fn behind(list: &[Entry], record: &Record) -> Option<usize>
+    // The number counts from the end of the list; `None` if no connection has the channel (`behind_of`).
+    ensures value { result ≡ behind_of list.now record.now }
+    // The number is below the length of the list, so it names a connection.
+    ensures bound { IfSome result (λ behind. behind < length list.now) }
+{
+    list.iter()
         .rev()
-        .position(|connection| is_way(connection, record))
+        .position(|entry| is_way(&entry.connection, record))
 }
 
 /// Returns `true` if a connection has a datagram's channel.

@@ -494,7 +494,7 @@ fn note_channel(
 
 /// Returns `true` if a PDU has not come before on any channel. For a stale one that is unknown, and the result is
 /// `false`.
-fn is_first_copy(together: Judged) -> bool
+pub(crate) fn is_first_copy(together: Judged) -> bool
     // The result is false exactly for a repeat, a differing and a stale number (`is_new`).
     ensures { result ≡ is_new together }
 {
@@ -637,7 +637,7 @@ pub fn silence(tally: &Tally, time: u64) -> u64
 }
 
 /// Returns the greater of a value, if there is one, and the greatest so far.
-fn greatest(more: Option<u32>, so_far: u32) -> u32
+pub(crate) fn greatest(more: Option<u32>, so_far: u32) -> u32
     // Without `more` the result is `so_far`, otherwise the greater of both.
     ensures { result ≡ greatest_of more so_far }
 {

@@ -1,22 +1,22 @@
 //! A whole capture: its connections, the datagrams that are not PDUs, and the sums over all.
 //!
-//! 16 connections are kept; for a further one, the connection silent longest is forgotten. A number further back than
+//! 64 connections are kept; for a further one, the connection silent longest is forgotten. A number further back than
 //! the window is stale and changes only its count, so a copy on a slow channel is not a restart.
 
-ghost use Rattle.std.specs.Prelude.{◌≡◌, [], fold};
+ghost use Rattle.std.specs.Prelude.{◌≡◌, [], IfOk, fold};
 ghost use Rattle.capture.specs.Whole.{connections_after, counted_in, damaged_after, forgotten_after, forgotten_with, gone_after, gone_with, no_totals, remark_of, totals_of, window_counted};
 ghost use Rattle.capture.specs.Numbers.{counted};
 
-use crate::connections::{Connection, Connections, follow, has_no_room, note_damage};
+use crate::connections::{Connection, Connections, Entry, follow, has_no_room, note_damage};
 use crate::direction::Remarks;
 use crate::heard::{Header, Heard};
 use crate::line::Record;
 use crate::window::Window;
-use arrayvec::ArrayVec;
 use red_layer::pdu::RedFault;
 use safe_pdu::SafeFault;
+use std::alloc::{AllocError, Global};
 
-/// The state of a capture, in memory of a fixed size.
+/// The state of a capture, in memory of a fixed size that is there from the beginning.
 #[derive(Drop)]
 pub struct Following {
     /// The connections; the last one is the one with the latest PDU.
@@ -60,46 +60,50 @@ pub struct Totals {
 }
 
 impl Following {
-    /// Returns the state before the first datagram.
-    pub fn new() -> Self
+    /// Returns the state before the first datagram, with the memory for all connections.
+    ///
+    /// # Errors
+    ///
+    /// `AllocError` if there is too little memory.
+    pub fn new(alloc: Global) -> Result<Self, AllocError>
         // A new `Following` has no connection.
-        ensures connections { result.connections.items ≡ [] }
+        ensures connections { IfOk result (λ following. following.connections ≡ []) }
         // No datagram is counted in a new `Following`.
-        ensures datagrams { result.datagrams ≡ 0 }
+        ensures datagrams { IfOk result (λ following. following.datagrams ≡ 0) }
         // No damaged datagram is counted in a new `Following`.
-        ensures damaged { result.damaged ≡ 0 }
+        ensures damaged { IfOk result (λ following. following.damaged ≡ 0) }
         // A new `Following` has no sums of forgotten connections.
-        ensures gone { result.gone ≡ no_totals }
+        ensures gone { IfOk result (λ following. following.gone ≡ no_totals) }
         // A new `Following` has forgotten no connection.
-        ensures forgotten { result.forgotten ≡ 0 }
+        ensures forgotten { IfOk result (λ following. following.forgotten ≡ 0) }
     {
-        Following {
-            connections: ArrayVec::new(),
+        Ok(Following {
+            connections: Connections::new(alloc)?,
             datagrams: 0,
             damaged: 0,
             gone: new_totals(),
             forgotten: 0,
-        }
+        })
     }
 
     /// Adds a datagram on this line to the capture and returns what is remarkable in it.
     pub fn hear(&mut self, line: u64, record: &Record, heard: &Heard) -> Remark
         // For a PDU the remark has its number, its header and its remarks; for any other datagram, the fault of the
         // layer that rejects it.
-        ensures remark { result ≡ remark_of self.old.connections.items line record.now heard.now }
+        ensures remark { result ≡ remark_of self.old.connections line record.now heard.now }
         // A PDU changes its own connection. Any other datagram changes only the count of damage in the last
         // connection with its channel (`damage_noted`).
-        ensures connections { self.new.connections.items
-            ≡ connections_after self.old.connections.items line record.now heard.now }
+        ensures connections { self.new.connections
+            ≡ connections_after self.old.connections line record.now heard.now }
         // The count of datagrams grows by 1.
         ensures datagrams { self.new.datagrams ≡ counted self.old.datagrams 1 }
         // The count of damaged datagrams grows by 1 exactly if the datagram is not a PDU.
         ensures damaged { self.new.damaged ≡ damaged_after self.old.damaged heard.now }
         // If a connection is forgotten, its sums are added to those of the forgotten ones.
-        ensures gone { self.new.gone ≡ gone_after self.old.gone self.old.connections.items heard.now }
+        ensures gone { self.new.gone ≡ gone_after self.old.gone self.old.connections heard.now }
         // If a connection is forgotten, the count of forgotten ones grows by 1.
         ensures forgotten { self.new.forgotten
-            ≡ forgotten_after self.old.forgotten self.old.connections.items heard.now }
+            ≡ forgotten_after self.old.forgotten self.old.connections heard.now }
     {
         self.datagrams = self.datagrams.saturating_add(1);
         match *heard {
@@ -126,7 +130,7 @@ impl Following {
 /// Returns the count of forgotten connections after a PDU.
 fn count_forgotten(forgotten: u64, connections: &Connections, header: &Header) -> u64
     // The count grows by 1 exactly if the PDU needs a connection and there is no room (`forgets`).
-    ensures { result ≡ forgotten_with forgotten connections.now.items header.now }
+    ensures { result ≡ forgotten_with forgotten connections.now header.now }
 {
     if has_no_room(connections, header) {
         return forgotten.saturating_add(1);
@@ -137,22 +141,23 @@ fn count_forgotten(forgotten: u64, connections: &Connections, header: &Header) -
 /// Returns the sums of forgotten connections after a PDU.
 fn sum_forgotten(gone: Totals, connections: &Connections, header: &Header) -> Totals
     // If a connection is forgotten, it is the first one, and its sums are added.
-    ensures { result ≡ gone_with gone connections.now.items header.now }
+    ensures { result ≡ gone_with gone connections.now header.now }
 {
     if has_no_room(connections, header) {
-        return add_connection(gone, &connections.as_slice()[0]);
+        let first = &connections.as_slice()[0];
+        return add_connection(gone, &first.connection);
     }
     gone
 }
 
 /// Returns the sums over all connections; `gone` has those of the forgotten ones.
-pub fn sum_up(gone: Totals, connections: &[Connection]) -> Totals
+pub fn sum_up(gone: Totals, connections: &[Entry]) -> Totals
     // The sums of both directions of each connection are added to `gone`, each limited to 2^64 - 1.
     ensures { result ≡ totals_of gone connections.now }
 {
     connections.iter().fold(
         gone,
-        |totals, connection| add_connection(totals, connection),
+        |totals, entry| add_connection(totals, &entry.connection),
     )
 }
 

@@ -1,7 +1,7 @@
 //! Reading of recorded connections: datagrams from a text or a pcap or pcapng file, and what is remarkable in them.
 //!
 //! A line of a text is what `tshark -T fields -e frame.time_epoch -e ip.src -e udp.srcport -e ip.dst -e udp.dstport
-//! -e udp.payload` prints for a datagram. Nothing here allocates, and no call waits.
+//! -e udp.payload` prints for a datagram. Only `Following::new` allocates, and no call waits.
 //!
 //! The laws hold for fewer than 2^64 numbers and datagrams. Two datagrams with one fingerprint count as equal; that
 //! is not proved, since a fingerprint has only 64 bits.
@@ -18,10 +18,11 @@ mod law;
 mod line;
 mod places;
 mod ports;
+mod sessions;
 mod window;
 mod words;
 
-pub use connections::{CONNECTIONS, Connection, Connections, Route, follow};
+pub use connections::{CONNECTIONS, Connection, Connections, Entry, Route, follow};
 pub use direction::{
     CHANNELS, Confirmation, Direction, Peer, Place, Remarks, SessionOpening, Tally, follow_pdu,
     silence,
@@ -36,4 +37,8 @@ pub use interfaces::Interface;
 pub use law::sums_law;
 pub use line::{Address, Buffer, Host, LineFault, PAYLOAD_ROOM, Record, read_line};
 pub use ports::{PortRange, Ports, RANGES, is_followed, read_ports};
+pub use sessions::{
+    Asking, Parting, SESSIONS, Session, SessionTotals, Sessions, Side, add_up_sessions, alone,
+    is_unanswered, lost_alone, lost_everywhere,
+};
 pub use window::{Judged, KEPT, LATE_MAX, PASSED_MAX, Seen, Window, judge, note};

@@ -1,11 +1,13 @@
 -- The line that is printed for a line or frame that is not a datagram.
-use Rattle.std.specs.Prelude.{ℕ, List, [], ◌∷◌, codes}
+use Rattle.std.specs.Prelude.{ℕ, ◌==◌, ◌&&◌, ◌||◌, Bool, nat_eq, List, [], ◌∷◌, codes, slice_index, if◌then◌else◌, Option, Some, None}
 use Rattle.std.specs.Fmt.{decimal}
 use Rattle.capture.specs.declared.file.FileFault.{FileFault}
 use Rattle.capture.specs.declared.file.FileFault.TheVariants as file
 use Rattle.capture.specs.declared.line.LineFault.{LineFault}
 use Rattle.capture.specs.declared.line.LineFault.TheVariants.{Fields, Time, Source, Destination, Long, Payload}
 use Rattle.pdu_text.specs.Lines.{joined}
+use Rattle.capture_text.specs.declared.running.ForeignForm.{ForeignForm}
+use Rattle.capture_text.specs.declared.running.ForeignForm.TheVariants.{Gzip, Zstd, Snoop, ModifiedPcap}
 use Rattle.capture_text.specs.declared.frames.FrameFault.{FrameFault}
 use Rattle.capture_text.specs.declared.frames.FrameFault.TheVariants as frame
 
@@ -48,3 +50,35 @@ file_fault_word file.Interfaces = codes "too many interfaces"
 unfoldable pub recording_text : ℕ → List ℕ → List ℕ
 recording_text frames why =
     joined (codes "recording: unreadable behind frame " ∷ decimal frames ∷ codes ": " ∷ why ∷ codes "\n" ∷ [])
+
+-- The file begins with these four bytes.
+abbrev pub has_front : List ℕ → List ℕ → Bool
+has_front front wanted =
+    (slice_index front 0 == slice_index wanted 0)
+    && ((slice_index front 1 == slice_index wanted 1) && ((slice_index front 2 == slice_index wanted 2) && (slice_index front 3 == slice_index wanted 3)))
+
+-- The form of a file that is not followed, by its first four bytes; gzip has two of its own.
+abbrev pub foreign_of : List ℕ → Option ForeignForm
+foreign_of front =
+    if has_front front (31 ∷ 139 ∷ slice_index front 2 ∷ slice_index front 3 ∷ []) then Some Gzip
+    else if has_front front (40 ∷ 181 ∷ 47 ∷ 253 ∷ []) then Some Zstd
+    else if has_front front (115 ∷ 110 ∷ 111 ∷ 111 ∷ []) then Some Snoop
+    else if has_front front (161 ∷ 178 ∷ 205 ∷ 52 ∷ []) || has_front front (52 ∷ 205 ∷ 178 ∷ 161 ∷ []) then Some ModifiedPcap
+    else None
+
+-- Why a file is not followed, and what to do with it.
+abbrev pub foreign_word : ForeignForm → List ℕ
+foreign_word Gzip = codes "it is compressed by gzip; use gzip -dc FILE | rasta follow -"
+foreign_word Zstd = codes "it is compressed by zstd; use zstd -dc FILE | rasta follow -"
+foreign_word Snoop = codes "it is a snoop file; use editcap -F pcapng FILE NEW"
+foreign_word ModifiedPcap = codes "it is a modified pcap file; use editcap -F pcapng FILE NEW"
+
+-- The line about forgotten connections.
+unfoldable pub forgotten_text : ℕ → List ℕ
+forgotten_text forgotten =
+    joined
+    (codes "connections: " ∷ decimal forgotten ∷ codes " were forgotten, since more than 64 were recorded at once; choose some by --ports\n" ∷ [])
+
+-- The line about forgotten connections, if there are any.
+abbrev pub forgotten_told : ℕ → List ℕ
+forgotten_told forgotten = if nat_eq forgotten 0 then [] else forgotten_text forgotten

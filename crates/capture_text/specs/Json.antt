@@ -14,12 +14,14 @@ use Rattle.capture.specs.declared.line.Address.{Address}
 use Rattle.capture.specs.declared.window.Window.{Window}
 use Rattle.capture.specs.Following.{silence_of}
 use Rattle.capture.specs.Numbers.{open_window}
+use Rattle.capture.specs.Sessions.{session_sums}
 use Rattle.pdu_text.specs.Lines.{joined}
 use Rattle.capture_text.specs.declared.summary.CaptureCounts.{CaptureCounts}
 use Rattle.capture_text.specs.declared.summary.Scale.{Scale}
 use Rattle.capture_text.specs.Pieces.{address_text}
-use Rattle.capture_text.specs.Sentence.{longest_in, lost_on_all, lost_on_channels, oldest_in, up_of}
+use Rattle.capture_text.specs.Sentence.{longest_in, lost_on_all, oldest_in, up_of}
 use Rattle.capture_text.specs.SummaryText.{datagrams_of}
+use Rattle.capture_text.specs.TableJson.{sessions_json}
 
 -- A time; an unknown one is null.
 abbrev pub time_json : ℕ → List ℕ
@@ -174,19 +176,37 @@ direction_json from to c d =
 unfoldable pub name_json : Connection → List ℕ
 name_json c = joined (codes "{\"low\":" ∷ decimal c.low ∷ codes ",\"high\":" ∷ decimal c.high ∷ codes ",\"up\":" ∷ [])
 
--- The time of the last PDU, both losses, the greatest age and the longest wait.
-unfoldable pub lost_json : Connection → List ℕ
-lost_json c =
+-- The time of the last PDU, and both losses.
+unfoldable pub losses_json : ℕ → ℕ → ℕ → List ℕ
+losses_json last everywhere alone =
     joined
-    (codes ",\"last\":" ∷ decimal c.last ∷ codes ",\"lost_on_channels\":" ∷ decimal (lost_on_channels c) ∷ codes ",\"lost_on_all\":"
-    ∷ decimal (lost_on_all c) ∷ codes ",\"age\":" ∷ decimal (oldest_in c) ∷ codes ",\"waits\":" ∷ decimal (longest_in c) ∷ codes ",\"directions\":["
-    ∷ [])
+    (codes ",\"last\":" ∷ decimal last ∷ codes ",\"lost_on_every_channel\":" ∷ decimal everywhere ∷ codes ",\"lost_on_one_channel\":"
+    ∷ decimal alone ∷ [])
+
+-- The losses of a connection.
+unfoldable pub lost_json : Connection → List ℕ
+lost_json c = losses_json c.last (lost_on_all c) (session_sums c.sessions).alone
+
+-- An age and a wait.
+unfoldable pub both_json : ℕ → ℕ → List ℕ
+both_json age waits = joined (codes ",\"age\":" ∷ decimal age ∷ codes ",\"waits\":" ∷ decimal waits ∷ [])
+
+-- The greatest age and the longest wait of a connection.
+abbrev pub greatest_json : Connection → List ℕ
+greatest_json c = both_json (oldest_in c) (longest_in c)
+
+-- What holds for a whole connection.
+unfoldable pub whole_json : Connection → List ℕ
+whole_json c = name_json c ++ coming_json c ++ lost_json c ++ greatest_json c
+
+-- Both directions of a connection, and the end of its object.
+unfoldable pub directions_json : Connection → List ℕ
+directions_json c =
+    codes ",\"directions\":[" ++ direction_json c.low c.high c c.from_low ++ codes "," ++ direction_json c.high c.low c c.from_high ++ codes "]}"
 
 -- The object of a connection.
 unfoldable pub connection_json : Connection → List ℕ
-connection_json c =
-    name_json c ++ coming_json c ++ lost_json c ++ direction_json c.low c.high c c.from_low ++ codes ","
-    ++ direction_json c.high c.low c c.from_high ++ codes "]}"
+connection_json c = whole_json c ++ sessions_json c.low c.high c.sessions ++ directions_json c
 
 -- A connection after a comma.
 unfoldable pub listed_json : Connection → List ℕ

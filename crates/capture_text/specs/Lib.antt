@@ -3,6 +3,8 @@ pub mod Reasons
 pub mod RemarkText
 pub mod RecordText
 pub mod Choice
+pub mod TableText
+pub mod TableJson
 pub mod Sentence
 pub mod SummaryText
 pub mod Json

@@ -1,19 +1,19 @@
 -- The sentence about a connection after its sums.
-use Rattle.std.specs.Prelude.{ℕ, max, ◌&&◌, Bool, true, false, nat_le, List, [], ◌∷◌, ◌++◌, codes, fold, if◌then◌else◌, Option, Some, None, is_none}
+use Rattle.std.specs.Prelude.{ℕ, max, ◌&&◌, Bool, true, false, nat_le, List, [], ◌∷◌, ◌++◌, codes, if◌then◌else◌, Option, Some, None}
 use Rattle.std.specs.Fmt.{decimal}
 use Rattle.safe_pdu.specs.declared.Kind.{Kind}
 use Rattle.safe_pdu.specs.declared.Kind.TheVariants.{ConnResp}
-use Rattle.safe_pdu.specs.declared.Leaving.{Leaving}
 use Rattle.capture.specs.declared.connections.Connection.{Connection}
 use Rattle.capture.specs.declared.direction.Direction.{Direction}
 use Rattle.capture.specs.declared.direction.SessionOpening.{SessionOpening}
-use Rattle.capture.specs.declared.window.Window.{Window}
+use Rattle.capture.specs.declared.sessions.SessionTotals.{SessionTotals}
 use Rattle.capture.specs.Following.{is_request}
 use Rattle.capture.specs.Numbers.{counted}
+use Rattle.capture.specs.Sessions.{session_sums}
 use Rattle.pdu_text.specs.Lines.{joined}
 use Rattle.capture_text.specs.declared.summary.Scale.{Scale}
 use Rattle.capture_text.specs.Pieces.{reached_text, since_text}
-use Rattle.capture_text.specs.Reasons.{leaving_words}
+use Rattle.capture_text.specs.TableText.{lost_text}
 
 -- The last opening is a ConnReq.
 abbrev pub has_asked : Option SessionOpening → Bool
@@ -41,56 +41,23 @@ up_of d e =
     else if is_answered e d then Some d.tally.opened
     else None
 
--- The time at which a connection came up.
-unfoldable pub at_text : ℕ → ℕ → List ℕ
-at_text first time = codes " came up at " ++ since_text first time
-
--- The time at which a connection came up, or that this was not seen.
-abbrev pub up_text : ℕ → Option ℕ → List ℕ
-up_text first None = codes " was not seen to come up"
-up_text first (Some time) = at_text first time
-
--- The disconnect of an end: identifier, time, reason.
-unfoldable pub parting_text : ℕ → ℕ → ℕ → Leaving → List ℕ
-parting_text first end time leaving =
-    joined (codes ", " ∷ decimal end ∷ codes " left at " ∷ []) ++ since_text first time ++ leaving_words leaving
-
--- The disconnect of an end, if there was one.
-abbrev pub parted_text : ℕ → ℕ → ℕ → Option Leaving → List ℕ
-parted_text first end time None = []
-parted_text first end time (Some leaving) = parting_text first end time leaving
-
--- Neither end has disconnected since its last opening.
-abbrev pub is_held : Connection → Bool
-is_held c = is_none c.from_low.tally.leaving && is_none c.from_high.tally.leaving
-
--- No end disconnected; the time of the last PDU.
+-- The time of the last PDU.
 unfoldable pub last_heard_text : ℕ → ℕ → List ℕ
-last_heard_text first last = codes ", nobody left, heard last at " ++ since_text first last
+last_heard_text first last = codes ", last PDU at " ++ since_text first last
 
--- The time of the last PDU, if no end disconnected.
-abbrev pub held_text : ℕ → Connection → List ℕ
-held_text first c = if is_held c then last_heard_text first c.last else []
+-- How many sessions a connection had, how many came up, and how many nobody answered.
+unfoldable pub came_text : ℕ → SessionTotals → List ℕ
+came_text number t =
+    joined
+    (codes " sessions " ∷ decimal number ∷ codes ", came up " ∷ decimal t.up ∷ codes ", nobody answered " ∷ decimal t.unanswered ∷ [])
 
--- A sum with the missing numbers of one more channel.
-abbrev pub with_missing : ℕ → Window → ℕ
-with_missing lost w = counted lost w.missing
-
--- The missing numbers on the channels of a direction.
-abbrev pub lost_in : List Window → ℕ
-lost_in ws = fold with_missing 0 ws
-
--- The losses on single channels, even if another channel had the number.
-abbrev pub lost_on_channels : Connection → ℕ
-lost_on_channels c = counted (lost_in c.from_low.channels) (lost_in c.from_high.channels)
+-- How many sessions an end left, and how many by a timeout.
+unfoldable pub gone_text : SessionTotals → List ℕ
+gone_text t = joined (codes ", ended by a DiscReq " ∷ decimal t.left ∷ codes ", by timeout " ∷ decimal t.timeouts ∷ [])
 
 -- The losses on all channels.
 abbrev pub lost_on_all : Connection → ℕ
 lost_on_all c = counted c.from_low.together.missing c.from_high.together.missing
-
--- Both losses in words.
-unfoldable pub lost_text : ℕ → ℕ → List ℕ
-lost_text channels all = joined (codes ", lost on single channels " ∷ decimal channels ∷ codes " on all " ∷ decimal all ∷ [])
 
 -- The greatest age of a confirmed timestamp of either end.
 abbrev pub oldest_in : Connection → ℕ
@@ -109,19 +76,13 @@ near_text t_max longest =
 unfoldable pub name_text : ℕ → ℕ → List ℕ
 name_text low high = joined (codes "connection " ∷ decimal low ∷ codes "-" ∷ decimal high ∷ [])
 
--- When the connection came up.
-abbrev pub coming_text : ℕ → Connection → List ℕ
-coming_text first c = up_text first (up_of c.from_low c.from_high)
-
--- Which ends disconnected, when and why, or that neither did.
-unfoldable pub going_text : ℕ → Connection → List ℕ
-going_text first c =
-    parted_text first c.low c.from_low.tally.left c.from_low.tally.leaving
-    ++ parted_text first c.high c.from_high.tally.left c.from_high.tally.leaving ++ held_text first c
+-- The sums over all sessions of a connection.
+unfoldable pub course_text : Connection → List ℕ
+course_text c = came_text c.sessions.current.number (session_sums c.sessions) ++ gone_text (session_sums c.sessions)
 
 -- The losses of a connection.
 abbrev pub losses_text : Connection → List ℕ
-losses_text c = lost_text (lost_on_channels c) (lost_on_all c)
+losses_text c = lost_text (lost_on_all c) (session_sums c.sessions).alone
 
 -- How close a connection came to T_max.
 abbrev pub nearness_text : ℕ → Connection → List ℕ
@@ -130,4 +91,4 @@ nearness_text t_max c = near_text t_max (longest_in c)
 -- The whole sentence.
 unfoldable pub sentence_text : Scale → Connection → List ℕ
 sentence_text s c =
-    name_text c.low c.high ++ coming_text s.first c ++ going_text s.first c ++ losses_text c ++ nearness_text s.t_max c
+    name_text c.low c.high ++ course_text c ++ last_heard_text s.first c.last ++ losses_text c ++ nearness_text s.t_max c

@@ -19,6 +19,7 @@ use Rattle.pdu_text.specs.Lines.{joined}
 use Rattle.capture_text.specs.Pieces.{address_text, channel_text, duration_text, ends_text, reached_text, since_text}
 use Rattle.capture_text.specs.Reasons.{leaving_words}
 use Rattle.capture_text.specs.Sentence.{sentence_text}
+use Rattle.capture_text.specs.TableText.{sessions_text}
 
 -- How often an end opened, and by what.
 abbrev pub opening_text : Option SessionOpening → ℕ → List ℕ
@@ -123,10 +124,10 @@ places_text from to routes d =
 unfoldable pub half_text : Scale → ℕ → ℕ → Connection → Direction → List ℕ
 half_text s from to c d = direction_text s c.last from to d ++ places_text from to c.routes d
 
--- The lines of a connection: both directions, then its sentence.
+-- The lines of a connection: both directions, then its sessions and its sentence.
 unfoldable pub connection_text : Scale → Connection → List ℕ
 connection_text s c =
-    half_text s c.low c.high c c.from_low ++ half_text s c.high c.low c c.from_high ++ sentence_text s c
+    half_text s c.low c.high c c.from_low ++ half_text s c.high c.low c c.from_high ++ sessions_text s.first c.low c.high c.sessions ++ sentence_text s c
 
 -- The lines of all connections; the one with the latest PDU is the last.
 abbrev pub connections_text : Scale → List Connection → List ℕ

@@ -19,6 +19,7 @@ use capture::{
     read_line,
 };
 use safe_pdu::CodeRule;
+use std::alloc::{AllocError, Global};
 use std::io;
 use std::io::Write;
 
@@ -62,31 +63,35 @@ pub struct Course {
 }
 
 impl Course {
-    /// Returns the state before the first line.
-    pub fn new() -> Self
+    /// Returns the state before the first line, with the memory for all connections.
+    ///
+    /// # Errors
+    ///
+    /// `AllocError` if there is too little memory.
+    pub fn new(alloc: Global) -> Result<Self, AllocError>
         // A new `Course` has no connection.
-        ensures connections { result.following.connections.items ≡ [] }
+        ensures connections { IfOk result (λ course. course.following.connections ≡ []) }
         // A new `Course` has counted no datagram.
-        ensures datagrams { result.following.datagrams ≡ 0 }
+        ensures datagrams { IfOk result (λ course. course.following.datagrams ≡ 0) }
         // A new `Course` has counted no damaged datagram.
-        ensures damaged { result.following.damaged ≡ 0 }
+        ensures damaged { IfOk result (λ course. course.following.damaged ≡ 0) }
         // A new `Course` has no sums of forgotten connections.
-        ensures gone { result.following.gone ≡ no_totals }
+        ensures gone { IfOk result (λ course. course.following.gone ≡ no_totals) }
         // A new `Course` has forgotten no connection.
-        ensures forgotten { result.following.forgotten ≡ 0 }
+        ensures forgotten { IfOk result (λ course. course.following.forgotten ≡ 0) }
         // A new `Course` has no time of a first datagram.
-        ensures first { result.first ≡ None }
+        ensures first { IfOk result (λ course. course.first ≡ None) }
         // A new `Course` has read no line.
-        ensures lines { result.lines ≡ 0 }
+        ensures lines { IfOk result (λ course. course.lines ≡ 0) }
         // A new `Course` has no unreadable line.
-        ensures unreadable { result.unreadable ≡ 0 }
+        ensures unreadable { IfOk result (λ course. course.unreadable ≡ 0) }
     {
-        Course {
-            following: Following::new(),
+        Ok(Course {
+            following: Following::new(alloc)?,
             first: None,
             lines: 0,
             unreadable: 0,
-        }
+        })
     }
 
     /// Adds a line without its line feed, and writes what is printed of it. Returns the fault of a line that is not a
@@ -108,16 +113,16 @@ impl Course {
         ensures lines { self.new.lines ≡ counted self.old.lines 1 }
         // The first datagram that is followed sets the time; no other line changes it (`first_behind`).
         ensures first { self.new.first ≡ first_behind self.old.first
-            (found_in self.old.following.connections.items (counted self.old.lines 1)
+            (found_in self.old.following.connections (counted self.old.lines 1)
             (heard_line asked.now (line_of line.now))) }
         // The count of unreadable lines grows by 1 exactly if the line is not a datagram; one without a chosen port
         // is not counted here (`heard_line`).
         ensures unreadable { self.new.unreadable ≡ unreadable_behind self.old.unreadable
-            (found_in self.old.following.connections.items (counted self.old.lines 1)
+            (found_in self.old.following.connections (counted self.old.lines 1)
             (heard_line asked.now (line_of line.now))) }
         // A followed datagram changes the connections as `connections_after` says; any other line changes none.
-        ensures connections { self.new.following.connections.items
-            ≡ connections_behind self.old.following.connections.items (counted self.old.lines 1)
+        ensures connections { self.new.following.connections
+            ≡ connections_behind self.old.following.connections (counted self.old.lines 1)
             (heard_line asked.now (line_of line.now)) }
         // The count of datagrams grows by 1 exactly if the datagram of the line is followed (`datagrams_behind`).
         ensures datagrams { self.new.following.datagrams
@@ -125,24 +130,24 @@ impl Course {
         // If a connection is forgotten for the datagram, its sums are added to those of the forgotten ones
         // (`gone_behind`).
         ensures gone { self.new.following.gone
-            ≡ gone_behind self.old.following.gone self.old.following.connections.items
+            ≡ gone_behind self.old.following.gone self.old.following.connections
             (heard_line asked.now (line_of line.now)) }
         // The count of damaged datagrams grows by 1 exactly if a followed datagram is not a PDU.
         ensures damaged { self.new.following.damaged
             ≡ damaged_behind self.old.following.damaged (heard_line asked.now (line_of line.now)) }
         // If a connection is forgotten for the datagram, the count of forgotten ones grows by 1 (`forgotten_behind`).
         ensures forgotten { self.new.following.forgotten
-            ≡ forgotten_behind self.old.following.forgotten self.old.following.connections.items
+            ≡ forgotten_behind self.old.following.forgotten self.old.following.connections
             (heard_line asked.now (line_of line.now)) }
         // The result is the fault of a line that is not a datagram, and `None` for any other line.
         ensures fault { IfOk result (λ fault. fault ≡ fault_in
-            (found_in self.old.following.connections.items (counted self.old.lines 1)
+            (found_in self.old.following.connections (counted self.old.lines 1)
             (heard_line asked.now (line_of line.now)))) }
         // On success the line of a followed datagram is appended, if its remark is chosen and the form is lines; then
         // its telegrams, if they are asked for. For any other line nothing is appended.
         ensures written { OnOk result (Appends (W.contents writer.old) (W.contents writer.new)
             (found_text asked.now self.old.first (counted self.old.lines 1) (payload_in (line_of line.now))
-            (found_in self.old.following.connections.items (counted self.old.lines 1)
+            (found_in self.old.following.connections (counted self.old.lines 1)
             (heard_line asked.now (line_of line.now))))) }
     {
         self.lines = self.lines.saturating_add(1);
@@ -214,7 +219,7 @@ impl Course {
         // On success the sums over all kept and forgotten connections are appended, with the counts of the course, in
         // the form that was `asked` for (`course_text`).
         ensures { OnOk result (Appends (W.contents writer.old) (W.contents writer.new)
-            (course_text asked.now self.now.first self.now.following.gone self.now.following.connections.items
+            (course_text asked.now self.now.first self.now.following.gone self.now.following.connections
             (counts_of self.now.following.datagrams self.now.following.damaged self.now.following.forgotten
             self.now.unreadable))) }
     {
@@ -289,20 +294,20 @@ fn follow(
     heard: Result<Option<(Record, Heard)>, LineFault>,
 ) -> Result<Option<(Record, Remark)>, LineFault>
     // The result is the remark on a datagram that is followed; a fault stays a fault (`found_in`).
-    ensures found { result ≡ found_in following.old.connections.items number heard }
+    ensures found { result ≡ found_in following.old.connections number heard }
     // Only a datagram that is followed changes the connections.
-    ensures connections { following.new.connections.items
-        ≡ connections_behind following.old.connections.items number heard }
+    ensures connections { following.new.connections
+        ≡ connections_behind following.old.connections number heard }
     // Only a datagram that is followed adds to the count of datagrams.
     ensures datagrams { following.new.datagrams ≡ datagrams_behind following.old.datagrams heard }
     // Only a followed datagram that is not a PDU adds to the count of damaged ones.
     ensures damaged { following.new.damaged ≡ damaged_behind following.old.damaged heard }
     // If the datagram makes a connection forgotten, its sums are kept.
     ensures gone { following.new.gone
-        ≡ gone_behind following.old.gone following.old.connections.items heard }
+        ≡ gone_behind following.old.gone following.old.connections heard }
     // If the datagram makes a connection forgotten, that is counted.
     ensures forgotten { following.new.forgotten
-        ≡ forgotten_behind following.old.forgotten following.old.connections.items heard }
+        ≡ forgotten_behind following.old.forgotten following.old.connections heard }
 {
     match heard {
         Ok(Some((record, heard))) => {

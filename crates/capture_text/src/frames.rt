@@ -65,8 +65,8 @@ impl Course {
         ensures unreadable { self.new.unreadable
             ≡ unreadable_seen self.old.unreadable (frame_seen asked.now.ports link time octets.now) }
         // A followed datagram changes the connections as `connections_after` says; any other frame changes none.
-        ensures connections { self.new.following.connections.items
-            ≡ connections_seen asked.now.rule self.old.following.connections.items (counted self.old.lines 1) octets.now
+        ensures connections { self.new.following.connections
+            ≡ connections_seen asked.now.rule self.old.following.connections (counted self.old.lines 1) octets.now
             (frame_seen asked.now.ports link time octets.now) }
         // The count of datagrams grows by 1 exactly if the datagram of the frame is followed.
         ensures datagrams { self.new.following.datagrams
@@ -77,18 +77,18 @@ impl Course {
             (frame_seen asked.now.ports link time octets.now) }
         // If a connection is forgotten for the datagram, its sums are added to those of the forgotten ones.
         ensures gone { self.new.following.gone
-            ≡ gone_seen asked.now.rule self.old.following.gone self.old.following.connections.items octets.now
+            ≡ gone_seen asked.now.rule self.old.following.gone self.old.following.connections octets.now
             (frame_seen asked.now.ports link time octets.now) }
         // If a connection is forgotten for the datagram, the count of forgotten ones grows by 1.
         ensures forgotten { self.new.following.forgotten
-            ≡ forgotten_seen asked.now.rule self.old.following.forgotten self.old.following.connections.items octets.now
+            ≡ forgotten_seen asked.now.rule self.old.following.forgotten self.old.following.connections octets.now
             (frame_seen asked.now.ports link time octets.now) }
         // The result is the fault of a frame that is not read, and `None` for any other frame.
         ensures fault { IfOk result (λ fault. fault ≡ fault_seen (frame_seen asked.now.ports link time octets.now)) }
         // On success the line and telegrams of a followed datagram are appended, as far as they are asked for; for
         // any other frame, nothing is (`seen_text`).
         ensures written { OnOk result (Appends (W.contents writer.old) (W.contents writer.new)
-            (seen_text asked.now self.old.first self.old.following.connections.items (counted self.old.lines 1) octets.now
+            (seen_text asked.now self.old.first self.old.following.connections (counted self.old.lines 1) octets.now
             (frame_seen asked.now.ports link time octets.now))) }
     {
         self.lines = self.lines.saturating_add(1);
@@ -120,8 +120,8 @@ impl Course {
         // The time of the first datagram is set if there was none.
         ensures first { self.new.first ≡ Some (first_of self.old.first «record».now.time) }
         // The connections are those after this datagram, decoded with the rule that was `asked`.
-        ensures connections { self.new.following.connections.items
-            ≡ connections_after self.old.following.connections.items self.old.lines «record».now
+        ensures connections { self.new.following.connections
+            ≡ connections_after self.old.following.connections self.old.lines «record».now
             (heard_of asked.now.rule payload.now) }
         // The datagram is counted.
         ensures datagrams { self.new.following.datagrams ≡ counted self.old.following.datagrams 1 }
@@ -130,16 +130,16 @@ impl Course {
             ≡ damaged_after self.old.following.damaged (heard_of asked.now.rule payload.now) }
         // The sums of a connection that is forgotten for the datagram are kept.
         ensures gone { self.new.following.gone
-            ≡ gone_after self.old.following.gone self.old.following.connections.items
+            ≡ gone_after self.old.following.gone self.old.following.connections
             (heard_of asked.now.rule payload.now) }
         // A connection that is forgotten for the datagram is counted.
         ensures forgotten { self.new.following.forgotten
-            ≡ forgotten_after self.old.following.forgotten self.old.following.connections.items
+            ≡ forgotten_after self.old.following.forgotten self.old.following.connections
             (heard_of asked.now.rule payload.now) }
         // On success the line and the telegrams of the datagram are appended, as far as they are asked for.
         ensures written { OnOk result (Appends (W.contents writer.old) (W.contents writer.new)
             (told_text asked.now (first_of self.old.first «record».now.time) self.old.lines «record».now
-            (remark_of self.old.following.connections.items self.old.lines «record».now
+            (remark_of self.old.following.connections self.old.lines «record».now
             (heard_of asked.now.rule payload.now)) payload.now)) }
     {
         let number = self.lines;

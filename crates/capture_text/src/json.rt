@@ -3,14 +3,15 @@
 ghost use Rattle.std.specs.Prelude.{◌≡◌, ◌<◌, OnOk, None, Some};
 ghost use Rattle.std.specs.Io.KnownBytes.{Appends};
 ghost use Rattle.capture.specs.Whole.{totals_of};
-ghost use Rattle.capture_text.specs.Json.{ages_json, came_json, channel_json, channels_json, coming_json, comma, connection_json, connections_json, counts_json, damaged_json, direction_json, ends_json, high_json, kinds_json, known_channel_json, leaving_json, listed_channel_json, listed_json, lost_json, low_json, more_json, name_json, near_json, numbers_json, opened_at_json, opened_json, opening_json, openings_json, others_json, parting_json, place_json, place_number_json, reasons_json, route_json, scale_json, sums_json, time_json, times_json, totals_in, up_json, window_json};
+ghost use Rattle.capture_text.specs.Json.{ages_json, both_json, came_json, channel_json, channels_json, coming_json, comma, connection_json, connections_json, counts_json, damaged_json, direction_json, directions_json, ends_json, greatest_json, high_json, kinds_json, known_channel_json, leaving_json, listed_channel_json, listed_json, losses_json, lost_json, low_json, more_json, name_json, near_json, numbers_json, opened_at_json, opened_json, opening_json, openings_json, others_json, parting_json, place_json, place_number_json, reasons_json, route_json, scale_json, sums_json, time_json, times_json, totals_in, up_json, whole_json, window_json};
 
 use crate::pieces::write_address;
-use crate::sentence::{longest, oldest, on_all, on_channels, up};
+use crate::sentence::{longest, oldest, on_all, up};
 use crate::summary::{CaptureCounts, Scale, datagrams};
+use crate::table_json::write_sessions_json;
 use capture::{
-    Address, CHANNELS, Connection, Direction, Route, SessionOpening, Tally, Totals, Window,
-    silence, sum_up,
+    Address, CHANNELS, Connection, Direction, Entry, Route, SessionOpening, Tally, Totals, Window,
+    add_up_sessions, silence, sum_up,
 };
 use pdu_text::write_text;
 use safe_pdu::Leaving;
@@ -30,7 +31,7 @@ pub fn write_json<W: Write>(
     writer: &mut W,
     scale: Scale,
     gone: Totals,
-    connections: &[Connection],
+    connections: &[Entry],
     counts: CaptureCounts,
 ) -> io::Result<()>
     // On success one object is appended: first time and T_max, the sums of all with the `counts`, and a list of the
@@ -118,7 +119,7 @@ fn write_counts<W: Write>(writer: &mut W, counts: CaptureCounts) -> io::Result<(
 }
 
 /// Writes connections with a comma between two.
-fn write_connections<W: Write>(writer: &mut W, connections: &[Connection]) -> io::Result<()>
+fn write_connections<W: Write>(writer: &mut W, connections: &[Entry]) -> io::Result<()>
     // On success the objects of all `connections` are appended in order, separated by commas.
     ensures { OnOk result (Appends (W.contents writer.old) (W.contents writer.new)
         (connections_json connections.now)) }
@@ -126,7 +127,7 @@ fn write_connections<W: Write>(writer: &mut W, connections: &[Connection]) -> io
     match connections {
         [] => Ok(()),
         [first, rest @ ..] => {
-            write_connection(writer, first)?;
+            write_connection(writer, &first.connection)?;
             write_more(writer, rest)?;
             Ok(())
         }
@@ -134,12 +135,12 @@ fn write_connections<W: Write>(writer: &mut W, connections: &[Connection]) -> io
 }
 
 /// Writes connections, each after a comma.
-fn write_more<W: Write>(writer: &mut W, connections: &[Connection]) -> io::Result<()>
+fn write_more<W: Write>(writer: &mut W, connections: &[Entry]) -> io::Result<()>
     // On success a comma and the object of each of the `connections` are appended.
     ensures { OnOk result (Appends (W.contents writer.old) (W.contents writer.new) (more_json connections.now)) }
 {
-    for connection in connections {
-        write_listed(writer, connection)?;
+    for entry in connections {
+        write_listed(writer, &entry.connection)?;
     }
     Ok(())
 }
@@ -157,16 +158,41 @@ fn write_listed<W: Write>(writer: &mut W, connection: &Connection) -> io::Result
 /// Writes the object of a connection.
 #[tactic(auto, unfolding(crate::specs::Json::connection_json))]
 fn write_connection<W: Write>(writer: &mut W, connection: &Connection) -> io::Result<()>
-    // On success its name, time of coming up, losses and two directions are appended, the one of the lower end first
+    // On success what holds for the whole connection is appended, its sessions, and its two directions
     // (`connection_json`).
     ensures { OnOk result (Appends (W.contents writer.old) (W.contents writer.new)
         (connection_json connection.now)) }
 {
     let ends = (connection.low, connection.high);
-    let back = (connection.high, connection.low);
+    write_whole(writer, connection)?;
+    write_sessions_json(writer, ends, &connection.sessions)?;
+    write_directions(writer, connection)?;
+    Ok(())
+}
+
+/// Writes what holds for a whole connection.
+#[tactic(auto, unfolding(crate::specs::Json::whole_json))]
+fn write_whole<W: Write>(writer: &mut W, connection: &Connection) -> io::Result<()>
+    // On success its name, time of coming up, losses, age and wait are appended.
+    ensures { OnOk result (Appends (W.contents writer.old) (W.contents writer.new) (whole_json connection.now)) }
+{
     write_name(writer, connection)?;
     write_coming(writer, connection)?;
     write_lost(writer, connection)?;
+    write_greatest(writer, connection)?;
+    Ok(())
+}
+
+/// Writes the two directions of a connection, and ends its object.
+#[tactic(auto, unfolding(crate::specs::Json::directions_json))]
+fn write_directions<W: Write>(writer: &mut W, connection: &Connection) -> io::Result<()>
+    // On success the list of both is appended, the one of the lower end first.
+    ensures { OnOk result (Appends (W.contents writer.old) (W.contents writer.new)
+        (directions_json connection.now)) }
+{
+    let ends = (connection.low, connection.high);
+    let back = (connection.high, connection.low);
+    write_text(writer, ",\"directions\":[")?;
     write_direction(writer, ends, connection, &connection.from_low)?;
     write_text(writer, ",")?;
     write_direction(writer, back, connection, &connection.from_high)?;
@@ -208,18 +234,43 @@ fn write_up<W: Write>(writer: &mut W, up: Option<u64>) -> io::Result<()>
 /// Writes the losses of a connection.
 #[tactic(auto, unfolding(crate::specs::Json::lost_json))]
 fn write_lost<W: Write>(writer: &mut W, connection: &Connection) -> io::Result<()>
-    // On success the time of the last PDU, both losses, the greatest age and the longest wait are appended.
+    // On success the time of the last PDU, the PDUs lost on every channel, and the datagrams that one channel lost
+    // alone are appended.
     ensures { OnOk result (Appends (W.contents writer.old) (W.contents writer.new) (lost_json connection.now)) }
 {
-    let last = connection.last;
-    let channels = on_channels(connection);
-    let all = on_all(connection);
-    let oldest = oldest(connection);
-    let longest = longest(connection);
+    let totals = add_up_sessions(&connection.sessions);
+    write_losses(writer, connection.last, on_all(connection), totals.alone)
+}
+
+/// Writes the time of the last PDU, and both losses.
+#[tactic(auto, unfolding(crate::specs::Json::losses_json))]
+fn write_losses<W: Write>(writer: &mut W, last: u64, everywhere: u64, alone: u64) -> io::Result<()>
+    // On success the three members are appended with these numbers.
+    ensures { OnOk result (Appends (W.contents writer.old) (W.contents writer.new)
+        (losses_json last everywhere alone)) }
+{
     write!(
         writer,
-        ",\"last\":{last},\"lost_on_channels\":{channels},\"lost_on_all\":{all},\"age\":{oldest},\"waits\":{longest},\"directions\":["
+        ",\"last\":{last},\"lost_on_every_channel\":{everywhere},\"lost_on_one_channel\":{alone}"
     )
+}
+
+/// Writes the greatest age and the longest wait of a connection.
+fn write_greatest<W: Write>(writer: &mut W, connection: &Connection) -> io::Result<()>
+    // On success the larger age and the larger wait of both directions are appended.
+    ensures { OnOk result (Appends (W.contents writer.old) (W.contents writer.new)
+        (greatest_json connection.now)) }
+{
+    write_both(writer, oldest(connection), longest(connection))
+}
+
+/// Writes an age and a wait in milliseconds.
+#[tactic(auto, unfolding(crate::specs::Json::both_json))]
+fn write_both<W: Write>(writer: &mut W, age: u32, waits: u32) -> io::Result<()>
+    // On success the members `age` and `waits` of the connection are appended with these numbers.
+    ensures { OnOk result (Appends (W.contents writer.old) (W.contents writer.new) (both_json age waits)) }
+{
+    write!(writer, ",\"age\":{age},\"waits\":{waits}")
 }
 
 /// Writes what one end sent; `ends` are the sender and the receiver.

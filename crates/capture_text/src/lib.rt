@@ -17,6 +17,8 @@ mod remarks;
 mod running;
 mod sentence;
 mod summary;
+mod table;
+mod table_json;
 mod telegrams;
 
 pub use choice::{Remarkable, is_wanted};

@@ -10,7 +10,7 @@ ghost use Rattle.std.specs.Io.BufRead.{DropsThrough, take_through};
 ghost use Rattle.std.specs.Io.KnownBytes.{Appends};
 ghost use Rattle.capture.specs.Numbers.{counted};
 ghost use Rattle.capture_text.specs.Capture.{broken_off, end_told, ended_at, frame_printed, frame_told, is_whole_at, line_printed, line_told, lines_printed, lines_told, read_by, text_printed, text_told, with_frame, with_line, with_lines, with_long, with_text};
-ghost use Rattle.capture_text.specs.FaultText.{fault_text, file_fault_word, frame_text, recording_text};
+ghost use Rattle.capture_text.specs.FaultText.{fault_text, file_fault_word, foreign_of, foreign_word, forgotten_told, frame_text, has_front, recording_text};
 ghost use Rattle.capture_text.specs.FrameSteps.{payload_at};
 ghost use Rattle.capture_text.specs.Lines.{cut, lines_of};
 ghost use Rattle.capture_text.specs.Steps.{without_end};
@@ -21,7 +21,7 @@ use crate::reading::{LINE_MAX, take_line};
 use capture::{
     BlockContent, Buffer, FileFault, FilePart, Framed, LineFault, PAYLOAD_ROOM, Recording,
 };
-use std::alloc::Allocator;
+use std::alloc::{Allocator, Global};
 use std::io;
 use std::io::{BufRead, BufReader, BufWriter, ErrorKind, Read, Write};
 
@@ -30,7 +30,7 @@ use std::io::{BufRead, BufReader, BufWriter, ErrorKind, Read, Write};
 pub enum FollowStatus {
     /// Every line was a datagram.
     Done,
-    /// A line was not a datagram, or a recording could not go on; each was reported.
+    /// A line was not a datagram, a recording could not go on, or a connection was forgotten; each was reported.
     Unreadable,
     /// An allocation failed.
     Memory,
@@ -38,6 +38,19 @@ pub enum FollowStatus {
     File,
     /// An output failed.
     Output,
+}
+
+/// The form of a file that is not followed.
+#[derive(Clone, Copy, Debug, PartialEq, Eq)]
+pub(crate) enum ForeignForm {
+    /// Compressed by gzip.
+    Gzip,
+    /// Compressed by zstd.
+    Zstd,
+    /// A recording of snoop.
+    Snoop,
+    /// A modified pcap, whose records have more fields.
+    ModifiedPcap,
 }
 
 /// Why a run stops early.
@@ -55,8 +68,8 @@ enum Stop {
 ///
 /// The lines of datagrams and the sums go to `out`, faults of lines and frames to `err`. Everything is written before
 /// the reader waits for more. If the run stops early, the caller reports why.
-pub fn run<R: Read + Drop, O: Write, E: Write, A: Allocator + Copy>(
-    alloc: A,
+pub fn run<R: Read + Drop, O: Write, E: Write>(
+    alloc: Global,
     reader: R,
     asked: &Asked,
     out: &mut O,
@@ -71,9 +84,9 @@ pub fn run<R: Read + Drop, O: Write, E: Write, A: Allocator + Copy>(
     }
 }
 
-/// Follows the capture and returns how many lines were not a datagram.
-fn follow_input<R: Read + Drop, O: Write, E: Write, A: Allocator + Copy>(
-    alloc: A,
+/// Follows the capture and returns how many lines were not a datagram, and how many connections were forgotten.
+fn follow_input<R: Read + Drop, O: Write, E: Write>(
+    alloc: Global,
     reader: R,
     asked: &Asked,
     out: &mut O,
@@ -83,7 +96,7 @@ fn follow_input<R: Read + Drop, O: Write, E: Write, A: Allocator + Copy>(
     let mut front = [0u8; 4];
     let size = read_whole(&mut reader, &mut front)?;
     let mut writer = BufWriter::new(alloc, out).map_err(|_| Stop::Memory)?;
-    let mut course = Course::new();
+    let mut course = Course::new(alloc).map_err(|_| Stop::Memory)?;
     let mut recording = Recording::new();
     match recording.take(&front[..size]) {
         Ok(BlockContent::Nothing) => {
@@ -98,18 +111,84 @@ fn follow_input<R: Read + Drop, O: Write, E: Write, A: Allocator + Copy>(
                 err,
             )?;
         }
-        _ => {
-            let all = Read::chain(&front[..size], reader);
-            let mut rest = BufReader::new(alloc, all).map_err(|_| Stop::Memory)?;
-            follow_lines(alloc, &mut rest, asked, &mut course, &mut writer, err)?;
-        }
+        _ => match foreign(front) {
+            Some(form) => give_up(&mut course, name_of_foreign(form), err)?,
+            None => {
+                let all = Read::chain(&front[..size], reader);
+                let mut rest = BufReader::new(alloc, all).map_err(|_| Stop::Memory)?;
+                follow_lines(alloc, &mut rest, asked, &mut course, &mut writer, err)?;
+            }
+        },
     }
     match course.sum(asked, &mut writer) {
         Ok(()) => {}
         Err(_) => return Err(Stop::Output),
     }
     flush(&mut writer)?;
-    Ok(course.unreadable)
+    tell_forgotten(&course, err)?;
+    Ok(course.unreadable.saturating_add(course.following.forgotten))
+}
+
+/// Returns the form of a file that is not followed, by its first four bytes.
+fn foreign(front: [u8; 4]) -> Option<ForeignForm>
+    // Only a file of gzip, zstd, snoop, or modified pcap has a form; each begins with its own bytes (`foreign_of`).
+    ensures { result ≡ foreign_of front }
+{
+    if is_front(front, [0x1f, 0x8b, front[2], front[3]]) {
+        Some(ForeignForm::Gzip)
+    } else if is_front(front, [0x28, 0xb5, 0x2f, 0xfd]) {
+        Some(ForeignForm::Zstd)
+    } else if is_front(front, [0x73, 0x6e, 0x6f, 0x6f]) {
+        Some(ForeignForm::Snoop)
+    } else if is_front(front, [0xa1, 0xb2, 0xcd, 0x34])
+        || is_front(front, [0x34, 0xcd, 0xb2, 0xa1])
+    {
+        Some(ForeignForm::ModifiedPcap)
+    } else {
+        None
+    }
+}
+
+/// Returns `true` if a file begins with these bytes.
+fn is_front(front: [u8; 4], wanted: [u8; 4]) -> bool
+    // All four bytes are compared.
+    ensures { result ≡ has_front front wanted }
+{
+    front[0] == wanted[0] && front[1] == wanted[1] && front[2] == wanted[2] && front[3] == wanted[3]
+}
+
+/// Returns why a file is not followed, and what to do with it.
+fn name_of_foreign(form: ForeignForm) -> &'static str
+    // Each `form` has its words, with a command that makes it readable (`foreign_word`).
+    ensures { result.now ≡ foreign_word form }
+{
+    match form {
+        ForeignForm::Gzip => "it is compressed by gzip; use gzip -dc FILE | rasta follow -",
+        ForeignForm::Zstd => "it is compressed by zstd; use zstd -dc FILE | rasta follow -",
+        ForeignForm::Snoop => "it is a snoop file; use editcap -F pcapng FILE NEW",
+        ForeignForm::ModifiedPcap => "it is a modified pcap file; use editcap -F pcapng FILE NEW",
+    }
+}
+
+/// Reports connections that were forgotten.
+#[tactic(auto, unfolding(crate::specs::FaultText::forgotten_text))]
+fn tell_forgotten<E: Write>(course: &Course, err: &mut E) -> Result<(), Stop>
+    // On success one line with their number is appended to `err` if connections were forgotten; otherwise nothing is
+    // (`forgotten_told`).
+    ensures { OnOk result (Appends (E.contents err.old) (E.contents err.new)
+        (forgotten_told course.now.following.forgotten)) }
+{
+    let forgotten = course.following.forgotten;
+    if forgotten == 0 {
+        return Ok(());
+    }
+    match writeln!(
+        err,
+        "connections: {forgotten} were forgotten, since more than 64 were recorded at once; choose some by --ports"
+    ) {
+        Ok(()) => Ok(()),
+        Err(_) => Err(Stop::Output),
+    }
 }
 
 /// Follows the lines of a text to their end.

@@ -10,8 +10,10 @@ use crate::pieces::{
 };
 use crate::reasons::write_reasons;
 use crate::sentence::write_sentence;
+use crate::table::write_sessions;
 use capture::{
-    CHANNELS, Connection, Direction, Route, SessionOpening, Tally, Totals, Window, silence, sum_up,
+    CHANNELS, Connection, Direction, Entry, Route, SessionOpening, Tally, Totals, Window, silence,
+    sum_up,
 };
 use pdu_text::write_text;
 use safe_pdu::Leaving;
@@ -40,8 +42,8 @@ pub struct CaptureCounts {
     pub unreadable: u64,
 }
 
-/// Writes the sums: for each connection a line for each direction, with one for each of its channels, and a sentence;
-/// then a line for all, with the forgotten ones (`gone`).
+/// Writes the sums: for each connection a line for each direction, with one for each of its channels, one for each of
+/// its last sessions, and a sentence; then a line for all, with the forgotten ones (`gone`).
 ///
 /// # Errors
 ///
@@ -50,11 +52,11 @@ pub fn write_summary<W: Write>(
     writer: &mut W,
     scale: Scale,
     gone: Totals,
-    connections: &[Connection],
+    connections: &[Entry],
     counts: CaptureCounts,
 ) -> io::Result<()>
-    // On success the lines of each connection, with its directions, channels and sentence, are appended, then one
-    // line for all (`summary_text`).
+    // On success the lines of each connection, with its directions, channels, sessions and sentence, are appended,
+    // then one line for all (`summary_text`).
     ensures { OnOk result (Appends (W.contents writer.old) (W.contents writer.new)
         (summary_text scale connections.now (totals_of gone connections.now) counts)) }
 {
@@ -67,14 +69,14 @@ pub fn write_summary<W: Write>(
 fn write_connections<W: Write>(
     writer: &mut W,
     scale: Scale,
-    connections: &[Connection],
+    connections: &[Entry],
 ) -> io::Result<()>
     // On success the lines of each of the `connections` are appended, in order.
     ensures { OnOk result (Appends (W.contents writer.old) (W.contents writer.new)
         (connections_text scale connections.now)) }
 {
-    for connection in connections {
-        write_connection(writer, scale, connection)?;
+    for entry in connections {
+        write_connection(writer, scale, &entry.connection)?;
     }
     Ok(())
 }
@@ -86,7 +88,7 @@ fn write_connection<W: Write>(
     scale: Scale,
     connection: &Connection,
 ) -> io::Result<()>
-    // On success the lines of the lower end, of the other end, and the sentence are appended.
+    // On success the lines of the lower end, of the other end, and of the sessions, and the sentence are appended.
     ensures { OnOk result (Appends (W.contents writer.old) (W.contents writer.new)
         (connection_text scale connection.now)) }
 {
@@ -94,6 +96,7 @@ fn write_connection<W: Write>(
     let back = (connection.high, connection.low);
     write_half(writer, scale, ends, connection, &connection.from_low)?;
     write_half(writer, scale, back, connection, &connection.from_high)?;
+    write_sessions(writer, scale.first, ends, &connection.sessions)?;
     write_sentence(writer, scale, connection)?;
     Ok(())
 }

@@ -9,7 +9,7 @@ use capture_text::{Asked, FollowStatus, OutputForm};
 use pdu_text::initial_value;
 use rasta_words::{Fault, FollowRequest, Status, report};
 use safe_pdu::CodeRule;
-use std::alloc::Allocator;
+use std::alloc::Global;
 use std::io::{Read, Write};
 
 /// Runs `follow` over the capture of a reader. The lines of its datagrams and the summary go to `out`, lines that
@@ -17,10 +17,10 @@ use std::io::{Read, Write};
 /// the status of the fault that stopped it: of the file, of memory or of an output. An initial value that is not
 /// 32 hex digits is `fault: hex`.
 ///
-/// It is not inlined, since its connections take 230 KiB of stack that no other subcommand needs.
+/// It is not inlined, so that its stack is not that of every subcommand.
 #[inline(never)]
-pub fn run_follow<R: Read + Drop, O: Write, E: Write, A: Allocator + Copy>(
-    alloc: A,
+pub fn run_follow<R: Read + Drop, O: Write, E: Write>(
+    alloc: Global,
     reader: R,
     following: &FollowRequest<'_>,
     out: &mut O,

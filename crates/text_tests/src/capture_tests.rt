@@ -144,8 +144,8 @@ fn remarks(
 
 // Two channels: a copy, a gap that is closed late on the other channel, an answer with its age, and a repeat.
 #[test]
-fn follows_two_channels(rt: HostRuntime) {
-    let mut all = Following::new();
+fn follows_two_channels(rt: HostRuntime) -> Result<(), Fail> {
+    let mut all = Following::new(rt.alloc())?;
     let first = told(all.hear(1, &record(1000, 0, false), &pdu(0, (1, 2), 10, (100, 0))));
     assert_eq!(rt;
         first,
@@ -201,13 +201,14 @@ fn follows_two_channels(rt: HostRuntime) {
     };
     assert_eq!(rt; sum_up(all.gone, all.connections.as_slice()), wanted);
     assert_eq!(rt; all.datagrams, 7);
+    Ok(())
 }
 
-// The seventeenth connection takes the place of the one that was silent longest.
+// One connection too many takes the place of the one that was silent longest.
 #[test]
-fn forgets_the_one_silent_longest(rt: HostRuntime) {
-    let mut all = Following::new();
-    for end in 1..18u32 {
+fn forgets_the_one_silent_longest(rt: HostRuntime) -> Result<(), Fail> {
+    let mut all = Following::new(rt.alloc())?;
+    for end in 1..66u32 {
         let _remark = all.hear(
             end as u64,
             &record(end as u64, 0, false),
@@ -215,10 +216,11 @@ fn forgets_the_one_silent_longest(rt: HostRuntime) {
         );
     }
     let ends = all.connections.as_slice();
-    assert_eq!(rt; ends.len(), 16);
-    assert!(rt; ends.iter().all(|connection| connection.low != 1));
+    assert_eq!(rt; ends.len(), 64);
+    assert!(rt; ends.iter().all(|entry| entry.connection.low != 1));
     assert_eq!(rt; all.forgotten, 1);
-    assert_eq!(rt; (all.gone.heard, sum_up(all.gone, ends).heard), (1, 17));
+    assert_eq!(rt; (all.gone.heard, sum_up(all.gone, ends).heard), (1, 65));
+    Ok(())
 }
 
 // Numbers go round, and a restart begins them anew without a gap.
@@ -269,8 +271,8 @@ fn opening(seq: u32, sn: u32, ts: u32) -> Heard {
 
 // A process that was started anew begins with the same octets: behind another PDU of its end on that channel they open.
 #[test]
-fn opens_with_the_same_octets(rt: HostRuntime) {
-    let mut all = Following::new();
+fn opens_with_the_same_octets(rt: HostRuntime) -> Result<(), Fail> {
+    let mut all = Following::new(rt.alloc())?;
     for line in [1, 3u64] {
         let first = told(all.hear(line, &record(line, 0, false), &opening(0, 900, 7)));
         assert!(rt; first.is_some_and(|remarks| remarks.opens));
@@ -285,12 +287,13 @@ fn opens_with_the_same_octets(rt: HostRuntime) {
     assert!(rt;
         copy.is_some_and(|remarks| !remarks.opens && remarks.together == Judged::Repeat(3))
     );
+    Ok(())
 }
 
 // A copy more than 31 numbers late changes nothing; a new ConnReq begins all numbers, and a copy of it does not.
 #[test]
-fn opens_again(rt: HostRuntime) {
-    let mut all = Following::new();
+fn opens_again(rt: HostRuntime) -> Result<(), Fail> {
+    let mut all = Following::new(rt.alloc())?;
     for seq in 0..50u32 {
         let at = seq as u64 + 1;
         let _remark = all.hear(at, &record(at, 0, false), &pdu(seq, (1, 2), seq, (100, 0)));
@@ -331,12 +334,13 @@ fn opens_again(rt: HostRuntime) {
         stale: 1,
     };
     assert_eq!(rt; sum_up(all.gone, all.connections.as_slice()), wanted);
+    Ok(())
 }
 
 // A client that heard nothing leaves directly behind its ConnReq and confirms nothing; a later DiscReq confirms.
 #[test]
-fn ages_no_goodbye_that_confirms_nothing(rt: HostRuntime) {
-    let mut all = Following::new();
+fn ages_no_goodbye_that_confirms_nothing(rt: HostRuntime) -> Result<(), Fail> {
+    let mut all = Following::new(rt.alloc())?;
     let server = Heard::Pdu(9, leaving((2, 1), u32::MAX, (1900, 0)));
     let _remark = all.hear(1, &record(1, 0, true), &server);
     let _remark = all.hear(2, &record(2, 0, false), &opening(0, u32::MAX, 1600));
@@ -352,6 +356,7 @@ fn ages_no_goodbye_that_confirms_nothing(rt: HostRuntime) {
         &Heard::Pdu(2, leaving((1, 2), 1, (1960, 0))),
     ));
     assert!(rt; heard.is_some_and(|remarks| remarks.age == Some(1900)));
+    Ok(())
 }
 
 /// A DiscReq of an end.
@@ -374,8 +379,8 @@ fn leaving(ends: (u32, u32), sn: u32, stamps: (u32, u32)) -> Header {
 // A datagram that is no PDU counts on its channel, for the end whose address sent it; where two connections have that
 // channel the one heard last counts it, and on an unknown pair of addresses none does.
 #[test]
-fn counts_damage_by_channel(rt: HostRuntime) {
-    let mut all = Following::new();
+fn counts_damage_by_channel(rt: HostRuntime) -> Result<(), Fail> {
+    let mut all = Following::new(rt.alloc())?;
     let _remark = all.hear(1, &record(1, 0, false), &pdu(0, (1, 2), 10, (100, 0)));
     let _remark = all.hear(2, &record(2, 1, true), &pdu(0, (2, 1), 20, (200, 100)));
     let _remark = all.hear(3, &record(3, 3, false), &pdu(1, (1, 2), 11, (110, 0)));
@@ -389,6 +394,7 @@ fn counts_damage_by_channel(rt: HostRuntime) {
     assert_eq!(rt; all.damaged, 5);
     match all.connections.as_slice() {
         [first, second] => {
+            let (first, second) = (&first.connection, &second.connection);
             assert_eq!(rt; first.from_low.damaged, [0, 0, 1, 0]);
             assert_eq!(rt; first.from_high.damaged, [1, 0, 0, 0]);
             assert_eq!(rt; second.from_low.damaged, [2, 0, 0, 0]);
@@ -396,6 +402,7 @@ fn counts_damage_by_channel(rt: HostRuntime) {
         }
         _ => assert!(rt; false),
     }
+    Ok(())
 }
 
 /// A PDU of an end with these SN and CS, TS and CTS; its redundancy number is the last digit of its SN.
@@ -422,8 +429,8 @@ fn confirming(kind: Kind, ends: (u32, u32), numbers: (u32, u32), stamps: (u32, u
 // An end waits from its opening on, and then from the timestamp that the PDU confirms which it took last: one that it did
 // not take does not count. A copy has no wait, and behind a new opening a timestamp from before it has no age.
 #[test]
-fn waits_for_a_confirmation(rt: HostRuntime) {
-    let mut all = Following::new();
+fn waits_for_a_confirmation(rt: HostRuntime) -> Result<(), Fail> {
+    let mut all = Following::new(rt.alloc())?;
     let il = (1u32, 2u32);
     let fe = (2u32, 1u32);
     let cases = [
@@ -497,6 +504,7 @@ fn waits_for_a_confirmation(rt: HostRuntime) {
     }
     match all.connections.as_slice() {
         [pair] => {
+            let pair = &pair.connection;
             assert_eq!(rt;
                 (pair.from_low.tally.longest, pair.from_high.tally.longest),
                 (1800, 2000)
@@ -504,4 +512,5 @@ fn waits_for_a_confirmation(rt: HostRuntime) {
         }
         _ => assert!(rt; false),
     }
+    Ok(())
 }

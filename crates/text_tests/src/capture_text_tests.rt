@@ -180,7 +180,10 @@ sum 2->1 opened by ConnResp times 1 PDUs 1 missing 0 repeats 1 late 0 differs 0 
 silence 0.020040 age 0 of 1800 waits 0 of 1800 last 0.010000 no DiscReq
 sum 2->1 ch 1 10.0.0.1:8001-10.0.0.2:8002 datagrams 1 PDUs 1 missing 0 repeats 0 late 0 differs 0 stale 0 damaged 0
 sum 2->1 ch 2 10.0.1.1:8001-10.0.1.2:8002 datagrams 1 PDUs 1 missing 0 repeats 0 late 0 differs 0 stale 0 damaged 0
-connection 1-2 came up at 0.010000, nobody left, heard last at 0.030040, lost on single channels 1 on all 0, waits 30 of 1800
+session 1 of 1-2, 1 asked at 0.000000, came up at 0.010000, nobody left, 1 waited 30 ms, 2 waited 0 ms, \
+PDUs lost on every channel 0, datagrams lost on one channel whose PDU came on another 1, sent again 0, repeats on one channel 0
+connection 1-2 sessions 1, came up 1, nobody answered 0, ended by a DiscReq 0, by timeout 0, last PDU at 0.030040, \
+PDUs lost on every channel 0, datagrams lost on one channel whose PDU came on another 1, waits 30 of 1800
 sum all datagrams 7 PDUs 4 missing 0 repeats 3 late 0 differs 0 stale 0 damaged 0 forgotten 0 unreadable 0
 ";
     follows(&rt, &lines, &asked(CodeLength::Zero, None), wanted)
@@ -217,7 +220,10 @@ sum 2->1 opening not seen PDUs 1 missing 0 repeats 0 late 0 differs 0 stale 0 he
 silence 0.011000 age 20 of 1800 waits 30 of 1800 last 0.030000 no DiscReq
 sum 2->1 ch 1 10.0.0.1:8001-10.0.0.2:8002 datagrams 1 PDUs 1 missing 0 repeats 0 late 0 differs 0 stale 0 damaged 0
 sum 2->1 ch 2 10.0.1.1:8001-10.0.1.2:8002 datagrams 0 PDUs 0 missing 0 repeats 0 late 0 differs 0 stale 0 damaged 0
-connection 1-2 was not seen to come up, nobody left, heard last at 0.041000, lost on single channels 1 on all 1, waits 41 of 1800
+session 1 of 1-2, its ConnReq was not recorded, was not seen to come up, nobody left, 1 waited 41 ms, 2 waited 30 ms, \
+PDUs lost on every channel 1, datagrams lost on one channel whose PDU came on another 0, sent again 1, repeats on one channel 0
+connection 1-2 sessions 1, came up 0, nobody answered 0, ended by a DiscReq 0, by timeout 0, last PDU at 0.041000, \
+PDUs lost on every channel 1, datagrams lost on one channel whose PDU came on another 0, waits 41 of 1800
 sum all datagrams 6 PDUs 5 missing 1 repeats 1 late 0 differs 0 stale 0 damaged 0 forgotten 0 unreadable 0
 ";
     follows(&rt, &lines, &asked(CodeLength::Zero, None), wanted)
@@ -246,7 +252,13 @@ sum 1->2 ch 1 10.0.0.1:8001-10.0.0.2:8002 datagrams 3 PDUs 3 missing 0 repeats 0
 sum 2->1 opening not seen PDUs 2 missing 0 repeats 0 late 0 differs 0 stale 0 heartbeats 1 requests 0 resent 0 disconnects 1 \
 silence 1.750000 age 1801 of 1801 reached waits 1950 of 1801 reached last 1.850000 DiscReq reason 3 timeout detail 0
 sum 2->1 ch 1 10.0.0.1:8001-10.0.0.2:8002 datagrams 2 PDUs 2 missing 0 repeats 0 late 0 differs 0 stale 0 damaged 0
-connection 1-2 was not seen to come up, 2 left at 1.850000 reason 3 timeout detail 0, lost on single channels 0 on all 0, \
+session 1 of 1-2, its ConnReq was not recorded, was not seen to come up, 2 left at 1.850000 by itself reason 3 timeout detail 0, \
+1 waited 1801 ms, 2 waited 1950 ms, \
+PDUs lost on every channel 0, datagrams lost on one channel whose PDU came on another 0, sent again 0, repeats on one channel 0
+session 2 of 1-2, 1 asked at 3.000000, nobody answered, nobody left, 1 waited 0 ms, 2 waited 0 ms, \
+PDUs lost on every channel 0, datagrams lost on one channel whose PDU came on another 0, sent again 0, repeats on one channel 0
+connection 1-2 sessions 2, came up 0, nobody answered 1, ended by a DiscReq 1, by timeout 1, last PDU at 3.000000, \
+PDUs lost on every channel 0, datagrams lost on one channel whose PDU came on another 0, \
 waits 1950 of 1801 reached
 sum all datagrams 5 PDUs 5 missing 0 repeats 0 late 0 differs 0 stale 0 damaged 0 forgotten 0 unreadable 0
 ";
@@ -279,7 +291,10 @@ sum 1->2 ch 1 10.0.0.1:8001-10.0.0.2:8002 datagrams 2 PDUs 1 missing 0 repeats 0
 sum 2->1 opening not seen PDUs 0 missing 0 repeats 0 late 0 differs 0 stale 0 heartbeats 0 requests 0 resent 0 disconnects 0 \
 silence 0.000000 age 0 of 1800 waits 0 of 1800 not heard no DiscReq
 sum 2->1 ch 1 10.0.0.1:8001-10.0.0.2:8002 datagrams 0 PDUs 0 missing 0 repeats 0 late 0 differs 0 stale 0 damaged 0
-connection 1-2 was not seen to come up, nobody left, heard last at 0.000000, lost on single channels 0 on all 0, waits 0 of 1800
+session 1 of 1-2, its ConnReq was not recorded, was not seen to come up, nobody left, 1 waited 0 ms, 2 waited 0 ms, \
+PDUs lost on every channel 0, datagrams lost on one channel whose PDU came on another 0, sent again 0, repeats on one channel 0
+connection 1-2 sessions 1, came up 0, nobody answered 0, ended by a DiscReq 0, by timeout 0, last PDU at 0.000000, \
+PDUs lost on every channel 0, datagrams lost on one channel whose PDU came on another 0, waits 0 of 1800
 sum all datagrams 2 PDUs 1 missing 0 repeats 0 late 0 differs 0 stale 0 damaged 1 forgotten 0 unreadable 1
 ";
     let fault = "line 3: unreadable: not six fields\n";
@@ -352,7 +367,10 @@ sum 1->2 ch 1 10.0.0.1:8001-10.0.0.2:8002 datagrams 2 PDUs 2 missing 0 repeats 0
 sum 2->1 opening not seen PDUs 0 missing 0 repeats 0 late 0 differs 0 stale 0 heartbeats 0 requests 0 resent 0 disconnects 0 \
 silence 0.000000 age 0 of 1800 waits 0 of 1800 not heard no DiscReq
 sum 2->1 ch 1 10.0.0.1:8001-10.0.0.2:8002 datagrams 0 PDUs 0 missing 0 repeats 0 late 0 differs 0 stale 0 damaged 0
-connection 1-2 was not seen to come up, nobody left, heard last at 0.020000, lost on single channels 0 on all 0, waits 0 of 1800
+session 1 of 1-2, its ConnReq was not recorded, was not seen to come up, nobody left, 1 waited 0 ms, 2 waited 0 ms, \
+PDUs lost on every channel 0, datagrams lost on one channel whose PDU came on another 0, sent again 0, repeats on one channel 0
+connection 1-2 sessions 1, came up 0, nobody answered 0, ended by a DiscReq 0, by timeout 0, last PDU at 0.020000, \
+PDUs lost on every channel 0, datagrams lost on one channel whose PDU came on another 0, waits 0 of 1800
 sum all datagrams 2 PDUs 2 missing 0 repeats 0 late 0 differs 0 stale 0 damaged 0 forgotten 0 unreadable 0
 ";
     follows(&rt, &lines, &asked, wanted)

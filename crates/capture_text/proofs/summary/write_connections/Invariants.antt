@@ -4,7 +4,7 @@ use Rattle.capture_text.specs.SummaryText.{connections_text}
 use Rattle.capture_text.proofs.summary.write_connections.Given as goal
 
 -- The lines so far and those of the remaining connections make up all lines.
-abbrev pub invariant-loop-connection : goal.invariant-loop-connection
-invariant-loop-connection g l =
-    (end : Option (List ℕ)) → Appends (g.W.Write.contents l.writer) end (connections_text l.scale (drop l.connection-index l.connections))
+abbrev pub invariant-loop-entry : goal.invariant-loop-entry
+invariant-loop-entry g l =
+    (end : Option (List ℕ)) → Appends (g.W.Write.contents l.writer) end (connections_text l.scale (drop l.entry-index l.connections))
     → Appends (g.W.Write.contents l.initial.writer) end (connections_text l.scale l.connections)

@@ -1,0 +1,179 @@
+-- The sessions of a connection. One lasts from its opening to the next one.
+use Rattle.std.specs.Prelude.{ℕ, ◌-◌, ◌%◌, ◌==◌, ◌&&◌, ◌||◌, Bool, true, false, not, nat_eq, nat_lt, List, fold, slice_index, slice_set, replicate, if◌then◌else◌, Option, Some, None, is_none, is_some}
+use Rattle.safe_pdu.specs.declared.Kind.{Kind}
+use Rattle.safe_pdu.specs.declared.Leaving.{Leaving}
+use Rattle.capture.specs.declared.direction.TheConstants.{CHANNELS}
+use Rattle.capture.specs.declared.direction.Remarks.{Remarks}
+use Rattle.capture.specs.declared.sessions.TheConstants.{SESSIONS, TIMEOUT}
+use Rattle.capture.specs.declared.sessions.Asking.{Asking}
+use Rattle.capture.specs.declared.sessions.Parting.{Parting}
+use Rattle.capture.specs.declared.sessions.Session.{Session}
+use Rattle.capture.specs.declared.sessions.SessionTotals.{SessionTotals}
+use Rattle.capture.specs.declared.sessions.Sessions.{Sessions}
+use Rattle.capture.specs.declared.sessions.Side.{Side}
+use Rattle.capture.specs.declared.window.Judged.{Judged}
+use Rattle.capture.specs.declared.window.Judged.TheVariants.{Ahead, Late, Repeat}
+use Rattle.capture.specs.Following.{greatest_of, is_new, is_request}
+use Rattle.capture.specs.Numbers.{counted}
+
+-- An end that has sent nothing in a session.
+abbrev pub open_side : Side
+open_side = record { left = None; longest = 0; missing = replicate CHANNELS 0; lost = 0; resent = 0; repeats = 0 }
+
+-- A session with this number before its first PDU.
+abbrev pub open_session : ℕ → Option Asking → Option ℕ → Session
+open_session number asked up = record { number = number; asked = asked; up = up; low = open_side; high = open_side }
+
+-- Sums over no session.
+abbrev pub no_session_totals : SessionTotals
+no_session_totals = record { up = 0; unanswered = 0; left = 0; timeouts = 0; alone = 0 }
+
+-- The sessions of a connection before its first PDU.
+abbrev pub open_sessions : Sessions
+open_sessions = record { past = replicate SESSIONS None; ended = no_session_totals; current = open_session 0 None None }
+
+-- 1 if it holds, else 0.
+abbrev pub one_if : Bool → ℕ
+one_if true = 1
+one_if false = 0
+
+-- The numbers that are missing, after a number that followed in this way: a gap adds those it skips, and a late number takes itself away.
+abbrev pub missing_after : ℕ → Judged → ℕ
+missing_after missing (Ahead passed) = counted missing passed
+missing_after missing Late = missing - 1
+missing_after missing _ = missing
+
+-- The numbers that are missing on the channel of a PDU, after it; a further channel has none.
+abbrev pub missing_on : List ℕ → ℕ → Option Judged → List ℕ
+missing_on counts route None = counts
+missing_on counts route (Some judged) =
+    if nat_lt route CHANNELS then slice_set counts route (missing_after (slice_index counts route) judged) else counts
+
+-- The channel had this number before, with the same bytes.
+abbrev pub is_doubled : Option Judged → Bool
+is_doubled (Some (Repeat line)) = true
+is_doubled _ = false
+
+-- The DiscReq of a PDU.
+abbrev pub parting_in : ℕ → Bool → Option Leaving → Option Parting
+parting_in time follows None = None
+parting_in time follows (Some leaving) = Some (record { time = time; leaving = leaving; follows = follows })
+
+-- The DiscReq of a PDU, if the PDU is new.
+abbrev pub parting_if : Bool → ℕ → Bool → Option Leaving → Option Parting
+parting_if true time follows leaving = parting_in time follows leaving
+parting_if false time follows leaving = None
+
+-- The first DiscReq of an end in a session; a copy is none.
+abbrev pub parted : Option Parting → ℕ → Bool → Remarks → Option Parting
+parted (Some parting) time follows m = Some parting
+parted None time follows m = parting_if (is_new m.together) time follows m.leaving
+
+-- What an end did in a session, after one more of its PDUs.
+abbrev pub side_after : Side → ℕ → Bool → Remarks → Side
+side_after s time follows m =
+    record {
+      left = parted s.left time follows m;
+      longest = greatest_of m.waits s.longest;
+      missing = missing_on s.missing m.route m.channel;
+      lost = missing_after s.lost m.together;
+      resent = counted s.resent (one_if (is_new m.together && m.resent));
+      repeats = counted s.repeats (one_if (is_doubled m.channel));
+    }
+
+-- The session after a PDU of the end with the lower identifier (`true`), or of the other end.
+abbrev pub session_after : Bool → Session → ℕ → Remarks → Session
+session_after true s time m = record s { low = side_after s.low time (is_some s.high.left) m }
+session_after false s time m = record s { high = side_after s.high time (is_some s.low.left) m }
+
+-- A sum with the datagrams that one channel lost, apart from the numbers that all channels lost.
+abbrev pub with_alone : ℕ → ℕ → ℕ → ℕ
+with_alone lost sum missing = counted sum (missing - lost)
+
+-- How many datagrams of an end single channels lost whose PDU came on another channel.
+abbrev pub alone_of : Side → ℕ
+alone_of s = fold (λ sum missing. with_alone s.lost sum missing) 0 s.missing
+
+-- The same of both ends of a session.
+abbrev pub alone_in : Session → ℕ
+alone_in s = counted (alone_of s.low) (alone_of s.high)
+
+-- How many PDUs of both ends came on no channel.
+abbrev pub lost_in_session : Session → ℕ
+lost_in_session s = counted s.low.lost s.high.lost
+
+-- The end that did not ask has sent no DiscReq.
+abbrev pub is_other_silent : Asking → Session → Bool
+is_other_silent asked s = if asked.by_low then is_none s.high.left else is_none s.low.left
+
+-- An opening was recorded, and neither a ConnResp nor a DiscReq of the other end after it.
+abbrev pub is_unanswered_by : Option Asking → Session → Bool
+is_unanswered_by None s = false
+is_unanswered_by (Some asked) s = is_none s.up && is_other_silent asked s
+
+-- Nobody answered the opening of the session.
+abbrev pub is_unanswered_in : Session → Bool
+is_unanswered_in s = is_unanswered_by s.asked s
+
+-- An end left because nothing recent was confirmed in time.
+abbrev pub is_timeout : Option Parting → Bool
+is_timeout None = false
+is_timeout (Some parting) = parting.leaving.reason == TIMEOUT
+
+-- The sums with one more session.
+abbrev pub session_counted : SessionTotals → Session → SessionTotals
+session_counted t s =
+    record {
+      up = counted t.up (one_if (is_some s.up));
+      unanswered = counted t.unanswered (one_if (is_unanswered_in s));
+      left = counted t.left (one_if (is_some s.low.left || is_some s.high.left));
+      timeouts = counted t.timeouts (one_if (is_timeout s.low.left || is_timeout s.high.left));
+      alone = counted t.alone (alone_in s);
+    }
+
+-- The sums over all sessions of a connection.
+abbrev pub session_sums : Sessions → SessionTotals
+session_sums ss = if nat_eq ss.current.number 0 then ss.ended else session_counted ss.ended ss.current
+
+-- The sessions with the current one among those that have ended; the oldest kept one gives way to it.
+abbrev pub ended_in : Sessions → Sessions
+ended_in ss =
+    if nat_eq ss.current.number 0 then ss
+    else
+    record ss {
+      past = slice_set ss.past (ss.current.number % SESSIONS) (Some ss.current);
+      ended = session_counted ss.ended ss.current;
+    }
+
+-- The sessions after the start of the next one.
+abbrev pub begun : Sessions → Option Asking → Option ℕ → Sessions
+begun ss asked up = record (ended_in ss) { current = open_session (counted ss.current.number 1) asked up }
+
+-- The session was asked for by the other end.
+abbrev pub is_asked_by_other : Option Asking → Bool → Bool
+is_asked_by_other None from_low = false
+is_asked_by_other (Some asked) from_low = if from_low then not asked.by_low else asked.by_low
+
+-- The session awaits the ConnResp of this end.
+abbrev pub is_awaited_in : Session → Bool → Bool
+is_awaited_in s from_low = is_none s.up && is_asked_by_other s.asked from_low
+
+-- The sessions after an opening: a ConnReq starts one, and so does a ConnResp that the current one does not await.
+abbrev pub sessions_opened : Sessions → Bool → ℕ → Kind → Sessions
+sessions_opened ss from_low time kind =
+    if is_request kind then begun ss (Some (record { time = time; by_low = from_low })) None
+    else if is_awaited_in ss.current from_low then record ss { current = record ss.current { up = Some time } }
+    else begun ss None (Some time)
+
+-- The sessions before a PDU is counted; the first PDU of a connection starts one, even if it is not an opening.
+abbrev pub sessions_begun : Bool → Sessions → Bool → ℕ → Kind → Sessions
+sessions_begun true ss from_low time kind = sessions_opened ss from_low time kind
+sessions_begun false ss from_low time kind = if nat_eq ss.current.number 0 then begun ss None None else ss
+
+-- The sessions with a PDU counted in the current one.
+abbrev pub sessions_counted : Sessions → Bool → ℕ → Remarks → Sessions
+sessions_counted ss from_low time m = record ss { current = session_after from_low ss.current time m }
+
+-- The sessions of a connection after a PDU with these remarks.
+abbrev pub sessions_after : Sessions → Bool → ℕ → Kind → Remarks → Sessions
+sessions_after ss from_low time kind m = sessions_counted (sessions_begun m.opens ss from_low time kind) from_low time m

@@ -1,0 +1,469 @@
+//! The sessions of a connection: when each was asked for and came up, which end left, and what was lost in it.
+//!
+//! A ConnReq starts a session, and so does a ConnResp to which no ConnReq was recorded. The session lasts up to the
+//! next one, so each PDU belongs to exactly one session.
+
+ghost use Rattle.std.specs.Prelude.{◌≡◌, ◌<◌};
+ghost use Rattle.capture.specs.Sessions.{alone_in, alone_of, begun, ended_in, is_asked_by_other, is_awaited_in, is_doubled, is_other_silent, is_timeout, is_unanswered_by, is_unanswered_in, lost_in_session, missing_after, missing_on, no_session_totals, one_if, open_session, open_sessions, open_side, parted, parting_if, parting_in, session_after, session_counted, session_sums, sessions_after, sessions_begun, sessions_opened, side_after, with_alone};
+
+use crate::direction::{CHANNELS, Remarks, greatest, is_first_copy};
+use crate::window::Judged;
+use safe_pdu::{Kind, Leaving};
+
+/// How many sessions that have ended are kept of a connection. The current one is kept beside them.
+pub const SESSIONS: usize = 64;
+
+/// The reason in the DiscReq of an end to which nothing recent was confirmed in time.
+const TIMEOUT: u16 = 3;
+
+/// The sessions of a connection, in some 15 KiB.
+#[derive(Clone, Copy, Debug, PartialEq, Eq)]
+pub struct Sessions {
+    /// For each remainder of a session's number, the last session with it that has ended.
+    pub past: [Option<Session>; SESSIONS],
+    /// The sums over all sessions that have ended.
+    pub ended: SessionTotals,
+    /// The current session; its number is 0 before the first PDU.
+    pub current: Session,
+}
+
+/// A session, as far as its PDUs were recorded.
+#[derive(Clone, Copy, Debug, PartialEq, Eq)]
+pub struct Session {
+    /// Its number in its connection, from 1.
+    pub number: u64,
+    /// Its ConnReq; `None` if that was not recorded.
+    pub asked: Option<Asking>,
+    /// The time of its ConnResp, in microseconds.
+    pub up: Option<u64>,
+    /// What the end with the lower identifier did.
+    pub low: Side,
+    /// What the other end did.
+    pub high: Side,
+}
+
+/// The ConnReq of a session.
+#[derive(Clone, Copy, Debug, PartialEq, Eq)]
+pub struct Asking {
+    /// When it was recorded, in microseconds.
+    pub time: u64,
+    /// The end with the lower identifier sent it.
+    pub by_low: bool,
+}
+
+/// What one end did in a session; copies count once.
+#[derive(Clone, Copy, Debug, PartialEq, Eq)]
+pub struct Side {
+    /// Its first DiscReq.
+    pub left: Option<Parting>,
+    /// Its longest wait for a confirmation, in milliseconds.
+    pub longest: u32,
+    /// The numbers that are missing on each channel.
+    pub missing: [u64; CHANNELS],
+    /// The numbers that are missing on all channels.
+    pub lost: u64,
+    /// Units that it sent again (RetrData).
+    pub resent: u64,
+    /// Its PDUs that came twice on one channel.
+    pub repeats: u64,
+}
+
+/// The DiscReq of an end.
+#[derive(Clone, Copy, Debug, PartialEq, Eq)]
+pub struct Parting {
+    /// When it was recorded, in microseconds.
+    pub time: u64,
+    /// Its reason and detail.
+    pub leaving: Leaving,
+    /// The other end had left the session before.
+    pub follows: bool,
+}
+
+/// Sums over sessions.
+#[derive(Clone, Copy, Debug, PartialEq, Eq)]
+pub struct SessionTotals {
+    /// Sessions that came up.
+    pub up: u64,
+    /// Sessions whose opening nobody answered.
+    pub unanswered: u64,
+    /// Sessions in which an end sent a DiscReq.
+    pub left: u64,
+    /// Sessions in which an end left by a timeout.
+    pub timeouts: u64,
+    /// Datagrams that one channel lost whose PDU came on another.
+    pub alone: u64,
+}
+
+impl Sessions {
+    /// Returns the sessions of a connection without PDUs.
+    pub fn new() -> Self
+        // No session is kept, all sums are 0, and the current session has the number 0.
+        ensures { result ≡ open_sessions }
+    {
+        Sessions {
+            past: [None; SESSIONS],
+            ended: new_totals(),
+            current: new_session(0, None, None),
+        }
+    }
+}
+
+/// Returns sums over no session.
+fn new_totals() -> SessionTotals
+    // All five sums of sessions are 0.
+    ensures { result ≡ no_session_totals }
+{
+    SessionTotals {
+        up: 0,
+        unanswered: 0,
+        left: 0,
+        timeouts: 0,
+        alone: 0,
+    }
+}
+
+/// Returns a session before its first PDU.
+fn new_session(number: u64, asked: Option<Asking>, up: Option<u64>) -> Session
+    // The session has this `number`, ConnReq and time of its ConnResp; neither end has sent anything.
+    ensures { result ≡ open_session number asked up }
+{
+    Session {
+        number,
+        asked,
+        up,
+        low: new_side(),
+        high: new_side(),
+    }
+}
+
+/// Returns what an end did before its first PDU.
+fn new_side() -> Side
+    // The end has not left, and all its counts are 0.
+    ensures { result ≡ open_side }
+{
+    Side {
+        left: None,
+        longest: 0,
+        missing: [0; CHANNELS],
+        lost: 0,
+        resent: 0,
+        repeats: 0,
+    }
+}
+
+/// Adds a PDU to the sessions of its connection.
+pub(crate) fn note_session(
+    sessions: &mut Sessions,
+    from_low: bool,
+    time: u64,
+    kind: Kind,
+    remarks: &Remarks,
+)
+    // An opening starts a session, or a ConnResp brings up the one that awaits it (`sessions_begun`). Then the PDU is
+    // counted for its end in the current session (`session_after`).
+    ensures { sessions.new ≡ sessions_after sessions.old from_low time kind remarks.now }
+{
+    begin_by(sessions, remarks.opens, from_low, time, kind);
+    note_in(&mut sessions.current, from_low, time, remarks);
+}
+
+/// Starts a session if a PDU opens one, or is the first of its connection.
+fn begin_by(sessions: &mut Sessions, opens: bool, from_low: bool, time: u64, kind: Kind)
+    // If the PDU `opens`, the sessions are those after its opening. Any other PDU starts a session only if there was
+    // none (`sessions_begun`).
+    ensures { sessions.new ≡ sessions_begun opens sessions.old from_low time kind }
+{
+    if opens {
+        open_by(sessions, from_low, time, kind);
+    } else if sessions.current.number == 0 {
+        begin(sessions, None, None);
+    }
+}
+
+/// Takes in a ConnReq or a ConnResp.
+fn open_by(sessions: &mut Sessions, from_low: bool, time: u64, kind: Kind)
+    // A ConnReq starts a session at this `time`. A ConnResp brings up the current one if that awaits it; otherwise it
+    // starts one (`sessions_opened`).
+    ensures { sessions.new ≡ sessions_opened sessions.old from_low time kind }
+{
+    if matches!(kind, Kind::ConnReq) {
+        let asking = Asking {
+            time,
+            by_low: from_low,
+        };
+        begin(sessions, Some(asking), None);
+    } else if awaits(&sessions.current, from_low) {
+        sessions.current.up = Some(time);
+    } else {
+        begin(sessions, None, Some(time));
+    }
+}
+
+/// Returns `true` if a session awaits the ConnResp of an end.
+fn awaits(session: &Session, from_low: bool) -> bool
+    // The session is not up, and the other end asked for it (`is_awaited_in`).
+    ensures { result ≡ is_awaited_in session.now from_low }
+{
+    session.up.is_none() && asks_other(session.asked, from_low)
+}
+
+/// Returns `true` if the other end than this one sent the ConnReq.
+fn asks_other(asked: Option<Asking>, from_low: bool) -> bool
+    // Without a recorded ConnReq the result is false; otherwise both ends are compared.
+    ensures { result ≡ is_asked_by_other asked from_low }
+{
+    match asked {
+        None => false,
+        Some(asked) => {
+            if from_low {
+                !asked.by_low
+            } else {
+                asked.by_low
+            }
+        }
+    }
+}
+
+/// Starts the next session.
+fn begin(sessions: &mut Sessions, asked: Option<Asking>, up: Option<u64>)
+    // The session before is kept in the place of the oldest one and added to the sums; the new one has the next
+    // number (`begun`).
+    ensures { sessions.new ≡ begun sessions.old asked up }
+{
+    end(sessions);
+    let number = sessions.current.number.saturating_add(1);
+    sessions.current = new_session(number, asked, up);
+}
+
+/// Keeps the current session among those that have ended, if there is one.
+fn end(sessions: &mut Sessions)
+    // The session replaces the kept one with the same remainder of its number, and is added to the sums; the current
+    // session does not change (`ended_in`).
+    ensures { sessions.new ≡ ended_in sessions.old }
+{
+    let last = sessions.current;
+    if last.number > 0 {
+        sessions.past[(last.number % 64) as usize] = Some(last);
+        sessions.ended = add_session(sessions.ended, &last);
+    }
+}
+
+/// Adds a PDU of an end to a session.
+fn note_in(session: &mut Session, from_low: bool, time: u64, remarks: &Remarks)
+    // Only the side of the PDU's end changes (`session_after`).
+    ensures { session.new ≡ session_after from_low session.old time remarks.now }
+{
+    if from_low {
+        let follows = session.high.left.is_some();
+        note_side(&mut session.low, time, follows, remarks);
+    } else {
+        let follows = session.low.left.is_some();
+        note_side(&mut session.high, time, follows, remarks);
+    }
+}
+
+/// Adds a PDU to what its end did.
+fn note_side(side: &mut Side, time: u64, follows: bool, remarks: &Remarks)
+    // The first DiscReq, the longest wait, the missing numbers, the units sent again and the repeats take the PDU in
+    // (`side_after`).
+    ensures { side.new ≡ side_after side.old time follows remarks.now }
+{
+    let is_new = is_first_copy(remarks.together);
+    side.left = part(side.left, time, follows, remarks);
+    side.longest = greatest(remarks.waits, side.longest);
+    miss_on(&mut side.missing, remarks.route, remarks.channel);
+    side.lost = miss(side.lost, remarks.together);
+    side.resent = side
+        .resent
+        .saturating_add(count_if(is_new && remarks.resent));
+    side.repeats = side
+        .repeats
+        .saturating_add(count_if(doubles(remarks.channel)));
+}
+
+/// Returns 1 if something holds.
+fn count_if(holds: bool) -> u64
+    // The result is 1 for true and 0 for false.
+    ensures { result ≡ one_if holds }
+{
+    if holds { 1 } else { 0 }
+}
+
+/// Returns the first DiscReq of an end in a session, after one of its PDUs.
+fn part(left: Option<Parting>, time: u64, follows: bool, remarks: &Remarks) -> Option<Parting>
+    // The first DiscReq stays; without one, the result is that of the PDU, if it is new (`parted`).
+    ensures { result ≡ parted left time follows remarks.now }
+{
+    match left {
+        Some(parting) => Some(parting),
+        None => part_if(
+            is_first_copy(remarks.together),
+            time,
+            follows,
+            remarks.leaving,
+        ),
+    }
+}
+
+/// Returns the DiscReq of a PDU, if it is new.
+fn part_if(is_new: bool, time: u64, follows: bool, leaving: Option<Leaving>) -> Option<Parting>
+    // A copy has none; a new PDU has one if it has a reason (`parting_in`).
+    ensures { result ≡ parting_if is_new time follows leaving }
+{
+    if is_new {
+        return part_in(time, follows, leaving);
+    }
+    None
+}
+
+/// Returns the DiscReq of a PDU.
+fn part_in(time: u64, follows: bool, leaving: Option<Leaving>) -> Option<Parting>
+    // Without a reason the PDU is not a DiscReq.
+    ensures { result ≡ parting_in time follows leaving }
+{
+    match leaving {
+        None => None,
+        Some(leaving) => Some(Parting {
+            time,
+            leaving,
+            follows,
+        }),
+    }
+}
+
+/// Counts missing numbers on the channel of a PDU.
+fn miss_on(counts: &mut [u64; CHANNELS], route: usize, channel: Option<Judged>)
+    // Only the count of this channel changes; that of a further channel is not kept (`missing_on`).
+    ensures { counts.new ≡ missing_on counts.old route channel }
+{
+    if let Some(judged) = channel {
+        if route < CHANNELS {
+            counts[route] = miss(counts[route], judged);
+        }
+    }
+}
+
+/// Returns how many numbers are missing after a number.
+fn miss(missing: u64, judged: Judged) -> u64
+    // A gap adds the numbers that it skips, a late number takes one away, any other changes nothing.
+    ensures { result ≡ missing_after missing judged }
+{
+    match judged {
+        Judged::Ahead(passed) => missing.saturating_add(passed as u64),
+        Judged::Late => missing.saturating_sub(1),
+        Judged::First
+        | Judged::Next
+        | Judged::Repeat(_)
+        | Judged::Differs(_)
+        | Judged::Stale
+        | Judged::Anew => missing,
+    }
+}
+
+/// Returns `true` if a PDU came on its channel before.
+fn doubles(channel: Option<Judged>) -> bool
+    // Only a repeat on the channel counts, not a copy on another one.
+    ensures { result ≡ is_doubled channel }
+{
+    matches!(channel, Some(Judged::Repeat(_)))
+}
+
+/// Returns how many datagrams one channel lost in a session whose PDU came on another channel.
+pub fn lost_alone(session: &Session) -> u64
+    // For each end and channel, these are the numbers missing on that channel, less those missing on all (`alone_of`).
+    ensures { result ≡ alone_in session.now }
+{
+    alone(&session.low).saturating_add(alone(&session.high))
+}
+
+/// Returns how many datagrams of an end one channel lost whose PDU came on another channel.
+pub fn alone(side: &Side) -> u64
+    // The numbers missing on each channel are added, each less those that are missing on all channels.
+    ensures { result ≡ alone_of side.now }
+{
+    let lost = side.lost;
+    side.missing
+        .iter()
+        .fold(0, |sum, missing| add_alone(lost, sum, *missing))
+}
+
+/// Adds the datagrams that one channel lost, apart from the numbers that all channels lost.
+fn add_alone(lost: u64, sum: u64, missing: u64) -> u64
+    // The difference of `missing` and `lost`, at least 0, is added to the sum.
+    ensures { result ≡ with_alone lost sum missing }
+{
+    sum.saturating_add(missing.saturating_sub(lost))
+}
+
+/// Returns how many PDUs came on no channel in a session.
+pub fn lost_everywhere(session: &Session) -> u64
+    // The numbers missing on all channels are added for both ends.
+    ensures { result ≡ lost_in_session session.now }
+{
+    session.low.lost.saturating_add(session.high.lost)
+}
+
+/// Returns `true` if nobody answered the opening of a session.
+pub fn is_unanswered(session: &Session) -> bool
+    // The result is true exactly if a ConnReq was recorded, no ConnResp after it, and no DiscReq of the other end
+    // (`is_unanswered_in`).
+    ensures { result ≡ is_unanswered_in session.now }
+{
+    match session.asked {
+        None => false,
+        Some(asked) => session.up.is_none() && is_silent(&asked, session),
+    }
+}
+
+/// Returns `true` if the end that did not ask for a session has not left it.
+fn is_silent(asked: &Asking, session: &Session) -> bool
+    // The other end than the one that `asked` has sent no DiscReq in the `session`.
+    ensures { result ≡ is_other_silent asked.now session.now }
+{
+    if asked.by_low {
+        session.high.left.is_none()
+    } else {
+        session.low.left.is_none()
+    }
+}
+
+/// Returns `true` if an end left by a timeout.
+fn times_out(left: Option<Parting>) -> bool
+    // The result is true exactly if the end has left with reason 3.
+    ensures { result ≡ is_timeout left }
+{
+    match left {
+        None => false,
+        Some(parting) => parting.leaving.reason == TIMEOUT,
+    }
+}
+
+/// Adds a session to the sums.
+fn add_session(totals: SessionTotals, session: &Session) -> SessionTotals
+    // Each sum grows by what the `session` adds to it (`session_counted`).
+    ensures { result ≡ session_counted totals session.now }
+{
+    let up = session.up.is_some();
+    let left = session.low.left.is_some() || session.high.left.is_some();
+    let timeout = times_out(session.low.left) || times_out(session.high.left);
+    SessionTotals {
+        up: totals.up.saturating_add(count_if(up)),
+        unanswered: totals
+            .unanswered
+            .saturating_add(count_if(is_unanswered(session))),
+        left: totals.left.saturating_add(count_if(left)),
+        timeouts: totals.timeouts.saturating_add(count_if(timeout)),
+        alone: totals.alone.saturating_add(lost_alone(session)),
+    }
+}
+
+/// Returns the sums over all sessions of a connection.
+pub fn add_up_sessions(sessions: &Sessions) -> SessionTotals
+    // The current session, if there is one, is added to the sums over those that have ended (`session_sums`).
+    ensures { result ≡ session_sums sessions.now }
+{
+    if sessions.current.number == 0 {
+        return sessions.ended;
+    }
+    add_session(sessions.ended, &sessions.current)
+}

@@ -1,0 +1,113 @@
+-- The table of a connection's sessions as JSON; docs/captures.md has the members.
+use Rattle.std.specs.Prelude.{ℕ, ◌%◌, Bool, true, false, List, [], ◌∷◌, ◌++◌, codes, drop, take, Option, Some, None}
+use Rattle.std.specs.Fmt.{decimal}
+use Rattle.std.specs.List.{flat_map}
+use Rattle.capture.specs.declared.sessions.TheConstants.{SESSIONS}
+use Rattle.capture.specs.declared.sessions.Asking.{Asking}
+use Rattle.capture.specs.declared.sessions.Parting.{Parting}
+use Rattle.capture.specs.declared.sessions.Session.{Session}
+use Rattle.capture.specs.declared.sessions.SessionTotals.{SessionTotals}
+use Rattle.capture.specs.declared.sessions.Sessions.{Sessions}
+use Rattle.capture.specs.declared.sessions.Side.{Side}
+use Rattle.capture.specs.Sessions.{alone_of, is_unanswered_in, session_sums}
+use Rattle.pdu_text.specs.Lines.{joined}
+use Rattle.capture_text.specs.TableText.{asker_of}
+
+-- A truth.
+abbrev pub truth_json : Bool → List ℕ
+truth_json true = codes "true"
+truth_json false = codes "false"
+
+-- A time, or null.
+abbrev pub maybe_time_json : Option ℕ → List ℕ
+maybe_time_json None = codes "null"
+maybe_time_json (Some time) = decimal time
+
+-- The time and the end of a ConnReq.
+unfoldable pub asking_json : ℕ → ℕ → List ℕ
+asking_json end time = joined (codes ",\"asked\":" ∷ decimal time ∷ codes ",\"asked_by\":" ∷ decimal end ∷ [])
+
+-- The ConnReq of a session, or that it was not recorded.
+abbrev pub asked_json : ℕ → ℕ → Option Asking → List ℕ
+asked_json low high None = codes ",\"asked\":null,\"asked_by\":null"
+asked_json low high (Some a) = asking_json (asker_of low high a) a.time
+
+-- The number of a session, at the start of its object.
+unfoldable pub number_json : ℕ → List ℕ
+number_json number = joined (codes "{\"session\":" ∷ decimal number ∷ [])
+
+-- The time of coming up, and if nobody answered.
+unfoldable pub outcome_json : Option ℕ → Bool → List ℕ
+outcome_json up unanswered =
+    codes ",\"up\":" ++ maybe_time_json up ++ codes ",\"unanswered\":" ++ truth_json unanswered
+
+-- The object of a DiscReq.
+unfoldable pub parting_json : Parting → List ℕ
+parting_json p =
+    joined
+    (codes "{\"time\":" ∷ decimal p.time ∷ codes ",\"reason\":" ∷ decimal p.leaving.reason ∷ codes ",\"detail\":" ∷ decimal p.leaving.detail
+    ∷ codes ",\"follows\":" ∷ truth_json p.follows ∷ codes "}" ∷ [])
+
+-- The DiscReq of an end, or null.
+abbrev pub left_json : Option Parting → List ℕ
+left_json None = codes "null"
+left_json (Some p) = parting_json p
+
+-- The longest wait and the losses of an end.
+unfoldable pub losses_json : ℕ → ℕ → ℕ → List ℕ
+losses_json waits lost alone =
+    joined
+    (codes ",\"waits\":" ∷ decimal waits ∷ codes ",\"lost_on_every_channel\":" ∷ decimal lost ∷ codes ",\"lost_on_one_channel\":" ∷ decimal alone
+    ∷ [])
+
+-- What an end sent again, what came twice on one channel, and the end of its object.
+unfoldable pub again_json : ℕ → ℕ → List ℕ
+again_json resent repeats = joined (codes ",\"resent\":" ∷ decimal resent ∷ codes ",\"repeats\":" ∷ decimal repeats ∷ codes "}" ∷ [])
+
+-- What an end did in a session.
+unfoldable pub side_json : Side → List ℕ
+side_json s =
+    codes "{\"left\":" ++ left_json s.left ++ losses_json s.longest s.lost (alone_of s) ++ again_json s.resent s.repeats
+
+-- How a session began.
+unfoldable pub beginning_json : ℕ → ℕ → Session → List ℕ
+beginning_json low high x = number_json x.number ++ asked_json low high x.asked ++ outcome_json x.up (is_unanswered_in x)
+
+-- What both ends did in a session, and the end of its object.
+unfoldable pub sides_json : Session → List ℕ
+sides_json x = codes ",\"low\":" ++ side_json x.low ++ codes ",\"high\":" ++ side_json x.high ++ codes "}"
+
+-- The object of a session.
+unfoldable pub session_json : ℕ → ℕ → Session → List ℕ
+session_json low high x = beginning_json low high x ++ sides_json x
+
+-- A kept session before a comma, if the place has one.
+abbrev pub slot_json : ℕ → ℕ → Option Session → List ℕ
+slot_json low high None = []
+slot_json low high (Some x) = session_json low high x ++ codes ","
+
+-- Kept sessions, each before a comma.
+abbrev pub slots_json : ℕ → ℕ → List (Option Session) → List ℕ
+slots_json low high xs = flat_map (λ x. slot_json low high x) xs
+
+-- The sums over all sessions: how many there were, came up, and were not answered.
+unfoldable pub came_json : ℕ → SessionTotals → List ℕ
+came_json number t =
+    joined
+    (codes ",\"sessions\":{\"number\":" ∷ decimal number ∷ codes ",\"up\":" ∷ decimal t.up ∷ codes ",\"unanswered\":" ∷ decimal t.unanswered
+    ∷ [])
+
+-- The sums over all sessions: how many an end left, and by a timeout; and the start of the table.
+unfoldable pub gone_json : SessionTotals → List ℕ
+gone_json t =
+    joined (codes ",\"left\":" ∷ decimal t.left ∷ codes ",\"timeouts\":" ∷ decimal t.timeouts ∷ codes ",\"table\":[" ∷ [])
+
+-- All kept sessions, the oldest one first, then the current one, and the end of the table.
+unfoldable pub table_json : ℕ → ℕ → Sessions → List ℕ
+table_json low high ss =
+    slots_json low high (drop (ss.current.number % SESSIONS) ss.past) ++ slots_json low high (take (ss.current.number % SESSIONS) ss.past)
+    ++ session_json low high ss.current ++ codes "]}"
+
+-- The sums over all sessions of a connection, and its table.
+unfoldable pub sessions_json : ℕ → ℕ → Sessions → List ℕ
+sessions_json low high ss = came_json ss.current.number (session_sums ss) ++ gone_json (session_sums ss) ++ table_json low high ss

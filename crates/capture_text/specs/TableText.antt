@@ -1,0 +1,129 @@
+-- The table of a connection's sessions, one line each.
+use Rattle.std.specs.Prelude.{ℕ, ◌%◌, ◌&&◌, Bool, true, false, List, [], ◌∷◌, ◌++◌, codes, drop, take, if◌then◌else◌, Option, Some, None, is_none}
+use Rattle.std.specs.Fmt.{decimal}
+use Rattle.std.specs.List.{flat_map}
+use Rattle.capture.specs.declared.sessions.TheConstants.{SESSIONS}
+use Rattle.capture.specs.declared.sessions.Asking.{Asking}
+use Rattle.capture.specs.declared.sessions.Parting.{Parting}
+use Rattle.capture.specs.declared.sessions.Session.{Session}
+use Rattle.capture.specs.declared.sessions.Sessions.{Sessions}
+use Rattle.capture.specs.Numbers.{counted}
+use Rattle.capture.specs.Sessions.{alone_in, is_unanswered_in, lost_in_session}
+use Rattle.pdu_text.specs.Lines.{joined}
+use Rattle.capture_text.specs.Pieces.{since_text}
+use Rattle.capture_text.specs.Reasons.{leaving_words}
+
+-- The number of a session, and its connection.
+unfoldable pub number_text : ℕ → ℕ → ℕ → List ℕ
+number_text number low high =
+    joined (codes "session " ∷ decimal number ∷ codes " of " ∷ decimal low ∷ codes "-" ∷ decimal high ∷ [])
+
+-- The end that asked for a session.
+abbrev pub asker_of : ℕ → ℕ → Asking → ℕ
+asker_of low high a = if a.by_low then low else high
+
+-- The ConnReq of a session: end and time.
+unfoldable pub asking_text : ℕ → ℕ → ℕ → List ℕ
+asking_text first end time = joined (codes ", " ∷ decimal end ∷ codes " asked at " ∷ []) ++ since_text first time
+
+-- The ConnReq of a session, or that it was not recorded.
+abbrev pub asked_text : ℕ → ℕ → ℕ → Option Asking → List ℕ
+asked_text first low high None = codes ", its ConnReq was not recorded"
+asked_text first low high (Some a) = asking_text first (asker_of low high a) a.time
+
+-- The time at which a session came up.
+unfoldable pub came_up_text : ℕ → ℕ → List ℕ
+came_up_text first time = codes ", came up at " ++ since_text first time
+
+-- A session that did not come up: if nobody answered, that.
+abbrev pub down_text : Bool → List ℕ
+down_text true = codes ", nobody answered"
+down_text false = codes ", was not seen to come up"
+
+-- The time at which a session came up, or that it did not.
+abbrev pub outcome_text : ℕ → Option ℕ → Bool → List ℕ
+outcome_text first (Some time) unanswered = came_up_text first time
+outcome_text first None unanswered = down_text unanswered
+
+-- How a session began: number, ConnReq, ConnResp.
+unfoldable pub beginning_text : ℕ → ℕ → ℕ → Session → List ℕ
+beginning_text first low high x =
+    number_text x.number low high ++ asked_text first low high x.asked ++ outcome_text first x.up (is_unanswered_in x)
+
+-- Whose leaving was the first.
+abbrev pub own_text : Bool → List ℕ
+own_text true = codes " after the other"
+own_text false = codes " by itself"
+
+-- The DiscReq of an end: who, when, own or after that of the other end, reason.
+unfoldable pub leaving_text : ℕ → ℕ → Parting → List ℕ
+leaving_text first end p =
+    joined (codes ", " ∷ decimal end ∷ codes " left at " ∷ []) ++ since_text first p.time ++ own_text p.follows ++ leaving_words p.leaving
+
+-- The DiscReq of an end, if it sent one.
+abbrev pub left_text : ℕ → ℕ → Option Parting → List ℕ
+left_text first end None = []
+left_text first end (Some p) = leaving_text first end p
+
+-- Neither end left.
+abbrev pub is_kept : Session → Bool
+is_kept x = is_none x.low.left && is_none x.high.left
+
+-- That neither end left.
+abbrev pub kept_text : Bool → List ℕ
+kept_text true = codes ", nobody left"
+kept_text false = []
+
+-- How a session ended.
+unfoldable pub ended_text : ℕ → ℕ → ℕ → Session → List ℕ
+ended_text first low high x = left_text first low x.low.left ++ left_text first high x.high.left ++ kept_text (is_kept x)
+
+-- The longest wait of each end.
+unfoldable pub waited_text : ℕ → ℕ → ℕ → ℕ → List ℕ
+waited_text low high one other =
+    joined
+    (codes ", " ∷ decimal low ∷ codes " waited " ∷ decimal one ∷ codes " ms, " ∷ decimal high ∷ codes " waited " ∷ decimal other ∷ codes " ms" ∷ [])
+
+-- The losses, in words that name what is counted.
+unfoldable pub lost_text : ℕ → ℕ → List ℕ
+lost_text everywhere alone =
+    joined
+    (codes ", PDUs lost on every channel " ∷ decimal everywhere ∷ codes ", datagrams lost on one channel whose PDU came on another " ∷ decimal alone
+    ∷ [])
+
+-- What was sent again, and what came twice on one channel.
+unfoldable pub again_text : ℕ → ℕ → List ℕ
+again_text resent repeats = joined (codes ", sent again " ∷ decimal resent ∷ codes ", repeats on one channel " ∷ decimal repeats ∷ codes "\n" ∷ [])
+
+-- The units that both ends sent again.
+abbrev pub resent_in : Session → ℕ
+resent_in x = counted x.low.resent x.high.resent
+
+-- The PDUs of both ends that came twice on one channel.
+abbrev pub repeats_in : Session → ℕ
+repeats_in x = counted x.low.repeats x.high.repeats
+
+-- What happened in a session, and the end of its line.
+unfoldable pub happened_text : ℕ → ℕ → Session → List ℕ
+happened_text low high x =
+    waited_text low high x.low.longest x.high.longest ++ lost_text (lost_in_session x) (alone_in x) ++ again_text (resent_in x) (repeats_in x)
+
+-- The line of a session.
+unfoldable pub session_text : ℕ → ℕ → ℕ → Session → List ℕ
+session_text first low high x =
+    beginning_text first low high x ++ ended_text first low high x ++ happened_text low high x
+
+-- The line of a kept session, if the place has one.
+abbrev pub slot_text : ℕ → ℕ → ℕ → Option Session → List ℕ
+slot_text first low high None = []
+slot_text first low high (Some x) = session_text first low high x
+
+-- The lines of kept sessions.
+abbrev pub slots_text : ℕ → ℕ → ℕ → List (Option Session) → List ℕ
+slots_text first low high xs = flat_map (λ x. slot_text first low high x) xs
+
+-- The lines of all kept sessions of a connection, the oldest one first, then that of the current one.
+unfoldable pub sessions_text : ℕ → ℕ → ℕ → Sessions → List ℕ
+sessions_text first low high ss =
+    slots_text first low high (drop (ss.current.number % SESSIONS) ss.past) ++ slots_text first low high (take (ss.current.number % SESSIONS) ss.past)
+    ++ session_text first low high ss.current

@@ -1,0 +1,332 @@
+//! The table of a connection's sessions: one line for each.
+
+ghost use Rattle.std.specs.Prelude.{◌≡◌, OnOk, None, Some};
+ghost use Rattle.std.specs.Io.KnownBytes.{Appends};
+ghost use Rattle.capture_text.specs.TableText.{again_text, asked_text, asker_of, asking_text, beginning_text, came_up_text, down_text, ended_text, happened_text, is_kept, kept_text, leaving_text, left_text, lost_text, number_text, outcome_text, own_text, repeats_in, resent_in, session_text, sessions_text, slot_text, slots_text, waited_text};
+
+use crate::pieces::write_since;
+use crate::reasons::write_reasons;
+use capture::{Asking, Parting, Session, Sessions, is_unanswered, lost_alone, lost_everywhere};
+use pdu_text::write_text;
+use std::io;
+use std::io::Write;
+
+/// Writes a line for each session of a connection, the oldest kept one first. `ends` are its identifiers.
+#[tactic(auto, unfolding(crate::specs::TableText::sessions_text))]
+pub(crate) fn write_sessions<W: Write>(
+    writer: &mut W,
+    first: u64,
+    ends: (u32, u32),
+    sessions: &Sessions,
+) -> io::Result<()>
+    // On success the lines of the kept sessions are appended in order of their numbers, then that of the current one
+    // (`sessions_text`).
+    ensures { OnOk result (Appends (W.contents writer.old) (W.contents writer.new)
+        (sessions_text first ends.0 ends.1 sessions.now)) }
+{
+    let oldest = (sessions.current.number % 64) as usize;
+    write_slots(writer, first, ends, &sessions.past[oldest..])?;
+    write_slots(writer, first, ends, &sessions.past[..oldest])?;
+    write_session(writer, first, ends, &sessions.current)?;
+    Ok(())
+}
+
+/// Writes the lines of kept sessions.
+fn write_slots<W: Write>(
+    writer: &mut W,
+    first: u64,
+    ends: (u32, u32),
+    slots: &[Option<Session>],
+) -> io::Result<()>
+    // On success the line of each place that has a session is appended, in the order of `slots`.
+    ensures { OnOk result (Appends (W.contents writer.old) (W.contents writer.new)
+        (slots_text first ends.0 ends.1 slots.now)) }
+{
+    for slot in slots {
+        write_slot(writer, first, ends, slot)?;
+    }
+    Ok(())
+}
+
+/// Writes the line of a kept session, if the place has one.
+fn write_slot<W: Write>(
+    writer: &mut W,
+    first: u64,
+    ends: (u32, u32),
+    slot: &Option<Session>,
+) -> io::Result<()>
+    // On success the line is appended if there is a session in this `slot`.
+    ensures { OnOk result (Appends (W.contents writer.old) (W.contents writer.new)
+        (slot_text first ends.0 ends.1 slot.now)) }
+{
+    match slot {
+        None => Ok(()),
+        Some(session) => write_session(writer, first, ends, session),
+    }
+}
+
+/// Writes the line of a session.
+#[tactic(auto, unfolding(crate::specs::TableText::session_text))]
+fn write_session<W: Write>(
+    writer: &mut W,
+    first: u64,
+    ends: (u32, u32),
+    session: &Session,
+) -> io::Result<()>
+    // On success the line is appended: how the session began, how it ended, and what happened in it.
+    ensures { OnOk result (Appends (W.contents writer.old) (W.contents writer.new)
+        (session_text first ends.0 ends.1 session.now)) }
+{
+    write_beginning(writer, first, ends, session)?;
+    write_ended(writer, first, ends, session)?;
+    write_happened(writer, ends, session)?;
+    Ok(())
+}
+
+/// Writes how a session began.
+#[tactic(auto, unfolding(crate::specs::TableText::beginning_text))]
+fn write_beginning<W: Write>(
+    writer: &mut W,
+    first: u64,
+    ends: (u32, u32),
+    session: &Session,
+) -> io::Result<()>
+    // On success its number, its ConnReq and its ConnResp are appended, or that they were not recorded.
+    ensures { OnOk result (Appends (W.contents writer.old) (W.contents writer.new)
+        (beginning_text first ends.0 ends.1 session.now)) }
+{
+    let unanswered = is_unanswered(session);
+    write_number(writer, session.number, ends)?;
+    write_asked(writer, first, ends, session.asked)?;
+    write_outcome(writer, first, session.up, unanswered)?;
+    Ok(())
+}
+
+/// Writes the number of a session, and its connection.
+#[tactic(auto, unfolding(crate::specs::TableText::number_text))]
+fn write_number<W: Write>(writer: &mut W, number: u64, ends: (u32, u32)) -> io::Result<()>
+    // On success the `number` and both identifiers are appended.
+    ensures { OnOk result (Appends (W.contents writer.old) (W.contents writer.new)
+        (number_text number ends.0 ends.1)) }
+{
+    let (low, high) = ends;
+    write!(writer, "session {number} of {low}-{high}")
+}
+
+/// Writes the ConnReq of a session.
+fn write_asked<W: Write>(
+    writer: &mut W,
+    first: u64,
+    ends: (u32, u32),
+    asked: Option<Asking>,
+) -> io::Result<()>
+    // On success the end that `asked` and the time are appended, or that the ConnReq was not recorded.
+    ensures { OnOk result (Appends (W.contents writer.old) (W.contents writer.new)
+        (asked_text first ends.0 ends.1 asked)) }
+{
+    match asked {
+        None => write_text(writer, ", its ConnReq was not recorded"),
+        Some(asking) => write_asking(writer, first, asker(ends, &asking), asking.time),
+    }
+}
+
+/// Returns the end that asked for a session.
+pub(crate) fn asker(ends: (u32, u32), asking: &Asking) -> u32
+    // The result is the lower identifier if that end sent the ConnReq, otherwise the higher one.
+    ensures { result ≡ asker_of ends.0 ends.1 asking.now }
+{
+    if asking.by_low { ends.0 } else { ends.1 }
+}
+
+/// Writes which end asked for a session, and when.
+#[tactic(auto, unfolding(crate::specs::TableText::asking_text))]
+fn write_asking<W: Write>(writer: &mut W, first: u64, end: u32, time: u64) -> io::Result<()>
+    // On success the identifier of `end` and the time since `first` are appended.
+    ensures { OnOk result (Appends (W.contents writer.old) (W.contents writer.new)
+        (asking_text first end time)) }
+{
+    write!(writer, ", {end} asked at ")?;
+    write_since(writer, first, time)
+}
+
+/// Writes if and when a session came up.
+fn write_outcome<W: Write>(
+    writer: &mut W,
+    first: u64,
+    up: Option<u64>,
+    unanswered: bool,
+) -> io::Result<()>
+    // On success the time `up` is appended; without one, whether nobody answered.
+    ensures { OnOk result (Appends (W.contents writer.old) (W.contents writer.new)
+        (outcome_text first up unanswered)) }
+{
+    match up {
+        None => write_text(writer, name_down(unanswered)),
+        Some(time) => write_came_up(writer, first, time),
+    }
+}
+
+/// Returns the words for a session that was not seen to come up.
+fn name_down(unanswered: bool) -> &'static str
+    // The words say that nobody answered, if so; otherwise that the session was not seen to come up.
+    ensures { result.now ≡ down_text unanswered }
+{
+    if unanswered {
+        ", nobody answered"
+    } else {
+        ", was not seen to come up"
+    }
+}
+
+/// Writes when a session came up.
+#[tactic(auto, unfolding(crate::specs::TableText::came_up_text))]
+fn write_came_up<W: Write>(writer: &mut W, first: u64, time: u64) -> io::Result<()>
+    // On success the words "came up at" and the time since `first` are appended.
+    ensures { OnOk result (Appends (W.contents writer.old) (W.contents writer.new) (came_up_text first time)) }
+{
+    write!(writer, ", came up at ")?;
+    write_since(writer, first, time)
+}
+
+/// Writes how a session ended.
+#[tactic(auto, unfolding(crate::specs::TableText::ended_text))]
+fn write_ended<W: Write>(
+    writer: &mut W,
+    first: u64,
+    ends: (u32, u32),
+    session: &Session,
+) -> io::Result<()>
+    // On success the DiscReq of the lower end and that of the other end are appended, or that nobody left.
+    ensures { OnOk result (Appends (W.contents writer.old) (W.contents writer.new)
+        (ended_text first ends.0 ends.1 session.now)) }
+{
+    let (low, high) = ends;
+    write_left(writer, first, low, session.low.left)?;
+    write_left(writer, first, high, session.high.left)?;
+    write_text(writer, name_kept(keeps(session)))?;
+    Ok(())
+}
+
+/// Returns `true` if neither end left a session.
+fn keeps(session: &Session) -> bool
+    // The result is true exactly if neither side has a DiscReq.
+    ensures { result ≡ is_kept session.now }
+{
+    session.low.left.is_none() && session.high.left.is_none()
+}
+
+/// Returns the words for a session that nobody left.
+fn name_kept(kept: bool) -> &'static str
+    // The words are empty if an end left.
+    ensures { result.now ≡ kept_text kept }
+{
+    if kept { ", nobody left" } else { "" }
+}
+
+/// Writes the DiscReq of an end, if it sent one.
+fn write_left<W: Write>(
+    writer: &mut W,
+    first: u64,
+    end: u32,
+    left: Option<Parting>,
+) -> io::Result<()>
+    // On success the DiscReq is appended if the end `left`; otherwise nothing is.
+    ensures { OnOk result (Appends (W.contents writer.old) (W.contents writer.new) (left_text first end left)) }
+{
+    match left {
+        None => Ok(()),
+        Some(parting) => write_leaving(writer, first, end, parting),
+    }
+}
+
+/// Writes the DiscReq of an end.
+#[tactic(auto, unfolding(crate::specs::TableText::leaving_text))]
+fn write_leaving<W: Write>(writer: &mut W, first: u64, end: u32, parting: Parting) -> io::Result<()>
+    // On success the identifier of `end`, the time since `first`, whether the other end had left before, and the
+    // reason are appended.
+    ensures { OnOk result (Appends (W.contents writer.old) (W.contents writer.new)
+        (leaving_text first end parting)) }
+{
+    write!(writer, ", {end} left at ")?;
+    write_since(writer, first, parting.time)?;
+    write_text(writer, name_own(parting.follows))?;
+    write_reasons(writer, parting.leaving)
+}
+
+/// Returns the words for the first leaving of a session, or for one after it.
+fn name_own(follows: bool) -> &'static str
+    // A leaving that `follows` is after the other end's; any other is by the end itself.
+    ensures { result.now ≡ own_text follows }
+{
+    if follows {
+        " after the other"
+    } else {
+        " by itself"
+    }
+}
+
+/// Writes what happened in a session, and ends its line.
+#[tactic(auto, unfolding(crate::specs::TableText::happened_text))]
+fn write_happened<W: Write>(writer: &mut W, ends: (u32, u32), session: &Session) -> io::Result<()>
+    // On success the longest waits, both losses, what was sent again and the repeats are appended.
+    ensures { OnOk result (Appends (W.contents writer.old) (W.contents writer.new)
+        (happened_text ends.0 ends.1 session.now)) }
+{
+    let resent = resent(session);
+    let repeats = repeats(session);
+    write_waited(writer, ends, session.low.longest, session.high.longest)?;
+    write_lost(writer, lost_everywhere(session), lost_alone(session))?;
+    write_again(writer, resent, repeats)?;
+    Ok(())
+}
+
+/// Writes the longest wait of each end.
+#[tactic(auto, unfolding(crate::specs::TableText::waited_text))]
+fn write_waited<W: Write>(writer: &mut W, ends: (u32, u32), one: u32, other: u32) -> io::Result<()>
+    // On success each identifier is appended with its wait in milliseconds.
+    ensures { OnOk result (Appends (W.contents writer.old) (W.contents writer.new)
+        (waited_text ends.0 ends.1 one other)) }
+{
+    let (low, high) = ends;
+    write!(writer, ", {low} waited {one} ms, {high} waited {other} ms")
+}
+
+/// Writes how many PDUs were lost on every channel, and how many datagrams on one channel whose PDU came on another.
+#[tactic(auto, unfolding(crate::specs::TableText::lost_text))]
+pub(crate) fn write_lost<W: Write>(writer: &mut W, everywhere: u64, alone: u64) -> io::Result<()>
+    // On success both losses are appended, each after the words that say what it counts.
+    ensures { OnOk result (Appends (W.contents writer.old) (W.contents writer.new) (lost_text everywhere alone)) }
+{
+    write!(
+        writer,
+        ", PDUs lost on every channel {everywhere}, datagrams lost on one channel whose PDU came on another {alone}"
+    )
+}
+
+/// Returns how many units both ends sent again.
+fn resent(session: &Session) -> u64
+    // The counts of both sides are added.
+    ensures { result ≡ resent_in session.now }
+{
+    session.low.resent.saturating_add(session.high.resent)
+}
+
+/// Returns how many PDUs of both ends came twice on one channel.
+fn repeats(session: &Session) -> u64
+    // The repeats of both sides are added.
+    ensures { result ≡ repeats_in session.now }
+{
+    session.low.repeats.saturating_add(session.high.repeats)
+}
+
+/// Writes what was sent again and what came twice on one channel, and ends the line.
+#[tactic(auto, unfolding(crate::specs::TableText::again_text))]
+fn write_again<W: Write>(writer: &mut W, resent: u64, repeats: u64) -> io::Result<()>
+    // On success the units sent again, the repeats and a line feed are appended.
+    ensures { OnOk result (Appends (W.contents writer.old) (W.contents writer.new) (again_text resent repeats)) }
+{
+    writeln!(
+        writer,
+        ", sent again {resent}, repeats on one channel {repeats}"
+    )
+}

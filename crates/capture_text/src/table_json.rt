@@ -1,0 +1,273 @@
+//! The table of a connection's sessions as JSON.
+
+ghost use Rattle.std.specs.Prelude.{◌≡◌, OnOk, None, Some};
+ghost use Rattle.std.specs.Io.KnownBytes.{Appends};
+ghost use Rattle.capture_text.specs.TableJson.{again_json, asked_json, asking_json, beginning_json, came_json, gone_json, left_json, losses_json, maybe_time_json, number_json, outcome_json, parting_json, session_json, sessions_json, side_json, sides_json, slot_json, slots_json, table_json, truth_json};
+
+use crate::table::asker;
+use capture::{
+    Asking, Parting, Session, SessionTotals, Sessions, Side, add_up_sessions, alone, is_unanswered,
+};
+use pdu_text::write_text;
+use std::io;
+use std::io::Write;
+
+/// Writes the sums over all sessions of a connection, and the table of the last ones. `ends` are its identifiers.
+#[tactic(auto, unfolding(crate::specs::TableJson::sessions_json))]
+pub(crate) fn write_sessions_json<W: Write>(
+    writer: &mut W,
+    ends: (u32, u32),
+    sessions: &Sessions,
+) -> io::Result<()>
+    // On success the member of the sessions is appended: five sums, and the table (`sessions_json`).
+    ensures { OnOk result (Appends (W.contents writer.old) (W.contents writer.new)
+        (sessions_json ends.0 ends.1 sessions.now)) }
+{
+    let totals = add_up_sessions(sessions);
+    write_came(writer, sessions.current.number, totals)?;
+    write_gone(writer, totals)?;
+    write_table(writer, ends, sessions)?;
+    Ok(())
+}
+
+/// Writes how many sessions there were, how many came up, and how many nobody answered.
+#[tactic(auto, unfolding(crate::specs::TableJson::came_json))]
+fn write_came<W: Write>(writer: &mut W, number: u64, totals: SessionTotals) -> io::Result<()>
+    // On success the number of sessions and two of the `totals` are appended.
+    ensures { OnOk result (Appends (W.contents writer.old) (W.contents writer.new) (came_json number totals)) }
+{
+    let up = totals.up;
+    let unanswered = totals.unanswered;
+    write!(
+        writer,
+        ",\"sessions\":{{\"number\":{number},\"up\":{up},\"unanswered\":{unanswered}"
+    )
+}
+
+/// Writes how many sessions an end left, how many by a timeout, and the start of the table.
+#[tactic(auto, unfolding(crate::specs::TableJson::gone_json))]
+fn write_gone<W: Write>(writer: &mut W, totals: SessionTotals) -> io::Result<()>
+    // On success the other two of the `totals` are appended, and the list is opened.
+    ensures { OnOk result (Appends (W.contents writer.old) (W.contents writer.new) (gone_json totals)) }
+{
+    let left = totals.left;
+    let timeouts = totals.timeouts;
+    write!(
+        writer,
+        ",\"left\":{left},\"timeouts\":{timeouts},\"table\":["
+    )
+}
+
+/// Writes the table of the last sessions.
+#[tactic(auto, unfolding(crate::specs::TableJson::table_json))]
+fn write_table<W: Write>(writer: &mut W, ends: (u32, u32), sessions: &Sessions) -> io::Result<()>
+    // On success the kept sessions are appended in order of their numbers, then the current one, and the list is
+    // closed (`table_json`).
+    ensures { OnOk result (Appends (W.contents writer.old) (W.contents writer.new)
+        (table_json ends.0 ends.1 sessions.now)) }
+{
+    let oldest = (sessions.current.number % 64) as usize;
+    write_slots(writer, ends, &sessions.past[oldest..])?;
+    write_slots(writer, ends, &sessions.past[..oldest])?;
+    write_session(writer, ends, &sessions.current)?;
+    write_text(writer, "]}")?;
+    Ok(())
+}
+
+/// Writes kept sessions, each before a comma.
+fn write_slots<W: Write>(
+    writer: &mut W,
+    ends: (u32, u32),
+    slots: &[Option<Session>],
+) -> io::Result<()>
+    // On success the object of each place that has a session, and a comma, are appended in the order of `slots`.
+    ensures { OnOk result (Appends (W.contents writer.old) (W.contents writer.new)
+        (slots_json ends.0 ends.1 slots.now)) }
+{
+    for slot in slots {
+        write_slot(writer, ends, slot)?;
+    }
+    Ok(())
+}
+
+/// Writes a kept session before a comma, if the place has one.
+fn write_slot<W: Write>(writer: &mut W, ends: (u32, u32), slot: &Option<Session>) -> io::Result<()>
+    // On success the object and a comma are appended if there is a session in this `slot`.
+    ensures { OnOk result (Appends (W.contents writer.old) (W.contents writer.new)
+        (slot_json ends.0 ends.1 slot.now)) }
+{
+    match slot {
+        None => Ok(()),
+        Some(session) => {
+            write_session(writer, ends, session)?;
+            write_text(writer, ",")
+        }
+    }
+}
+
+/// Writes the object of a session.
+#[tactic(auto, unfolding(crate::specs::TableJson::session_json))]
+fn write_session<W: Write>(writer: &mut W, ends: (u32, u32), session: &Session) -> io::Result<()>
+    // On success how the session began is appended, and what each end did in it.
+    ensures { OnOk result (Appends (W.contents writer.old) (W.contents writer.new)
+        (session_json ends.0 ends.1 session.now)) }
+{
+    write_beginning(writer, ends, session)?;
+    write_sides(writer, session)?;
+    Ok(())
+}
+
+/// Writes how a session began.
+#[tactic(auto, unfolding(crate::specs::TableJson::beginning_json))]
+fn write_beginning<W: Write>(writer: &mut W, ends: (u32, u32), session: &Session) -> io::Result<()>
+    // On success its number, its ConnReq, and its outcome are appended.
+    ensures { OnOk result (Appends (W.contents writer.old) (W.contents writer.new)
+        (beginning_json ends.0 ends.1 session.now)) }
+{
+    let unanswered = is_unanswered(session);
+    write_number(writer, session.number)?;
+    write_asked(writer, ends, session.asked)?;
+    write_outcome(writer, session.up, unanswered)?;
+    Ok(())
+}
+
+/// Writes the number of a session.
+#[tactic(auto, unfolding(crate::specs::TableJson::number_json))]
+fn write_number<W: Write>(writer: &mut W, number: u64) -> io::Result<()>
+    // On success the `number` is appended at the start of the object.
+    ensures { OnOk result (Appends (W.contents writer.old) (W.contents writer.new) (number_json number)) }
+{
+    write!(writer, "{{\"session\":{number}")
+}
+
+/// Writes the ConnReq of a session.
+fn write_asked<W: Write>(writer: &mut W, ends: (u32, u32), asked: Option<Asking>) -> io::Result<()>
+    // On success its time and its end are appended; both are null if it was not recorded.
+    ensures { OnOk result (Appends (W.contents writer.old) (W.contents writer.new)
+        (asked_json ends.0 ends.1 asked)) }
+{
+    match asked {
+        None => write_text(writer, ",\"asked\":null,\"asked_by\":null"),
+        Some(asking) => write_asking(writer, asker(ends, &asking), asking.time),
+    }
+}
+
+/// Writes the time and the end of a ConnReq.
+#[tactic(auto, unfolding(crate::specs::TableJson::asking_json))]
+fn write_asking<W: Write>(writer: &mut W, end: u32, time: u64) -> io::Result<()>
+    // On success both members are appended, with this `time` and this `end`.
+    ensures { OnOk result (Appends (W.contents writer.old) (W.contents writer.new) (asking_json end time)) }
+{
+    write!(writer, ",\"asked\":{time},\"asked_by\":{end}")
+}
+
+/// Writes if and when a session came up.
+#[tactic(auto, unfolding(crate::specs::TableJson::outcome_json))]
+fn write_outcome<W: Write>(writer: &mut W, up: Option<u64>, unanswered: bool) -> io::Result<()>
+    // On success the time `up`, or null, is appended, and whether nobody answered.
+    ensures { OnOk result (Appends (W.contents writer.old) (W.contents writer.new)
+        (outcome_json up unanswered)) }
+{
+    write_text(writer, ",\"up\":")?;
+    write_maybe_time(writer, up)?;
+    write_text(writer, ",\"unanswered\":")?;
+    write_text(writer, name_truth(unanswered))?;
+    Ok(())
+}
+
+/// Writes a time, or null.
+fn write_maybe_time<W: Write>(writer: &mut W, time: Option<u64>) -> io::Result<()>
+    // On success the `time` is appended; null without one.
+    ensures { OnOk result (Appends (W.contents writer.old) (W.contents writer.new) (maybe_time_json time)) }
+{
+    match time {
+        None => write_text(writer, "null"),
+        Some(time) => write!(writer, "{time}"),
+    }
+}
+
+/// Returns the word for a truth.
+fn name_truth(holds: bool) -> &'static str
+    // The words are those of JSON.
+    ensures { result.now ≡ truth_json holds }
+{
+    if holds { "true" } else { "false" }
+}
+
+/// Writes what both ends did in a session.
+#[tactic(auto, unfolding(crate::specs::TableJson::sides_json))]
+fn write_sides<W: Write>(writer: &mut W, session: &Session) -> io::Result<()>
+    // On success the objects of the lower end and of the other end are appended, and that of the session is closed.
+    ensures { OnOk result (Appends (W.contents writer.old) (W.contents writer.new) (sides_json session.now)) }
+{
+    write_text(writer, ",\"low\":")?;
+    write_side(writer, &session.low)?;
+    write_text(writer, ",\"high\":")?;
+    write_side(writer, &session.high)?;
+    write_text(writer, "}")?;
+    Ok(())
+}
+
+/// Writes what an end did in a session.
+#[tactic(auto, unfolding(crate::specs::TableJson::side_json))]
+fn write_side<W: Write>(writer: &mut W, side: &Side) -> io::Result<()>
+    // On success its DiscReq or null, its longest wait, its losses, and what it sent again are appended.
+    ensures { OnOk result (Appends (W.contents writer.old) (W.contents writer.new) (side_json side.now)) }
+{
+    let alone = alone(side);
+    write_text(writer, "{\"left\":")?;
+    write_left(writer, side.left)?;
+    write_losses(writer, side.longest, side.lost, alone)?;
+    write_again(writer, side.resent, side.repeats)?;
+    Ok(())
+}
+
+/// Writes the DiscReq of an end, or null.
+fn write_left<W: Write>(writer: &mut W, left: Option<Parting>) -> io::Result<()>
+    // On success the object of the DiscReq is appended if the end `left`, otherwise null.
+    ensures { OnOk result (Appends (W.contents writer.old) (W.contents writer.new) (left_json left)) }
+{
+    match left {
+        None => write_text(writer, "null"),
+        Some(parting) => write_parting(writer, parting),
+    }
+}
+
+/// Writes the object of a DiscReq.
+#[tactic(auto, unfolding(crate::specs::TableJson::parting_json))]
+fn write_parting<W: Write>(writer: &mut W, parting: Parting) -> io::Result<()>
+    // On success its time, reason and detail are appended, and whether the other end had left before.
+    ensures { OnOk result (Appends (W.contents writer.old) (W.contents writer.new) (parting_json parting)) }
+{
+    let time = parting.time;
+    let reason = parting.leaving.reason;
+    let detail = parting.leaving.detail;
+    let follows = name_truth(parting.follows);
+    write!(
+        writer,
+        "{{\"time\":{time},\"reason\":{reason},\"detail\":{detail},\"follows\":{follows}}}"
+    )
+}
+
+/// Writes the longest wait and the losses of an end.
+#[tactic(auto, unfolding(crate::specs::TableJson::losses_json))]
+fn write_losses<W: Write>(writer: &mut W, waits: u32, lost: u64, alone: u64) -> io::Result<()>
+    // On success the wait in milliseconds, the PDUs lost on every channel, and the datagrams that one channel lost
+    // alone are appended.
+    ensures { OnOk result (Appends (W.contents writer.old) (W.contents writer.new)
+        (losses_json waits lost alone)) }
+{
+    write!(
+        writer,
+        ",\"waits\":{waits},\"lost_on_every_channel\":{lost},\"lost_on_one_channel\":{alone}"
+    )
+}
+
+/// Writes what an end sent again, and what came twice on one channel.
+#[tactic(auto, unfolding(crate::specs::TableJson::again_json))]
+fn write_again<W: Write>(writer: &mut W, resent: u64, repeats: u64) -> io::Result<()>
+    // On success both counts are appended, and the object is closed.
+    ensures { OnOk result (Appends (W.contents writer.old) (W.contents writer.new) (again_json resent repeats)) }
+{
+    write!(writer, ",\"resent\":{resent},\"repeats\":{repeats}}}")
+}
