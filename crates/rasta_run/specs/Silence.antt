@@ -12,12 +12,12 @@ hears l came now t_max =
     else record { came = came; at = now; silent = false }
 
 -- the change from silent or not to silent or not
-abbrev pub told_by : Bool → Bool → Said
-told_by false true = Silent
-told_by true false = Heard
-told_by true true = Nothing
-told_by false false = Nothing
+abbrev pub change_between : Bool → Bool → Said
+change_between false true = Silent
+change_between true false = Heard
+change_between true true = Nothing
+change_between false false = Nothing
 
 -- the change that is logged
 abbrev pub said_of : Listening → Listening → Said
-said_of l m = told_by l.silent m.silent
+said_of l m = change_between l.silent m.silent
