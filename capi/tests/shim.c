@@ -266,6 +266,22 @@ static void passes_on(void) {
     went("free", 0);
 }
 
+/* The least and the greatest of each number go on as they are. */
+static void edges(void) {
+    int k;
+    for (k = 0; k < 2; k++) {
+        uint32_t number = k == 0 ? 0 : UINT32_MAX;
+        uint64_t now = k == 0 ? 0 : UINT64_MAX;
+        AT, must(bek_arrive(&end, number, octets, 1, now) == result && got.numbers[0] == number && got.numbers[1] == now);
+        AT, must(bek_put(&end, (uint16_t)number, octets, 1, now) == result && got.numbers[0] == (uint16_t)number && got.numbers[1] == now);
+        AT, must(bek_reopen(&end, number, now) == result && got.numbers[0] == number && got.numbers[1] == now);
+        AT, must(bek_tick(&end, now) == result && got.numbers[0] == now);
+        AT, must(bek_init_done(&end, now) == result && got.numbers[0] == now);
+        AT, must(bek_close(&end, now) == result && got.numbers[0] == now);
+        AT, must(bek_hear_notes(&end, k == 0 ? INT32_MIN : INT32_MAX) == result && got.numbers[0] == 1);
+    }
+}
+
 /* A NULL with length 0 is an empty buffer, and then the proved function gets a pointer that is not NULL. */
 static void empty(void) {
     size_t length;
@@ -381,7 +397,8 @@ static void cut(size_t (*writes)(char *, size_t), const char *whole) {
     }
     must(writes(NULL, 0) == length);
     must(writes(NULL, 5) == length);
-    must(writes(text, (size_t)PTRDIFF_MAX + 1) == length);
+    memset(text, '#', sizeof text);
+    must(writes(text, (size_t)PTRDIFF_MAX + 1) == length && memcmp(text, room, sizeof text) == 0); /* a length that is none: nothing is written */
 }
 
 static int code_asked;
@@ -467,6 +484,8 @@ static void note_texts(void) {
     of_note(7, 1, 1, 1, "no such note");
     note_asked.count = 12;
     of_note(BEK_NOTE_LEFT_OUT, 1, 1, 1, "12 notes left out");
+    note_asked.count = 70000;
+    of_note(BEK_NOTE_LEFT_OUT, 1, 1, 1, "70000 notes left out");
     note_asked.count = UINT64_MAX;
     of_note(BEK_NOTE_LEFT_OUT, 1, 1, 1, "4294967295 notes left out");
     must(bek_note_text(NULL, text, sizeof text) == 0 && text[0] == 0 && text[1] == '#');
@@ -538,6 +557,7 @@ int main(void) {
         }
     for (k = 0; k < sizeof results / sizeof *results; k++) {
         result = results[k];
+        edges();
         empty();
     }
     refuses();
