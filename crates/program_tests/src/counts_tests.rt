@@ -65,8 +65,9 @@ fn counts_datagrams_of_each_channel(rt: HostRuntime) -> Result<(), Fail> {
     let _second = channels.send(2, &request);
     let _heartbeat = channels.send(1, &datagram(1, Kind::Heartbeat));
     let recorder = &channels.recorder;
-    assert_eq!(rt; recorder.channels[0].sent + recorder.channels[0].failed, 2);
-    assert_eq!(rt; recorder.channels[1].sent + recorder.channels[1].failed, 1);
+    let [first, second, _, _] = recorder.channels;
+    assert_eq!(rt; first.sent.wrapping_add(first.failed), 2);
+    assert_eq!(rt; second.sent.wrapping_add(second.failed), 1);
     assert_eq!(rt; recorder.channels[2], ChannelCounts::none());
     assert_eq!(rt; recorder.happened, 1);
     Ok(())
