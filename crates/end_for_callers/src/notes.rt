@@ -90,7 +90,7 @@ impl Notes {
 
     /// Keeps notes from now on, or no longer. Those that wait are dropped.
     pub(crate) fn hear(&mut self, hears: bool)
-        // Notes are kept if and only if `hears` is true, and none waits.
+        // No note waits, and later ones are kept if and only if `hears` is true.
         ensures { self.new ≡ heard_anew hears }
     {
         self.waiting.clear();

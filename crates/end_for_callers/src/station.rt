@@ -402,7 +402,7 @@ impl Station {
     pub fn hear_notes(&mut self, hears: bool)
         // Notes are kept if and only if `hears` is true, and none waits.
         ensures notes { (outbox_of self.new).notes ≡ heard_anew hears }
-        // Nothing else changes.
+        // `hear_notes` changes nothing but the notes.
         ensures same { SameButNotes self.old self.new }
     {
         self.end.channels().hear_notes(hears);
@@ -411,11 +411,11 @@ impl Station {
     /// Removes the oldest note. Up to 128 wait; later ones have no room, and after the last one that waits `next_note`
     /// returns once how many these are. If you fetch all notes after each call, they are those of the call.
     pub fn next_note(&mut self) -> Option<StationNote>
-        // The result is the oldest note; after the last one the number of those without room, if it is not 0; then `None`.
+        // `next_note` returns the oldest note, or after the last one how many had no room, or `None`.
         ensures next { result ≡ next_of (outbox_of self.old).notes }
         // The returned note is gone.
         ensures rest { (outbox_of self.new).notes ≡ rest_of (outbox_of self.old).notes }
-        // Nothing else changes.
+        // `next_note` changes nothing but the notes.
         ensures same { SameButNotes self.old self.new }
     {
         self.end.channels().next_note()
@@ -642,7 +642,7 @@ fn set_aside(end: &mut End<Outbox>, channels: usize)
     requires few { channels ≤ CHANNELS_MAX }
     // For a caller of the station nothing changes.
     ensures same { seen_end end.new ≡ seen_end end.old }
-    // With room for whatever a call sends so many places are set aside for each channel, otherwise none.
+    // Each channel of the end has the places of one call aside if there is room for them on all, and otherwise none.
     ensures shares { (channels_of end.new).shares ≡ shares_of channels (each_aside channels (channels_of end.old).out) }
     // The end is within its bounds.
     ensures bounded { IsBounded (inside end.new) }
