@@ -64,7 +64,7 @@ abbrev pub parting_if : Bool → ℕ → Bool → Option Leaving → Option Part
 parting_if true time follows leaving = parting_in time follows leaving
 parting_if false time follows leaving = None
 
--- The first DiscReq of an end in a session; a copy is none.
+-- The first DiscReq of an end in a session. Copies of it do not count.
 abbrev pub parted : Option Parting → ℕ → Bool → Remarks → Option Parting
 parted (Some parting) time follows m = Some parting
 parted None time follows m = parting_if (is_new m.together) time follows m.leaving

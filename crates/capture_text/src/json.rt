@@ -234,8 +234,8 @@ fn write_up<W: Write>(writer: &mut W, up: Option<u64>) -> io::Result<()>
 /// Writes the losses of a connection.
 #[tactic(auto, unfolding(crate::specs::Json::lost_json))]
 fn write_lost<W: Write>(writer: &mut W, connection: &Connection) -> io::Result<()>
-    // On success the time of the last PDU, the PDUs lost on every channel, and the datagrams that one channel lost
-    // alone are appended.
+    // On success the time of the last PDU, the PDUs lost on every channel, and the datagrams lost on one channel
+    // only are appended.
     ensures { OnOk result (Appends (W.contents writer.old) (W.contents writer.new) (lost_json connection.now)) }
 {
     let totals = add_up_sessions(&connection.sessions);

@@ -74,8 +74,8 @@ fn write_gone<W: Write>(writer: &mut W, totals: SessionTotals) -> io::Result<()>
 
 /// Writes both losses of a connection.
 fn write_losses<W: Write>(writer: &mut W, connection: &Connection) -> io::Result<()>
-    // On success the PDUs lost on every channel (`lost_on_all`) and the datagrams that one channel lost alone are
-    // appended.
+    // On success the PDUs lost on every channel (`lost_on_all`) and the datagrams lost on one
+    // channel only are appended.
     ensures { OnOk result (Appends (W.contents writer.old) (W.contents writer.new)
         (losses_text connection.now)) }
 {

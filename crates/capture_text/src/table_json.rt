@@ -252,8 +252,8 @@ fn write_parting<W: Write>(writer: &mut W, parting: Parting) -> io::Result<()>
 /// Writes the longest wait and the losses of an end.
 #[tactic(auto, unfolding(crate::specs::TableJson::losses_json))]
 fn write_losses<W: Write>(writer: &mut W, waits: u32, lost: u64, alone: u64) -> io::Result<()>
-    // On success the wait in milliseconds, the PDUs lost on every channel, and the datagrams that one channel lost
-    // alone are appended.
+    // On success the wait in milliseconds, the PDUs lost on every channel, and the datagrams lost on one channel
+    // only are appended.
     ensures { OnOk result (Appends (W.contents writer.old) (W.contents writer.new)
         (losses_json waits lost alone)) }
 {

@@ -92,17 +92,17 @@ abbrev pub explained : Happening → Option Departure → Option Happening
 explained (State s) d = explained_state s d
 explained _ d = None
 
--- a departure by this end or its peer, as the log tells it
+-- a departure by this end or its peer, as the log states it
 abbrev pub told_by : Leaver → Leaving → Departure
 told_by by.Own leaving = Own leaving
 told_by by.Peer leaving = Peer leaving
 
--- the departure that an end states, as the log tells it
+-- the departure that an end states, as the log states it
 abbrev pub departure_told : Option Stated → Option Departure
 departure_told None = None
 departure_told (Some d) = Some (told_by d.by (record { detail = d.detail; reason = d.reason }))
 
--- the departure of an end of this side, as the log tells it: a field element that has accepted no ConnReq had no connection
+-- the departure of an end of this side, as the log states it: a field element that has accepted no ConnReq had no connection
 abbrev pub departure_of : Side → (request : Option (List ℕ)) → Option Stated → Option Departure
 departure_of Interlocking request d = departure_told d
 departure_of FieldElement None d = None

@@ -271,7 +271,7 @@ fn explanation_of(happening: Happening, departure: Option<Departure>) -> Option<
     }
 }
 
-/// Returns a departure as the log tells it.
+/// Returns a departure as the log states it.
 fn departure_told(departure: Option<stack_end::Departure>) -> Option<Departure>
     // `departure_told` returns who disconnected with its reason and detail, and `None` if nobody did.
     ensures { result ≡ telling.departure_told departure }

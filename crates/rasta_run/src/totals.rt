@@ -1,4 +1,4 @@
-//! The sums of what an end counted in its openings: an end that is opened anew counts from 0.
+//! The sums of what an end counted in its openings: an end that opens again counts from 0.
 
 ghost use Rattle.std.specs.Prelude.{◌≡◌};
 ghost use Rattle.rasta_run.specs.Totals as totals;
