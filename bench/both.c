@@ -27,7 +27,7 @@ static __attribute__((noinline)) void count_sent(struct c_end *of, uint32_t chan
     }
 }
 
-static uint32_t number32(const uint8_t *at) {
+static uint32_t number_at(const uint8_t *at) {
     uint32_t number;
     memcpy(&number, at, sizeof number);
     return number;
@@ -54,10 +54,10 @@ static void set_open(uint32_t mwa, const uint8_t *received, uint64_t made, uint6
     end.t_seq = 50;
     end.pdu_limit = 4294901760;
     end.protocol = 1;
-    end.expected_part = number32(received + 4);
+    end.expected_part = number_at(received + 4);
     end.waiting_since = end.waiting_parts = 0;
     end.state = UP;
-    end.last_sn = number32(pdu + 12) - 1;
+    end.last_sn = number_at(pdu + 12) - 1;
     end.last_ts = 0;
     end.made = made;
     end.confirmed = confirmed;
@@ -74,12 +74,12 @@ static void set_open(uint32_t mwa, const uint8_t *received, uint64_t made, uint6
 // Opens a field element that has all of the opening, and receives the data next.
 static void open_field_element(const struct rows *rows) {
     const uint8_t *beat = rows->heartbeats;
-    set_open(rows->mwa, rows->data, number32(beat + 4), number32(beat + 4) - 1);
+    set_open(rows->mwa, rows->data, number_at(beat + 4), number_at(beat + 4) - 1);
     end.own = 2;
     end.peer = 1;
     end.is_field_element = true;
-    end.next_part = number32(beat + 4);
-    end.first_sn = number32(beat + RED_HEADER + 12) - end.next_part;
+    end.next_part = number_at(beat + 4);
+    end.first_sn = number_at(beat + RED_HEADER + 12) - end.next_part;
     name_both(end.names_received, "IL1", "FE1");
     name_both(end.names_sent, "FE1", "IL1");
 }
@@ -87,12 +87,12 @@ static void open_field_element(const struct rows *rows) {
 // Opens an interlocking that has all of the opening, and sends the data next.
 static void open_interlocking(const struct rows *rows) {
     const uint8_t *data = rows->data;
-    set_open(rows->mwa, rows->heartbeats, number32(data + 4), number32(data + 4) - 1);
+    set_open(rows->mwa, rows->heartbeats, number_at(data + 4), number_at(data + 4) - 1);
     end.own = 1;
     end.peer = 2;
     end.is_field_element = false;
-    end.next_part = number32(data + 4);
-    end.first_sn = number32(data + RED_HEADER + 12) - end.next_part;
+    end.next_part = number_at(data + 4);
+    end.first_sn = number_at(data + RED_HEADER + 12) - end.next_part;
     name_both(end.names_received, "FE1", "IL1");
     name_both(end.names_sent, "IL1", "FE1");
 }

@@ -1,7 +1,7 @@
 // Times, at an end whose session is established, one put with its sending on two channels, one arrival of its datagram, one arrival of a second copy on
 // another channel, and the digest in each: of this repository, of an end in plain C (c_end.c), and of libcrypto. It first compares what both ends send,
-// and measures nothing if an octet differs. A time depends on the place of the stack, so each is taken at PLACES places of a page: the least, and the
-// mean of the places. It also prints the processor time of an end for 1,000 telegrams a second in an hour, and its memory in octets.
+// and measures nothing if an octet differs. A time depends on the place of the stack, so each is taken at PLACES places of a page. It also prints the
+// processor time of an end for 1,000 telegrams a second in an hour, and its memory in octets.
 #define OPENSSL_SUPPRESS_DEPRECATED
 #include "both.h"
 
@@ -21,12 +21,13 @@ enum measure { OPENING, ARRIVAL, ARRIVAL_WITH_BEATS, SECOND_COPY, SILENCE, PUT, 
 // The datagrams of a field element that makes a heartbeat after 16 units, and of one that makes one after each.
 static struct rows rare, frequent;
 
-// The least time of each measure in nanoseconds: at the present place of the stack, the least of all places, and their mean.
-static double times[ENDS][MEASURES], least[ENDS][MEASURES], mean[ENDS][MEASURES];
+// What is printed, each with its goal: at most so many times as long as in C.
+enum call { THE_DIGEST, THE_ARRIVAL, THE_PUT, THE_SECOND_COPY, CALLS };
+static const struct { const char *name; double goal; } calls[] = {{"digest", 1.05}, {"`arrive`", 1.25}, {"`put`", 1.25}, {"second copy", 1.8}};
 
-// What is printed.
-enum call { THE_DIGEST, THE_PUT, THE_ARRIVAL, THE_SECOND_COPY, CALLS };
-static const char *const calls[] = {"digest", "put", "arrive", "arrive again"};
+// In nanoseconds: the least time of each measure at the present place of the stack, the time of each call at each place, and their median and mean. (A
+// call's time is a difference, whose least would be the noisiest.)
+static double times[ENDS][MEASURES], at_place[ENDS][CALLS][PLACES], median[ENDS][CALLS], mean[ENDS][CALLS], least_libcrypto = 1e18;
 
 static double nanoseconds(void) {
     struct timespec now;
@@ -87,36 +88,51 @@ static double call_time(const double *of, enum call call) {
     }
 }
 
-// Measures at one place, and adds the times to the least and the mean.
-static __attribute__((noinline)) void measure_here(void) {
+static __attribute__((noinline)) void measure_here(size_t place) {
     for (int end = 0; end < ENDS; end++)
         for (int measure = 0; measure < MEASURES; measure++) times[end][measure] = 1e18;
     for (int i = 0; i < RUNS; i++) measure_once();
     for (int end = 0; end < ENDS; end++)
-        for (int measure = 0; measure < MEASURES; measure++) {
-            double time = times[end][measure];
-            if (time < least[end][measure]) least[end][measure] = time;
-            mean[end][measure] += time / PLACES;
-        }
+        for (int call = 0; call < CALLS; call++) at_place[end][call][place] = call_time(times[end], call);
+    if (times[OURS][LIBCRYPTO] / TIMES < least_libcrypto) least_libcrypto = times[OURS][LIBCRYPTO] / TIMES;
 }
 
-static __attribute__((noinline)) void measure_below(size_t octets) {
+static __attribute__((noinline)) void measure_below(size_t place) {
+    size_t octets = place * STEP;
     volatile uint8_t room[octets + 1];
     room[0] = room[octets] = 0;
-    measure_here();
+    measure_here(place);
     room[octets] = room[0];
 }
 
-static void print_calls(double of[ENDS][MEASURES], const char *what) {
-    printf("%-14s %9s %9s %7s %12s %9s %7s\n", what, "ours ns", "C ns", "ratio", "no digest", "C", "ratio");
-    for (int call = 0; call < CALLS; call++) {
-        double a = call_time(of[OURS], call), b = call_time(of[IN_C], call);
-        printf("%14s %9.1f %9.1f %7.2f", calls[call], a, b, a / b);
-        if (call == THE_PUT || call == THE_ARRIVAL) {
-            double c = a - call_time(of[OURS], THE_DIGEST), d = b - call_time(of[IN_C], THE_DIGEST);
-            printf(" %12.1f %9.1f %7.2f", c, d, c / d);
+static int compare(const void *a, const void *b) { return (*(const double *)a > *(const double *)b) - (*(const double *)a < *(const double *)b); }
+
+static void measure(void) {
+    for (size_t place = 0; place < PLACES; place++) measure_below(place);
+    for (int end = 0; end < ENDS; end++)
+        for (int call = 0; call < CALLS; call++) {
+            for (int place = 0; place < PLACES; place++) mean[end][call] += at_place[end][call][place] / PLACES;
+            qsort(at_place[end][call], PLACES, sizeof(double), compare);
+            median[end][call] = at_place[end][call][PLACES / 2];
         }
-        printf("\n");
+}
+
+// Prints a line of the table of bench/README.md. The ratio is that of the means.
+static void print_line(const char *what, const double times_of[4], double goal) {
+    double ratio = times_of[2] / times_of[3];
+    printf("| %s | %.1f, %.1f | %.1f, %.1f | %.2f | %.2f: ", what, times_of[0], times_of[2], times_of[1], times_of[3], ratio, goal);
+    if (ratio <= goal) printf("met |\n");
+    else printf("missed by %.2f |\n", ratio - goal);
+}
+
+static void print_calls(void) {
+    printf("| What | Ours ns: median, mean | C | Ratio | Goal |\n|---|---|---|---|---|\n");
+    for (int call = 0; call < CALLS; call++) {
+        double both[4] = {median[OURS][call], median[IN_C][call], mean[OURS][call], mean[IN_C][call]};
+        print_line(calls[call].name, both, calls[call].goal);
+        if (call != THE_PUT && call != THE_ARRIVAL) continue;
+        for (int i = 0; i < 4; i++) both[i] -= (i < 2 ? median : mean)[i % 2][THE_DIGEST];
+        print_line("the same without digest", both, 1.6);
     }
 }
 
@@ -138,16 +154,13 @@ int main(int count, char **words) {
     must(both_agree(), "nothing is measured");
     must(rows_make(&rare, 1, 16) && rows_make(&frequent, 1, 1), "two ends did not hand on all telegrams");
     if (count == 3) return only(words[1], words[2]);
-    for (int end = 0; end < ENDS; end++)
-        for (int measure = 0; measure < MEASURES; measure++) least[end][measure] = 1e18;
-    for (size_t place = 0; place < PLACES; place++) measure_below(place * STEP);
+    measure();
     printf("an end, datagrams of %zu octets, two channels; both ends send the same octets\n", rare.size);
-    print_calls(least, "least");
-    print_calls(mean, "mean");
-    const double *ours = least[OURS];
-    printf("the digest takes %.2f times as long as libcrypto's over the same octets (%.1f ns)\n", ours[DIGEST] / ours[LIBCRYPTO], ours[LIBCRYPTO] / TIMES);
-    printf("1,000 telegrams a second for an hour: %.2f s to put, %.2f s to receive on two channels\n", call_time(ours, THE_PUT) * 3.6e-3,
-           (call_time(ours, THE_ARRIVAL) + call_time(ours, THE_SECOND_COPY)) * 3.6e-3);
+    print_calls();
+    const double *ours = median[OURS];
+    printf("the digest takes %.2f times as long as libcrypto's over the same octets (%.1f ns)\n", ours[THE_DIGEST] / least_libcrypto, least_libcrypto);
+    printf("1,000 telegrams a second for an hour: %.2f s to put, %.2f s to receive on two channels\n", ours[THE_PUT] * 3.6e-3,
+           (ours[THE_ARRIVAL] + ours[THE_SECOND_COPY]) * 3.6e-3);
     for (uint32_t q = 4; q <= 8; q += 4) {
         struct held held = bench_end_octets(q);
         must(held.taken > 0, "no end was opened over a heap");

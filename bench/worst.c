@@ -1,6 +1,7 @@
-/* Makes the calls of an end that cost most, each once or often, and prints a line for each: settings, call, what it does, datagrams made, nanoseconds.
- * bench/worst reads them, and counts the instructions of `measured`.
- *     worst RUNS
+/* Makes the calls of an end that cost most, each once or often, and prints a line for each: settings, call, what it does, datagrams made, nanoseconds
+ * (least and median). bench/worst reads them, and counts the instructions of `measured`.
+ *     worst RUNS [FOUND ..]          FOUND as the search prints it
+ *     worst 1 search TRIES           searches for dearer calls
  * The end is an interlocking of the library. Its peer is made here, so that it can send any PDU. */
 #define _POSIX_C_SOURCE 200809L
 #include "bekwidas.h"
@@ -11,7 +12,7 @@
 #include <string.h>
 #include <time.h>
 
-enum { NOW = 1000, T_SEQ = 50, T_H = 59999, KEPT = 10, TELEGRAM = 0x0100, MOST_UNITS = WAITING_MAX / UNIT_MESSAGES };
+enum { NOW = 1000, T_SEQ = 50, T_H = 59999, KEPT = 10, TELEGRAM = 0x0100, MOST_UNITS = WAITING_MAX / UNIT_MESSAGES, RUNS_MAX = 1001 };
 
 /* The peer: the numbers of its next PDU, and the end's PDU that it confirms. */
 struct peer {
@@ -29,6 +30,7 @@ static struct settings { const char *name; uint32_t channels, code, n_sendmax, q
 static const struct settings *set;
 static bek_end end = BEK_END_INIT;
 static struct peer peer;
+static uint32_t seen_sn, seen_ts;  /* of the end's last PDU */
 static struct datagram made[KEPT];
 static uint8_t longest[BEK_PAYLOAD_MAX];
 
@@ -59,11 +61,11 @@ static void drain(int confirms) {
     uint32_t channel;
     uint16_t kind;
     size_t length;
-    while (bek_next_datagram(&end, &channel, octets, sizeof octets, &length) == BEK_OK)
-        if (confirms) {
-            peer.confirms_sn = number32(octets + RED_HEADER + 12);
-            peer.confirms_ts = number32(octets + RED_HEADER + 20);
-        }
+    while (bek_next_datagram(&end, &channel, octets, sizeof octets, &length) == BEK_OK) {
+        seen_sn = number32(octets + RED_HEADER + 12);
+        seen_ts = number32(octets + RED_HEADER + 20);
+        if (confirms) peer.confirms_sn = seen_sn, peer.confirms_ts = seen_ts;
+    }
     while (bek_take(&end, &kind, octets, sizeof octets, &length) == BEK_OK) {}
 }
 
@@ -137,7 +139,7 @@ static void open_end(void) {
     while (some) {
         some = 0;
         for (; bek_next_datagram(&end, &channel, octets, sizeof octets, &length) == BEK_OK; some = 1) {
-            peer.confirms_sn = number32(octets + RED_HEADER + 12), peer.confirms_ts = NOW;
+            peer.confirms_sn = seen_sn = number32(octets + RED_HEADER + 12), peer.confirms_ts = seen_ts = NOW;
             MUST(bek_arrive(&other, channel, octets, length, NOW) == BEK_OK);
         }
         if (bek_phase(&other) == BEK_INITIALISING) MUST(bek_init_done(&other, NOW) == BEK_OK);
@@ -264,30 +266,208 @@ static double call_time(int (*call_once)(void), int *result) {
     return nanoseconds() - start;
 }
 
+static int compare(const void *a, const void *b) { return (*(const double *)a > *(const double *)b) - (*(const double *)a < *(const double *)b); }
+
+/* Prints the line of a case from the times of its call, and from those of a call that does nothing. */
+static void print_line(const char *call, const char *what, double *times, double *of_nothing, int runs) {
+    bek_counts counts = {0, 0, 0};
+    MUST(bek_counts_of(&end, &counts) == BEK_OK);
+    qsort(times, (size_t)runs, sizeof *times, compare);
+    qsort(of_nothing, (size_t)runs, sizeof *of_nothing, compare);
+    printf("%s|%s|%s|%llu|%.0f|%.0f\n", set->name, call, what, (unsigned long long)counts.datagrams, times[0] - of_nothing[0],
+           times[runs / 2] - of_nothing[0]);
+}
+
 /* Makes the call of a case this many times, each on a new end, and prints its line. */
 static void run(const struct call_case *it, int runs) {
-    bek_counts counts = {0, 0, 0};
-    double least = 1e18, least_of_nothing = 1e18;
+    static double times[RUNS_MAX], of_nothing[RUNS_MAX];
     for (int i = 0; i < runs; i++) {
         int result;
         open_end();
         it->prepare();
         drain(0);
-        double time = call_time(it->call_once, &result);
-        MUST(result == BEK_OK && bek_phase(&end) == BEK_ESTABLISHED && bek_counts_of(&end, &counts) == BEK_OK);
-        if (time < least) least = time;
-        time = call_time(call_nothing, &result);
-        if (time < least_of_nothing) least_of_nothing = time;
+        times[i] = call_time(it->call_once, &result);
+        MUST(result == BEK_OK && bek_phase(&end) == BEK_ESTABLISHED);
+        of_nothing[i] = call_time(call_nothing, &result);
     }
-    printf("%s|%s|%s|%llu|%.0f\n", set->name, it->call, it->what, (unsigned long long)counts.datagrams, least - least_of_nothing);
+    print_line(it->call, it->what, times, of_nothing, runs);
+}
+
+/* ---- A search for dearer calls. A sequence of letters prepares an end; the last one is the call. Small letters and digits:
+ *   h r s d D  the peer's next PDU arrives: heartbeat, RetrReq, RetrResp, short Data, longest Data
+ *   H R S E F  the same, but its number comes after one that is missing: it is deferred. The first of them is the one that is missing, made and kept
+ *   l          a PDU of the peer is lost
+ *   c          the peer has received all that the end sent
+ *   1 2 3      puts of 1, 8, 32 longest telegrams
+ * The call: a (the next heartbeat, or the missing part), q (the next RetrReq, or the missing part), b (the next RetrReq after T_seq: what is missing is
+ * lost), t (tick after T_seq), u (tick after T_h), p (a longest put). */
+static const char acts[] = "hrsdDHRSEFlc123", *const calls_of[] = {"abq", "tu", "p"}, *const call_names[] = {"arrive", "tick", "put"};
+/* Where the first search begins: the dearest cases above. The others begin with the call alone. */
+static const char *const begins[] = {"lh33slh33shRRRRRRRRRb", "lh33slh33shRRRRRRRRRt", "p"};
+enum { LONGEST = 60, LEAST_RUNS = 15 };
+static int has_missing;
+
+static enum kind kind_of(char letter) {
+    const char *at = strchr("hrsdDHRSEF", letter);
+    static const enum kind kinds[] = {HEARTBEAT, RETR_REQ, RETR_RESP, DATA, DATA};
+    return kinds[(at - "hrsdDHRSEF") % 5];
+}
+
+static void make_of(struct datagram *to, char letter) {
+    if (kind_of(letter) == DATA) make_data(to, letter == 'd' || letter == 'E' ? 1 : UNIT_MESSAGES, letter == 'd' || letter == 'E' ? 1 : BEK_PAYLOAD_MAX);
+    else make(to, kind_of(letter), NULL, 0);
+}
+
+static void act(char letter) {
+    if (letter == 'l') {
+        peer.sn++;
+    } else if (letter == 'c') {
+        peer.confirms_sn = seen_sn, peer.confirms_ts = seen_ts;
+    } else if (letter >= '1' && letter <= '3') {
+        int result = BEK_OK;
+        for (int i = 1 << (letter == '1' ? 0 : letter == '2' ? 3 : 5); i > 0 && result == BEK_OK; i--)
+            result = bek_put(&end, TELEGRAM, longest, sizeof longest, NOW);
+    } else if (strchr("hrsdD", letter) != NULL) {
+        if (has_missing) return;
+        make_of(&made[1], letter);
+        (void)arrives(&made[1], NOW);
+    } else {
+        make_of(&made[has_missing], letter);
+        if (has_missing) (void)arrives(&made[1], NOW);
+        has_missing = 1;
+    }
+}
+
+static int call_by(char letter) {
+    switch (letter) {
+    case 'a': case 'q': return arrive_now();
+    case 'b': return arrive_late();
+    case 't': return tick_late();
+    case 'u': return tick_at_heartbeat();
+    default: return put_longest();
+    }
+}
+
+/* Prepares an end, and makes the call; returns its time, or -1 if it is refused or the session is not established before and after. */
+static char last_letter;
+static int call_last(void) { return call_by(last_letter); }
+static double time_of(const char *sequence) {
+    size_t count = strlen(sequence);
+    int result;
+    open_end();
+    has_missing = 0;
+    for (size_t i = 0; i + 1 < count; i++) {
+        act(sequence[i]);
+        drain(0);
+    }
+    last_letter = sequence[count - 1];
+    if (last_letter == 'b' || (strchr("aq", last_letter) != NULL && !has_missing)) make(&made[0], last_letter == 'a' ? HEARTBEAT : RETR_REQ, NULL, 0);
+    if (bek_phase(&end) != BEK_ESTABLISHED) return -1;
+    double time = call_time(call_last, &result);
+    return result == BEK_OK && bek_phase(&end) == BEK_ESTABLISHED ? time : -1;
+}
+
+/* The least time of as many runs as it takes to see that it is below `wanted`, or of LEAST_RUNS. */
+static double least_of(const char *sequence, double wanted) {
+    double least = 1e18;
+    for (int i = 0; i < LEAST_RUNS && least >= wanted; i++) {
+        double time = time_of(sequence);
+        if (time < 0) return -1;
+        if (time < least) least = time;
+    }
+    return least;
+}
+
+static uint64_t random_state = 1;
+static uint32_t random_below(uint32_t bound) {
+    random_state = random_state * 6364136223846793005u + 1442695040888963407u;
+    return (uint32_t)(random_state >> 33) % bound;
+}
+static char random_act(void) { return acts[random_below(sizeof acts - 1)]; }
+
+/* Changes a sequence in one to four places: another letter, one more (or several of it), one less. */
+static void mutate(char *sequence) {
+    for (uint32_t changes = 1 + random_below(4); changes > 0; changes--) {
+        size_t count = strlen(sequence), at = random_below((uint32_t)count);
+        uint32_t how = random_below(3);
+        if (how == 0 && at + 1 < count) {
+            sequence[at] = random_act();
+        } else if (how == 1 && count > 1 && at + 1 < count) {
+            memmove(sequence + at, sequence + at + 1, count - at);
+        } else {
+            char letter = random_act();
+            for (uint32_t more = random_below(3) == 0 ? 1 + random_below(9) : 1; more > 0 && strlen(sequence) < LONGEST; more--) {
+                memmove(sequence + at + 1, sequence + at, strlen(sequence) + 1 - at);
+                sequence[at] = letter;
+            }
+        }
+    }
+}
+
+/* Removes each letter without which the call costs as much. */
+static void shorten(char *sequence, double time) {
+    for (size_t at = 0; at + 1 < strlen(sequence);) {
+        char shorter[LONGEST + 1];
+        strcpy(shorter, sequence);
+        memmove(shorter + at, shorter + at + 1, strlen(shorter) - at);
+        if (least_of(shorter, 0.95 * time) >= 0.95 * time) strcpy(sequence, shorter);
+        else at++;
+    }
+}
+
+/* Searches for the dearest call of a kind from four beginnings, and prints its settings, call and sequence. */
+static void search(int kind, int tries) {
+    char best[LONGEST + 1] = "";
+    double best_time = -1;
+    for (int start = 0; start < 4; start++) {
+        char now[LONGEST + 1] = "", next[LONGEST + 1];
+        if (start == 0) strcpy(now, begins[kind]);
+        else now[0] = calls_of[kind][random_below((uint32_t)strlen(calls_of[kind]))];
+        double now_time = start == 0 ? least_of(now, -1) : -1;
+        for (int i = 0; i < tries / 4; i++) {
+            strcpy(next, now);
+            mutate(next);
+            if (random_below(8) == 0) next[strlen(next) - 1] = calls_of[kind][random_below((uint32_t)strlen(calls_of[kind]))];
+            double time = least_of(next, now_time);
+            if (time < 0 || time < now_time) continue;
+            strcpy(now, next);
+            now_time = time;
+        }
+        if (now_time > best_time || start == 0) {
+            strcpy(best, now);
+            best_time = now_time;
+        }
+    }
+    shorten(best, best_time);
+    printf("%s:%s:%s\n", set->name, call_names[kind], best);
+}
+
+/* Makes the call of a sequence that the search has printed this many times, and prints its line. */
+static void run_found(char *word, int runs) {
+    static double times[RUNS_MAX], of_nothing[RUNS_MAX];
+    const char *name = strtok(word, ":"), *call = strtok(NULL, ":"), *sequence = strtok(NULL, ":");
+    char what[LONGEST + 10];
+    MUST(name != NULL && call != NULL && sequence != NULL && strlen(sequence) <= LONGEST);
+    set = &all_settings[strcmp(name, all_settings[0].name) != 0];
+    for (int i = 0; i < runs; i++) {
+        int result;
+        times[i] = time_of(sequence);
+        MUST(times[i] >= 0);
+        of_nothing[i] = call_time(call_nothing, &result);
+    }
+    snprintf(what, sizeof what, "found: %s", sequence);
+    print_line(call, what, times, of_nothing, runs);
 }
 
 int main(int count, char **words) {
-    int runs = count > 1 ? atoi(words[1]) : 1;
+    int runs = count > 1 ? atoi(words[1]) : 1, tries = count > 3 && strcmp(words[2], "search") == 0 ? atoi(words[3]) : 0;
     memset(longest, 7, sizeof longest);
+    MUST(runs >= 1 && runs <= RUNS_MAX);
     for (size_t k = 0; k < sizeof all_settings / sizeof *all_settings; k++) {
         set = &all_settings[k];
-        for (size_t i = 0; i < sizeof cases / sizeof *cases; i++) run(&cases[i], runs);
+        for (size_t i = 0; i < sizeof cases / sizeof *cases && tries == 0; i++) run(&cases[i], runs);
+        for (int kind = 0; kind < 3 && tries > 0; kind++) search(kind, tries);
     }
+    for (int i = 2; i < count && tries == 0; i++) run_found(words[i], runs);
     return 0;
 }

@@ -4,21 +4,28 @@
 --     tshark -X lua_script:tools/wireshark/rasta.lua -o rasta.code:16 -d udp.port==5000,rasta -V -r night.pcap
 --
 -- Or copy it to the folder of personal Lua plugins (Help, About, Folders). Preferences: `rasta.code`, the octets of safety code (0, 8 or
--- 16), and `rasta.ports`, the UDP ports; any other port by Decode As.
+-- 16); `rasta.iv`, the initial value of the safety code; `rasta.test`, whether to test it; and `rasta.ports`, the UDP ports. On other ports a
+-- datagram is recognised by its two lengths, its reserve, its type, and the size of its body. A port with another Decode As keeps that.
 --
--- The fields of a datagram are decoded from it only. Three more come from the datagrams before it: which one it repeats (`rasta.repeat_of`), how many
--- redundancy numbers are missing before it (`rasta.gap`), and the age of the timestamp that it confirms (`rasta.age`, in milliseconds). They are found
--- at the first visit of a packet and kept by its number, so both passes of tshark show the same. They cover all channels together and 32 numbers back; for
--- sums, single channels and late numbers use `rasta follow`. A fault has the name that `rasta show` prints, as an expert info and in the field
--- `rasta.fault`; the octets after it are shown and not decoded. The safety code is shown and not tested, so a damaged PDU may be shown as if it
--- were whole: `rasta show --code N HEX` tests it. tests/wireshark compares both; it was run with Wireshark 4.0.
+-- The fields of a datagram are decoded from it only. Five more come from the datagrams before it: which one it repeats (`rasta.repeat_of`), which one
+-- had its number and other octets (`rasta.differs`), how many redundancy numbers are missing before it (`rasta.gap`), the age of the timestamp that it
+-- confirms (`rasta.age`), and how long its sender has waited for a confirmation (`rasta.waits`), both in milliseconds, as `rasta follow` defines
+-- them. They are found at the first visit of a packet and kept by its number, so both passes of tshark show the same. They cover all channels together and
+-- 32 numbers back; for sums and single channels use `rasta follow`. A fault has the name that `rasta show` prints, as an expert info and in the field
+-- `rasta.fault`; the octets after it are shown and not decoded. A PDU with a fault has none of the five, and a repeat no expert info.
+-- tests/wireshark compares with `rasta show` and `rasta follow`; it was run with Wireshark 4.0.
 
 local rasta = Proto("rasta", "Rail Safe Transport Application")
 
 rasta.prefs.code = Pref.enum("Octets of safety code", 8,
     "Length of the safety code at the end of a safety PDU, in octets; it is the same for both ends.",
     { { 1, "0", 0 }, { 2, "8", 8 }, { 3, "16", 16 } }, false)
-rasta.prefs.ports = Pref.range("UDP ports", "46101-46102,46201-46202",
+rasta.prefs.iv = Pref.string("Initial value", "0123456789abcdeffedcba9876543210",
+    "Initial value of the safety code, 32 hexadecimal digits, as in the settings files of both ends.")
+rasta.prefs.test = Pref.bool("Test the safety code", true, "Whether to test the safety code of each PDU; this takes some microseconds.")
+
+local DEFAULT_PORTS = "46101-46102,46201-46202"
+rasta.prefs.ports = Pref.range("UDP ports", DEFAULT_PORTS,
     "UDP ports of RaSTA. No port is registered; these are the ports of examples/.", 65535)
 
 -- Names and numbers.
@@ -45,6 +52,8 @@ local TELEGRAMS = {
     [0x0024] = "Cmd_PDI_Version_Check", [0x0025] = "Msg_PDI_Version_Check",
 }
 local RESULTS = { [1] = "versions differ", [2] = "versions equal" }
+local NOT_TESTED, RIGHT, WRONG = 0, 1, 2
+local STATUSES = { [NOT_TESTED] = "not tested", [RIGHT] = "right", [WRONG] = "wrong" }
 
 local RED_HEADER, RED_MAX = 8, 1258
 local SAFE_HEADER, SAFE_FRONT_MAX = 28, 1234
@@ -77,9 +86,9 @@ local f = {
     reserve = ProtoField.bytes("rasta.reserve", "Reserve", base.NONE, "Reserve of a connection request or response, zero"),
     detail = ProtoField.uint16("rasta.detail", "Detailed information", base.DEC, nil, nil, "Detailed information on the reason"),
     reason = ProtoField.uint16("rasta.reason", "Reason", base.DEC, REASONS, nil, "Reason of the disconnection"),
-    code = ProtoField.bytes("rasta.code", "Safety code", base.NONE, "First octets of MD4 over the safety PDU; not tested here"),
-    code_status = ProtoField.uint8("rasta.code.status", "Safety code status", base.DEC, { [0] = "not tested" }, nil,
-        "The dissector does not test the safety code"),
+    code = ProtoField.bytes("rasta.code", "Safety code", base.NONE, "First octets of MD4 over the safety PDU"),
+    code_status = ProtoField.uint8("rasta.code.status", "Safety code status", base.DEC, STATUSES, nil,
+        "Whether the safety code is that of the octets before it"),
 
     unit = ProtoField.none("rasta.unit", "Unit", "User data of a Data or RetrData: one to three messages"),
     unit_messages = ProtoField.uint8("rasta.unit.messages", "Messages", base.DEC, nil, nil, "How many messages the unit has"),
@@ -102,9 +111,13 @@ local f = {
     pdi_checksum = ProtoField.bytes("rasta.pdi.checksum", "Checksum", base.NONE, "Checksum of the field element's data"),
 
     repeat_of = ProtoField.framenum("rasta.repeat_of", "Repeat of", base.NONE, frametype.NONE, nil, "First packet with the same octets, on any channel"),
+    differs = ProtoField.framenum("rasta.differs", "Differs from", base.NONE, frametype.NONE, nil,
+        "Earlier packet of its sender with the same redundancy number and other octets"),
     gap = ProtoField.uint32("rasta.gap", "Missing before it", base.DEC, nil, nil, "Redundancy numbers of its sender that came on no channel so far"),
     age = ProtoField.uint32("rasta.age", "Age of the confirmed timestamp", base.DEC, nil, nil,
         "Newest timestamp of the receiver minus the confirmed one, in milliseconds"),
+    waits = ProtoField.uint32("rasta.waits", "Waits for a confirmation", base.DEC, nil, nil,
+        "Its timestamp minus its sender's timestamp that was last confirmed to the sender, in milliseconds; at T_max it disconnects"),
 }
 rasta.fields = f
 
@@ -112,7 +125,7 @@ rasta.fields = f
 
 local FAULTS = {
     red = { [1] = "Short", [2] = "Length", [3] = "Reserve" },
-    safe = { [1] = "Short", [2] = "Length", [4] = "Type", [5] = "Body" }, -- 3 is Code, which is not tested
+    safe = { [1] = "Short", [2] = "Length", [3] = "Code", [4] = "Type", [5] = "Body" },
     unit = { [2] = "Length", [3] = "TooMany" },                           -- 1 is Empty: a Data without a unit has the fault Body
     message = { [3] = "Name" },                                           -- 1 and 2 are lengths that a unit cannot contain
 }
@@ -122,6 +135,8 @@ local e = {
     again = ProtoExpert.new("rasta.again", "Retransmission", expert.group.SEQUENCE, expert.severity.NOTE),
     closed = ProtoExpert.new("rasta.closed", "Connection closed by its user", expert.group.SEQUENCE, expert.severity.CHAT),
     left = ProtoExpert.new("rasta.left", "Connection left", expert.group.SEQUENCE, expert.severity.WARN),
+    differs = ProtoExpert.new("rasta.differs.seen", "Redundancy number with other octets", expert.group.SEQUENCE, expert.severity.WARN),
+    iv = ProtoExpert.new("rasta.iv.form", "Preference rasta.iv is not 32 hexadecimal digits", expert.group.UNDECODED, expert.severity.WARN),
     gap = ProtoExpert.new("rasta.gap.seen", "Redundancy numbers missing", expert.group.SEQUENCE, expert.severity.WARN),
     pdi = ProtoExpert.new("rasta.pdi.form", "Payload not of the form of its message type", expert.group.PROTOCOL, expert.severity.WARN),
 }
@@ -173,10 +188,20 @@ local function subtree(tree, field, tvb, at, size)
     return tree:add(field)
 end
 
+-- whether the PDU that is being shown repeats one; then it has no expert info, so that counts of them are of PDUs and not of datagrams
+local is_repeat = false
+
+-- adds an expert info, unless the PDU is a repeat
+local function tell(item, info, text)
+    if not is_repeat then
+        item:add_proto_expert_info(info, text)
+    end
+end
+
 -- shows a fault in the tree and in the list of packets; `which` is its part, with the message's number if it is in a message
 local function fault(tree, pinfo, part, code, which, why)
     local text = string.format("%s fault %d %s", which, code, FAULTS[part][code])
-    tree:add_proto_expert_info(fault_experts[part][code], text .. ": " .. why)
+    tell(tree, fault_experts[part][code], text .. ": " .. why)
     tree:add(f.fault, text):set_generated()
     pinfo.cols.info:append(" [" .. text .. "]")
 end
@@ -256,7 +281,7 @@ local function telegram(tree, pinfo, tvb, at, size, k)
     if TELEGRAMS[kind] then
         local inner = payload or tree
         if not establishment(inner, kind, tvb, at + MESSAGE_MIN, size - MESSAGE_MIN) then
-            kind_item:add_proto_expert_info(e.pdi, "The payload does not have the form of " .. what)
+            tell(kind_item, e.pdi, "The payload does not have the form of " .. what)
         end
     elseif payload then
         pinfo.cols.info:append(" " .. tostring(tvb(at + MESSAGE_MIN, size - MESSAGE_MIN):bytes()):lower())
@@ -305,14 +330,19 @@ local function unit(tree, pinfo, tvb, at, size)
     end
 end
 
--- shows the body of a ConnReq or ConnResp; returns its fault, if any
+-- shows the body of a ConnReq or ConnResp
 local function opening(tree, pinfo, tvb, at)
-    local digits = tvb(at, 4):raw()
-    tree:add(f.version, tvb(at, 4), (digits:gsub("[^\33-\126]", ".")))
+    local digits = tvb(at, 4):raw():gsub("[^\33-\126]", ".")
+    tree:add(f.version, tvb(at, 4), digits)
     local window = number(tree, f.window, tvb, at + 4, 2)
     tree:add(f.reserve, tvb(at + 6, 8))
-    pinfo.cols.info:append(string.format(" version=%s N_sendmax=%d", digits:gsub("[^\33-\126]", "."), window))
-    if not digits:match("^[0-9][0-9][0-9][0-9]$") then
+    pinfo.cols.info:append(string.format(" version=%s N_sendmax=%d", digits, window))
+end
+
+-- returns the fault of the body of a ConnReq or ConnResp, if any
+local function wrong_opening(tvb, at)
+    local window = tvb(at + 4, 2):le_uint()
+    if not tvb(at, 4):raw():match("^[0-9][0-9][0-9][0-9]$") then
         return "the version is not four digits"
     elseif window < 1 or window > WINDOW_MAX then
         return string.format("N_sendmax is %d, not 1 to %d", window, WINDOW_MAX)
@@ -331,7 +361,7 @@ local function leaving(tree, pinfo, tvb, at)
     end
     local text = string.format("reason %d (%s), detail %d", reason, REASONS[reason] or "of another profile", detail)
     text = said and text .. " (" .. said .. ")" or text
-    reason_item:add_proto_expert_info(reason == 0 and e.closed or e.left, "Disconnection, " .. text)
+    tell(reason_item, reason == 0 and e.closed or e.left, "Disconnection, " .. text)
     pinfo.cols.info:append(" " .. text)
 end
 
@@ -350,18 +380,27 @@ local function wrong_size(kind, size)
     return due and string.format("the body has %d octets, but %s has %s; or the preference rasta.code is wrong", size, TYPES[kind], due)
 end
 
--- shows a body by its type
-local function body(tree, pinfo, tvb, at, size, kind)
+-- returns the fault of a body, if any
+local function wrong_body(tvb, at, size, kind)
     local wrong = wrong_size(kind, size)
-    if wrong then
+    if not wrong and (kind == 6200 or kind == 6201) and held(tvb, at, size) == size then
+        return wrong_opening(tvb, at)
+    end
+    return wrong
+end
+
+-- shows a body by its type; `wrong` is its fault, if any
+local function body(tree, pinfo, tvb, at, size, kind, wrong)
+    local is_opening = (kind == 6200 or kind == 6201) and size == OPENING_BODY
+    if wrong and not is_opening then
         bytes(tree, f.octets, tvb, at, size)
     elseif kind == 6240 or kind == 6241 then
         unit(tree, pinfo, tvb, at, size)
     elseif held(tvb, at, size) < size then
         bytes(tree, f.octets, tvb, at, size)
         cut(tree, pinfo)
-    elseif kind == 6200 or kind == 6201 then
-        wrong = opening(tree, pinfo, tvb, at)
+    elseif is_opening then
+        opening(tree, pinfo, tvb, at)
     elseif kind == 6216 then
         leaving(tree, pinfo, tvb, at)
     end
@@ -370,7 +409,7 @@ local function body(tree, pinfo, tvb, at, size, kind)
     end
 end
 
--- shows the header of a safety PDU: returns its length and type, or nil if it is not captured
+-- shows the header of a safety PDU: returns its length, its type or nil if it is not captured, and the item of the type
 local function safe_header(tree, pinfo, tvb, at)
     local length = number(tree, f.length, tvb, at, 2)
     local kind, kind_item = number(tree, f.kind, tvb, at + 2, 2)
@@ -388,71 +427,122 @@ local function safe_header(tree, pinfo, tvb, at)
     local what = TYPES[kind] or "type " .. kind
     tree:append_text(string.format(", %s, SN %d", what, sn))
     pinfo.cols.info:prepend(string.format("%s %d → %d SN=%d CS=%d TS=%d CTS=%d ", what, sender, receiver, sn, cs, ts, cts))
-    if kind == 6200 or kind == 6201 then
-        kind_item:add_proto_expert_info(e.opening, "Connection opening: " .. what)
-    elseif kind == 6212 or kind == 6213 or kind == 6241 then
-        kind_item:add_proto_expert_info(e.again, "Retransmission: " .. what)
-    end
-    return length, kind
+    return length, kind, kind_item
 end
 
--- Kept across packets: for each sender and receiver the next redundancy number, the first packets of the newest numbers, and the newest timestamp;
--- and for each packet number the results.
+local TOLD = { [6200] = e.opening, [6201] = e.opening, [6212] = e.again, [6213] = e.again, [6241] = e.again }
 
-local KEPT, FAR = 32, 65535
+-- Kept across packets, by the rules of `rasta follow`: for each sender and receiver the numbers received and skipped lately, on all channels together; the
+-- newest number of each way; the opening; the newest timestamp; which of its timestamps each of its PDUs confirms; and for each packet number the results.
+
+local KEPT, FAR, WRAP = 32, 65535, 4294967296
 local directions, found_of
 
-local function forget()
-    directions, found_of = {}, {}
-end
-forget()
-rasta.init = forget
-
--- whether an opening is not a copy of the last one; a copy has the same octets and comes on a way on which nothing of its end came since
-local function begins(direction, way, kind, octets)
-    if kind ~= 6200 and kind ~= 6201 then
-        return false
-    end
-    return not direction or direction.opening ~= octets or direction.ways[way] ~= nil
+-- returns how far a number is after another, or nil if it is before it or one is unknown
+local function after(first, number)
+    local steps = first and number and (number - first) % WRAP
+    return steps and steps < WRAP / 2 and steps or nil
 end
 
--- counts the next number of a direction; returns the packet that it repeats, or how many numbers are missing before it
-local function follow_number(direction, seq, octets, packet)
-    local place = seq % KEPT
-    local kept = direction.kept[place]
-    if kept and kept.seq == seq then
-        return kept.octets == octets and kept.packet or nil, nil
+-- forgets the numbers of a direction
+local function begin(direction)
+    direction.newest, direction.known, direction.skipped = nil, {}, {}
+end
+
+local function direction_of(name)
+    if not directions[name] then
+        directions[name] = { ways = {}, confirming = {} }
+        begin(directions[name])
     end
-    local ahead = direction.next and (seq - direction.next) % 4294967296 or 0
-    if direction.next and ahead >= 2147483648 then
-        return nil, nil
+    return directions[name]
+end
+
+-- begins a direction with an opening, unless that is a copy: the octets came before, and after them nothing on its way
+local function open_by(direction, way, pdu)
+    local known, newest = direction.known[pdu.seq % KEPT], direction.ways[way]
+    if known and known.seq == pdu.seq and known.octets == pdu.octets and (newest == nil or newest == pdu.seq) then
+        return
     end
-    direction.kept[place] = { seq = seq, octets = octets, packet = packet }
-    direction.next = (seq + 1) % 4294967296
-    return nil, ahead > 0 and ahead <= FAR and ahead or nil
+    begin(direction)
+    direction.ways, direction.confirming, direction.opening, direction.since = {}, {}, pdu, pdu.ts
+end
+
+-- notes a redundancy number in its order and adds the result to `found`; returns whether the PDU is new, and whether it is the newest
+local function note(direction, pdu, found)
+    local place = pdu.seq % KEPT
+    local known = direction.known[place]
+    if known and known.seq == pdu.seq then
+        found[known.octets == pdu.octets and "repeat_of" or "differs"] = known.packet
+        return false, false
+    elseif direction.skipped[place] == pdu.seq and (direction.newest - pdu.seq) % WRAP < KEPT then
+        direction.skipped[place], direction.known[place] = nil, pdu
+        return true, false
+    end
+    local steps = direction.newest == nil and 1 or after(direction.newest, pdu.seq)
+    if not steps then
+        return false, false
+    elseif steps > FAR + 1 then
+        begin(direction)
+    elseif steps > 1 then
+        found.gap = steps - 1
+        for back = 1, math.min(steps, KEPT) - 1 do
+            local skipped = (pdu.seq - back) % WRAP
+            direction.skipped[skipped % KEPT] = skipped
+        end
+    end
+    direction.newest, direction.known[place] = pdu.seq, pdu
+    return true, true
+end
+
+-- whether a PDU confirms nothing: a ConnReq, and a DiscReq directly after it
+local function confirms_nothing(direction, pdu)
+    local opening = direction.opening
+    return pdu.kind == 6200 or pdu.kind == 6216 and opening ~= nil and opening.kind == 6200 and pdu.sn == (opening.sn + 1) % WRAP
+end
+
+-- returns the time since the sender's timestamp that was last confirmed to it: by the PDU of the other end that this one confirms
+local function waits(direction, peer, pdu)
+    local confirmed = peer.confirming[pdu.cs % KEPT]
+    if confirmed and confirmed.sn == pdu.cs and confirmed.ts == pdu.cts and not confirms_nothing(direction, pdu) then
+        direction.since = confirmed.cts
+    end
+    direction.confirming[pdu.sn % KEPT] = pdu.kind ~= 6200 and pdu or nil
+    return after(direction.since, pdu.ts)
 end
 
 -- compares a whole PDU with those before it, at its first visit
-local function found_in(pinfo, seq, kind, sender, receiver, sn, ts, cts, octets)
-    local name, way = sender .. ">" .. receiver, tostring(pinfo.src) .. ":" .. pinfo.src_port .. ">" .. tostring(pinfo.dst) .. ":" .. pinfo.dst_port
-    local direction, other = directions[name], directions[receiver .. ">" .. sender]
-    if not direction or begins(direction, way, kind, octets) then
-        direction = { kept = {}, ways = {}, opening = (kind == 6200 or kind == 6201) and octets or nil, request = kind == 6200 and sn or nil }
-        directions[name] = direction
+local function found_in(pinfo, pdu)
+    local direction, peer = direction_of(pdu.sender .. ">" .. pdu.receiver), direction_of(pdu.receiver .. ">" .. pdu.sender)
+    local way, found = tostring(pinfo.src) .. ":" .. pinfo.src_port .. ">" .. tostring(pinfo.dst) .. ":" .. pinfo.dst_port, {}
+    if pdu.kind == 6200 or pdu.kind == 6201 then
+        open_by(direction, way, pdu)
     end
-    local found = {}
-    found.repeat_of, found.gap = follow_number(direction, seq, octets, pinfo.number)
-    if octets ~= direction.opening or found.repeat_of == nil then
-        direction.ways[way] = true
+    if direction.ways[way] == nil or after(direction.ways[way], pdu.seq) then
+        direction.ways[way] = pdu.seq
     end
-    if found.repeat_of == nil and (direction.ts == nil or (ts - direction.ts) % 4294967296 < 2147483648) then
-        direction.ts = ts
+    local is_new, is_newest = note(direction, pdu, found)
+    if is_newest then
+        direction.stamp = pdu.ts
     end
-    -- neither a ConnReq nor a DiscReq directly after it confirms anything
-    local confirms = kind ~= 6200 and not (kind == 6216 and direction.request and sn == (direction.request + 1) % 4294967296)
-    local age = other and other.ts and confirms and (other.ts - cts) % 4294967296
-    found.age = age and age < 2147483648 and age or nil
+    if not confirms_nothing(direction, pdu) and not (peer.opening and not after(peer.opening.ts, pdu.cts)) then
+        found.age = after(pdu.cts, peer.stamp)
+    end
+    found.waits = is_new and waits(direction, peer, pdu) or nil
     return found
+end
+
+-- returns the results for a whole PDU without a fault
+local function across(pinfo, tvb, at, size, seq, kind)
+    if not pinfo.visited or not found_of[pinfo.number] then
+        local function long(place)
+            return tvb(at + place, 4):le_uint()
+        end
+        found_of[pinfo.number] = found_in(pinfo, {
+            packet = pinfo.number, seq = seq, kind = kind, receiver = long(4), sender = long(8), sn = long(12), cs = long(16), ts = long(20),
+            cts = long(24), octets = tvb(at, size):raw(),
+        })
+    end
+    return found_of[pinfo.number]
 end
 
 -- adds the results for a PDU
@@ -461,27 +551,115 @@ local function remarks(tree, pinfo, found)
         tree:add(f.repeat_of, found.repeat_of):set_generated()
         pinfo.cols.info:append(string.format(" [repeat of %d]", found.repeat_of))
     end
+    if found.differs then
+        tree:add(f.differs, found.differs):set_generated()
+        tell(tree, e.differs, string.format("Packet %d has the same redundancy number and other octets", found.differs))
+        pinfo.cols.info:append(string.format(" [differs from %d]", found.differs))
+    end
     if found.gap then
         tree:add(f.gap, found.gap):set_generated()
-        tree:add_proto_expert_info(e.gap, string.format("%d redundancy numbers before it came on no channel so far", found.gap))
+        tell(tree, e.gap, string.format("%d redundancy numbers before it came on no channel so far", found.gap))
     end
     if found.age then
         tree:add(f.age, found.age):set_generated():append_text(" ms")
     end
+    if found.waits then
+        tree:add(f.waits, found.waits):set_generated():append_text(" ms")
+    end
 end
 
--- compares a PDU whose header was captured with those before it
-local function across(tree, pinfo, tvb, at, size, seq, kind)
-    if held(tvb, at, size) < size or not TYPES[kind] then
-        return
+-- The safety code: MD4 (RFC 1320) with an initial value. `bit` is the library of Wireshark; its results may be negative, so sums are modulo 2^32.
+
+local band, bxor, rol = bit.band, bit.bxor, bit.rol
+local initial -- the four words of the preference rasta.iv, or nil if it has another form
+
+-- reads the preference rasta.iv
+local function read_initial()
+    local hex = rasta.prefs.iv
+    initial = #hex == 32 and not hex:find("%X") and { Struct.unpack("<I4I4I4I4", (hex:gsub("..", function(pair)
+        return string.char(tonumber(pair, 16))
+    end))) } or nil
+end
+
+-- returns the four words after a block: three rounds of sixteen steps
+local function after_block(a, b, c, d, x)
+    local a0, b0, c0, d0 = a, b, c, d
+    for i = 1, 13, 4 do
+        a = rol(a + bxor(d, band(b, bxor(c, d))) + x[i], 3)
+        d = rol(d + bxor(c, band(a, bxor(b, c))) + x[i + 1], 7)
+        c = rol(c + bxor(b, band(d, bxor(a, b))) + x[i + 2], 11)
+        b = rol(b + bxor(a, band(c, bxor(d, a))) + x[i + 3], 19)
     end
-    if not pinfo.visited or not found_of[pinfo.number] then
-        local function long(place)
-            return tvb(at + place, 4):le_uint()
+    for i = 1, 4 do
+        a = rol(a + band(b, c) + band(d, bxor(b, c)) + x[i] + 0x5a827999, 3)
+        d = rol(d + band(a, b) + band(c, bxor(a, b)) + x[i + 4] + 0x5a827999, 5)
+        c = rol(c + band(d, a) + band(b, bxor(d, a)) + x[i + 8] + 0x5a827999, 9)
+        b = rol(b + band(c, d) + band(a, bxor(c, d)) + x[i + 12] + 0x5a827999, 13)
+    end
+    for _, i in ipairs({ 1, 3, 2, 4 }) do
+        a = rol(a + bxor(b, c, d) + x[i] + 0x6ed9eba1, 3)
+        d = rol(d + bxor(a, b, c) + x[i + 8] + 0x6ed9eba1, 9)
+        c = rol(c + bxor(d, a, b) + x[i + 4] + 0x6ed9eba1, 11)
+        b = rol(b + bxor(c, d, a) + x[i + 12] + 0x6ed9eba1, 15)
+    end
+    return a0 + a, b0 + b, c0 + c, d0 + d
+end
+
+-- returns the digest of a text, 16 octets
+local function md4(text)
+    local a, b, c, d = initial[1], initial[2], initial[3], initial[4]
+    local whole = text .. "\128" .. string.rep("\0", (55 - #text) % 64) .. Struct.pack("<I4I4", #text * 8, 0)
+    for place = 1, #whole, 64 do
+        a, b, c, d = after_block(a, b, c, d, { Struct.unpack("<I4I4I4I4I4I4I4I4I4I4I4I4I4I4I4I4", whole, place) })
+    end
+    return Struct.pack("<I4I4I4I4", a % 4294967296, b % 4294967296, c % 4294967296, d % 4294967296)
+end
+
+-- returns the status of the code of a PDU
+local function status_of(tvb, at, front, code)
+    if code == 0 or not rasta.prefs.test or not initial or held(tvb, at, front + code) < front + code then
+        return NOT_TESTED
+    end
+    return md4(tvb(at, front):raw()):sub(1, code) == tvb(at + front, code):raw() and RIGHT or WRONG
+end
+
+-- shows the safety code, if it was captured
+local function safety_code(tree, pinfo, tvb, at, front, code, status)
+    if held(tvb, at + front, code) == code then
+        local item = tree:add(f.code, tvb(at + front, code))
+        item:append_text(" [" .. STATUSES[status] .. "]")
+        item:add(f.code_status, status):set_generated()
+        if rasta.prefs.test and not initial then
+            tell(item, e.iv, "The preference rasta.iv is not 32 hexadecimal digits")
         end
-        found_of[pinfo.number] = found_in(pinfo, seq, kind, long(8), long(4), long(12), long(20), long(24), tvb(at, size):raw())
+    elseif held(tvb, at, front) == front then
+        cut(tree, pinfo)
     end
-    remarks(tree, pinfo, found_of[pinfo.number])
+end
+
+-- shows a PDU after its header, whose length is right
+local function upper(top, tree, pinfo, tvb, at, front, code, seq, kind, kind_item)
+    local status, place, size = status_of(tvb, at, front, code), at + SAFE_HEADER, front - SAFE_HEADER
+    if status == WRONG then
+        bytes(tree, f.octets, tvb, place, size)
+        fault(tree, pinfo, "safe", 3, "safe", "the safety code is not that of the octets before it; or the preference rasta.iv is wrong")
+    elseif not TYPES[kind] then
+        bytes(tree, f.octets, tvb, place, size)
+        fault(tree, pinfo, "safe", 4, "safe", "unknown type " .. kind)
+    else
+        local wrong = wrong_body(tvb, place, size, kind)
+        local is_followed = not wrong and not pinfo.in_error_pkt and held(tvb, at, front + code) == front + code
+        local found = is_followed and across(pinfo, tvb, at, front + code, seq, kind) or {}
+        is_repeat = found.repeat_of ~= nil
+        if TOLD[kind] and not wrong then
+            tell(kind_item, TOLD[kind], LONG_TYPES[kind])
+        end
+        body(tree, pinfo, tvb, place, size, kind, wrong)
+        remarks(top, pinfo, found)
+    end
+    if code > 0 then
+        safety_code(tree, pinfo, tvb, at, front, code, status)
+    end
 end
 
 -- shows the upper part of a redundancy PDU
@@ -493,29 +671,16 @@ local function safe_pdu(tree, pinfo, tvb, at, size, seq)
         local why = string.format("%d octets, but header and safety code have %d", size, SAFE_HEADER + code)
         return fault(inner, pinfo, "safe", 1, "safe", why)
     end
-    local length, kind = safe_header(inner, pinfo, tvb, at)
+    local length, kind, kind_item = safe_header(inner, pinfo, tvb, at)
     local wrong = size > SAFE_FRONT_MAX + code and string.format("%d octets, but at most %d are allowed", size, SAFE_FRONT_MAX + code)
         or length and length ~= size and string.format("the field has %d, but there are %d octets", length, size)
-    local front = size - code
     if wrong then
         bytes(inner, f.octets, tvb, at + SAFE_HEADER, size - SAFE_HEADER)
         return fault(inner, pinfo, "safe", 2, "safe", wrong)
     elseif not kind then
         return cut(inner, pinfo)
-    elseif not TYPES[kind] then
-        bytes(inner, f.octets, tvb, at + SAFE_HEADER, front - SAFE_HEADER)
-        fault(inner, pinfo, "safe", 4, "safe", "unknown type " .. kind)
-    else
-        body(inner, pinfo, tvb, at + SAFE_HEADER, front - SAFE_HEADER, kind)
-        across(tree, pinfo, tvb, at, size, seq, kind)
     end
-    local item = code > 0 and held(tvb, at + front, code) == code and inner:add(f.code, tvb(at + front, code))
-    if item then
-        item:append_text(" [not tested]")
-        item:add(f.code_status, 0):set_generated()
-    elseif code > 0 and held(tvb, at, front) == front then
-        cut(inner, pinfo)
-    end
+    upper(tree, inner, pinfo, tvb, at, size - code, code, seq, kind, kind_item)
 end
 
 -- shows a datagram
@@ -523,6 +688,7 @@ function rasta.dissector(tvb, pinfo, tree)
     local size = tvb:reported_len()
     pinfo.cols.protocol = "RaSTA"
     pinfo.cols.info = ""
+    is_repeat = false
     local top = tree:add(rasta, tvb())
     local inner = subtree(top, f.red, tvb, 0, math.min(size, RED_HEADER))
     if size < RED_HEADER then
@@ -553,17 +719,79 @@ function rasta.dissector(tvb, pinfo, tree)
     return size
 end
 
--- Ports.
+-- Recognising datagrams on other ports.
+
+-- whether a datagram has the form of a RaSTA PDU: both lengths, the reserve, the type, and a body of its type's size with a code of some length
+local function is_recognised(tvb)
+    local size = tvb:reported_len()
+    if size < RED_HEADER + SAFE_HEADER or size > RED_MAX or tvb:captured_len() < RED_HEADER + 4 then
+        return false
+    end
+    local kind = tvb(RED_HEADER + 2, 2):le_uint()
+    if not TYPES[kind] or tvb(0, 2):le_uint() ~= size or tvb(2, 2):uint() ~= 0 or tvb(RED_HEADER, 2):le_uint() ~= size - RED_HEADER then
+        return false
+    end
+    for _, code in ipairs({ 0, 8, 16 }) do
+        if size >= RED_HEADER + SAFE_HEADER + code and not wrong_size(kind, size - RED_HEADER - SAFE_HEADER - code) then
+            return true
+        end
+    end
+    return false
+end
+
+rasta:register_heuristic("udp", function(tvb, pinfo, tree)
+    if not is_recognised(tvb) then
+        return false
+    end
+    pinfo.conversation = rasta -- so a damaged datagram on these ports is shown too
+    rasta.dissector(tvb, pinfo, tree)
+    return true
+end)
+
+-- Ports. They are added when a capture is opened: then the preferences and each Decode As of a command line are known.
 
 local udp = DissectorTable.get("udp.port")
-local ports = rasta.prefs.ports
-udp:add(ports, rasta)
+local listed -- the list whose ports were added; nil before the first capture
 udp:add_for_decode_as(rasta)
 
+-- returns the ports of a list
+local function ports_in(list)
+    local found = {}
+    for first, last in list:gmatch("(%d+)%-?(%d*)") do
+        for port = tonumber(first), tonumber(last) or tonumber(first) do
+            found[port] = true
+        end
+    end
+    return found
+end
+
+-- removes the ports that are no longer in the preference, and adds those that are; a default port that has another Decode As keeps it
+local function set_ports()
+    local wanted, default = ports_in(rasta.prefs.ports), ports_in(DEFAULT_PORTS)
+    for port in pairs(ports_in(listed or "")) do
+        if not wanted[port] and tostring(udp:get_dissector(port)) == tostring(Dissector.get("rasta")) then
+            udp:remove(port, rasta)
+        end
+    end
+    for port in pairs(wanted) do
+        if not (default[port] and udp:get_dissector(port)) then
+            udp:add(port, rasta)
+        end
+    end
+    listed = rasta.prefs.ports
+end
+
+function rasta.init()
+    directions, found_of = {}, {}
+    read_initial()
+    if listed ~= rasta.prefs.ports then
+        set_ports()
+    end
+end
+
 function rasta.prefs_changed()
-    if rasta.prefs.ports ~= ports then
-        udp:remove(ports, rasta)
-        ports = rasta.prefs.ports
-        udp:add(ports, rasta)
+    read_initial()
+    if listed and listed ~= rasta.prefs.ports then
+        set_ports()
     end
 end

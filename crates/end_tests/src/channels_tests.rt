@@ -1,3 +1,4 @@
+use crate::assertions::{assert_equal, assert_equal_at, assert_true, assert_true_at};
 use channels::{ChannelFault, Channels, MemChannels, MemoryFault};
 use linked_list_allocator::LocalHeap;
 use std::test::Fail;
@@ -8,22 +9,22 @@ use udp_channels::{Place, Refusal, UdpFault, Watch, open_udp};
 #[test]
 fn keeps_what_is_sent(rt: HostRuntime) -> Result<(), Fail> {
     let mut channels = MemChannels::new(rt.alloc(), 2)?;
-    assert_eq!(rt; channels.send(1, &[1, 2, 3]), Ok(()));
-    assert_eq!(rt; channels.send(4, &[]), Ok(()));
-    assert_eq!(rt; channels.send(2, &[9]), Err(ChannelFault::Room));
+    assert_equal(&rt, channels.send(1, &[1, 2, 3]), Ok(()));
+    assert_equal(&rt, channels.send(4, &[]), Ok(()));
+    assert_equal(&rt, channels.send(2, &[9]), Err(ChannelFault::Room));
     channels.reserve(1)?;
-    assert_eq!(rt; channels.send(1, &[7; 1259]), Err(ChannelFault::Room));
-    assert_eq!(rt; channels.send(1, &[7; 1258]), Ok(()));
+    assert_equal(&rt, channels.send(1, &[7; 1259]), Err(ChannelFault::Room));
+    assert_equal(&rt, channels.send(1, &[7; 1258]), Ok(()));
     for (number, channel, octets) in [
         (0, 1, [1, 2, 3].as_slice()),
         (1, 4, [].as_slice()),
         (2, 1, [7; 1258].as_slice()),
     ] {
         let (found, datagram) = channels.sent(number).ok_or("not sent")?;
-        assert_eq!(rt; found, channel, "at {number}");
-        assert_eq!(rt; datagram, octets, "at {number}");
+        assert_equal_at(&rt, number, found, channel);
+        assert_equal_at(&rt, number, datagram, octets);
     }
-    assert!(rt; channels.sent(3).is_none());
+    assert_true(&rt, channels.sent(3).is_none());
     Ok(())
 }
 
@@ -34,18 +35,18 @@ fn answers_what_was_put_in(rt: HostRuntime) -> Result<(), Fail> {
     let mut buffer = [0; 4];
     channels.add(3, &[5, 6])?;
     channels.add(1, &[1, 2, 3, 4, 5, 6])?;
-    assert_eq!(rt; channels.receive(&mut buffer), Ok(Some((3, 2))));
-    assert_eq!(rt; buffer, [5, 6, 0, 0]);
-    assert_eq!(rt; channels.receive(&mut buffer), Ok(Some((1, 4))));
-    assert_eq!(rt; buffer, [1, 2, 3, 4]);
-    assert_eq!(rt; channels.receive(&mut buffer), Ok(None));
+    assert_equal(&rt, channels.receive(&mut buffer), Ok(Some((3, 2))));
+    assert_equal(&rt, buffer, [5, 6, 0, 0]);
+    assert_equal(&rt, channels.receive(&mut buffer), Ok(Some((1, 4))));
+    assert_equal(&rt, buffer, [1, 2, 3, 4]);
+    assert_equal(&rt, channels.receive(&mut buffer), Ok(None));
     channels.add(2, &[8])?;
-    assert_eq!(rt; channels.receive(&mut buffer), Ok(Some((2, 1))));
-    assert_eq!(rt; buffer, [8, 2, 3, 4]);
+    assert_equal(&rt, channels.receive(&mut buffer), Ok(Some((2, 1))));
+    assert_equal(&rt, buffer, [8, 2, 3, 4]);
     channels.add(2, &[9])?;
-    assert_eq!(rt; channels.receive(&mut buffer), Err(ChannelFault::Room));
+    assert_equal(&rt, channels.receive(&mut buffer), Err(ChannelFault::Room));
     channels.reserve(1)?;
-    assert_eq!(rt; channels.receive(&mut buffer), Ok(Some((2, 1))));
+    assert_equal(&rt, channels.receive(&mut buffer), Ok(Some((2, 1))));
     Ok(())
 }
 
@@ -66,19 +67,19 @@ fn takes_memory_where_it_says(rt: HostRuntime) -> Result<(), Fail> {
         }
         if channels.add(1, &[4; 4000]) == Err(MemoryFault::Memory) {
             refused[2] = true;
-            assert_eq!(rt; channels.receive(&mut [0; 9]), Ok(None));
+            assert_equal(&rt, channels.receive(&mut [0; 9]), Ok(None));
             continue;
         }
         let used = heap.used();
         for _ in 0..3 {
-            assert_eq!(rt; channels.send(1, &[7; 1258]), Ok(()));
+            assert_equal(&rt, channels.send(1, &[7; 1258]), Ok(()));
         }
-        assert_eq!(rt; channels.receive(&mut [0; 9]), Ok(Some((1, 9))));
-        assert_eq!(rt; heap.used(), used);
+        assert_equal(&rt, channels.receive(&mut [0; 9]), Ok(Some((1, 9))));
+        assert_equal(&rt, heap.used(), used);
         done = true;
     }
-    assert_eq!(rt; refused, [true; 3]);
-    assert!(rt; done);
+    assert_equal(&rt, refused, [true; 3]);
+    assert_true(&rt, done);
     Ok(())
 }
 
@@ -95,22 +96,22 @@ fn carries_datagrams_over_sockets(rt: HostRuntime) -> Result<(), Fail> {
     watch.add(&mut left)?;
     watch.add(&mut right)?;
     let mut buffer = [0; 8];
-    assert_eq!(rt; right.receive(&mut buffer), Ok(None));
-    assert_eq!(rt; stranger.send(1, &[9]), Ok(()));
-    assert_eq!(rt; left.send(2, &[1, 2, 3]), Ok(()));
-    assert_eq!(rt; left.send(1, &[5; 20]), Ok(()));
-    assert_eq!(rt; left.send(3, &[6]), Err(ChannelFault::Room));
-    assert_eq!(rt; left.send(0, &[6]), Err(ChannelFault::Room));
+    assert_equal(&rt, right.receive(&mut buffer), Ok(None));
+    assert_equal(&rt, stranger.send(1, &[9]), Ok(()));
+    assert_equal(&rt, left.send(2, &[1, 2, 3]), Ok(()));
+    assert_equal(&rt, left.send(1, &[5; 20]), Ok(()));
+    assert_equal(&rt, left.send(3, &[6]), Err(ChannelFault::Room));
+    assert_equal(&rt, left.send(0, &[6]), Err(ChannelFault::Room));
     watch.wait(Duration::from_millis(500));
-    assert_eq!(rt; right.receive(&mut buffer), Ok(Some((1, 8))));
-    assert_eq!(rt; buffer, [5; 8]);
-    assert_eq!(rt; right.receive(&mut buffer), Ok(Some((2, 1))));
-    assert_eq!(rt; right.receive(&mut buffer), Ok(Some((2, 3))));
-    assert_eq!(rt; buffer[2], 3);
-    assert_eq!(rt; right.receive(&mut buffer), Ok(None));
-    assert_eq!(rt; left.receive(&mut buffer), Ok(None));
-    assert_eq!(rt; right.received(), 3);
-    assert_eq!(rt; left.received(), 0);
+    assert_equal(&rt, right.receive(&mut buffer), Ok(Some((1, 8))));
+    assert_equal(&rt, buffer, [5; 8]);
+    assert_equal(&rt, right.receive(&mut buffer), Ok(Some((2, 1))));
+    assert_equal(&rt, right.receive(&mut buffer), Ok(Some((2, 3))));
+    assert_equal(&rt, buffer[2], 3);
+    assert_equal(&rt, right.receive(&mut buffer), Ok(None));
+    assert_equal(&rt, left.receive(&mut buffer), Ok(None));
+    assert_equal(&rt, right.received(), 3);
+    assert_equal(&rt, left.received(), 0);
     Ok(())
 }
 
@@ -143,10 +144,7 @@ fn refuses_other_addresses(rt: HostRuntime) -> Result<(), Fail> {
     ];
     for (local, remote, fault) in lists {
         let opened = open_udp(rt.alloc(), &rt, local, remote);
-        assert!(rt;
-            matches!(opened, Err(found) if found == fault),
-            "at {local:?}"
-        );
+        assert_true_at(&rt, local, matches!(opened, Err(found) if found == fault));
     }
     // What was bound before a refusal is free again.
     let _opened = open_udp(rt.alloc(), &rt, &[free], &["127.0.0.1:47342"])?;

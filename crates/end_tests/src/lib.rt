@@ -4,6 +4,8 @@
 #![tactic(auto)]
 
 #[cfg(test)]
+mod assertions;
+#[cfg(test)]
 mod channels_tests;
 #[cfg(test)]
 mod stack_end_fault_tests;

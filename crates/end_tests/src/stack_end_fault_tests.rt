@@ -1,6 +1,7 @@
 ghost use Rattle.std.specs.Prelude.{◌≡◌, ◌≤◌, ◌^◌, None};
 ghost use Rattle.channels.specs.Memory.{told_of};
 
+use crate::assertions::assert_equal_at;
 use crate::stack_end_tests::{Taken, config};
 use arrayvec::ArrayVec;
 use channels::{ChannelFault, Channels, MemChannels};
@@ -274,14 +275,10 @@ fn a_failed_send_is_a_lost_copy(rt: HostRuntime) -> Result<(), Fail> {
 }
 
 fn end_alike(rt: &impl Abort, place: usize, failed: &Course, lost: &Course) {
-    assert_eq!(rt; failed.il, lost.il, "il at {place}");
-    assert_eq!(rt; failed.fe, lost.fe, "fe at {place}");
-    assert_eq!(rt;
-        failed.taken.as_slice(),
-        lost.taken.as_slice(),
-        "at {place}"
-    );
-    assert_eq!(rt; failed.failed_sends, 1, "at {place}");
+    assert_equal_at(rt, place, failed.il, lost.il);
+    assert_equal_at(rt, place, failed.fe, lost.fe);
+    assert_equal_at(rt, place, failed.taken.as_slice(), lost.taken.as_slice());
+    assert_equal_at(rt, place, failed.failed_sends, 1);
 }
 
 // Each reception of the field element fails in turn: one poll answers that, and what is taken is what is taken without it.
@@ -295,11 +292,11 @@ fn a_failed_receive_loses_nothing(rt: HostRuntime) -> Result<(), Fail> {
                 ..GOOD
             };
             let course = run(&rt, mishap)?;
-            assert_eq!(rt; course.fe_faults, 1, "at {place}");
-            assert_eq!(rt; course.il_faults, 0, "at {place}");
+            assert_equal_at(&rt, place, course.fe_faults, 1);
+            assert_equal_at(&rt, place, course.il_faults, 0);
             let up = (ConnectionState::Up, Phase::Established);
-            assert_eq!(rt; course.fe, up, "at {place}");
-            assert_eq!(rt; course.taken.as_slice(), TAKEN.as_slice(), "at {place}");
+            assert_equal_at(&rt, place, course.fe, up);
+            assert_equal_at(&rt, place, course.taken.as_slice(), TAKEN.as_slice());
         }
     }
     Ok(())

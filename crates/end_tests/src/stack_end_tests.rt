@@ -1,5 +1,6 @@
 ghost use Rattle.std.specs.Prelude.{◌≡◌, ◌≤◌, ◌^◌};
 
+use crate::assertions::{assert_equal, assert_true};
 use arrayvec::ArrayVec;
 use channels::{Channels, MemChannels};
 use end_settings::{Checksum, EndConfig, Side, Versions};
@@ -173,7 +174,7 @@ impl Line {
     /// The ends set up a connection and a session.
     fn establish(&mut self, rt: &impl Abort) {
         self.flow(1);
-        assert!(rt; self.fe.done().is_ok());
+        assert_true(rt, self.fe.done().is_ok());
         self.flow(1);
     }
 
@@ -184,29 +185,37 @@ impl Line {
     }
 
     fn carries_telegrams(&mut self, rt: &impl Abort) -> Result<(), Fail> {
-        assert_eq!(rt; self.il.seen(), (ConnectionState::Up, Phase::Established));
-        assert_eq!(rt; self.fe.seen(), (ConnectionState::Up, Phase::Established));
-        assert!(rt; self.fe.end.request().is_some());
-        assert!(rt; self.il.end.request().is_none());
+        assert_equal(
+            rt,
+            self.il.seen(),
+            (ConnectionState::Up, Phase::Established),
+        );
+        assert_equal(
+            rt,
+            self.fe.seen(),
+            (ConnectionState::Up, Phase::Established),
+        );
+        assert_true(rt, self.fe.end.request().is_some());
+        assert_true(rt, self.il.end.request().is_none());
         self.il.put(0x100, 7)?;
         self.fe.put(0x200, 9)?;
         self.flow(2);
-        assert_eq!(rt; self.fe.taken.list.as_slice(), [(0x100, 7)].as_slice());
-        assert_eq!(rt; self.il.taken.list.as_slice(), [(0x200, 9)].as_slice());
+        assert_true(rt, self.fe.taken.list.as_slice() == [(0x100, 7)].as_slice());
+        assert_true(rt, self.il.taken.list.as_slice() == [(0x200, 9)].as_slice());
         Ok(())
     }
 
     fn settles(&mut self, rt: &impl Abort) {
-        assert!(rt; !self.fe.end.settled());
+        assert_true(rt, !self.fe.end.settled());
         self.il.later(300);
         self.fe.later(300);
-        assert_eq!(rt; self.il.end.next_deadline(), Some(300));
+        assert_equal(rt, self.il.end.next_deadline(), Some(300));
         self.il.tick();
         self.fe.tick();
         self.flow(1);
-        assert!(rt; self.il.end.settled());
-        assert!(rt; self.fe.end.settled());
-        assert_eq!(rt; self.il.put(0x24, 0), Err(PutFault::ReservedType));
+        assert_true(rt, self.il.end.settled());
+        assert_true(rt, self.fe.end.settled());
+        assert_equal(rt, self.il.put(0x24, 0), Err(PutFault::ReservedType));
     }
 }
 
@@ -237,8 +246,8 @@ impl Station {
     fn polls_one(&mut self, rt: &impl Abort, datagram: &[u8]) -> Result<(), Fail> {
         self.end.channels().add(1, datagram)?;
         self.later(300);
-        assert_eq!(rt; self.poll(), Ok(()));
-        assert!(rt; self.end.channels_seen().sent(1).is_some());
+        assert_equal(rt, self.poll(), Ok(()));
+        assert_true(rt, self.end.channels_seen().sent(1).is_some());
         Ok(())
     }
 
@@ -248,10 +257,10 @@ impl Station {
             let _ = self.poll();
         }
         self.later(5_000);
-        assert_eq!(rt; self.poll(), Err(PollFault::Channel));
-        assert_eq!(rt; self.end.state(), ConnectionState::Start);
+        assert_equal(rt, self.poll(), Err(PollFault::Channel));
+        assert_equal(rt, self.end.state(), ConnectionState::Start);
         self.tick();
-        assert_eq!(rt; self.end.state(), ConnectionState::Closed);
+        assert_equal(rt, self.end.state(), ConnectionState::Closed);
     }
 }
 
@@ -292,8 +301,8 @@ fn opens_where_memory_is_found(rt: HostRuntime) -> Result<(), Fail> {
             refused = refused.wrapping_add(1);
         }
     }
-    assert!(rt; refused > 60);
-    assert!(rt; opened);
+    assert_true(&rt, refused > 60);
+    assert_true(&rt, opened);
     config.code = 9;
     refuses_at_once(&rt, &config)
 }
@@ -309,7 +318,7 @@ fn opens_with(
     channels.add(1, &[7])?;
     match opens_in(&heap, *config, channels) {
         Ok(is_fit) => {
-            assert!(rt; is_fit);
+            assert_true(rt, is_fit);
             Ok(true)
         }
         Err(mut back) => {
@@ -322,16 +331,19 @@ fn opens_with(
 /// The channels hold the octet that was added to them, and take more.
 fn came_back(rt: &impl Abort, channels: &mut MemChannels) {
     let mut buffer = [0; 1];
-    assert!(rt; channels.add(2, &[1]).is_ok());
-    assert_eq!(rt; channels.receive(&mut buffer), Ok(Some((1, 1))));
-    assert_eq!(rt; buffer, [7]);
+    assert_true(rt, channels.add(2, &[1]).is_ok());
+    assert_equal(rt, channels.receive(&mut buffer), Ok(Some((1, 1))));
+    assert_equal(rt, buffer, [7]);
 }
 
 /// Settings out of range are refused in a heap without room for anything.
 fn refuses_at_once(rt: &(impl AllocGlobal + Abort), config: &EndConfig) -> Result<(), Fail> {
     let heap = LocalHeap::new(rt.alloc(), 0)?;
     let channels = MemChannels::new(rt.alloc(), 2)?;
-    assert!(rt; opens_in(&heap, *config, channels).is_ok_and(|is_fit| !is_fit));
+    assert_true(
+        rt,
+        opens_in(&heap, *config, channels).is_ok_and(|is_fit| !is_fit),
+    );
     Ok(())
 }
 
@@ -432,7 +444,7 @@ fn goes_on_in(
     match Housed::open(&heap, channels, *config) {
         None => Ok(false),
         Some(mut fe) => {
-            assert!(rt; Vec::<u8, &LocalHeap>::with_capacity(&heap, 64).is_err());
+            assert_true(rt, Vec::<u8, &LocalHeap>::with_capacity(&heap, 64).is_err());
             goes_on(rt, &mut fe)
         }
     }
@@ -442,10 +454,10 @@ fn goes_on_in(
 fn goes_on(rt: &(impl AllocGlobal + Abort), fe: &mut Housed) -> Result<bool, Fail> {
     let mut il = Station::open(rt, config(Side::Interlocking)?, Side::Interlocking, 100)?;
     fe.loses_a_unit(&mut il)?;
-    assert_eq!(rt; fe.taken.list.as_slice(), [].as_slice());
+    assert_true(rt, fe.taken.list.is_empty());
     fe.asks_again(&mut il);
-    assert_eq!(rt; fe.end.state(), ConnectionState::Up);
+    assert_equal(rt, fe.end.state(), ConnectionState::Up);
     let both = [(0x100, 1), (0x100, 2)];
-    assert_eq!(rt; fe.taken.list.as_slice(), both.as_slice());
+    assert_true(rt, fe.taken.list.as_slice() == both.as_slice());
     Ok(true)
 }

@@ -1,3 +1,4 @@
+use crate::assertions::{assert_equal, assert_true};
 use crate::stack_end_tests::config;
 use end_settings::{EndConfig, Side};
 use linked_list_allocator::LocalHeap;
@@ -50,16 +51,16 @@ fn refuses_and_goes_on(
     pair: &mut Pair,
     config: &EndConfig,
 ) -> Result<(), ApplyFault> {
-    assert_eq!(rt; tick(pair, 5), Err(ApplyFault::EndNotOpen));
+    assert_equal(rt, tick(pair, 5), Err(ApplyFault::EndNotOpen));
     open(pair, Side::FieldElement, config, 500)?;
-    assert_eq!(rt; tick(pair, 5), Err(ApplyFault::Clock));
+    assert_equal(rt, tick(pair, 5), Err(ApplyFault::Clock));
     tick(pair, 10)
 }
 
 fn has_two_events(rt: &impl Abort, pair: &Pair) {
-    assert_eq!(rt; pair.history().len(), 2);
-    assert!(rt; pair.end_of(Side::FieldElement).is_some());
-    assert!(rt; pair.end_of(Side::Interlocking).is_none());
+    assert_equal(rt, pair.history().len(), 2);
+    assert_true(rt, pair.end_of(Side::FieldElement).is_some());
+    assert_true(rt, pair.end_of(Side::Interlocking).is_none());
 }
 
 // An end is ticked before it is opened, opened, ticked too early and in time: what is refused and by which name, and what happened.
@@ -67,7 +68,7 @@ fn has_two_events(rt: &impl Abort, pair: &Pair) {
 fn names_refusals_and_goes_on(rt: HostRuntime) -> Result<(), Fail> {
     let config = config(Side::FieldElement)?;
     let mut pair = Pair::new(rt.alloc());
-    assert_eq!(rt; refuses_and_goes_on(&rt, &mut pair, &config), Ok(()));
+    assert_equal(&rt, refuses_and_goes_on(&rt, &mut pair, &config), Ok(()));
     has_two_events(&rt, &pair);
     Ok(())
 }
@@ -99,9 +100,9 @@ fn run(pair: &mut Pair, config: &EndConfig) -> Option<usize> {
 fn runs_events_in_turn(rt: HostRuntime) -> Result<(), Fail> {
     let config = config(Side::FieldElement)?;
     let mut pair = Pair::new(rt.alloc());
-    assert_eq!(rt; run(&mut pair, &config), Some(3));
-    assert_eq!(rt; pair.history().len(), 3);
-    assert!(rt; !pair.breaks_premise(Side::FieldElement, &[0; 8]));
+    assert_equal(&rt, run(&mut pair, &config), Some(3));
+    assert_equal(&rt, pair.history().len(), 3);
+    assert_true(&rt, !pair.breaks_premise(Side::FieldElement, &[0; 8]));
     Ok(())
 }
 
@@ -125,27 +126,28 @@ fn open_all(pair: &mut Pair, il: &EndConfig, fe: &EndConfig) -> Result<(), Apply
 
 fn is_joined_to_the_later(rt: &impl Abort, pair: &Pair) -> Result<(), Fail> {
     let entry = pair.report(Side::FieldElement, 0).ok_or("no entry")?;
-    assert_eq!(rt; entry.joined, Some(1));
-    assert!(rt; pair.report(Side::FieldElement, 1).is_none());
-    assert_eq!(rt; pair.incarnations(Side::Interlocking), 2);
+    assert_equal(rt, entry.joined, Some(1));
+    assert_true(rt, pair.report(Side::FieldElement, 1).is_none());
+    assert_equal(rt, pair.incarnations(Side::Interlocking), 2);
     Ok(())
 }
 
 fn tells_in_order(rt: &impl Abort, pair: &Pair) -> Result<(), Fail> {
     let notes = pair.notes().ok_or("no event")?;
-    assert!(rt; matches!(notes.get(0), Some(NoteView::Made(_))));
+    assert_true(rt, matches!(notes.get(0), Some(NoteView::Made(_))));
     let told = [
         Note::Step(0, Step::Taken),
         Note::State(ConnectionState::Start),
         Note::Redundancy(Some(0), RedEvent::Passed),
     ];
     for (place, note) in told.iter().enumerate() {
-        assert_eq!(rt;
+        assert_equal(
+            rt,
             notes.get(place.wrapping_add(1)),
-            Some(NoteView::Note(*note))
+            Some(NoteView::Note(*note)),
         );
     }
-    assert_eq!(rt; notes.len(), 4);
+    assert_equal(rt, notes.len(), 4);
     Ok(())
 }
 
@@ -155,13 +157,13 @@ fn tells_in_order(rt: &impl Abort, pair: &Pair) -> Result<(), Fail> {
 fn joins_the_latest_maker(rt: HostRuntime) -> Result<(), Fail> {
     let (il, fe) = (config(Side::Interlocking)?, config(Side::FieldElement)?);
     let mut pair = Pair::new(rt.alloc());
-    assert_eq!(rt; open_all(&mut pair, &il, &fe), Ok(()));
+    assert_equal(&rt, open_all(&mut pair, &il, &fe), Ok(()));
     joins(&rt, &mut pair)
 }
 
 fn joins(rt: &(impl AllocGlobal + Abort), pair: &mut Pair) -> Result<(), Fail> {
     let request = made(rt, pair)?;
-    assert_eq!(rt; deliver(pair, request.as_slice()), Ok(()));
+    assert_equal(rt, deliver(pair, request.as_slice()), Ok(()));
     is_joined_to_the_later(rt, pair)?;
     tells_in_order(rt, pair)
 }
@@ -199,7 +201,7 @@ fn count(rt: &impl Abort, pair: &mut Pair<&LocalHeap>, il: &EndConfig, fe: &EndC
     for place in 0..4 {
         let before = standing(pair);
         if !step(pair, place, il, fe) {
-            assert_eq!(rt; standing(pair), before);
+            assert_equal(rt, standing(pair), before);
             return place;
         }
     }
@@ -218,7 +220,7 @@ fn refuses_for_want_of_memory(rt: HostRuntime) -> Result<(), Fail> {
             *place = true;
         }
     }
-    assert_eq!(rt; found, [true; 5]);
+    assert_equal(&rt, found, [true; 5]);
     Ok(())
 }
 
@@ -263,8 +265,8 @@ fn comes_twice(rt: &(impl AllocGlobal + Abort), pair: &mut Pair, side: Side) -> 
 fn runs_repeats_on_the_second_channel(rt: HostRuntime) -> Result<(), Fail> {
     let (il, fe) = (config(Side::Interlocking)?, config(Side::FieldElement)?);
     let mut pair = Pair::new(rt.alloc());
-    assert!(rt; opens_both(&mut pair, &il, &fe) == Some(2));
-    assert!(rt; comes_twice(&rt, &mut pair, Side::FieldElement)?);
-    assert!(rt; pair.history().len() == 4);
+    assert_true(&rt, opens_both(&mut pair, &il, &fe) == Some(2));
+    assert_true(&rt, comes_twice(&rt, &mut pair, Side::FieldElement)?);
+    assert_true(&rt, pair.history().len() == 4);
     Ok(())
 }

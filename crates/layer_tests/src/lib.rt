@@ -4,9 +4,13 @@
 #![tactic(auto)]
 
 #[cfg(test)]
+mod assertions;
+#[cfg(test)]
 mod md4_tests;
 #[cfg(test)]
 mod red_layer_deferral_tests;
+#[cfg(test)]
+mod red_layer_tests;
 #[cfg(test)]
 mod retrans_tests;
 #[cfg(test)]

@@ -1,3 +1,4 @@
+use crate::assertions::assert_equal_at;
 use md4::{INITIAL_VALUE, Md4, code8, digest, digest_of_pieces};
 use std::alloc::AllocError;
 use std::test::Fail;
@@ -92,9 +93,9 @@ fn the_digests_of_the_rfc(rt: HostRuntime) {
     ];
     for (text, wanted) in cases {
         let made = digest(INITIAL_VALUE, text.as_bytes());
-        assert_eq!(rt; u128::from_be_bytes(made), wanted, "{text}");
+        assert_equal_at(&rt, text, u128::from_be_bytes(made), wanted);
         let code = code8(INITIAL_VALUE, text.as_bytes());
-        assert_eq!(rt; u64::from_be_bytes(code), (wanted >> 64) as u64, "{text}");
+        assert_equal_at(&rt, text, u64::from_be_bytes(code), (wanted >> 64) as u64);
     }
 }
 
@@ -108,9 +109,9 @@ fn octet_by_octet(rt: HostRuntime) {
             md4.update(&[*octet]);
         }
         let whole = digest(INITIAL_VALUE, &octets[..size]);
-        assert_eq!(rt; md4.finish(), whole, "{size} octets");
+        assert_equal_at(&rt, size, md4.finish(), whole);
         let pieces = digest_of_pieces(INITIAL_VALUE, &[&octets[..9], &[], &octets[9..size]]);
-        assert_eq!(rt; pieces, whole, "{size} octets");
+        assert_equal_at(&rt, size, pieces, whole);
     }
 }
 
@@ -121,7 +122,7 @@ fn as_the_plain_computation(rt: HostRuntime) -> Result<(), Fail> {
     for iv in [INITIAL_VALUE, [1, 0xffff_ffff, 0x8000_0000, 0x1234_5678]] {
         for size in 0..300 {
             let wanted = slow_digest(&rt, iv, &octets[..size])?;
-            assert_eq!(rt; digest(iv, &octets[..size]), wanted, "{size} octets");
+            assert_equal_at(&rt, size, digest(iv, &octets[..size]), wanted);
         }
     }
     Ok(())

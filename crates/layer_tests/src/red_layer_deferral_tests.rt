@@ -1,3 +1,4 @@
+use crate::assertions::{assert_equal, assert_equal_at, assert_true};
 use linked_list_allocator::LocalHeap;
 use red_layer::{Deferral, DeferralFault};
 use std::test::Fail;
@@ -6,19 +7,24 @@ use std::test::Fail;
 #[test]
 fn keeps_what_came_early(rt: HostRuntime) -> Result<(), Fail> {
     let mut table = Deferral::new(rt.alloc(), 2)?;
-    assert_eq!(rt; table.least(), None);
-    assert_eq!(rt; table.put(9, 'a'), Ok(()));
-    assert_eq!(rt; table.put(7, 'b'), Ok(()));
-    assert_eq!(rt; table.put(8, 'c'), Err('c'), "full");
-    assert_eq!(rt; table.least(), Some(7));
-    assert!(rt; table.has(9));
-    assert!(rt; !table.has(8));
-    assert_eq!(rt; table.take(8), None);
-    assert_eq!(rt; table.take(7), Some('b'));
-    assert_eq!(rt; table.put(9, 'd'), Err('d'), "there already");
-    assert_eq!(rt; table.put(4294967295, 'e'), Ok(()), "in the freed place");
-    assert_eq!(rt; table.take(9), Some('a'));
-    assert_eq!(rt; table.least(), Some(4294967295));
+    assert_equal(&rt, table.least(), None);
+    assert_equal(&rt, table.put(9, 'a'), Ok(()));
+    assert_equal(&rt, table.put(7, 'b'), Ok(()));
+    assert_equal_at(&rt, "full", table.put(8, 'c'), Err('c'));
+    assert_equal(&rt, table.least(), Some(7));
+    assert_true(&rt, table.has(9));
+    assert_true(&rt, !table.has(8));
+    assert_equal(&rt, table.take(8), None);
+    assert_equal(&rt, table.take(7), Some('b'));
+    assert_equal_at(&rt, "there already", table.put(9, 'd'), Err('d'));
+    assert_equal_at(
+        &rt,
+        "in the freed place",
+        table.put(4294967295, 'e'),
+        Ok(()),
+    );
+    assert_equal(&rt, table.take(9), Some('a'));
+    assert_equal(&rt, table.least(), Some(4294967295));
     Ok(())
 }
 
@@ -32,17 +38,17 @@ fn takes_memory_at_first_alone(rt: HostRuntime) -> Result<(), Fail> {
             Ok(mut table) => {
                 let used = heap.used();
                 for seq in [3, 1, 4, 0, 5, 9, 2, 6] {
-                    assert_eq!(rt; table.put(seq, 1), Ok(()));
+                    assert_equal(&rt, table.put(seq, 1), Ok(()));
                 }
-                assert_eq!(rt; table.put(7, 1), Err(1));
-                assert_eq!(rt; table.take(4), Some(1));
-                assert_eq!(rt; table.put(7, 1), Ok(()));
-                assert_eq!(rt; heap.used(), used);
+                assert_equal(&rt, table.put(7, 1), Err(1));
+                assert_equal(&rt, table.take(4), Some(1));
+                assert_equal(&rt, table.put(7, 1), Ok(()));
+                assert_equal(&rt, heap.used(), used);
             }
             Err(DeferralFault::Memory) => refused = size,
         }
     }
-    assert!(rt; refused > 0);
-    assert!(rt; refused < 1024);
+    assert_true(&rt, refused > 0);
+    assert_true(&rt, refused < 1024);
     Ok(())
 }

@@ -1,5 +1,6 @@
 //! One arrival, and requests for retransmission, at a server that is up.
 
+use crate::assertions::assert_equal;
 use crate::safe_machine_tests::{RULE, SERVER, Seat, Told};
 use octets::limits::SAFE_PDU_MAX;
 use safe_machine::{Detail, DropCause, MachineFault, Reason, Role, Step};
@@ -71,7 +72,7 @@ fn arrives<A: Allocator>(
     step: Step,
     pdus: &[Told],
 ) {
-    assert_eq!(rt; hear(seat, heard, now), step);
+    assert_equal(rt, hear(seat, heard, now), step);
     seat.made(rt, 1, pdus);
 }
 
@@ -83,7 +84,7 @@ fn server_up_one_arrival(rt: HostRuntime) -> Result<(), Fail> {
             from_peer(Kind::Data, 302, 500),
             0,
             Step::Gap,
-            [(6212, 501, 101)].as_slice(),
+            [(Kind::RetrReq.number(), 501, 101)].as_slice(),
         ),
         (
             from_peer(Kind::Data, 303, 500),
@@ -95,19 +96,19 @@ fn server_up_one_arrival(rt: HostRuntime) -> Result<(), Fail> {
             from_peer(Kind::RetrData, 102, 500),
             0,
             Step::Left(Reason::UnexpectedPdu, Detail::Unspecified),
-            [(6216, 501, 101)].as_slice(),
+            [(Kind::DiscReq.number(), 501, 101)].as_slice(),
         ),
         (
             from_peer(Kind::Heartbeat, 102, 501),
             0,
             Step::Left(Reason::ProtocolError, Detail::ConfirmedNumber),
-            [(6216, 501, 101)].as_slice(),
+            [(Kind::DiscReq.number(), 501, 101)].as_slice(),
         ),
         (
             Heard { cts: 1, ..beat },
             0,
             Step::Left(Reason::ProtocolError, Detail::ConfirmedTimestamp),
-            [(6216, 501, 101)].as_slice(),
+            [(Kind::DiscReq.number(), 501, 101)].as_slice(),
         ),
         (
             Heard { sender: 9, ..beat },
@@ -119,7 +120,7 @@ fn server_up_one_arrival(rt: HostRuntime) -> Result<(), Fail> {
             beat,
             1_800,
             Step::Left(Reason::Timeout, Detail::Unspecified),
-            [(6216, 501, 101)].as_slice(),
+            [(Kind::DiscReq.number(), 501, 101)].as_slice(),
         ),
         (beat, 1_799, Step::Taken, [].as_slice()),
         (
@@ -145,8 +146,8 @@ fn asks<A: Allocator>(
 ) {
     let _ = seat.send(1);
     let _ = seat.send(2);
-    assert_eq!(rt; hear(seat, request, 0), steps.0);
-    assert_eq!(rt; hear(seat, request, 0), steps.1);
+    assert_equal(rt, hear(seat, request, 0), steps.0);
+    assert_equal(rt, hear(seat, request, 0), steps.1);
     seat.made(rt, 3, pdus);
 }
 
@@ -159,10 +160,10 @@ fn server_answers_requests(rt: HostRuntime) -> Result<(), Fail> {
             500,
             (Step::Taken, Step::Dropped(DropCause::Number)),
             [
-                (6213, 503, 102),
-                (6241, 504, 102),
-                (6241, 505, 102),
-                (6220, 506, 102),
+                (Kind::RetrResp.number(), 503, 102),
+                (Kind::RetrData.number(), 504, 102),
+                (Kind::RetrData.number(), 505, 102),
+                (Kind::Heartbeat.number(), 506, 102),
             ]
             .as_slice(),
         ),
@@ -174,17 +175,17 @@ fn server_answers_requests(rt: HostRuntime) -> Result<(), Fail> {
                 Step::Left(Reason::RetransmissionImpossible, Detail::Unspecified),
                 Step::Nothing,
             ),
-            [(6216, 503, 101)].as_slice(),
+            [(Kind::DiscReq.number(), 503, 101)].as_slice(),
         ),
         (
             105,
             501,
             (Step::Taken, Step::Dropped(DropCause::Answered)),
             [
-                (6213, 503, 101),
-                (6241, 504, 101),
-                (6220, 505, 101),
-                (6212, 506, 101),
+                (Kind::RetrResp.number(), 503, 101),
+                (Kind::RetrData.number(), 504, 101),
+                (Kind::Heartbeat.number(), 505, 101),
+                (Kind::RetrReq.number(), 506, 101),
             ]
             .as_slice(),
         ),

@@ -2,6 +2,7 @@
 
 ghost use Rattle.std.specs.Prelude.{◌≤◌, ◌*◌};
 
+use crate::assertions::{assert_equal, assert_true};
 use Happens::{FeSends, FeTicks, IlSends, ToFe, ToIl};
 use arrayvec::ArrayVec;
 use linked_list_allocator::LocalHeap;
@@ -157,18 +158,18 @@ impl<A: Allocator> Seat<A> {
     }
 
     fn is(&self, rt: &impl Abort, state: ConnectionState) {
-        assert_eq!(rt; self.machine.state(), state);
+        assert_equal(rt, self.machine.state(), state);
     }
 
     /// These are the PDUs made from a place on.
     pub(crate) fn made(&self, rt: &impl Abort, place: usize, wanted: &[Told]) {
         let told = self.made.told.as_slice().get(place..).unwrap_or(&[]);
-        assert_eq!(rt; told, wanted);
+        assert_equal(rt, told, wanted);
     }
 
     /// These are the last octets of the units taken.
     fn took(&self, rt: &impl Abort, wanted: &[u8]) {
-        assert_eq!(rt; self.took.units.as_slice(), wanted);
+        assert_equal(rt, self.took.units.as_slice(), wanted);
     }
 }
 
@@ -247,14 +248,14 @@ impl<A: Allocator> Ends<A> {
 
     fn plays(&mut self, rt: &impl Abort, happens: Happens) {
         match happens {
-            IlSends(last) => assert!(rt; self.il.send(last).is_ok()),
-            FeSends(last) => assert!(rt; self.fe.send(last).is_ok()),
+            IlSends(last) => assert_true(rt, self.il.send(last).is_ok()),
+            FeSends(last) => assert_true(rt, self.fe.send(last).is_ok()),
             FeTicks(now) => self.fe.tick(now),
             ToFe(place, now, answer) => {
-                assert_eq!(rt; self.fe.hear_from(&self.il.made, place, now), answer);
+                assert_equal(rt, self.fe.hear_from(&self.il.made, place, now), answer);
             }
             ToIl(place, now, answer) => {
-                assert_eq!(rt; self.il.hear_from(&self.fe.made, place, now), answer);
+                assert_equal(rt, self.il.hear_from(&self.fe.made, place, now), answer);
             }
         }
     }
@@ -275,8 +276,8 @@ fn opening_takes_the_only_memory(rt: HostRuntime) -> Result<(), Fail> {
             Ok(mut ends) => {
                 let used = heap.used();
                 retransmits(&rt, &mut ends);
-                assert_eq!(rt; heap.used(), used);
-                assert!(rt; refused);
+                assert_equal(&rt, heap.used(), used);
+                assert_true(&rt, refused);
                 return Ok(());
             }
             Err(MachineFault::Memory) => refused = true,
@@ -348,7 +349,7 @@ fn refuses_bad_settings(rt: HostRuntime) -> Result<(), Fail> {
             ..SERVER
         },
     ] {
-        assert!(rt; refused(rt.alloc(), config));
+        assert_true(&rt, refused(rt.alloc(), config));
     }
     Ok(())
 }

@@ -1,3 +1,4 @@
+use crate::assertions::{assert_equal, assert_equal_at, assert_true, assert_true_at};
 use safe_pdu::{CodeLength, CodeRule, Kind, SafeFault, SafePdu, decode, encode, read_back};
 use std::test::Fail;
 
@@ -63,19 +64,15 @@ fn reads_and_writes_the_same_octets(rt: HostRuntime) -> Result<(), Fail> {
         let Ok(pdu) = decode(octets.as_slice(), &rule) else {
             return Err("refused".into());
         };
-        assert_eq!(rt; pdu.kind, kind, "at {text}");
-        assert_eq!(rt; (pdu.receiver, pdu.sender), (2, 1), "at {text}");
-        assert_eq!(rt;
-            (pdu.sn, pdu.cs, pdu.ts, pdu.cts),
-            (sn, cs, 0, 0),
-            "at {text}"
-        );
+        assert_equal_at(&rt, text, pdu.kind, kind);
+        assert_equal_at(&rt, text, (pdu.receiver, pdu.sender), (2, 1));
+        assert_equal_at(&rt, text, (pdu.sn, pdu.cs, pdu.ts, pdu.cts), (sn, cs, 0, 0));
         let mut buffer = [0xaau8; 100];
-        assert!(rt; pdu.body.len() <= 50);
+        assert_true(&rt, pdu.body.len() <= 50);
         let size = encode(&pdu, &rule, &mut buffer);
         let (front, rest) = buffer.split_at(size);
-        assert_eq!(rt; front, octets.as_slice(), "at {text}");
-        assert!(rt; rest.iter().all(|octet| *octet == 0xaa), "at {text}");
+        assert_equal_at(&rt, text, front, octets.as_slice());
+        assert_true_at(&rt, text, rest.iter().all(|octet| *octet == 0xaa));
     }
     Ok(())
 }
@@ -162,10 +159,11 @@ fn names_the_first_fault(rt: HostRuntime) -> Result<(), Fail> {
     ];
     for (length, text, fault) in cases {
         let octets = hex::decode(rt.alloc(), text)?;
-        assert_eq!(rt;
+        assert_equal_at(
+            &rt,
+            text,
             decode(octets.as_slice(), &rule(length, plain)),
             Err(fault),
-            "at {text}"
         );
     }
     Ok(())
@@ -187,9 +185,10 @@ fn takes_the_greatest_body(rt: HostRuntime) -> Result<(), Fail> {
     };
     for length in [CodeLength::Zero, CodeLength::Eight, CodeLength::Sixteen] {
         let mut buffer = [0u8; 1_250];
-        assert_eq!(rt;
+        assert_equal(
+            &rt,
             read_back(&pdu, &rule(length, OWN_VALUE), &mut buffer),
-            Ok(pdu)
+            Ok(pdu),
         );
     }
     Ok(())

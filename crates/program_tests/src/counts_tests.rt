@@ -1,3 +1,4 @@
+use crate::assertions::assert_equal;
 use channels::{Channels, MemChannels};
 use rasta_run::{ChannelCounts, RecordedChannels, Totals};
 use safe_machine::{Detail, DropCause, Reason, Step};
@@ -66,10 +67,10 @@ fn counts_datagrams_of_each_channel(rt: HostRuntime) -> Result<(), Fail> {
     let _heartbeat = channels.send(1, &datagram(1, Kind::Heartbeat));
     let recorder = &channels.recorder;
     let [first, second, _, _] = recorder.channels;
-    assert_eq!(rt; first.sent.wrapping_add(first.failed), 2);
-    assert_eq!(rt; second.sent.wrapping_add(second.failed), 1);
-    assert_eq!(rt; recorder.channels[2], ChannelCounts::none());
-    assert_eq!(rt; recorder.happened, 1);
+    assert_equal(&rt, first.sent.wrapping_add(first.failed), 2);
+    assert_equal(&rt, second.sent.wrapping_add(second.failed), 1);
+    assert_equal(&rt, recorder.channels[2], ChannelCounts::none());
+    assert_equal(&rt, recorder.happened, 1);
     Ok(())
 }
 
@@ -81,9 +82,9 @@ fn counts_strangers_at_their_channel(rt: HostRuntime) -> Result<(), Fail> {
     channels.note(&Note::Step(5, Step::Dropped(DropCause::Stranger)));
     channels.note(&Note::Step(4, Step::Dropped(DropCause::Stranger)));
     channels.note(&Note::Step(5, Step::Dropped(DropCause::Number)));
-    assert_eq!(rt; channels.recorder.channels[1].strangers, 1);
-    assert_eq!(rt; channels.recorder.channels[1].damaged, 0);
-    assert_eq!(rt; channels.recorder.happened, 3);
+    assert_equal(&rt, channels.recorder.channels[1].strangers, 1);
+    assert_equal(&rt, channels.recorder.channels[1].damaged, 0);
+    assert_equal(&rt, channels.recorder.happened, 3);
     Ok(())
 }
 
@@ -93,10 +94,10 @@ fn counts_what_ends_a_connection(rt: HostRuntime) -> Result<(), Fail> {
     let mut channels = recorded(rt.alloc())?;
     channels.note(&Note::Step(0, Step::Taken));
     channels.note(&Note::Step(1, Step::Gap));
-    assert_eq!(rt; channels.recorder.closing, 0);
+    assert_equal(&rt, channels.recorder.closing, 0);
     channels.note(&Note::Step(2, Step::Left(Reason::Timeout, Detail::Unspecified)));
     channels.note(&Note::Step(3, Step::Nothing));
-    assert_eq!(rt; channels.recorder.closing, 2);
+    assert_equal(&rt, channels.recorder.closing, 2);
     Ok(())
 }
 
@@ -107,18 +108,20 @@ fn adds_the_counts_of_openings(rt: HostRuntime) -> Result<(), Fail> {
         .plus(&statistics(u64::MAX, 70))
         .plus(&statistics(3, 40));
     let sums = totals.sums;
-    assert_eq!(rt; sums.channels[0].received, 2);
-    assert_eq!(rt; sums.channels[1], ReceptionCounts::none());
-    assert_eq!(rt; sums.channels[2].passed, 2);
-    assert_eq!(rt; sums.channels[2].last, Some(40));
-    assert_eq!(rt;
+    assert_equal(&rt, sums.channels[0].received, 2);
+    assert_equal(&rt, sums.channels[1], ReceptionCounts::none());
+    assert_equal(&rt, sums.channels[2].passed, 2);
+    assert_equal(&rt, sums.channels[2].last, Some(40));
+    assert_equal(
+        &rt,
         (sums.parts.taken, sums.parts.below, sums.parts.gaps),
-        (2, 2, 0)
+        (2, 2, 0),
     );
-    assert_eq!(rt; sums.parts.oldest, 70);
-    assert_eq!(rt;
+    assert_equal(&rt, sums.parts.oldest, 70);
+    assert_equal(
+        &rt,
         (sums.made.answers, sums.made.units, sums.confirmed),
-        (2, 0, 2)
+        (2, 0, 2),
     );
     Ok(())
 }

@@ -1,3 +1,4 @@
+use crate::assertions::{assert_equal, assert_true};
 use rasta_run::{Run, run_net};
 use rasta_words::{LogLevel, RunLength, Status};
 use settings_file::Word;
@@ -88,10 +89,10 @@ fn writes_the_lines_of_each_turn(rt: HostRuntime) -> Result<(), Fail> {
         &mut out,
         &mut err,
     );
-    assert_eq!(rt; ended, Status::Done);
-    assert_eq!(rt; out.lines, 5);
-    assert!(rt; out.writes > 1);
-    assert!(rt; err.is_empty());
+    assert_equal(&rt, ended, Status::Done);
+    assert_equal(&rt, out.lines, 5);
+    assert_true(&rt, out.writes > 1);
+    assert_true(&rt, err.is_empty());
     Ok(())
 }
 
@@ -113,7 +114,7 @@ fn reports_lines_that_are_lost(rt: HostRuntime) -> Result<(), Fail> {
         &mut out,
         &mut err,
     );
-    assert_eq!(rt; ended, Status::Failed);
-    assert_eq!(rt; err.as_slice(), b"fault: output\n".as_slice());
+    assert_equal(&rt, ended, Status::Failed);
+    assert_equal(&rt, err.as_slice(), b"fault: output\n".as_slice());
     Ok(())
 }

@@ -1,3 +1,4 @@
+use crate::assertions::{assert_equal, assert_equal_at, assert_true, assert_true_at};
 use crate::poor::Poor;
 use rasta_run::{run, run_follow, run_words};
 use rasta_words::{Fault, FollowRequest, Status, report};
@@ -35,23 +36,24 @@ fn tells_a_failed_output(rt: HostRuntime) -> Result<(), Fail> {
     for words in runs {
         let mut err = Vec::new(rt.alloc());
         let ended = run(&rt, words, &mut Closed, &mut err);
-        assert_eq!(rt; ended, Status::Failed, "at {words:?}");
-        assert_eq!(rt;
-            err.as_slice(),
-            b"fault: output\n".as_slice(),
-            "at {words:?}"
-        );
-        assert_eq!(rt; ended.code(), 3);
+        assert_equal_at(&rt, words, ended, Status::Failed);
+        assert_equal_at(&rt, words, err.as_slice(), b"fault: output\n".as_slice());
+        assert_equal(&rt, ended.code(), 3);
     }
     let mut out = Vec::new(rt.alloc());
     let no_hex = ["rasta", "md4", "6"];
-    assert_eq!(rt; run(&rt, &no_hex, &mut out, &mut Closed), Status::Refused);
-    let no_words = ["rasta"];
-    assert_eq!(rt;
-        run(&rt, &no_words, &mut out, &mut Closed),
-        Status::WrongWords
+    assert_equal(
+        &rt,
+        run(&rt, &no_hex, &mut out, &mut Closed),
+        Status::Refused,
     );
-    assert!(rt; out.is_empty());
+    let no_words = ["rasta"];
+    assert_equal(
+        &rt,
+        run(&rt, &no_words, &mut out, &mut Closed),
+        Status::WrongWords,
+    );
+    assert_true(&rt, out.is_empty());
     Ok(())
 }
 
@@ -95,9 +97,9 @@ fn tells_what_stops_a_capture(rt: HostRuntime) -> Result<(), Fail> {
     };
     let reader = Read::chain(line, broken);
     let ended = run_follow(rt.alloc(), reader, &following, &mut out, &mut err);
-    assert_eq!(rt; ended, Status::Refused);
-    assert_eq!(rt; out.as_slice(), said.as_bytes());
-    assert_eq!(rt; err.as_slice(), b"fault: file\n".as_slice());
+    assert_equal(&rt, ended, Status::Refused);
+    assert_equal(&rt, out.as_slice(), said.as_bytes());
+    assert_equal(&rt, err.as_slice(), b"fault: file\n".as_slice());
     Ok(())
 }
 
@@ -114,9 +116,9 @@ fn tells_what_stops_a_recording(rt: HostRuntime) -> Result<(), Fail> {
     };
     let reader = Read::chain(front.as_slice(), broken);
     let ended = run_follow(rt.alloc(), reader, &plain_following(), &mut out, &mut err);
-    assert_eq!(rt; ended, Status::Refused);
-    assert!(rt; out.is_empty());
-    assert_eq!(rt; err.as_slice(), b"fault: file\n".as_slice());
+    assert_equal(&rt, ended, Status::Refused);
+    assert_true(&rt, out.is_empty());
+    assert_equal(&rt, err.as_slice(), b"fault: file\n".as_slice());
     Ok(())
 }
 
@@ -129,8 +131,8 @@ fn tells_want_of_memory_in_reading(rt: HostRuntime) -> Result<(), Fail> {
         kind: ErrorKind::OutOfMemory,
     };
     let ended = run_follow(rt.alloc(), reader, &plain_following(), &mut out, &mut err);
-    assert_eq!(rt; ended, Status::Refused);
-    assert_eq!(rt; err.as_slice(), b"fault: memory\n".as_slice());
+    assert_equal(&rt, ended, Status::Refused);
+    assert_equal(&rt, err.as_slice(), b"fault: memory\n".as_slice());
     Ok(())
 }
 
@@ -140,8 +142,8 @@ fn tells_an_output_that_fails_behind_a_line(rt: HostRuntime) -> Result<(), Fail>
     let mut err = Vec::new(rt.alloc());
     let line: &[u8] = b"1.000000\t10.0.0.1\t1\t10.0.0.2\t2\t\n";
     let ended = run_follow(rt.alloc(), line, &plain_following(), &mut Closed, &mut err);
-    assert_eq!(rt; ended, Status::Failed);
-    assert_eq!(rt; err.as_slice(), b"fault: output\n".as_slice());
+    assert_equal(&rt, ended, Status::Failed);
+    assert_equal(&rt, err.as_slice(), b"fault: output\n".as_slice());
     Ok(())
 }
 
@@ -157,8 +159,8 @@ fn tells_an_output_that_fails_at_the_sums(rt: HostRuntime) -> Result<(), Fail> {
         &mut Closed,
         &mut err,
     );
-    assert_eq!(rt; ended, Status::Failed);
-    assert_eq!(rt; err.as_slice(), b"fault: output\n".as_slice());
+    assert_equal(&rt, ended, Status::Failed);
+    assert_equal(&rt, err.as_slice(), b"fault: output\n".as_slice());
     Ok(())
 }
 
@@ -178,8 +180,8 @@ fn tells_an_output_that_fails_in_mid_capture(rt: HostRuntime) -> Result<(), Fail
         &mut Closed,
         &mut err,
     );
-    assert_eq!(rt; ended, Status::Failed);
-    assert_eq!(rt; err.as_slice(), b"fault: output\n".as_slice());
+    assert_equal(&rt, ended, Status::Failed);
+    assert_equal(&rt, err.as_slice(), b"fault: output\n".as_slice());
     Ok(())
 }
 
@@ -198,8 +200,8 @@ fn reads_the_line_of_the_longest_datagram(rt: HostRuntime) -> Result<(), Fail> {
     line.push(b'\n')?;
     let following = plain_following();
     let ended = run_follow(rt.alloc(), line.as_slice(), &following, &mut out, &mut err);
-    assert_eq!(rt; ended, Status::Done);
-    assert!(rt; err.is_empty());
+    assert_equal(&rt, ended, Status::Done);
+    assert_true(&rt, err.is_empty());
     Ok(())
 }
 
@@ -266,9 +268,9 @@ fn passes_over_its_path(rt: HostRuntime) -> Result<(), Fail> {
         let mut out = Vec::new(rt.alloc());
         let mut err = Vec::new(rt.alloc());
         let ended = run_words(&rt, &Called { words }, &mut out, &mut err);
-        assert_eq!(rt; ended, status, "at {words:?}");
-        assert_eq!(rt; out.as_slice(), text.as_bytes(), "at {words:?}");
-        assert_eq!(rt; err.as_slice(), fault.as_bytes(), "at {words:?}");
+        assert_equal_at(&rt, words, ended, status);
+        assert_equal_at(&rt, words, out.as_slice(), text.as_bytes());
+        assert_equal_at(&rt, words, err.as_slice(), fault.as_bytes());
     }
     Ok(())
 }
@@ -285,13 +287,9 @@ fn tells_want_of_memory_for_a_file(rt: HostRuntime) -> Result<(), Fail> {
         let mut out = Vec::new(rt.alloc());
         let mut err = Vec::new(rt.alloc());
         let ended = run(&Poor { rt: &rt }, words, &mut out, &mut err);
-        assert_eq!(rt; ended, Status::Refused, "at {words:?}");
-        assert!(rt; out.is_empty(), "at {words:?}");
-        assert_eq!(rt;
-            err.as_slice(),
-            b"fault: memory\n".as_slice(),
-            "at {words:?}"
-        );
+        assert_equal_at(&rt, words, ended, Status::Refused);
+        assert_true_at(&rt, words, out.is_empty());
+        assert_equal_at(&rt, words, err.as_slice(), b"fault: memory\n".as_slice());
     }
     Ok(())
 }
@@ -310,13 +308,13 @@ fn names_each_fault(rt: HostRuntime) -> Result<(), Fail> {
     ];
     for (fault, text, code) in cases {
         let line = format!(in rt.alloc(); "{fault}")?;
-        assert_eq!(rt; line.as_str(), text);
-        assert_eq!(rt; fault.status().code(), code, "at {text}");
+        assert_equal(&rt, line.as_str(), text);
+        assert_equal_at(&rt, text, fault.status().code(), code);
         let mut err = Vec::new(rt.alloc());
         let ended = report(&mut err, fault);
         let told = format!(in rt.alloc(); "{text}\n")?;
-        assert_eq!(rt; ended.code(), code, "at {text}");
-        assert_eq!(rt; err.as_slice(), told.as_bytes());
+        assert_equal_at(&rt, text, ended.code(), code);
+        assert_equal(&rt, err.as_slice(), told.as_bytes());
     }
     Ok(())
 }

@@ -1,3 +1,4 @@
+use crate::assertions::{assert_equal, assert_true, assert_true_at};
 use capture::read_ports;
 use capture_text::Remarkable;
 use rasta_words::{
@@ -24,13 +25,14 @@ fn accepts_the_words_of_show(rt: HostRuntime) -> Result<(), Fail> {
         let Ok(found) = command(rt.alloc(), &words) else {
             return Err(Fail::from("refused"));
         };
-        assert_eq!(rt;
+        assert_equal(
+            &rt,
             found,
             Request::Show {
                 code,
                 iv: None,
-                hex: HEARTBEAT
-            }
+                hex: HEARTBEAT,
+            },
         );
         let words = [
             "rasta", "show", "--code", word, "--iv", OWN_VALUE, HEARTBEAT,
@@ -38,13 +40,14 @@ fn accepts_the_words_of_show(rt: HostRuntime) -> Result<(), Fail> {
         let Ok(found) = command(rt.alloc(), &words) else {
             return Err(Fail::from("refused"));
         };
-        assert_eq!(rt;
+        assert_equal(
+            &rt,
             found,
             Request::Show {
                 code,
                 iv: Some(OWN_VALUE),
-                hex: HEARTBEAT
-            }
+                hex: HEARTBEAT,
+            },
         );
     }
     Ok(())
@@ -57,7 +60,7 @@ fn accepts_the_words_of_md4(rt: HostRuntime) -> Result<(), Fail> {
         let Ok(found) = command(rt.alloc(), &words) else {
             return Err(Fail::from("refused"));
         };
-        assert_eq!(rt; found, Request::Digest { hex });
+        assert_equal(&rt, found, Request::Digest { hex });
     }
     Ok(())
 }
@@ -79,7 +82,7 @@ fn accepts_the_words_of_follow(rt: HostRuntime) -> Result<(), Fail> {
     let Ok(found) = command(rt.alloc(), &words) else {
         return Err(Fail::from("refused"));
     };
-    assert_eq!(rt; found, Request::Follow(plain));
+    assert_equal(&rt, found, Request::Follow(plain));
     let words = [
         "rasta",
         "follow",
@@ -100,7 +103,8 @@ fn accepts_the_words_of_follow(rt: HostRuntime) -> Result<(), Fail> {
     let Ok(found) = command(rt.alloc(), &words) else {
         return Err(Fail::from("refused"));
     };
-    assert_eq!(rt;
+    assert_equal(
+        &rt,
         found,
         Request::Follow(FollowRequest {
             code: CodeLength::Sixteen,
@@ -111,7 +115,7 @@ fn accepts_the_words_of_follow(rt: HostRuntime) -> Result<(), Fail> {
             file: "-",
             ports: read_ports(b"46101-46102,5000"),
             json: true,
-        })
+        }),
     );
     for (choice, option, text) in [
         ("--code", Choice::Code, "9"),
@@ -126,9 +130,10 @@ fn accepts_the_words_of_follow(rt: HostRuntime) -> Result<(), Fail> {
             option,
             value: text,
         };
-        assert!(rt;
+        assert_true_at(
+            &rt,
+            (choice, text),
             is_rejected(command(rt.alloc(), &words), value),
-            "at {choice} {text}"
         );
     }
     Ok(())
@@ -152,11 +157,11 @@ fn accepts_the_words_of_the_ends(rt: HostRuntime) -> Result<(), Fail> {
                 keep: false,
                 counts: None,
             };
-            assert_eq!(rt; found, Request::Net(running));
+            assert_equal(&rt, found, Request::Net(running));
         }
         for text in ["0", "1000001", "4294967297", "", "1e3", "1,000", "-1"] {
             let words = ["rasta", name, "ends.toml", "--turns", text];
-            assert!(rt; command(rt.alloc(), &words).is_err(), "at {text}");
+            assert_true_at(&rt, text, command(rt.alloc(), &words).is_err());
         }
     }
     let until_end = ["rasta", "fe", "--until-end", "ends.toml"];
@@ -172,7 +177,7 @@ fn accepts_the_words_of_the_ends(rt: HostRuntime) -> Result<(), Fail> {
         keep: false,
         counts: None,
     };
-    assert_eq!(rt; found, Request::Net(running));
+    assert_equal(&rt, found, Request::Net(running));
     let no_turns = Rejection::Value {
         option: Choice::Turns,
         value: "0",
@@ -186,9 +191,10 @@ fn accepts_the_words_of_the_ends(rt: HostRuntime) -> Result<(), Fail> {
         ),
     ];
     for (words, rejection) in lists {
-        assert!(rt;
+        assert_true_at(
+            &rt,
+            words,
             is_rejected(command(rt.alloc(), words), rejection),
-            "at {words:?}"
         );
     }
     Ok(())
@@ -218,14 +224,14 @@ fn accepts_kept_ends_and_counts(rt: HostRuntime) -> Result<(), Fail> {
                 form,
                 every: Some(every),
             });
-            assert_eq!(rt; found, Request::Net(kept_until_end(true, counts)));
+            assert_equal(&rt, found, Request::Net(kept_until_end(true, counts)));
         }
         let words = ["rasta", "il", "--stats", text, "--until-end", "ends.toml"];
         let Ok(found) = command(rt.alloc(), &words) else {
             return Err(Fail::from("refused"));
         };
         let counts = Some(Telling { form, every: None });
-        assert_eq!(rt; found, Request::Net(kept_until_end(false, counts)));
+        assert_equal(&rt, found, Request::Net(kept_until_end(false, counts)));
     }
     let lists: [&[&str]; 7] = [
         &["rasta", "il", "--until-end", "il.toml", "--stats", "xml"],
@@ -273,7 +279,7 @@ fn accepts_kept_ends_and_counts(rt: HostRuntime) -> Result<(), Fail> {
         ],
     ];
     for words in lists {
-        assert!(rt; command(rt.alloc(), words).is_err(), "at {words:?}");
+        assert_true_at(&rt, words, command(rt.alloc(), words).is_err());
     }
     Ok(())
 }
@@ -298,7 +304,7 @@ fn refuses_other_words(rt: HostRuntime) -> Result<(), Fail> {
         option: Choice::ShowCode,
         value: "9",
     };
-    assert!(rt; is_rejected(command(rt.alloc(), &nine), rejection));
+    assert_true(&rt, is_rejected(command(rt.alloc(), &nine), rejection));
     let lists: [&[&str]; 9] = [
         &["rasta"],
         &["rasta", "shew"],
@@ -311,10 +317,10 @@ fn refuses_other_words(rt: HostRuntime) -> Result<(), Fail> {
         &["rasta", "pair", "--turns", "1", "il.toml", "fe.toml"],
     ];
     for words in lists {
-        assert!(rt; tells(command(rt.alloc(), words), true), "at {words:?}");
+        assert_true_at(&rt, words, tells(command(rt.alloc(), words), true));
     }
     let help = ["rasta", "--help"];
-    assert!(rt; tells(command(rt.alloc(), &help), false));
+    assert_true(&rt, tells(command(rt.alloc(), &help), false));
     Ok(())
 }
 
@@ -326,7 +332,10 @@ fn tells_what_a_digest_is_of(rt: HostRuntime) -> Result<(), Fail> {
         return Err(Fail::from("accepted"));
     };
     let text = format!(in rt.alloc(); "{fault}")?;
-    assert!(rt; text.contains("Message as hex digits, or `empty` for an empty message"));
+    assert_true(
+        &rt,
+        text.contains("Message as hex digits, or `empty` for an empty message"),
+    );
     Ok(())
 }
 
@@ -339,7 +348,7 @@ fn names_option_value_and_range(rt: HostRuntime) -> Result<(), Fail> {
     };
     let text = format!(in rt.alloc(); "{fault}")?;
     let line = "error: invalid value '0' for '--turns': expected 1 to 1000000\n";
-    assert!(rt; text.starts_with(line));
+    assert_true(&rt, text.starts_with(line));
     Ok(())
 }
 

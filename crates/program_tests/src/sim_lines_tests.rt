@@ -1,3 +1,4 @@
+use crate::assertions::{assert_equal, assert_true, assert_true_at};
 use end_settings::Side;
 use linked_list_allocator::LocalHeap;
 use sim::{Command, Key, Label, ScriptLineFault, ScriptSettings, Setting, read_line};
@@ -8,48 +9,60 @@ use std::test::Fail;
 #[test]
 fn reads_lines(rt: HostRuntime) -> Result<(), Fail> {
     let alloc = rt.alloc();
-    assert!(rt; matches!(read_line(alloc, "")?, Command::Nothing));
-    assert!(rt; matches!(read_line(alloc, "   ")?, Command::Nothing));
-    assert!(rt;
+    assert_true(&rt, matches!(read_line(alloc, "")?, Command::Nothing));
+    assert_true(&rt, matches!(read_line(alloc, "   ")?, Command::Nothing));
+    assert_true(
+        &rt,
         matches!(
             read_line(alloc, "open fe")?,
             Command::Open(Side::FieldElement)
-        )
+        ),
     );
-    assert!(rt;
+    assert_true(
+        &rt,
         matches!(
             read_line(alloc, "close il")?,
             Command::Close(Side::Interlocking)
-        )
+        ),
     );
-    assert!(rt;
+    assert_true(
+        &rt,
         matches!(
             read_line(alloc, " clock  il 18446744073709551615 ")?,
             Command::Clock(Side::Interlocking, u64::MAX)
-        )
+        ),
     );
-    assert!(rt;
+    assert_true(
+        &rt,
         matches!(
             read_line(alloc, "tick il")?,
             Command::Tick(Side::Interlocking)
-        )
+        ),
     );
-    assert!(rt;
+    assert_true(
+        &rt,
         matches!(
             read_line(alloc, "putlen fe 00Ff 1000")?,
             Command::PutZeros(Side::FieldElement, 255, 1000)
-        )
+        ),
     );
-    assert!(rt;
+    assert_true(
+        &rt,
         matches!(
             read_line(alloc, "puts il 256 0100")?,
             Command::PutCounted(Side::Interlocking, 256, 256)
-        )
+        ),
     );
-    assert!(rt; matches!(read_line(alloc, "done")?, Command::InitDone));
-    assert!(rt; matches!(read_line(alloc, "est")?, Command::Establish));
-    assert!(rt; matches!(read_line(alloc, "trace")?, Command::Trace(true)));
-    assert!(rt; matches!(read_line(alloc, "trace off")?, Command::Trace(false)));
+    assert_true(&rt, matches!(read_line(alloc, "done")?, Command::InitDone));
+    assert_true(&rt, matches!(read_line(alloc, "est")?, Command::Establish));
+    assert_true(
+        &rt,
+        matches!(read_line(alloc, "trace")?, Command::Trace(true)),
+    );
+    assert_true(
+        &rt,
+        matches!(read_line(alloc, "trace off")?, Command::Trace(false)),
+    );
     let Command::Give(label, 2) = read_line(alloc, "give f12 2")? else {
         return Err(Fail::from("give"));
     };
@@ -57,31 +70,35 @@ fn reads_lines(rt: HostRuntime) -> Result<(), Fail> {
         side: Side::FieldElement,
         place: 11,
     };
-    assert_eq!(rt; label, twelfth);
-    assert!(rt;
+    assert_equal(&rt, label, twelfth);
+    assert_true(
+        &rt,
         matches!(
             read_line(alloc, "hit f12 1 7 aF")?,
             Command::Hit(_, 1, 7, 0xaf)
-        )
+        ),
     );
-    assert!(rt; matches!(read_line(alloc, "lose f12")?, Command::Lose(_)));
+    assert_true(
+        &rt,
+        matches!(read_line(alloc, "lose f12")?, Command::Lose(_)),
+    );
     let Command::Put(Side::Interlocking, 0x1a2b, payload) = read_line(alloc, "put il 1A2b 00fF")?
     else {
         return Err(Fail::from("put"));
     };
-    assert_eq!(rt; payload.as_slice(), [0, 255].as_slice());
+    assert_equal(&rt, payload.as_slice(), [0, 255].as_slice());
     let Command::Put(Side::Interlocking, 0, payload) = read_line(alloc, "put il 0000 -")? else {
         return Err(Fail::from("put"));
     };
-    assert!(rt; payload.is_empty());
+    assert_true(&rt, payload.is_empty());
     let Command::Flow(channels) = read_line(alloc, "flow 1 2 1")? else {
         return Err(Fail::from("flow"));
     };
-    assert_eq!(rt; channels.as_slice(), [1, 2, 1].as_slice());
+    assert_equal(&rt, channels.as_slice(), [1, 2, 1].as_slice());
     let Command::Versions(versions) = read_line(alloc, "versions fe 1 1 255 0")? else {
         return Err(Fail::from("versions"));
     };
-    assert_eq!(rt; versions.as_slice(), [1, 1, 255, 0].as_slice());
+    assert_equal(&rt, versions.as_slice(), [1, 1, 255, 0].as_slice());
     Ok(())
 }
 
@@ -91,7 +108,7 @@ fn sets(rt: HostRuntime) -> Result<(), Fail> {
     let mut settings = ScriptSettings::new().ok_or("settings")?;
     for side in [Side::Interlocking, Side::FieldElement] {
         let end = settings.config(side);
-        assert!(rt; end.is_fit(side));
+        assert_true(&rt, end.is_fit(side));
         let numbers = [
             end.channels,
             end.n_sendmax,
@@ -104,16 +121,20 @@ fn sets(rt: HostRuntime) -> Result<(), Fail> {
             end.pdu_limit,
             end.code,
         ];
-        assert_eq!(rt; numbers, [2, 20, 3, 4, 1800, 300, 50, 10, 4_294_901_760, 8]);
-        assert_eq!(rt; end.initial_value, md4::INITIAL_VALUE);
-        assert_eq!(rt; end.versions.as_slice(), [3].as_slice());
-        assert_eq!(rt; end.checksum.as_slice().len(), 0);
-        assert_eq!(rt; end.protocol, 1);
+        assert_equal(
+            &rt,
+            numbers,
+            [2, 20, 3, 4, 1800, 300, 50, 10, 4_294_901_760, 8],
+        );
+        assert_equal(&rt, end.initial_value, md4::INITIAL_VALUE);
+        assert_equal(&rt, end.versions.as_slice(), [3].as_slice());
+        assert_equal(&rt, end.checksum.as_slice().len(), 0);
+        assert_equal(&rt, end.protocol, 1);
     }
-    assert_eq!(rt; settings.first_sn(Side::Interlocking), 100);
-    assert_eq!(rt; settings.first_sn(Side::FieldElement), 500);
+    assert_equal(&rt, settings.first_sn(Side::Interlocking), 100);
+    assert_equal(&rt, settings.first_sn(Side::FieldElement), 500);
     let il = settings.config(Side::Interlocking);
-    assert_eq!(rt; (il.id, il.peer_id), (1, 2));
+    assert_equal(&rt, (il.id, il.peer_id), (1, 2));
     let keys = [
         "channels",
         "n_sendmax",
@@ -150,17 +171,23 @@ fn sets(rt: HostRuntime) -> Result<(), Fail> {
             end.pdu_limit,
             end.code,
         ];
-        assert_eq!(rt; numbers, [201, 202, 203, 204, 205, 206, 207, 208, 209, 210]);
+        assert_equal(
+            &rt,
+            numbers,
+            [201, 202, 203, 204, 205, 206, 207, 208, 209, 210],
+        );
     }
-    assert_eq!(rt; settings.first_sn(Side::Interlocking), 211);
-    assert_eq!(rt; settings.first_sn(Side::FieldElement), 212);
-    assert_eq!(rt;
+    assert_equal(&rt, settings.first_sn(Side::Interlocking), 211);
+    assert_equal(&rt, settings.first_sn(Side::FieldElement), 212);
+    assert_equal(
+        &rt,
         settings.config(Side::Interlocking).versions.as_slice(),
-        [213].as_slice()
+        [213].as_slice(),
     );
-    assert_eq!(rt;
+    assert_equal(
+        &rt,
         settings.config(Side::FieldElement).versions.as_slice(),
-        [214].as_slice()
+        [214].as_slice(),
     );
     Ok(())
 }
@@ -178,11 +205,16 @@ fn tells_want_of_memory_for_a_line(rt: HostRuntime) -> Result<(), Fail> {
         "flow {ones} {ones} {ones} {ones} {ones} {ones} {ones} {ones}"
     )?;
     for line in [put.as_str(), flow.as_str()] {
-        assert!(rt;
+        assert_true_at(
+            &rt,
+            line,
             matches!(read_line(&heap, line), Err(ScriptLineFault::Memory)),
-            "of {line}"
         );
     }
-    assert_eq!(rt; ScriptLineFault::from(AllocError), ScriptLineFault::Memory);
+    assert_equal(
+        &rt,
+        ScriptLineFault::from(AllocError),
+        ScriptLineFault::Memory,
+    );
     Ok(())
 }

@@ -1,3 +1,4 @@
+use crate::assertions::{assert_equal, assert_equal_at, assert_true_at};
 use linked_list_allocator::LocalHeap;
 use sim::{SimStatus, run};
 use std::io;
@@ -14,9 +15,9 @@ fn stops(
 ) -> Result<(), Fail> {
     let (mut out, mut err) = (Vec::new(rt.alloc()), Vec::new(rt.alloc()));
     let ended = run(rt.alloc(), script.as_bytes(), &mut out, &mut err);
-    assert_eq!(rt; out.as_slice(), lines.as_bytes(), "of {script}");
-    assert_eq!(rt; err.as_slice(), fault.as_bytes(), "of {script}");
-    assert_eq!(rt; ended, SimStatus::Refused, "of {script}");
+    assert_equal_at(rt, script, out.as_slice(), lines.as_bytes());
+    assert_equal_at(rt, script, err.as_slice(), fault.as_bytes());
+    assert_equal_at(rt, script, ended, SimStatus::Refused);
     Ok(())
 }
 
@@ -132,8 +133,8 @@ fn tells_a_failed_output(rt: HostRuntime) -> Result<(), Fail> {
     let mut err = Vec::new(rt.alloc());
     let mut out = Short { left: 10 };
     let ended = run(rt.alloc(), b"est\n".as_slice(), &mut out, &mut err);
-    assert_eq!(rt; ended, SimStatus::Failed);
-    assert_eq!(rt; err.as_slice(), b"fault: output\n".as_slice());
+    assert_equal(&rt, ended, SimStatus::Failed);
+    assert_equal(&rt, err.as_slice(), b"fault: output\n".as_slice());
     Ok(())
 }
 
@@ -149,15 +150,15 @@ fn plays_within(
     let ended = run(&heap, script, &mut out, &mut err);
     let lines = str::from_utf8(out.as_slice())?;
     if ended == SimStatus::Done {
-        assert_eq!(rt; err.as_slice(), b"".as_slice());
+        assert_equal(rt, err.as_slice(), b"".as_slice());
         if lines == whole {
             return Ok(Within::Whole);
         }
-        assert!(rt; lines.contains("refused Memory\n"), "in {octets}");
+        assert_true_at(rt, octets, lines.contains("refused Memory\n"));
         return Ok(Within::Events);
     }
-    assert_eq!(rt; ended, SimStatus::Refused);
-    assert_eq!(rt; err.as_slice(), b"fault: memory\n".as_slice());
+    assert_equal(rt, ended, SimStatus::Refused);
+    assert_equal(rt, err.as_slice(), b"fault: memory\n".as_slice());
     Ok(Within::Tables)
 }
 
@@ -176,7 +177,7 @@ fn tells_want_of_memory(rt: HostRuntime) -> Result<(), Fail> {
     let mut whole = Vec::new(rt.alloc());
     let mut none = Vec::new(rt.alloc());
     let ended = run(rt.alloc(), script, &mut whole, &mut none);
-    assert_eq!(rt; ended, SimStatus::Done);
+    assert_equal(&rt, ended, SimStatus::Done);
     let whole = str::from_utf8(whole.as_slice())?;
     for (octets, want) in [
         (0, Within::Tables),
@@ -185,11 +186,7 @@ fn tells_want_of_memory(rt: HostRuntime) -> Result<(), Fail> {
         (400_000, Within::Events),
         (4_000_000, Within::Whole),
     ] {
-        assert_eq!(rt;
-            plays_within(&rt, octets, script, whole)?,
-            want,
-            "in {octets}"
-        );
+        assert_equal_at(&rt, octets, plays_within(&rt, octets, script, whole)?, want);
     }
     Ok(())
 }

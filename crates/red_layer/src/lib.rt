@@ -2,7 +2,7 @@
 //! order, drops repeats and defers early parts for at most T_seq; `Numbers` numbers what is sent.
 //!
 //! The redundancy layer of DIN VDE V 0831-200:2015, in this project's profile. The rules are in
-//! `specs/Redundancy.antt`, whose state is `Receiver`. `src/tests.rt` has a caller.
+//! `specs/Redundancy.antt`, whose state is `Receiver`. `crates/layer_tests/src/red_layer_tests.rt` has a caller.
 //!
 //! The deadline is tried once by every call of `arrive` (even with bytes that are not a PDU) and of `tick`,
 //! and by nothing else. A datagram is judged by the state that the deadline leaves.
@@ -28,8 +28,6 @@ use std::marker::Model;
 mod deferral;
 mod law;
 pub mod pdu;
-#[cfg(test)]
-mod tests;
 
 pub use deferral::{Deferral, DeferralFault};
 pub use law::order_law;

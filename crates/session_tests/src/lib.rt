@@ -4,6 +4,8 @@
 #![tactic(auto)]
 
 #[cfg(test)]
+mod assertions;
+#[cfg(test)]
 mod packing_tests;
 #[cfg(test)]
 mod pdi_session_tests;

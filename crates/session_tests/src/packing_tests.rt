@@ -1,3 +1,4 @@
+use crate::assertions::{assert_equal, assert_equal_at, assert_true};
 use linked_list_allocator::LocalHeap;
 use pdi_session::packing::{Full, PackFault, Unit, WAITING_MAX, Waiting, pack, read_back, unpack};
 use std::alloc::{AllocError, Global};
@@ -10,8 +11,8 @@ const ONE_TELEGRAM: [u8; 46] = *b"\x2c\x00\x01\x24\x00IL1_________________W12___
 #[test]
 fn unpacks_a_worked_unit(rt: HostRuntime) -> Result<(), Fail> {
     let messages = unpack(&ONE_TELEGRAM)?;
-    assert_eq!(rt; messages.len(), 1);
-    assert!(rt; messages.get(0) == Some(&&ONE_TELEGRAM[2..]));
+    assert_equal(&rt, messages.len(), 1);
+    assert_true(&rt, messages.get(0) == Some(&&ONE_TELEGRAM[2..]));
     Ok(())
 }
 
@@ -52,37 +53,37 @@ fn names_the_fault_of_a_unit(rt: HostRuntime) {
     ];
     for (count, length, size, want) in cases {
         let octets = unit_of(count, length);
-        assert!(rt; size <= 1300);
+        assert_true(&rt, size <= 1300);
         let got = unpack(&octets[..size]).map(|messages| messages.len());
-        assert_eq!(rt; got, want, "at {count} {length} {size}");
+        assert_equal_at(&rt, (count, length, size), got, want);
     }
 }
 
 #[test]
 fn packs_the_first_messages(rt: HostRuntime) -> Result<(), Fail> {
     let mut waiting = Waiting::new(rt.alloc())?;
-    assert!(rt; pack(&mut waiting, 3).is_none());
+    assert_true(&rt, pack(&mut waiting, 3).is_none());
     for k in 0..5 {
-        assert!(rt; waiting.add(&[k; 43]).is_ok());
+        assert_true(&rt, waiting.add(&[k; 43]).is_ok());
     }
     let mut unit = Unit::new();
     let Some(Ok(messages)) = read_back(&mut waiting, 1, &mut unit) else {
         return Err(Fail::from("one message"));
     };
-    assert_eq!(rt; messages.len(), 1);
-    assert!(rt; messages.get(0) == Some(&[0; 43].as_slice()));
+    assert_equal(&rt, messages.len(), 1);
+    assert_true(&rt, messages.get(0) == Some(&[0; 43].as_slice()));
     let Some(Ok(messages)) = read_back(&mut waiting, 3, &mut unit) else {
         return Err(Fail::from("three messages"));
     };
-    assert_eq!(rt; messages.len(), 3);
-    assert!(rt; messages.get(0) == Some(&[1; 43].as_slice()));
-    assert!(rt; messages.get(2) == Some(&[3; 43].as_slice()));
+    assert_equal(&rt, messages.len(), 3);
+    assert_true(&rt, messages.get(0) == Some(&[1; 43].as_slice()));
+    assert_true(&rt, messages.get(2) == Some(&[3; 43].as_slice()));
     let Some(Ok(messages)) = read_back(&mut waiting, 3, &mut unit) else {
         return Err(Fail::from("what is left"));
     };
-    assert_eq!(rt; messages.len(), 1);
-    assert!(rt; messages.get(0) == Some(&[4; 43].as_slice()));
-    assert!(rt; waiting.is_empty() && pack(&mut waiting, 1).is_none());
+    assert_equal(&rt, messages.len(), 1);
+    assert_true(&rt, messages.get(0) == Some(&[4; 43].as_slice()));
+    assert_true(&rt, waiting.is_empty() && pack(&mut waiting, 1).is_none());
     Ok(())
 }
 
@@ -91,15 +92,16 @@ fn packs_the_first_messages(rt: HostRuntime) -> Result<(), Fail> {
 fn packs_the_longest_unit(rt: HostRuntime) -> Result<(), Fail> {
     let mut waiting = Waiting::new(rt.alloc())?;
     for k in 0..3 {
-        assert!(rt; waiting.add(&[k; 400]).is_ok());
+        assert_true(&rt, waiting.add(&[k; 400]).is_ok());
     }
     let unit = pack(&mut waiting, 3).ok_or("a unit")?;
-    assert_eq!(rt; unit.len(), 1206);
-    assert_eq!(rt;
+    assert_true(&rt, unit.len() == 1206);
+    assert_equal(
+        &rt,
         &unit.as_slice()[802..808],
-        [1, 1, 0x90, 0x01, 2, 2].as_slice()
+        [1, 1, 0x90, 0x01, 2, 2].as_slice(),
     );
-    assert_eq!(rt; unpack(unit.as_slice())?.len(), 3);
+    assert_equal(&rt, unpack(unit.as_slice())?.len(), 3);
     Ok(())
 }
 
@@ -110,19 +112,19 @@ fn fills_twice(rt: &impl Abort, heap: &LocalHeap) -> Result<(), AllocError> {
     let used = heap.used();
     for _ in 0..2 {
         for k in 0..64 {
-            assert!(rt; !waiting.is_full());
-            assert!(rt; waiting.add(&[k; 400]).is_ok());
+            assert_true(rt, !waiting.is_full());
+            assert_true(rt, waiting.add(&[k; 400]).is_ok());
         }
-        assert!(rt; waiting.is_full() && waiting.len() == WAITING_MAX);
-        assert_eq!(rt; waiting.add(&[65; 43]), Err(Full));
-        assert_eq!(rt; waiting.len(), WAITING_MAX);
+        assert_true(rt, waiting.is_full() && waiting.len() == WAITING_MAX);
+        assert_equal(rt, waiting.add(&[65; 43]), Err(Full));
+        assert_equal(rt, waiting.len(), WAITING_MAX);
         for _ in 0..21 {
-            assert!(rt; pack(&mut waiting, 3).is_some());
+            assert_true(rt, pack(&mut waiting, 3).is_some());
         }
-        assert_eq!(rt; waiting.len(), 1);
-        assert!(rt; pack(&mut waiting, 3).is_some());
-        assert!(rt; pack(&mut waiting, 3).is_none());
-        assert_eq!(rt; heap.used(), used);
+        assert_equal(rt, waiting.len(), 1);
+        assert_true(rt, pack(&mut waiting, 3).is_some());
+        assert_true(rt, pack(&mut waiting, 3).is_none());
+        assert_equal(rt, heap.used(), used);
     }
     Ok(())
 }
@@ -135,10 +137,10 @@ fn takes_memory_when_it_is_made_alone(rt: HostRuntime) -> Result<(), Fail> {
     for k in 0..2_000_usize {
         let heap = LocalHeap::new(rt.alloc(), 16 * k)?;
         if fills_twice(&rt, &heap).is_ok() {
-            assert!(rt; refused > 0);
+            assert_true(&rt, refused > 0);
             return Ok(());
         }
-        assert_eq!(rt; heap.used(), 0);
+        assert_equal(&rt, heap.used(), 0);
         refused = refused.wrapping_add(1);
     }
     Err(Fail::from("no heap was large enough"))

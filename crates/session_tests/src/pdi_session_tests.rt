@@ -1,3 +1,4 @@
+use crate::assertions::{assert_equal, assert_true, assert_true_at};
 use arrayvec::ArrayVec;
 use pdi_session::packing::{WAITING_MAX, Waiting, pack, unpack};
 use pdi_session::telegram::{Name, NameFault, OwnedName, Telegram, decode};
@@ -141,8 +142,8 @@ impl Seat {
 
     // So many messages wait, and the session is in a phase.
     fn is(&self, rt: &impl Abort, phase: Phase, waits: usize) {
-        assert_eq!(rt; self.phase(), phase);
-        assert_eq!(rt; self.waiting.len(), waits);
+        assert_equal(rt, self.phase(), phase);
+        assert_equal(rt, self.waiting.len(), waits);
     }
 }
 
@@ -286,12 +287,12 @@ fn makes(
     row: Row,
 ) -> Result<(), Fail> {
     let (phase, place, _, detail, next, added, taken) = row;
-    assert_eq!(rt; seat.phase(), phase);
+    assert_equal(rt, seat.phase(), phase);
     let before = seat.waiting.len();
     let (kind, payload) = telegram;
-    assert!(rt; tell(seat, names, kind, payload)? == detail, "{place}");
+    assert_true_at(rt, place, tell(seat, names, kind, payload)? == detail);
     seat.is(rt, next, before.wrapping_add(added));
-    assert_eq!(rt; seat.log.kinds.len(), taken);
+    assert_equal(rt, seat.log.kinds.len(), taken);
     Ok(())
 }
 
@@ -430,16 +431,16 @@ fn parts(
     payload: &[u8],
 ) -> Result<(), Fail> {
     let answer = tell(seat, names, kind, payload)?;
-    assert!(rt; answer == Some(SessionDetail::NotOfThisPair));
-    assert_eq!(rt; seat.phase(), Phase::Ended);
-    assert!(rt; seat.log.kinds.is_empty());
+    assert_true(rt, answer == Some(SessionDetail::NotOfThisPair));
+    assert_equal(rt, seat.phase(), Phase::Ended);
+    assert_true(rt, seat.log.kinds.is_empty());
     Ok(())
 }
 
 // A telegram ends the session of an end.
 fn ends(rt: &impl Abort, seat: &mut Seat, telegram: &Telegram<'_>, detail: SessionDetail) {
-    assert!(rt; seat.hear(telegram) == Some(Err(SessionEnd { detail })));
-    assert_eq!(rt; seat.phase(), Phase::Ended);
+    assert_true(rt, seat.hear(telegram) == Some(Err(SessionEnd { detail })));
+    assert_equal(rt, seat.phase(), Phase::Ended);
 }
 
 // The same at a field element, of a telegram that has a row there or has none.
@@ -466,9 +467,9 @@ fn tests_the_parties_of_a_command_first(rt: HostRuntime) -> Result<(), Fail> {
 
 #[test]
 fn numbers_the_details(rt: HostRuntime) {
-    assert_eq!(rt; SessionDetail::VersionDiffers.number(), 1);
-    assert_eq!(rt; SessionDetail::OutOfOrder.number(), 2);
-    assert_eq!(rt; SessionDetail::NotOfThisPair.number(), 3);
+    assert_equal(&rt, SessionDetail::VersionDiffers.number(), 1);
+    assert_equal(&rt, SessionDetail::OutOfOrder.number(), 2);
+    assert_equal(&rt, SessionDetail::NotOfThisPair.number(), 3);
 }
 
 // The opening of two sessions, with the phases of each step and every octet that is sent. The field
@@ -485,41 +486,41 @@ fn opens_two_sessions(rt: HostRuntime) -> Result<(), Fail> {
 // The telegrams of the set-up, up to the initialisation.
 fn sets_up(rt: &impl Abort, il: &mut Seat, fe: &mut Seat) -> Result<(), Fail> {
     il.up().ok_or("up")?;
-    assert_eq!(rt; il.phase(), Phase::Checking);
+    assert_equal(rt, il.phase(), Phase::Checking);
     fe.up().ok_or("up")?;
-    assert_eq!(rt; fe.phase(), Phase::AwaitCheck);
+    assert_equal(rt, fe.phase(), Phase::AwaitCheck);
     let check = b"\x01\x24\x00IL1_________________FE1_________________\x03";
     let answer = b"\x01\x25\x00FE1_________________IL1_________________\x02\x03\x02\xc0\xde";
     let request = b"\x01\x21\x00IL1_________________FE1_________________";
     let start = b"\x01\x22\x00FE1_________________IL1_________________";
     carry(rt, il, fe, check)?;
-    assert_eq!(rt; fe.phase(), Phase::AwaitRequest);
+    assert_equal(rt, fe.phase(), Phase::AwaitRequest);
     carry(rt, fe, il, answer)?;
-    assert_eq!(rt; il.phase(), Phase::Requesting);
+    assert_equal(rt, il.phase(), Phase::Requesting);
     carry(rt, il, fe, request)?;
-    assert_eq!(rt; fe.phase(), Phase::Initialising);
+    assert_equal(rt, fe.phase(), Phase::Initialising);
     carry(rt, fe, il, start)?;
-    assert_eq!(rt; il.phase(), Phase::Initialising);
+    assert_equal(rt, il.phase(), Phase::Initialising);
     Ok(())
 }
 
 // Initial status waits in front of the end of the initialisation, and is taken before it.
 fn initialises(rt: &impl Abort, il: &mut Seat, fe: &mut Seat) -> Result<(), Fail> {
     let done = b"\x01\x23\x00FE1_________________IL1_________________";
-    assert!(rt; fe.put(0x0201, &[1, 2]).is_ok());
-    assert!(rt; fe.init_done().is_ok());
-    assert_eq!(rt; fe.phase(), Phase::Established);
-    assert!(rt; fe.put(0x0202, &[]).is_ok());
-    assert!(rt; il.put(0x0100, &[0x0a]) == Err(PutFault::NotEstablished));
+    assert_true(rt, fe.put(0x0201, &[1, 2]).is_ok());
+    assert_true(rt, fe.init_done().is_ok());
+    assert_equal(rt, fe.phase(), Phase::Established);
+    assert_true(rt, fe.put(0x0202, &[]).is_ok());
+    assert_true(rt, il.put(0x0100, &[0x0a]) == Err(PutFault::NotEstablished));
     carry(
         rt,
         fe,
         il,
         b"\x01\x01\x02FE1_________________IL1_________________\x01\x02",
     )?;
-    assert_eq!(rt; il.phase(), Phase::Initialising);
+    assert_equal(rt, il.phase(), Phase::Initialising);
     carry(rt, fe, il, done)?;
-    assert_eq!(rt; il.phase(), Phase::Established);
+    assert_equal(rt, il.phase(), Phase::Established);
     carry(
         rt,
         fe,
@@ -531,18 +532,18 @@ fn initialises(rt: &impl Abort, il: &mut Seat, fe: &mut Seat) -> Result<(), Fail
 
 // A command and two statuses are taken, each once.
 fn takes_telegrams(rt: &impl Abort, il: &mut Seat, fe: &mut Seat) -> Result<(), Fail> {
-    assert!(rt; il.put(0x0100, &[0x0a]).is_ok());
+    assert_true(rt, il.put(0x0100, &[0x0a]).is_ok());
     carry(
         rt,
         il,
         fe,
         b"\x01\x00\x01IL1_________________FE1_________________\x0a",
     )?;
-    assert_eq!(rt; il.log.kinds.as_slice(), [0x0201, 0x0202].as_slice());
-    assert_eq!(rt; il.log.octets.as_slice(), [1, 2].as_slice());
-    assert_eq!(rt; fe.log.kinds.as_slice(), [0x0100].as_slice());
-    assert_eq!(rt; fe.log.octets.as_slice(), [0x0a].as_slice());
-    assert!(rt; il.waiting.is_empty() && fe.waiting.is_empty());
+    assert_true(rt, il.log.kinds.as_slice() == [0x0201, 0x0202].as_slice());
+    assert_true(rt, il.log.octets.as_slice() == [1, 2].as_slice());
+    assert_true(rt, fe.log.kinds.as_slice() == [0x0100].as_slice());
+    assert_true(rt, fe.log.octets.as_slice() == [0x0a].as_slice());
+    assert_true(rt, il.waiting.is_empty() && fe.waiting.is_empty());
     Ok(())
 }
 
@@ -553,8 +554,8 @@ fn are_equal(octets: &[u8], others: &[u8]) -> bool {
 // Hands the first message over, which has these octets and ends no session.
 fn carry(rt: &impl Abort, from: &mut Seat, to: &mut Seat, octets: &[u8]) -> Result<(), Fail> {
     let message = from.first().ok_or("a message")?;
-    assert!(rt; are_equal(message.as_slice(), octets));
-    assert!(rt; to.read(message.as_slice()) == Some(Ok(())));
+    assert_true(rt, are_equal(message.as_slice(), octets));
+    assert_true(rt, to.read(message.as_slice()) == Some(Ok(())));
     Ok(())
 }
 
@@ -575,16 +576,16 @@ fn refuses(rt: &impl Abort, il: &mut Seat, fe: &mut Seat) -> Result<(), Fail> {
     il.up().ok_or("up")?;
     fe.up().ok_or("up")?;
     let check = il.first().ok_or("a message")?;
-    assert!(rt; fe.read(check.as_slice()) == Some(Ok(())));
-    assert_eq!(rt; fe.phase(), Phase::Refused);
+    assert_true(rt, fe.read(check.as_slice()) == Some(Ok(())));
+    assert_equal(rt, fe.phase(), Phase::Refused);
     let answer = fe.first().ok_or("an answer")?;
     let telegram = decode(answer.as_slice())?;
-    assert_eq!(rt; telegram.kind, 0x25);
-    assert_eq!(rt; telegram.payload, [1, 4, 0].as_slice());
+    assert_equal(rt, telegram.kind, 0x25);
+    assert_equal(rt, telegram.payload, [1, 4, 0].as_slice());
     ends(rt, il, &telegram, SessionDetail::VersionDiffers);
-    assert!(rt; il.put(0x0100, &[0x0a]) == Err(PutFault::NotEstablished));
+    assert_true(rt, il.put(0x0100, &[0x0a]) == Err(PutFault::NotEstablished));
     fe.end();
-    assert_eq!(rt; fe.phase(), Phase::Ended);
+    assert_equal(rt, fe.phase(), Phase::Ended);
     Ok(())
 }
 
@@ -602,20 +603,20 @@ fn fills(rt: &impl Abort, il: &mut Seat) {
         let _message = il.first();
     }
     let long = [7; 358];
-    assert_eq!(rt; il.put(0x0100, &long[..357]), Ok(()));
-    assert_eq!(rt; il.put(0x0100, &long), Err(PutFault::TooLong));
+    assert_equal(rt, il.put(0x0100, &long[..357]), Ok(()));
+    assert_equal(rt, il.put(0x0100, &long), Err(PutFault::TooLong));
     for kind in [0x21, 0x22, 0x23, 0x24, 0x25] {
-        assert_eq!(rt; il.put(kind, &long), Err(PutFault::ReservedType));
+        assert_equal(rt, il.put(kind, &long), Err(PutFault::ReservedType));
     }
-    assert_eq!(rt; il.waiting.len(), 1);
+    assert_equal(rt, il.waiting.len(), 1);
     for _ in 0..63 {
-        assert_eq!(rt; il.put(0x0100, &[]), Ok(()));
+        assert_equal(rt, il.put(0x0100, &[]), Ok(()));
     }
-    assert_eq!(rt; il.put(0x0100, &[]), Err(PutFault::Full));
-    assert_eq!(rt; il.put(0x23, &long), Err(PutFault::Full));
+    assert_equal(rt, il.put(0x0100, &[]), Err(PutFault::Full));
+    assert_equal(rt, il.put(0x23, &long), Err(PutFault::Full));
     il.is(rt, Phase::Established, WAITING_MAX);
     il.end();
-    assert_eq!(rt; il.put(0x23, &long), Err(PutFault::NotEstablished));
+    assert_equal(rt, il.put(0x23, &long), Err(PutFault::NotEstablished));
     il.is(rt, Phase::Ended, WAITING_MAX);
 }
 
@@ -648,21 +649,21 @@ fn accepts_by_phase(rt: HostRuntime) -> Result<(), Fail> {
 // A field element takes status while it initialises and once the session is established, and ends the initialisation once.
 fn accepts(rt: &impl Abort, fe: &mut Seat, phase: Phase) {
     let puts = phase == Phase::Initialising || phase == Phase::Established;
-    assert!(rt; fe.put(0x0201, &[]).is_ok() == puts);
+    assert_true(rt, fe.put(0x0201, &[]).is_ok() == puts);
     let before = fe.waiting.len();
     let done = fe.init_done();
     if phase == Phase::Initialising {
-        assert_eq!(rt; done, Ok(()));
+        assert_equal(rt, done, Ok(()));
         fe.is(rt, Phase::Established, before.wrapping_add(1));
     } else {
-        assert_eq!(rt; done, Err(InitFault::NotInitialising));
+        assert_equal(rt, done, Err(InitFault::NotInitialising));
         fe.is(rt, phase, before);
     }
 }
 
 fn accepts_nothing(rt: &impl Abort, il: &mut Seat) {
-    assert_eq!(rt; il.put(0x0100, &[]), Err(PutFault::NotEstablished));
-    assert_eq!(rt; il.init_done(), Err(InitFault::NotInitialising));
+    assert_equal(rt, il.put(0x0100, &[]), Err(PutFault::NotEstablished));
+    assert_equal(rt, il.init_done(), Err(InitFault::NotInitialising));
 }
 
 #[test]
@@ -675,12 +676,12 @@ fn ends_initialisation_once(rt: &impl Abort, fe: &mut Seat) {
     for _ in 0..64 {
         let _put = fe.put(0x0201, &[]);
     }
-    assert_eq!(rt; fe.init_done(), Err(InitFault::Full));
+    assert_equal(rt, fe.init_done(), Err(InitFault::Full));
     fe.is(rt, Phase::Initialising, WAITING_MAX);
     let _message = fe.first();
-    assert_eq!(rt; fe.init_done(), Ok(()));
-    assert_eq!(rt; fe.phase(), Phase::Established);
-    assert_eq!(rt; fe.init_done(), Err(InitFault::NotInitialising));
+    assert_equal(rt, fe.init_done(), Ok(()));
+    assert_equal(rt, fe.phase(), Phase::Established);
+    assert_equal(rt, fe.init_done(), Err(InitFault::NotInitialising));
 }
 
 #[test]
@@ -697,6 +698,6 @@ fn tells_lists_of_versions(rt: HostRuntime) {
         (&[1, 2, 3, 3], false),
     ];
     for (versions, want) in cases {
-        assert_eq!(rt; are_versions(versions), want);
+        assert_equal(&rt, are_versions(versions), want);
     }
 }

@@ -1,3 +1,4 @@
+use crate::assertions::{assert_equal, assert_equal_at, assert_true};
 use pdi_session::telegram::{
     Name, NameFault, OwnedName, TeleFault, Telegram, decode, encode, read_back,
 };
@@ -25,27 +26,30 @@ fn makes_and_refuses_names(rt: HostRuntime) {
     ];
     for (text, want) in cases {
         let made = Name::new(text).map(|name| name.as_str());
-        assert_eq!(rt; made, want, "at {text}");
+        assert_equal_at(&rt, text, made, want);
     }
 }
 
 #[test]
 fn owns_a_name(rt: HostRuntime) -> Result<(), Fail> {
     let owned = OwnedName::new(Name::new("IL1")?);
-    assert_eq!(rt; owned.name().as_str(), "IL1");
-    assert!(rt; owned == OwnedName::new(decode(&VERSION_CHECK)?.sender));
-    assert!(rt; owned != OwnedName::new(decode(&VERSION_CHECK)?.receiver));
+    assert_equal(&rt, owned.name().as_str(), "IL1");
+    assert_true(&rt, owned == OwnedName::new(decode(&VERSION_CHECK)?.sender));
+    assert_true(
+        &rt,
+        owned != OwnedName::new(decode(&VERSION_CHECK)?.receiver),
+    );
     Ok(())
 }
 
 #[test]
 fn reads_and_writes_a_worked_telegram(rt: HostRuntime) -> Result<(), Fail> {
     let telegram = decode(&VERSION_CHECK)?;
-    assert_eq!(rt; telegram.protocol, 1);
-    assert_eq!(rt; telegram.kind, 0x24);
-    assert_eq!(rt; telegram.sender.as_str(), "IL1");
-    assert_eq!(rt; telegram.receiver.as_str(), "W12");
-    assert_eq!(rt; telegram.payload, [3].as_slice());
+    assert_equal(&rt, telegram.protocol, 1);
+    assert_equal(&rt, telegram.kind, 0x24);
+    assert_equal(&rt, telegram.sender.as_str(), "IL1");
+    assert_equal(&rt, telegram.receiver.as_str(), "W12");
+    assert_equal(&rt, telegram.payload, [3].as_slice());
     let made = Telegram {
         protocol: 1,
         kind: 0x24,
@@ -55,11 +59,11 @@ fn reads_and_writes_a_worked_telegram(rt: HostRuntime) -> Result<(), Fail> {
     };
     let mut buffer = [0xee; 46];
     let size = encode(&made, &mut buffer);
-    assert_eq!(rt; size, 44);
-    assert_eq!(rt; &buffer[..44], VERSION_CHECK.as_slice());
-    assert_eq!(rt; &buffer[44..], [0xee, 0xee].as_slice());
+    assert_equal(&rt, size, 44);
+    assert_equal(&rt, &buffer[..44], VERSION_CHECK.as_slice());
+    assert_equal(&rt, &buffer[44..], [0xee, 0xee].as_slice());
     let mut again = [0; 44];
-    assert!(rt; read_back(&made, &mut again)? == telegram);
+    assert_true(&rt, read_back(&made, &mut again)? == telegram);
     Ok(())
 }
 
@@ -74,8 +78,8 @@ fn reads_the_longest_and_the_shortest(rt: HostRuntime) -> Result<(), Fail> {
         payload: &[0x5f; 357],
     };
     let mut buffer = [0; 400];
-    assert!(rt; read_back(&made, &mut buffer)? == made);
-    assert_eq!(rt; decode(&VERSION_CHECK[..43])?.payload.len(), 0);
+    assert_true(&rt, read_back(&made, &mut buffer)? == made);
+    assert_equal(&rt, decode(&VERSION_CHECK[..43])?.payload.len(), 0);
     Ok(())
 }
 
@@ -102,8 +106,8 @@ fn names_the_first_fault(rt: HostRuntime) {
     for (size, place, octet, want) in cases {
         let mut message = [0; 401];
         message[..44].copy_from_slice(&VERSION_CHECK);
-        assert!(rt; size <= 401 && place < 44);
+        assert_true(&rt, size <= 401 && place < 44);
         message[place] = octet;
-        assert_eq!(rt; decode(&message[..size]), Err(want), "at {place}");
+        assert_equal_at(&rt, place, decode(&message[..size]), Err(want));
     }
 }

@@ -1,5 +1,6 @@
 //! Lines and datagrams with values from outside.
 
+use crate::assertions::{assert_equal, assert_true};
 use capture::{
     Address, Following, Header, Heard, Host, Judged, LineFault, PAYLOAD_ROOM, Record, Remark,
     Remarks, Totals, Window, hear, judge, note, read_line, sum_up,
@@ -27,22 +28,26 @@ fn reads_a_heartbeat(rt: HostRuntime) {
         },
         size: 36,
     };
-    assert_eq!(rt; read_line(HEARTBEAT, &mut buffer), Ok(wanted));
+    assert_equal(&rt, read_line(HEARTBEAT, &mut buffer), Ok(wanted));
     let rule = CodeRule {
         length: CodeLength::Zero,
         initial_value: [0; 4],
     };
-    match hear(&buffer[..36], &rule) {
+    match hear(buffer.get(..36).unwrap_or(&[]), &rule) {
         Heard::Pdu(seq, header) => {
-            assert_eq!(rt; seq, 0);
-            assert_eq!(rt; header.kind, Kind::Heartbeat);
-            assert_eq!(rt; (header.receiver, header.sender), (2, 1));
-            assert_eq!(rt; (header.sn, header.cs), (101, 500));
-            assert_eq!(rt; (header.ts, header.cts), (10, 5));
+            assert_equal(&rt, seq, 0);
+            assert_equal(&rt, header.kind, Kind::Heartbeat);
+            assert_equal(&rt, (header.receiver, header.sender), (2, 1));
+            assert_equal(&rt, (header.sn, header.cs), (101, 500));
+            assert_equal(&rt, (header.ts, header.cts), (10, 5));
         }
-        _ => assert!(rt; false),
+        _ => assert_true(&rt, false),
     }
-    assert_eq!(rt; hear(&buffer[..7], &rule), Heard::NoRed(RedFault::Short));
+    assert_equal(
+        &rt,
+        hear(buffer.get(..7).unwrap_or(&[]), &rule),
+        Heard::NoRed(RedFault::Short),
+    );
 }
 
 // Each kind of wrong line, by its name.
@@ -71,7 +76,7 @@ fn names_what_is_wrong(rt: HostRuntime) {
         (b"1.000000\t1.2.3.4\t1\t1.2.3.4\t2\t0g", LineFault::Payload),
     ];
     for (line, wanted) in cases {
-        assert_eq!(rt; read_line(line, &mut buffer), Err(wanted));
+        assert_equal(&rt, read_line(line, &mut buffer), Err(wanted));
     }
 }
 
@@ -147,50 +152,56 @@ fn remarks(
 fn follows_two_channels(rt: HostRuntime) -> Result<(), Fail> {
     let mut all = Following::new(rt.alloc())?;
     let first = told(all.hear(1, &record(1000, 0, false), &pdu(0, (1, 2), 10, (100, 0))));
-    assert_eq!(rt;
+    assert_equal(
+        &rt,
         first,
-        remarks(0, Judged::First, Judged::First, Some(Judged::First), None)
+        remarks(0, Judged::First, Judged::First, Some(Judged::First), None),
     );
     let copy = told(all.hear(2, &record(1001, 1, false), &pdu(0, (1, 2), 10, (100, 0))));
-    assert_eq!(rt;
+    assert_equal(
+        &rt,
         copy,
-        remarks(1, Judged::First, Judged::Repeat(1), None, None)
+        remarks(1, Judged::First, Judged::Repeat(1), None, None),
     );
     let gap = told(all.hear(3, &record(4000, 0, false), &pdu(3, (1, 2), 13, (130, 0))));
-    assert_eq!(rt;
+    assert_equal(
+        &rt,
         gap,
         remarks(
             0,
             Judged::Ahead(2),
             Judged::Ahead(2),
             Some(Judged::Ahead(2)),
-            None
-        )
+            None,
+        ),
     );
     let late = told(all.hear(4, &record(4100, 1, false), &pdu(1, (1, 2), 11, (110, 0))));
-    assert_eq!(rt;
+    assert_equal(
+        &rt,
         late,
-        remarks(1, Judged::Next, Judged::Late, Some(Judged::Late), None)
+        remarks(1, Judged::Next, Judged::Late, Some(Judged::Late), None),
     );
     let answer = told(all.hear(5, &record(5000, 0, true), &pdu(7, (2, 1), 500, (9, 100))));
-    assert_eq!(rt;
+    assert_equal(
+        &rt,
         answer,
         remarks(
             0,
             Judged::First,
             Judged::First,
             Some(Judged::First),
-            Some(30)
-        )
+            Some(30),
+        ),
     );
     let again = told(all.hear(6, &record(6000, 0, false), &pdu(3, (1, 2), 13, (130, 0))));
-    assert_eq!(rt;
+    assert_equal(
+        &rt,
         again,
-        remarks(0, Judged::Repeat(3), Judged::Repeat(3), None, Some(9))
+        remarks(0, Judged::Repeat(3), Judged::Repeat(3), None, Some(9)),
     );
     let broken = all.hear(7, &record(7000, 0, false), &Heard::NoRed(RedFault::Length));
-    assert_eq!(rt; broken, Remark::NoRed(RedFault::Length));
-    assert_eq!(rt; all.damaged, 1);
+    assert_equal(&rt, broken, Remark::NoRed(RedFault::Length));
+    assert_equal(&rt, all.damaged, 1);
     let wanted = Totals {
         heard: 3,
         missing: 1,
@@ -199,8 +210,8 @@ fn follows_two_channels(rt: HostRuntime) -> Result<(), Fail> {
         differing: 0,
         stale: 0,
     };
-    assert_eq!(rt; sum_up(all.gone, all.connections.as_slice()), wanted);
-    assert_eq!(rt; all.datagrams, 7);
+    assert_equal(&rt, sum_up(all.gone, all.connections.as_slice()), wanted);
+    assert_equal(&rt, all.datagrams, 7);
     Ok(())
 }
 
@@ -216,10 +227,10 @@ fn forgets_the_one_silent_longest(rt: HostRuntime) -> Result<(), Fail> {
         );
     }
     let ends = all.connections.as_slice();
-    assert_eq!(rt; ends.len(), 64);
-    assert!(rt; ends.iter().all(|entry| entry.connection.low != 1));
-    assert_eq!(rt; all.forgotten, 1);
-    assert_eq!(rt; (all.gone.heard, sum_up(all.gone, ends).heard), (1, 65));
+    assert_equal(&rt, ends.len(), 64);
+    assert_true(&rt, ends.iter().all(|entry| entry.connection.low != 1));
+    assert_equal(&rt, all.forgotten, 1);
+    assert_equal(&rt, (all.gone.heard, sum_up(all.gone, ends).heard), (1, 65));
     Ok(())
 }
 
@@ -227,14 +238,14 @@ fn forgets_the_one_silent_longest(rt: HostRuntime) -> Result<(), Fail> {
 #[test]
 fn goes_round_and_begins_anew(rt: HostRuntime) {
     let mut window = Window::new();
-    assert_eq!(rt; note(&mut window, u32::MAX, 1, 0), Judged::First);
-    assert_eq!(rt; note(&mut window, 0, 2, 0), Judged::Next);
-    assert_eq!(rt; note(&mut window, 65_536, 3, 0), Judged::Ahead(65_535));
-    assert_eq!(rt; note(&mut window, 4_000_000, 4, 0), Judged::Anew);
-    assert_eq!(rt; note(&mut window, 4_000_001, 5, 0), Judged::Next);
-    assert_eq!(rt; note(&mut window, 0, 6, 0), Judged::Stale);
-    assert_eq!(rt; note(&mut window, 4_000_002, 7, 0), Judged::Next);
-    assert_eq!(rt; (window.missing, window.stale), (65_535, 1));
+    assert_equal(&rt, note(&mut window, u32::MAX, 1, 0), Judged::First);
+    assert_equal(&rt, note(&mut window, 0, 2, 0), Judged::Next);
+    assert_equal(&rt, note(&mut window, 65_536, 3, 0), Judged::Ahead(65_535));
+    assert_equal(&rt, note(&mut window, 4_000_000, 4, 0), Judged::Anew);
+    assert_equal(&rt, note(&mut window, 4_000_001, 5, 0), Judged::Next);
+    assert_equal(&rt, note(&mut window, 0, 6, 0), Judged::Stale);
+    assert_equal(&rt, note(&mut window, 4_000_002, 7, 0), Judged::Next);
+    assert_equal(&rt, (window.missing, window.stale), (65_535, 1));
 }
 
 // The 31 numbers before the newest may come late if they were passed over, and none of them takes the newest's place: a
@@ -242,13 +253,13 @@ fn goes_round_and_begins_anew(rt: HostRuntime) {
 #[test]
 fn keeps_the_newest(rt: HostRuntime) -> Result<(), Fail> {
     let mut window = Window::new();
-    assert_eq!(rt; note(&mut window, 60, 1, 0), Judged::First);
-    assert_eq!(rt; judge(&window, 59, 0), Judged::Stale);
-    assert_eq!(rt; note(&mut window, 100, 2, 7), Judged::Ahead(39));
-    assert_eq!(rt; judge(&window, 68, 0), Judged::Stale);
-    assert_eq!(rt; note(&mut window, 69, 3, 0), Judged::Late);
-    assert_eq!(rt; judge(&window, 100, 7), Judged::Repeat(2));
-    assert_eq!(rt; judge(&window, 100, 8), Judged::Differs(2));
+    assert_equal(&rt, note(&mut window, 60, 1, 0), Judged::First);
+    assert_equal(&rt, judge(&window, 59, 0), Judged::Stale);
+    assert_equal(&rt, note(&mut window, 100, 2, 7), Judged::Ahead(39));
+    assert_equal(&rt, judge(&window, 68, 0), Judged::Stale);
+    assert_equal(&rt, note(&mut window, 69, 3, 0), Judged::Late);
+    assert_equal(&rt, judge(&window, 100, 7), Judged::Repeat(2));
+    assert_equal(&rt, judge(&window, 100, 8), Judged::Differs(2));
     Ok(())
 }
 
@@ -275,17 +286,21 @@ fn opens_with_the_same_octets(rt: HostRuntime) -> Result<(), Fail> {
     let mut all = Following::new(rt.alloc())?;
     for line in [1, 3u64] {
         let first = told(all.hear(line, &record(line, 0, false), &opening(0, 900, 7)));
-        assert!(rt; first.is_some_and(|remarks| remarks.opens));
+        assert_true(&rt, first.is_some_and(|remarks| remarks.opens));
         let beat = told(all.hear(
             line + 1,
             &record(line, 0, false),
             &pdu(1, (1, 2), 901, (9, 0)),
         ));
-        assert!(rt; beat.is_some_and(|remarks| remarks.together == Judged::Next));
+        assert_true(
+            &rt,
+            beat.is_some_and(|remarks| remarks.together == Judged::Next),
+        );
     }
     let copy = told(all.hear(5, &record(5, 1, false), &opening(0, 900, 7)));
-    assert!(rt;
-        copy.is_some_and(|remarks| !remarks.opens && remarks.together == Judged::Repeat(3))
+    assert_true(
+        &rt,
+        copy.is_some_and(|remarks| !remarks.opens && remarks.together == Judged::Repeat(3)),
     );
     Ok(())
 }
@@ -299,11 +314,16 @@ fn opens_again(rt: HostRuntime) -> Result<(), Fail> {
         let _remark = all.hear(at, &record(at, 0, false), &pdu(seq, (1, 2), seq, (100, 0)));
     }
     let stale = told(all.hear(51, &record(51, 1, false), &pdu(3, (1, 2), 3, (100, 0))));
-    assert_eq!(rt; stale, remarks(1, Judged::First, Judged::Stale, None, None));
+    assert_equal(
+        &rt,
+        stale,
+        remarks(1, Judged::First, Judged::Stale, None, None),
+    );
     let next = told(all.hear(52, &record(52, 0, false), &pdu(50, (1, 2), 50, (150, 0))));
-    assert_eq!(rt;
+    assert_equal(
+        &rt,
         next,
-        remarks(0, Judged::Next, Judged::Next, Some(Judged::Next), None)
+        remarks(0, Judged::Next, Judged::Next, Some(Judged::Next), None),
     );
     let fresh = Remarks {
         opens: true,
@@ -316,14 +336,16 @@ fn opens_again(rt: HostRuntime) -> Result<(), Fail> {
         waits: Some(0),
         leaving: None,
     };
-    assert_eq!(rt;
+    assert_equal(
+        &rt,
         told(all.hear(53, &record(53, 0, false), &opening(0, 900, 7))),
-        Some(fresh)
+        Some(fresh),
     );
     let copy = told(all.hear(54, &record(54, 1, false), &opening(0, 900, 7)));
-    assert_eq!(rt;
+    assert_equal(
+        &rt,
         copy,
-        remarks(1, Judged::First, Judged::Repeat(53), None, None)
+        remarks(1, Judged::First, Judged::Repeat(53), None, None),
     );
     let wanted = Totals {
         heard: 52,
@@ -333,7 +355,7 @@ fn opens_again(rt: HostRuntime) -> Result<(), Fail> {
         differing: 0,
         stale: 1,
     };
-    assert_eq!(rt; sum_up(all.gone, all.connections.as_slice()), wanted);
+    assert_equal(&rt, sum_up(all.gone, all.connections.as_slice()), wanted);
     Ok(())
 }
 
@@ -349,13 +371,13 @@ fn ages_no_goodbye_that_confirms_nothing(rt: HostRuntime) -> Result<(), Fail> {
         &record(3, 0, false),
         &Heard::Pdu(1, leaving((1, 2), 0, (1950, 0))),
     ));
-    assert!(rt; unheard.is_some_and(|remarks| remarks.age.is_none()));
+    assert_true(&rt, unheard.is_some_and(|remarks| remarks.age.is_none()));
     let heard = told(all.hear(
         4,
         &record(4, 0, false),
         &Heard::Pdu(2, leaving((1, 2), 1, (1960, 0))),
     ));
-    assert!(rt; heard.is_some_and(|remarks| remarks.age == Some(1900)));
+    assert_true(&rt, heard.is_some_and(|remarks| remarks.age == Some(1900)));
     Ok(())
 }
 
@@ -391,16 +413,16 @@ fn counts_damage_by_channel(rt: HostRuntime) -> Result<(), Fail> {
     let _remark = all.hear(7, &record(7, 1, false), &broken);
     let _remark = all.hear(8, &record(8, 2, false), &broken);
     let _remark = all.hear(9, &record(9, 3, false), &broken);
-    assert_eq!(rt; all.damaged, 5);
+    assert_equal(&rt, all.damaged, 5);
     match all.connections.as_slice() {
         [first, second] => {
             let (first, second) = (&first.connection, &second.connection);
-            assert_eq!(rt; first.from_low.damaged, [0, 0, 1, 0]);
-            assert_eq!(rt; first.from_high.damaged, [1, 0, 0, 0]);
-            assert_eq!(rt; second.from_low.damaged, [2, 0, 0, 0]);
-            assert_eq!(rt; second.from_high.damaged, [0, 0, 0, 0]);
+            assert_equal(&rt, first.from_low.damaged, [0, 0, 1, 0]);
+            assert_equal(&rt, first.from_high.damaged, [1, 0, 0, 0]);
+            assert_equal(&rt, second.from_low.damaged, [2, 0, 0, 0]);
+            assert_equal(&rt, second.from_high.damaged, [0, 0, 0, 0]);
         }
-        _ => assert!(rt; false),
+        _ => assert_true(&rt, false),
     }
     Ok(())
 }
@@ -500,17 +522,21 @@ fn waits_for_a_confirmation(rt: HostRuntime) -> Result<(), Fail> {
         let back = matches!(heard, Heard::Pdu(_, header) if header.sender == 2);
         line = line.wrapping_add(1);
         let remarks = told(all.hear(line, &record(line, channel, back), &heard));
-        assert!(rt; remarks.is_some_and(|remarks| remarks.age == age && remarks.waits == waits));
+        assert_true(
+            &rt,
+            remarks.is_some_and(|remarks| remarks.age == age && remarks.waits == waits),
+        );
     }
     match all.connections.as_slice() {
         [pair] => {
             let pair = &pair.connection;
-            assert_eq!(rt;
+            assert_equal(
+                &rt,
                 (pair.from_low.tally.longest, pair.from_high.tally.longest),
-                (1800, 2000)
+                (1800, 2000),
             );
         }
-        _ => assert!(rt; false),
+        _ => assert_true(&rt, false),
     }
     Ok(())
 }

@@ -1,9 +1,10 @@
 //! Whole captures, and the text that is to be printed of each, worked out by hand.
 
+use crate::assertions::{assert_equal, assert_true};
 use capture::{Judged, Remarks};
 use capture_text::{Asked, FollowStatus, OutputForm, Remarkable, run, write_remarks};
 use md4::INITIAL_VALUE;
-use safe_pdu::{CodeLength, CodeRule, Leaving};
+use safe_pdu::{CodeLength, CodeRule, Kind, Leaving};
 use std::alloc::Allocator;
 use std::io::Write;
 use std::process::Abort;
@@ -19,7 +20,7 @@ struct Pdu {
     /// The redundancy number.
     seq: u32,
     /// The type.
-    kind: u16,
+    kind: Kind,
     /// SN and CS.
     numbers: (u32, u32),
     /// TS and CTS.
@@ -28,7 +29,7 @@ struct Pdu {
     body: &'static str,
 }
 
-fn plain(kind: u16, seq: u32, numbers: (u32, u32), stamps: (u32, u32), body: &'static str) -> Pdu {
+fn plain(kind: Kind, seq: u32, numbers: (u32, u32), stamps: (u32, u32), body: &'static str) -> Pdu {
     Pdu {
         seq,
         kind,
@@ -40,11 +41,11 @@ fn plain(kind: u16, seq: u32, numbers: (u32, u32), stamps: (u32, u32), body: &'s
 
 /// A Data with one unit.
 fn data(seq: u32, numbers: (u32, u32), stamps: (u32, u32)) -> Pdu {
-    plain(6240, seq, numbers, stamps, UNIT)
+    plain(Kind::Data, seq, numbers, stamps, UNIT)
 }
 
 fn heartbeat(seq: u32, numbers: (u32, u32), stamps: (u32, u32)) -> Pdu {
-    plain(6220, seq, numbers, stamps, "")
+    plain(Kind::Heartbeat, seq, numbers, stamps, "")
 }
 
 /// Puts the front of a line: the time in microseconds, and the addresses of a channel, from the first end or back.
@@ -78,7 +79,7 @@ fn put<A: Allocator>(
     let size = size.swap_bytes();
     let seq = pdu.seq.swap_bytes();
     write!(lines, "{whole:04x}0000{seq:08x}{size:04x}")?;
-    let kind = pdu.kind.swap_bytes();
+    let kind = pdu.kind.number().swap_bytes();
     let (sender, receiver) = if back { (2u32, 1u32) } else { (1u32, 2u32) };
     let sender = sender.swap_bytes();
     let receiver = receiver.swap_bytes();
@@ -122,9 +123,9 @@ fn prints(
 ) -> Result<(), Fail> {
     let mut out = Vec::new(rt.alloc());
     let mut err = Vec::new(rt.alloc());
-    assert_eq!(rt; run(rt.alloc(), text, asked, &mut out, &mut err), status);
-    assert!(rt; out.as_slice() == wanted.as_bytes());
-    assert!(rt; err.as_slice() == faults.as_bytes());
+    assert_equal(rt, run(rt.alloc(), text, asked, &mut out, &mut err), status);
+    assert_true(rt, out.as_slice() == wanted.as_bytes());
+    assert_true(rt, err.as_slice() == faults.as_bytes());
     Ok(())
 }
 
@@ -145,9 +146,15 @@ fn asked(length: CodeLength, only: Option<Remarkable>) -> Asked {
 // Two channels, of which the second loses a heartbeat.
 #[test]
 fn loses_on_one_channel(rt: HostRuntime) -> Result<(), Fail> {
-    let opens = plain(6200, 0, (100, 0), (1000, 0), "3033303320000000000000000000");
+    let opens = plain(
+        Kind::ConnReq,
+        0,
+        (100, 0),
+        (1000, 0),
+        "3033303320000000000000000000",
+    );
     let granted = plain(
-        6201,
+        Kind::ConnResp,
         0,
         (500, 100),
         (7000, 1000),
@@ -194,9 +201,9 @@ sum all datagrams 7 PDUs 4 missing 0 repeats 3 late 0 differs 0 stale 0 damaged 
 fn asks_again(rt: HostRuntime) -> Result<(), Fail> {
     let unit = data(10, (200, 600), (2000, 8000));
     let beat = heartbeat(12, (202, 600), (2020, 8000));
-    let request = plain(6212, 30, (601, 200), (8030, 2000), "");
-    let answer = plain(6213, 13, (203, 601), (2040, 8030), "");
-    let again = plain(6241, 14, (204, 601), (2041, 8030), UNIT);
+    let request = plain(Kind::RetrReq, 30, (601, 200), (8030, 2000), "");
+    let answer = plain(Kind::RetrResp, 13, (203, 601), (2040, 8030), "");
+    let again = plain(Kind::RetrData, 14, (204, 601), (2041, 8030), UNIT);
     let lines = [
         (0, 0, false, unit),
         (100, 1, false, unit),
@@ -235,8 +242,14 @@ fn leaves_and_opens_again(rt: HostRuntime) -> Result<(), Fail> {
     let beat = heartbeat(5, (300, 700), (5000, 9000));
     let back = heartbeat(8, (701, 300), (9100, 5000));
     let slow = heartbeat(6, (301, 701), (6801, 9100));
-    let leaves = plain(6216, 9, (702, 300), (10_950, 5000), "00000300");
-    let opens = plain(6200, 0, (42, 0), (8000, 0), "3033303320000000000000000000");
+    let leaves = plain(Kind::DiscReq, 9, (702, 300), (10_950, 5000), "00000300");
+    let opens = plain(
+        Kind::ConnReq,
+        0,
+        (42, 0),
+        (8000, 0),
+        "3033303320000000000000000000",
+    );
     let lines = [
         (0, 0, false, beat),
         (100_000, 0, true, back),
@@ -325,7 +338,7 @@ fn writes_remarks(rt: HostRuntime) -> Result<(), Fail> {
         leaving: None,
     };
     write_remarks(&mut text, 1800, &quiet)?;
-    assert!(rt; text.is_empty());
+    assert_true(&rt, text.is_empty());
     let loud = Remarks {
         opens: true,
         route: 0,
@@ -344,7 +357,7 @@ fn writes_remarks(rt: HostRuntime) -> Result<(), Fail> {
     let wanted =
         " opens channel repeat of line 12 all late sn ahead 2 resent age 45 ms waits 900 ms \
 reason 4 service not allowed detail 3 not of this pair";
-    assert!(rt; text.as_slice() == wanted.as_bytes());
+    assert_true(&rt, text.as_slice() == wanted.as_bytes());
     Ok(())
 }
 

@@ -4,6 +4,8 @@
 #![tactic(auto)]
 
 #[cfg(test)]
+mod assertions;
+#[cfg(test)]
 mod capture_tests;
 #[cfg(test)]
 mod capture_text_tests;

@@ -1,3 +1,4 @@
+use crate::assertions::{assert_equal, assert_equal_at, assert_true, assert_true_at};
 use pdu_text::{
     HexFault, hex_octets, initial_value, show, show_body, write_hex, write_octets, write_text,
 };
@@ -67,12 +68,8 @@ fn shows_bodies_and_messages(rt: HostRuntime) -> Result<(), Fail> {
     for (hex, clean, text) in cases {
         let octets = hex::decode(rt.alloc(), hex)?;
         let mut out = Vec::new(rt.alloc());
-        assert_eq!(rt;
-            show(octets.as_slice(), &RULE, &mut out)?,
-            clean,
-            "at {hex}"
-        );
-        assert_eq!(rt; out.as_slice(), text.as_bytes(), "at {hex}");
+        assert_equal_at(&rt, hex, show(octets.as_slice(), &RULE, &mut out)?, clean);
+        assert_equal_at(&rt, hex, out.as_slice(), text.as_bytes());
     }
     Ok(())
 }
@@ -82,28 +79,30 @@ fn shows_bodies_and_messages(rt: HostRuntime) -> Result<(), Fail> {
 #[test]
 fn shows_what_is_cut(rt: HostRuntime) -> Result<(), Fail> {
     let mut octets = hex::decode(rt.alloc(), CONNECTION_REQUEST)?;
-    assert_eq!(rt; octets.len(), 50);
+    assert_true(&rt, octets.len() == 50);
     for size in 0..50usize {
         let mut out = Vec::new(rt.alloc());
-        assert_eq!(rt;
+        assert_equal_at(
+            &rt,
+            size,
             show(&octets.as_slice()[..size], &RULE, &mut out)?,
             false,
-            "cut to {size}"
         );
         let text = if size < 8 {
             "red fault 1 Short\n"
         } else {
             "red fault 2 Length\n"
         };
-        assert_eq!(rt; out.as_slice(), text.as_bytes(), "cut to {size}");
+        assert_equal_at(&rt, size, out.as_slice(), text.as_bytes());
     }
     for size in 8..50usize {
         octets[0] = size as u8;
         let mut out = Vec::new(rt.alloc());
-        assert_eq!(rt;
+        assert_equal_at(
+            &rt,
+            size,
             show(&octets.as_slice()[..size], &RULE, &mut out)?,
             false,
-            "cut to {size}"
         );
         let fault = if size < 36 {
             "safe fault 1 Short"
@@ -111,7 +110,7 @@ fn shows_what_is_cut(rt: HostRuntime) -> Result<(), Fail> {
             "safe fault 2 Length"
         };
         let text = format!(in rt.alloc(); "red length {size} seq 0\n{fault}\n")?;
-        assert_eq!(rt; out.as_slice(), text.as_str().as_bytes(), "cut to {size}");
+        assert_equal_at(&rt, size, out.as_slice(), text.as_str().as_bytes());
     }
     Ok(())
 }
@@ -125,11 +124,12 @@ fn writes_texts(rt: HostRuntime) -> Result<(), Fail> {
     write_text(&mut out, " ")?;
     write_octets(&mut out, &[])?;
     write_text(&mut out, "\n")?;
-    assert!(rt; show_body(&mut out, Kind::Heartbeat, &[])?);
-    assert!(rt; !show_body(&mut out, Kind::Data, &[])?);
-    assert_eq!(rt;
+    assert_true(&rt, show_body(&mut out, Kind::Heartbeat, &[])?);
+    assert_true(&rt, !show_body(&mut out, Kind::Data, &[])?);
+    assert_equal(
+        &rt,
         out.as_slice(),
-        b"octets 0aff -\nunit fault 1 Empty\n".as_slice()
+        b"octets 0aff -\nunit fault 1 Empty\n".as_slice(),
     );
     Ok(())
 }
@@ -138,15 +138,15 @@ fn writes_texts(rt: HostRuntime) -> Result<(), Fail> {
 #[test]
 fn reads_hex_texts(rt: HostRuntime) -> Result<(), Fail> {
     let octets = hex_octets(rt.alloc(), "0aFf").map_err(|_| "refused")?;
-    assert_eq!(rt; octets.as_slice(), [0x0a, 0xff].as_slice());
+    assert_equal(&rt, octets.as_slice(), [0x0a, 0xff].as_slice());
     for text in ["", "0", "0g"] {
         let refused = matches!(hex_octets(rt.alloc(), text), Err(HexFault::Hex));
-        assert!(rt; refused, "at {text}");
+        assert_true_at(&rt, text, refused);
     }
-    assert_eq!(rt; initial_value(None), Some(md4::INITIAL_VALUE));
+    assert_equal(&rt, initial_value(None), Some(md4::INITIAL_VALUE));
     let own = initial_value(Some("01000000020000000300000004000000"));
-    assert_eq!(rt; own, Some([1, 2, 3, 4]));
-    assert_eq!(rt; initial_value(Some("01")), None);
+    assert_equal(&rt, own, Some([1, 2, 3, 4]));
+    assert_equal(&rt, initial_value(Some("01")), None);
     Ok(())
 }
 
@@ -191,18 +191,15 @@ fn answers_each_failed_write(rt: HostRuntime) -> Result<(), Fail> {
                 kept: Vec::new(rt.alloc()),
             };
             let ended = show(octets.as_slice(), &RULE, &mut writer);
-            assert!(rt;
+            assert_true_at(
+                &rt,
+                writes,
                 whole.as_slice().starts_with(writer.kept.as_slice()),
-                "after {writes} writes"
             );
-            assert_eq!(rt;
-                ended.is_err(),
-                writer.kept.len() < whole.len(),
-                "after {writes} writes"
-            );
+            assert_equal_at(&rt, writes, ended.is_err(), writer.kept.len() < whole.len());
             last_failed = ended.is_err();
         }
-        assert!(rt; !last_failed, "128 writes are enough for {hex}");
+        assert_true_at(&rt, hex, !last_failed);
     }
     Ok(())
 }

@@ -1,3 +1,4 @@
+use crate::assertions::{assert_equal, assert_equal_at, assert_true, assert_true_at};
 use end_settings::Side;
 use settings_file::{
     Ends, Settings, SettingsFault, Warning, Word, findings, settings, warnings, word_of,
@@ -248,10 +249,11 @@ const FAULTS: [(Word, &str, &str); 52] = [
 fn names_the_key(rt: HostRuntime) -> Result<(), Fail> {
     for (word, more, want) in FAULTS {
         let text = text_of(rt.alloc(), more)?;
-        assert_eq!(rt;
+        assert_equal_at(
+            &rt,
+            more,
             said(rt.alloc(), word, text.as_str())?.as_str(),
             want,
-            "at {more}"
         );
     }
     Ok(())
@@ -289,11 +291,16 @@ fn names_what_is_missing(rt: HostRuntime) -> Result<(), Fail> {
         ),
         (format!(in rt.alloc(); "[il]\n{end}[fe]\n{end}")?, ""),
     ] {
-        assert_eq!(rt; said(rt.alloc(), Word::Pair, text.as_str())?.as_str(), want);
+        assert_equal(
+            &rt,
+            said(rt.alloc(), Word::Pair, text.as_str())?.as_str(),
+            want,
+        );
     }
-    assert_eq!(rt;
+    assert_equal(
+        &rt,
         said(rt.alloc(), Word::Il, "")?.as_str(),
-        "id: expected 0 to 4294967295, found nothing"
+        "id: expected 0 to 4294967295, found nothing",
     );
     Ok(())
 }
@@ -308,50 +315,72 @@ fn reads_each_key(rt: HostRuntime) -> Result<(), Fail> {
         return Err(Fail::from("refused"));
     };
     let config = &whole.config;
-    assert_eq!(rt;
+    assert_equal(
+        &rt,
         (config.id, config.peer_id, config.protocol, config.code),
-        (7, 9, 3, 16)
+        (7, 9, 3, 16),
     );
-    assert_eq!(rt; config.versions.as_slice(), [4, 2].as_slice());
-    assert_eq!(rt; config.checksum.as_slice(), [1, 2].as_slice());
-    assert_eq!(rt;
+    assert_equal(&rt, config.versions.as_slice(), [4, 2].as_slice());
+    assert_equal(&rt, config.checksum.as_slice(), [1, 2].as_slice());
+    assert_equal(
+        &rt,
         config.initial_value,
-        [0x6745_2301, 0xefcd_ab89, 0x98ba_dcfe, 0x1032_5476]
+        [0x6745_2301, 0xefcd_ab89, 0x98ba_dcfe, 0x1032_5476],
     );
-    assert_eq!(rt;
+    assert_equal(
+        &rt,
         (
             config.channels,
             config.n_sendmax,
             config.n_maxpacket,
-            config.q
+            config.q,
         ),
-        (3, 2, 1, 8)
+        (3, 2, 1, 8),
     );
-    assert_eq!(rt; (config.t_max, config.t_h, config.t_seq), (1000, 999, 60));
-    assert_eq!(rt;
+    assert_equal(
+        &rt,
+        (config.t_max, config.t_h, config.t_seq),
+        (1000, 999, 60),
+    );
+    assert_equal(
+        &rt,
         (config.mwa, config.pdu_limit, whole.first_sn),
-        (3, 100, Some(5))
+        (3, 100, Some(5)),
     );
-    assert_eq!(rt; whole.remote.len(), 3);
-    assert_eq!(rt; whole.puts.len(), 2);
-    assert_eq!(rt; whole.puts[0].kind, 0x0203);
-    assert_eq!(rt; whole.puts[1].kind, 0xffff);
-    assert_eq!(rt; whole.puts[1].payload.as_slice(), [0x0a, 0xff].as_slice());
+    assert_true(&rt, whole.remote.len() == 3);
+    assert_true(&rt, whole.puts.len() == 2);
+    assert_equal(&rt, whole.puts[0].kind, 0x0203);
+    assert_equal(&rt, whole.puts[1].kind, 0xffff);
+    assert_equal(
+        &rt,
+        whole.puts[1].payload.as_slice(),
+        [0x0a, 0xff].as_slice(),
+    );
     let text = text_of(rt.alloc(), "")?;
     let Ok(Ends::Il(least)) = settings(rt.alloc(), Word::Il, text.as_str()) else {
         return Err(Fail::from("refused"));
     };
     let config = &least.config;
-    assert_eq!(rt; (config.protocol, config.code, config.channels), (1, 8, 1));
-    assert_eq!(rt; config.versions.as_slice(), [1].as_slice());
-    assert_eq!(rt;
-        (config.n_sendmax, config.n_maxpacket, config.q),
-        (20, 3, 4)
+    assert_equal(
+        &rt,
+        (config.protocol, config.code, config.channels),
+        (1, 8, 1),
     );
-    assert_eq!(rt; (config.t_max, config.t_h, config.t_seq), (1800, 300, 50));
-    assert_eq!(rt;
+    assert_equal(&rt, config.versions.as_slice(), [1].as_slice());
+    assert_equal(
+        &rt,
+        (config.n_sendmax, config.n_maxpacket, config.q),
+        (20, 3, 4),
+    );
+    assert_equal(
+        &rt,
+        (config.t_max, config.t_h, config.t_seq),
+        (1800, 300, 50),
+    );
+    assert_equal(
+        &rt,
         (config.mwa, config.pdu_limit, least.first_sn),
-        (10, 4_294_901_760, Some(1))
+        (10, 4_294_901_760, Some(1)),
     );
     Ok(())
 }
@@ -422,10 +451,10 @@ fn finds_all_that_is_wrong(rt: HostRuntime) -> Result<(), Fail> {
     for (word, more, want) in FINDINGS {
         let text = text_of(rt.alloc(), more)?;
         let found = findings(rt.alloc(), word, text.as_str())?;
-        assert_eq!(rt; found.len(), want.len(), "at {more}");
+        assert_equal_at(&rt, more, found.len(), want.len());
         for (finding, line) in found.iter().zip(want.iter()) {
             let told = format!(in rt.alloc(); "{finding}")?;
-            assert_eq!(rt; told.as_str(), *line);
+            assert_equal(&rt, told.as_str(), *line);
         }
     }
     Ok(())
@@ -571,10 +600,10 @@ fn warns_of_mistakes(rt: HostRuntime) -> Result<(), Fail> {
             _ => Side::Interlocking,
         };
         let found = warnings(rt.alloc(), side, keep, &read)?;
-        assert_eq!(rt; found.len(), want.len(), "at {more}");
+        assert_equal_at(&rt, more.as_str(), found.len(), want.len());
         for (warning, line) in found.iter().zip(want.iter()) {
             let told = format!(in rt.alloc(); "{warning}")?;
-            assert_eq!(rt; told.as_str(), *line);
+            assert_equal(&rt, told.as_str(), *line);
         }
     }
     Ok(())
@@ -597,13 +626,14 @@ fn warns_of_long_payloads(rt: HostRuntime) -> Result<(), Fail> {
         return Err(Fail::from("refused"));
     };
     let found = warnings(rt.alloc(), Side::Interlocking, false, &read)?;
-    assert_eq!(rt;
+    assert_equal(
+        &rt,
         found.as_slice(),
         [Warning::LongPayload {
             entry: 2,
-            size: 358
+            size: 358,
         }]
-        .as_slice()
+        .as_slice(),
     );
     Ok(())
 }
@@ -620,16 +650,18 @@ fn knows_the_word_of_a_file(rt: HostRuntime) -> Result<(), Fail> {
         ("[fe]\nversions=[1]\n", Word::Pair),
         ("versions=[1]\n[il]\n", Word::Pair),
     ] {
-        assert!(rt;
+        assert_true_at(
+            &rt,
+            text,
             matches!(word_of(rt.alloc(), text), Ok(word) if word == want),
-            "at {text}"
         );
     }
-    assert!(rt;
+    assert_true(
+        &rt,
         matches!(
             word_of(rt.alloc(), "id=\n"),
             Err(SettingsFault::Document(1))
-        )
+        ),
     );
     Ok(())
 }

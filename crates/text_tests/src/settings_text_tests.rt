@@ -1,3 +1,4 @@
+use crate::assertions::{assert_equal, assert_true};
 use settings_file::{Ends, Word, settings};
 use settings_text::{write_place, write_settings};
 use std::test::Fail;
@@ -98,9 +99,10 @@ fn writes_the_settings_in_force(rt: HostRuntime) -> Result<(), Fail> {
         (Word::Pair, PAIR, PAIR_IN_FORCE),
         (Word::Pair, PAIR_IN_FORCE, PAIR_IN_FORCE),
     ] {
-        assert_eq!(rt;
+        assert_equal(
+            &rt,
             in_force(rt.alloc(), word, text)?.as_slice(),
-            want.as_bytes()
+            want.as_bytes(),
         );
     }
     Ok(())
@@ -111,8 +113,8 @@ fn writes_the_settings_in_force(rt: HostRuntime) -> Result<(), Fail> {
 fn writes_places(rt: HostRuntime) -> Result<(), Fail> {
     for (line, want) in [(None, "il.toml: "), (Some(7), "il.toml:7: ")] {
         let mut out = Vec::new(rt.alloc());
-        assert!(rt; write_place(&mut out, "il.toml", line).is_ok());
-        assert_eq!(rt; out.as_slice(), want.as_bytes());
+        assert_true(&rt, write_place(&mut out, "il.toml", line).is_ok());
+        assert_equal(&rt, out.as_slice(), want.as_bytes());
     }
     Ok(())
 }

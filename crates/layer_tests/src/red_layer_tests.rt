@@ -1,8 +1,8 @@
-use crate::deferral::Deferral;
-use crate::pdu::RedFault;
-use crate::{Numbers, RedConfig, RedEvent, RedLayer, RedOpenFault, Upward};
+use crate::assertions::{assert_equal, assert_equal_at, assert_true};
 use arrayvec::ArrayVec;
 use linked_list_allocator::LocalHeap;
+use red_layer::pdu::RedFault;
+use red_layer::{Numbers, RedConfig, RedEvent, RedLayer, RedOpenFault, Upward};
 use std::test::Fail;
 
 /// Keeps the numbers that are passed up.
@@ -34,8 +34,8 @@ impl Seen {
 /// A call of the layer, with the expected result.
 #[derive(Clone, Copy)]
 enum Call {
-    Arrive(u32, u64, RedEvent),
-    Tick(u64),
+    Arrive(u32, u32, RedEvent),
+    Tick(u32),
     Deadline(Option<u64>),
 }
 
@@ -43,6 +43,11 @@ enum Call {
 fn datagram(seq: u32) -> [u8; 9] {
     let [a, b, c, d] = seq.to_le_bytes();
     [9, 0, 0, 0, a, b, c, d, 7]
+}
+
+// A datagram of this number comes at a time in milliseconds.
+fn arrive(layer: &mut RedLayer, seq: u32, now: u32, seen: &mut Seen) -> RedEvent {
+    layer.arrive(&datagram(seq), u64::from(now), seen)
 }
 
 const CONFIG: RedConfig = RedConfig { q: 4, t_seq: 50 };
@@ -75,13 +80,13 @@ fn brings_datagrams_into_order(rt: HostRuntime) -> Result<(), Fail> {
         let mut seen = Seen::new();
         match call {
             Call::Arrive(seq, now, event) => {
-                let answer = layer.arrive(&datagram(seq), now, &mut seen);
-                assert_eq!(rt; answer, event, "number {seq} at {now}");
+                let answer = arrive(&mut layer, seq, now, &mut seen);
+                assert_equal_at(&rt, (seq, now), answer, event);
             }
-            Call::Tick(now) => layer.tick(now, &mut seen),
-            Call::Deadline(moment) => assert_eq!(rt; layer.deadline(), moment),
+            Call::Tick(now) => layer.tick(u64::from(now), &mut seen),
+            Call::Deadline(moment) => assert_equal(&rt, layer.deadline(), moment),
         }
-        assert_eq!(rt; seen.numbers.as_slice(), passed);
+        assert_equal(&rt, seen.numbers.as_slice(), passed);
     }
     Ok(())
 }
@@ -99,15 +104,15 @@ fn any_datagram_tries_the_deadline(rt: HostRuntime) -> Result<(), Fail> {
         (5, RedEvent::Again),
         (4, RedEvent::Full),
     ] {
-        assert_eq!(rt; layer.arrive(&datagram(seq), 7, &mut seen), event);
+        assert_equal(&rt, arrive(&mut layer, seq, 7, &mut seen), event);
     }
     let event = layer.arrive(&[1, 2, 3], 57, &mut seen);
-    assert_eq!(rt; event, RedEvent::Fault(RedFault::Short));
-    assert_eq!(rt; seen.numbers.as_slice(), [2, 3].as_slice());
-    assert_eq!(rt; layer.deadline(), Some(107));
-    let event = layer.arrive(&datagram(4), 107, &mut seen);
-    assert_eq!(rt; event, RedEvent::Old);
-    assert_eq!(rt; seen.numbers.as_slice(), [2, 3, 5].as_slice());
+    assert_equal(&rt, event, RedEvent::Fault(RedFault::Short));
+    assert_equal(&rt, seen.numbers.as_slice(), [2, 3].as_slice());
+    assert_equal(&rt, layer.deadline(), Some(107));
+    let event = arrive(&mut layer, 4, 107, &mut seen);
+    assert_equal(&rt, event, RedEvent::Old);
+    assert_equal(&rt, seen.numbers.as_slice(), [2, 3, 5].as_slice());
     Ok(())
 }
 
@@ -126,9 +131,9 @@ fn opening_takes_the_only_memory(rt: HostRuntime) -> Result<(), Fail> {
                     layer.arrive(&datagram(seq), 0, &mut seen);
                 }
                 layer.tick(50, &mut seen);
-                assert_eq!(rt; seen.numbers.as_slice(), [0, 1, 2, 3, 40].as_slice());
-                assert_eq!(rt; heap.used(), used);
-                assert!(rt; refused);
+                assert_equal(&rt, seen.numbers.as_slice(), [0, 1, 2, 3, 40].as_slice());
+                assert_equal(&rt, heap.used(), used);
+                assert_true(&rt, refused);
                 return Ok(());
             }
             Err(RedOpenFault::Memory) => refused = true,
@@ -137,46 +142,12 @@ fn opening_takes_the_only_memory(rt: HostRuntime) -> Result<(), Fail> {
     Err("no heap was great enough".into())
 }
 
-// The greatest number is passed up, and everything after it is `Old`. Calls would take too long to reach
-// it, so the receiving half is made by its fields.
-#[test]
-fn everything_is_old_after_the_greatest_number(rt: HostRuntime) -> Result<(), Fail> {
-    let Ok(waiting) = Deferral::new(rt.alloc(), 4) else {
-        return Err("no memory".into());
-    };
-    let mut layer = RedLayer {
-        q: 4,
-        t_seq: 50,
-        expected: u64::from(u32::MAX),
-        since: 0,
-        waiting,
-    };
-    let mut seen = Seen::new();
-    for (seq, event) in [
-        (u32::MAX - 1, RedEvent::Old),
-        (u32::MAX, RedEvent::Passed),
-        (u32::MAX, RedEvent::Old),
-        (u32::MAX - 1, RedEvent::Old),
-        (0, RedEvent::Old),
-        (1, RedEvent::Old),
-    ] {
-        assert_eq!(rt;
-            layer.arrive(&datagram(seq), 60, &mut seen),
-            event,
-            "number {seq}"
-        );
-    }
-    assert_eq!(rt; seen.numbers.as_slice(), [u32::MAX].as_slice());
-    assert_eq!(rt; layer.deadline(), None);
-    Ok(())
-}
-
 #[test]
 fn numbers_count_from_zero(rt: HostRuntime) -> Result<(), Fail> {
     let mut numbers = Numbers::new();
-    assert_eq!(rt; numbers.next(), 0);
-    assert_eq!(rt; numbers.next(), 1);
-    assert_eq!(rt; numbers.next(), 2);
+    assert_equal(&rt, numbers.next(), 0);
+    assert_equal(&rt, numbers.next(), 1);
+    assert_equal(&rt, numbers.next(), 2);
     Ok(())
 }
 
@@ -185,7 +156,7 @@ fn numbers_count_from_zero(rt: HostRuntime) -> Result<(), Fail> {
 fn opens_at_each_q(rt: HostRuntime) -> Result<(), Fail> {
     for q in 1..9 {
         let layer = RedLayer::open(rt.alloc(), RedConfig { q, t_seq: 50 })?;
-        assert_eq!(rt; layer.deadline(), None, "at {q}");
+        assert_equal_at(&rt, q, layer.deadline(), None);
     }
     Ok(())
 }
