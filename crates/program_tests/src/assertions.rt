@@ -1,4 +1,4 @@
-//! Assertions as functions. The check proves an `assert_eq!` anew at each use; a call takes a tenth of that time.
+//! Assertions as functions: the check proves each `assert_eq!` by itself, and a call takes a tenth of that time.
 
 ghost use Rattle.std.specs.Prelude.{◌≡◌, true};
 
