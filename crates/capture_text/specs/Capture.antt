@@ -13,11 +13,14 @@ use Rattle.capture.specs.Lines.{line_of}
 use Rattle.capture.specs.Numbers.{counted}
 use Rattle.capture_text.specs.declared.course.Asked.{Asked}
 use Rattle.capture_text.specs.declared.course.Course.{Course}
+use Rattle.capture_text.specs.declared.course.Unfollowed.{Unfollowed}
 use Rattle.capture_text.specs.declared.frames.FrameFault.{FrameFault}
 use Rattle.capture_text.specs.declared.frames.Seen.{Seen}
+use Rattle.capture_text.specs.declared.passed.PassedOver.{PassedOver}
 use Rattle.capture_text.specs.FaultText.{fault_text, frame_text, recording_text}
 use Rattle.capture_text.specs.FrameSteps.{connections_seen, damaged_seen, datagrams_seen, fault_seen, first_seen, forgotten_seen, frame_seen, gone_seen, seen_text, unreadable_seen}
 use Rattle.capture_text.specs.Lines.{is_long}
+use Rattle.capture_text.specs.Passing.{passed_behind, passed_within}
 use Rattle.capture_text.specs.Steps.{connections_behind, damaged_behind, datagrams_behind, fault_in, fault_lines, first_behind, forgotten_behind, found_in, found_text, gone_behind, heard_line, payload_in, unreadable_behind, without_end}
 
 -- The state of a capture that is being read.
@@ -30,6 +33,7 @@ pub record Read : Type 0 where
   pub gone : Totals  -- sums over the connections that were forgotten
   pub damaged : ℕ  -- datagrams that are not a PDU
   pub forgotten : ℕ  -- connections that were forgotten
+  pub passed : PassedOver  -- frames and lines that were passed over, by kind
 
 -- The state that a course has.
 abbrev pub read_by : Course → Read
@@ -43,10 +47,11 @@ read_by c =
       gone = c.following.gone;
       damaged = c.following.damaged;
       forgotten = c.following.forgotten;
+      passed = c.passed;
     }
 
 -- The remark on the text of the next line.
-abbrev pub seen_in : Asked → Read → List ℕ → Result (Option (Record × Remark)) LineFault
+abbrev pub seen_in : Asked → Read → List ℕ → Result (Record × Remark) Unfollowed
 seen_in a r text = found_in r.connections (counted r.lines 1) (heard_line a (line_of text))
 
 -- The state after the text of a line.
@@ -61,6 +66,7 @@ with_text a r text =
       gone = gone_behind r.gone r.connections (heard_line a (line_of text));
       damaged = damaged_behind r.damaged (heard_line a (line_of text));
       forgotten = forgotten_behind r.forgotten r.connections (heard_line a (line_of text));
+      passed = passed_behind r.passed (heard_line a (line_of text));
     }
 
 -- The state after a line that is too long.
@@ -114,6 +120,7 @@ with_seen a r octets seen =
       gone = gone_seen a.rule r.gone r.connections octets seen;
       damaged = damaged_seen a.rule r.damaged octets seen;
       forgotten = forgotten_seen a.rule r.forgotten r.connections octets seen;
+      passed = passed_within r.passed seen;
     }
 
 -- The state after a frame.
@@ -149,6 +156,7 @@ is_whole_at part.Section size = false
 is_whole_at (part.Order octets) size = false
 is_whole_at (part.Opening big whole) size = false
 is_whole_at (part.Rest big kind whole) size = false
+is_whole_at (part.Skipped big left whole) size = false
 
 -- The state after the end of a recording, of whose next part this many bytes came.
 abbrev pub ended_at : FilePart → ℕ → Read → Read

@@ -10,6 +10,7 @@ pub mod SummaryText
 pub mod Json
 pub mod FaultText
 pub mod Telegrams
+pub mod Passing
 pub mod Steps
 pub mod FrameSteps
 pub mod Lines

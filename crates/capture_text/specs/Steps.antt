@@ -19,6 +19,10 @@ use Rattle.capture_text.specs.RecordText.{record_text}
 use Rattle.capture_text.specs.SummaryText.{summary_text}
 use Rattle.capture_text.specs.Telegrams.{telegram_lines}
 use Rattle.capture_text.specs.declared.course.Asked.{Asked}
+use Rattle.capture_text.specs.declared.course.Unfollowed.{Unfollowed}
+use Rattle.capture_text.specs.declared.course.Unfollowed.TheVariants.{Chosen, Fault}
+use Rattle.capture_text.specs.declared.frames.Skipped.TheVariants.{Port}
+use Rattle.capture_text.specs.declared.passed.PassedOver.{PassedOver}
 use Rattle.capture_text.specs.declared.course.OutputForm.{OutputForm}
 use Rattle.capture_text.specs.declared.course.OutputForm.TheVariants.{Lines, Json}
 use Rattle.capture_text.specs.declared.summary.CaptureCounts.{CaptureCounts}
@@ -28,14 +32,14 @@ use Rattle.capture_text.specs.declared.summary.Scale.{Scale}
 abbrev pub record_of : Line → Record
 record_of l = record { time = l.time; source = l.source; destination = l.destination; size = length l.payload }
 
--- A datagram with its decoding; nothing if it has no chosen port.
-abbrev pub heard_chosen : Asked → Record → List ℕ → Option (Record × Heard)
-heard_chosen a r octets = if is_chosen a.ports r then Some (r, heard_of a.rule octets) else None
+-- A datagram with its decoding, if it has a chosen port.
+abbrev pub heard_chosen : Asked → Record → List ℕ → Result (Record × Heard) Unfollowed
+heard_chosen a r octets = if is_chosen a.ports r then Ok (r, heard_of a.rule octets) else Err (Chosen Port)
 
--- The decoded datagram of a line, or the fault of the line.
-abbrev pub heard_line : Asked → Result Line LineFault → Result (Option (Record × Heard)) LineFault
-heard_line a (Ok l) = Ok (heard_chosen a (record_of l) l.payload)
-heard_line a (Err fault) = Err fault
+-- The decoded datagram of a line, or why none is followed.
+abbrev pub heard_line : Asked → Result Line LineFault → Result (Record × Heard) Unfollowed
+heard_line a (Ok l) = heard_chosen a (record_of l) l.payload
+heard_line a (Err fault) = Err (Fault fault)
 
 -- The payload of a line; empty if it is not a datagram.
 abbrev pub payload_in : Result Line LineFault → List ℕ
@@ -43,40 +47,34 @@ payload_in (Ok l) = l.payload
 payload_in (Err fault) = []
 
 -- The remark on the datagram of a line.
-abbrev pub found_in : List Connection → ℕ → Result (Option (Record × Heard)) LineFault → Result (Option (Record × Remark)) LineFault
-found_in cs number (Ok (Some h)) = Ok (Some (h.0, remark_of cs number h.0 h.1))
-found_in cs number (Ok None) = Ok None
-found_in cs number (Err fault) = Err fault
+abbrev pub found_in : List Connection → ℕ → Result (Record × Heard) Unfollowed → Result (Record × Remark) Unfollowed
+found_in cs number (Ok h) = Ok (h.0, remark_of cs number h.0 h.1)
+found_in cs number (Err why) = Err why
 
 -- The connections after a line; one that is not a datagram, or is passed over, changes nothing.
-abbrev pub connections_behind : List Connection → ℕ → Result (Option (Record × Heard)) LineFault → List Connection
-connections_behind cs number (Ok (Some h)) = connections_after cs number h.0 h.1
-connections_behind cs number (Ok None) = cs
-connections_behind cs number (Err fault) = cs
+abbrev pub connections_behind : List Connection → ℕ → Result (Record × Heard) Unfollowed → List Connection
+connections_behind cs number (Ok h) = connections_after cs number h.0 h.1
+connections_behind cs number (Err why) = cs
 
 -- The count of datagrams after a line.
-abbrev pub datagrams_behind : ℕ → Result (Option (Record × Heard)) LineFault → ℕ
-datagrams_behind datagrams (Ok (Some h)) = counted datagrams 1
-datagrams_behind datagrams (Ok None) = datagrams
-datagrams_behind datagrams (Err fault) = datagrams
+abbrev pub datagrams_behind : ℕ → Result (Record × Heard) Unfollowed → ℕ
+datagrams_behind datagrams (Ok h) = counted datagrams 1
+datagrams_behind datagrams (Err why) = datagrams
 
 -- The sums of forgotten connections after a line.
-abbrev pub gone_behind : Totals → List Connection → Result (Option (Record × Heard)) LineFault → Totals
-gone_behind gone cs (Ok (Some h)) = gone_after gone cs h.1
-gone_behind gone cs (Ok None) = gone
-gone_behind gone cs (Err fault) = gone
+abbrev pub gone_behind : Totals → List Connection → Result (Record × Heard) Unfollowed → Totals
+gone_behind gone cs (Ok h) = gone_after gone cs h.1
+gone_behind gone cs (Err why) = gone
 
 -- The count of damaged datagrams after a line.
-abbrev pub damaged_behind : ℕ → Result (Option (Record × Heard)) LineFault → ℕ
-damaged_behind damaged (Ok (Some h)) = damaged_after damaged h.1
-damaged_behind damaged (Ok None) = damaged
-damaged_behind damaged (Err fault) = damaged
+abbrev pub damaged_behind : ℕ → Result (Record × Heard) Unfollowed → ℕ
+damaged_behind damaged (Ok h) = damaged_after damaged h.1
+damaged_behind damaged (Err why) = damaged
 
 -- The count of forgotten connections after a line.
-abbrev pub forgotten_behind : ℕ → List Connection → Result (Option (Record × Heard)) LineFault → ℕ
-forgotten_behind forgotten cs (Ok (Some h)) = forgotten_after forgotten cs h.1
-forgotten_behind forgotten cs (Ok None) = forgotten
-forgotten_behind forgotten cs (Err fault) = forgotten
+abbrev pub forgotten_behind : ℕ → List Connection → Result (Record × Heard) Unfollowed → ℕ
+forgotten_behind forgotten cs (Ok h) = forgotten_after forgotten cs h.1
+forgotten_behind forgotten cs (Err why) = forgotten
 
 -- The time of the first datagram.
 abbrev pub first_of : Option ℕ → ℕ → ℕ
@@ -106,33 +104,38 @@ told_text a first number r m octets =
     if is_line_told a m then record_text (scale_from a first) number r m ++ asked_telegrams a octets else []
 
 -- What is printed of a line.
-abbrev pub found_text : Asked → Option ℕ → ℕ → List ℕ → Result (Option (Record × Remark)) LineFault → List ℕ
-found_text a first number octets (Ok (Some f)) = told_text a (first_of first f.0.time) number f.0 f.1 octets
-found_text a first number octets (Ok None) = []
-found_text a first number octets (Err fault) = []
+abbrev pub found_text : Asked → Option ℕ → ℕ → List ℕ → Result (Record × Remark) Unfollowed → List ℕ
+found_text a first number octets (Ok f) = told_text a (first_of first f.0.time) number f.0 f.1 octets
+found_text a first number octets (Err why) = []
 
 -- The time of the first datagram after a line.
-abbrev pub first_behind : Option ℕ → Result (Option (Record × Remark)) LineFault → Option ℕ
-first_behind first (Ok (Some f)) = Some (first_of first f.0.time)
-first_behind first (Ok None) = first
-first_behind first (Err fault) = first
+abbrev pub first_behind : Option ℕ → Result (Record × Remark) Unfollowed → Option ℕ
+first_behind first (Ok f) = Some (first_of first f.0.time)
+first_behind first (Err why) = first
 
 -- The count of unreadable lines after a line.
-abbrev pub unreadable_behind : ℕ → Result (Option (Record × Remark)) LineFault → ℕ
-unreadable_behind unreadable (Ok (Some f)) = unreadable
-unreadable_behind unreadable (Ok None) = unreadable
-unreadable_behind unreadable (Err fault) = counted unreadable 1
+abbrev pub unreadable_behind : ℕ → Result (Record × Remark) Unfollowed → ℕ
+unreadable_behind unreadable (Ok f) = unreadable
+unreadable_behind unreadable (Err (Fault fault)) = counted unreadable 1
+unreadable_behind unreadable (Err (Chosen why)) = unreadable
 
 -- The fault of a line that is not a datagram.
-abbrev pub fault_in : Result (Option (Record × Remark)) LineFault → Option LineFault
-fault_in (Ok (Some f)) = None
-fault_in (Ok None) = None
-fault_in (Err fault) = Some fault
+abbrev pub fault_in : Result (Record × Remark) Unfollowed → Option LineFault
+fault_in (Ok f) = None
+fault_in (Err (Fault fault)) = Some fault
+fault_in (Err (Chosen why)) = None
 
 -- The counts of a course.
-abbrev pub counts_of : ℕ → ℕ → ℕ → ℕ → CaptureCounts
-counts_of datagrams damaged forgotten unreadable =
-    record { datagrams = datagrams; damaged = damaged; forgotten = forgotten; unreadable = unreadable }
+abbrev pub counts_of : ℕ → ℕ → ℕ → ℕ → ℕ → PassedOver → CaptureCounts
+counts_of datagrams damaged forgotten unreadable frames passed =
+    record {
+      datagrams = datagrams;
+      damaged = damaged;
+      forgotten = forgotten;
+      unreadable = unreadable;
+      frames = frames;
+      passed = passed;
+    }
 
 -- The sums in this form.
 abbrev pub sums_in : OutputForm → Scale → List Connection → Totals → CaptureCounts → List ℕ

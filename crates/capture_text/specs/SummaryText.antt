@@ -17,6 +17,7 @@ use Rattle.capture_text.specs.declared.summary.Scale.{Scale}
 use Rattle.capture_text.specs.declared.summary.CaptureCounts.{CaptureCounts}
 use Rattle.pdu_text.specs.Lines.{joined}
 use Rattle.capture_text.specs.Pieces.{address_text, channel_text, duration_text, ends_text, reached_text, since_text}
+use Rattle.capture_text.specs.Passing.{passed_lines}
 use Rattle.capture_text.specs.Reasons.{leaving_words}
 use Rattle.capture_text.specs.Sentence.{sentence_text}
 use Rattle.capture_text.specs.TableText.{sessions_text}
@@ -159,4 +160,4 @@ all_text t c = came_text c.datagrams ++ totals_text t ++ counts_text c ++ codes 
 
 -- All lines of the sums.
 abbrev pub summary_text : Scale → List Connection → Totals → CaptureCounts → List ℕ
-summary_text s cs t c = connections_text s cs ++ all_text t c
+summary_text s cs t c = connections_text s cs ++ passed_lines c.passed ++ all_text t c

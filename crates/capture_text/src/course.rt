@@ -7,10 +7,13 @@ ghost use Rattle.capture.specs.Lines.{line_of};
 ghost use Rattle.capture.specs.Numbers.{counted};
 ghost use Rattle.capture.specs.Whole.{connections_after, damaged_after, forgotten_after, gone_after, no_totals, remark_of};
 ghost use Rattle.capture_text.specs.FaultText.{fault_text, fault_word};
+ghost use Rattle.capture_text.specs.Passing.{no_passed, passed_behind};
 ghost use Rattle.capture_text.specs.Steps.{asked_telegrams, connections_behind, counts_of, course_text, damaged_behind, datagrams_behind, fault_in, first_behind, first_of, forgotten_behind, found_in, found_text, gone_behind, heard_chosen, heard_line, is_line_told, payload_in, told_text, unreadable_behind};
 
 use crate::choice::{Remarkable, is_wanted};
+use crate::frames::Skipped;
 use crate::json::write_json;
+use crate::passed::PassedOver;
 use crate::record::write_record;
 use crate::summary::{CaptureCounts, Scale, write_summary};
 use crate::telegrams::write_telegrams;
@@ -49,6 +52,15 @@ pub struct Asked {
     pub form: OutputForm,
 }
 
+/// Why no datagram of a line is followed.
+#[derive(Clone, Copy, Debug, PartialEq, Eq)]
+pub(crate) enum Unfollowed {
+    /// The line is not a datagram.
+    Fault(LineFault),
+    /// Its datagram is passed over.
+    Chosen(Skipped),
+}
+
 /// The state of a capture that is being read.
 #[derive(Drop)]
 pub struct Course {
@@ -60,6 +72,8 @@ pub struct Course {
     pub lines: u64,
     /// How many of them were not a datagram.
     pub unreadable: u64,
+    /// How many of them were passed over, by kind.
+    pub passed: PassedOver,
 }
 
 impl Course {
@@ -85,12 +99,15 @@ impl Course {
         ensures lines { IfOk result (λ course. course.lines ≡ 0) }
         // A new `Course` has no unreadable line.
         ensures unreadable { IfOk result (λ course. course.unreadable ≡ 0) }
+        // A new `Course` has passed over nothing.
+        ensures passed { IfOk result (λ course. course.passed ≡ no_passed) }
     {
         Ok(Course {
             following: Following::new(alloc)?,
             first: None,
             lines: 0,
             unreadable: 0,
+            passed: PassedOver::new(),
         })
     }
 
@@ -139,6 +156,8 @@ impl Course {
         ensures forgotten { self.new.following.forgotten
             ≡ forgotten_behind self.old.following.forgotten self.old.following.connections
             (heard_line asked.now (line_of line.now)) }
+        // A datagram without a chosen port is counted as passed over; any other line is not.
+        ensures passed { self.new.passed ≡ passed_behind self.old.passed (heard_line asked.now (line_of line.now)) }
         // The result is the fault of a line that is not a datagram, and `None` for any other line.
         ensures fault { IfOk result (λ fault. fault ≡ fault_in
             (found_in self.old.following.connections (counted self.old.lines 1)
@@ -152,6 +171,7 @@ impl Course {
     {
         self.lines = self.lines.saturating_add(1);
         let (size, heard) = hear_line(asked, line, buffer);
+        pass_line(&mut self.passed, &heard);
         let found = follow(&mut self.following, self.lines, heard);
         self.tell(asked, found, &buffer[..size], writer)
     }
@@ -160,6 +180,8 @@ impl Course {
     pub fn pass_long(&mut self)
         // A line that is too long changes nothing in the connections and their counts.
         ensures following { self.new.following ≡ self.old.following }
+        // A line that is too long is not counted as passed over.
+        ensures passed { self.new.passed ≡ self.old.passed }
         // A line that is too long does not set the time of the first datagram.
         ensures first { self.new.first ≡ self.old.first }
         // A line that is too long is counted as a line.
@@ -176,12 +198,14 @@ impl Course {
     fn tell<W: Write>(
         &mut self,
         asked: &Asked,
-        found: Result<Option<(Record, Remark)>, LineFault>,
+        found: Result<(Record, Remark), Unfollowed>,
         datagram: &[u8],
         writer: &mut W,
     ) -> io::Result<Option<LineFault>>
         // Printing changes nothing in the connections and their counts.
         ensures following { self.new.following ≡ self.old.following }
+        // Printing does not count what is passed over.
+        ensures passed { self.new.passed ≡ self.old.passed }
         // Printing does not count a line.
         ensures lines { self.new.lines ≡ self.old.lines }
         // A datagram that was `found` sets the time of the first one, if that is not set.
@@ -196,14 +220,14 @@ impl Course {
             (found_text asked.now self.old.first self.old.lines datagram.now found)) }
     {
         match found {
-            Ok(None) => Ok(None),
-            Ok(Some((record, remark))) => {
+            Ok((record, remark)) => {
                 let first = start(self.first, record.time);
                 self.first = Some(first);
                 write_wanted(writer, asked, first, self.lines, &record, &remark, datagram)?;
                 Ok(None)
             }
-            Err(fault) => {
+            Err(Unfollowed::Chosen(_)) => Ok(None),
+            Err(Unfollowed::Fault(fault)) => {
                 self.unreadable = self.unreadable.saturating_add(1);
                 Ok(Some(fault))
             }
@@ -221,7 +245,7 @@ impl Course {
         ensures { OnOk result (Appends (W.contents writer.old) (W.contents writer.new)
             (course_text asked.now self.now.first self.now.following.gone self.now.following.connections
             (counts_of self.now.following.datagrams self.now.following.damaged self.now.following.forgotten
-            self.now.unreadable))) }
+            self.now.unreadable self.now.lines self.now.passed))) }
     {
         let scale = Scale {
             first: start(self.first, 0),
@@ -232,6 +256,8 @@ impl Course {
             damaged: self.following.damaged,
             forgotten: self.following.forgotten,
             unreadable: self.unreadable,
+            frames: self.lines,
+            passed: self.passed,
         };
         let connections = self.following.connections.as_slice();
         let gone = self.following.gone;
@@ -258,9 +284,8 @@ fn hear_line(
     asked: &Asked,
     line: &[u8],
     buffer: &mut Buffer,
-) -> (usize, Result<Option<(Record, Heard)>, LineFault>)
-    // The second result is the decoded datagram of the line if it is followed, or the fault of the line
-    // (`heard_line`).
+) -> (usize, Result<(Record, Heard), Unfollowed>)
+    // The second result is the decoded datagram of the line, or the reason why none is followed (`heard_line`).
     ensures heard { result.1 ≡ heard_line asked.now (line_of line.now) }
     // The first bytes of the `buffer`, as many as the first result, are the payload of the line.
     ensures payload { take result.0 buffer.new ≡ payload_in (line_of line.now) }
@@ -270,30 +295,45 @@ fn hear_line(
     match read_line(line, buffer) {
         Ok(record) => {
             let heard = hear_chosen(asked, &record, &buffer[..record.size]);
-            (record.size, Ok(heard))
+            (record.size, heard)
         }
-        Err(fault) => (0, Err(fault)),
+        Err(fault) => (0, Err(Unfollowed::Fault(fault))),
+    }
+}
+
+/// Counts a line whose datagram is passed over.
+fn pass_line(passed: &mut PassedOver, heard: &Result<(Record, Heard), Unfollowed>)
+    // Only a datagram that is passed over is counted, by its kind (`passed_behind`).
+    ensures { passed.new ≡ passed_behind passed.old heard.now }
+{
+    match heard {
+        Ok(_) | Err(Unfollowed::Fault(_)) => {}
+        Err(Unfollowed::Chosen(why)) => passed.count_skipped(*why),
     }
 }
 
 /// Decodes a datagram if one of its ports is chosen.
-fn hear_chosen(asked: &Asked, record: &Record, octets: &[u8]) -> Option<(Record, Heard)>
-    // The result is the decoded datagram if it `is_chosen`, otherwise `None`.
+fn hear_chosen(
+    asked: &Asked,
+    record: &Record,
+    octets: &[u8],
+) -> Result<(Record, Heard), Unfollowed>
+    // The result is the decoded datagram if it `is_chosen`; any other is passed over.
     ensures { result ≡ heard_chosen asked.now «record».now octets.now }
 {
     if is_followed(&asked.ports, record) {
-        return Some((*record, hear(octets, &asked.rule)));
+        return Ok((*record, hear(octets, &asked.rule)));
     }
-    None
+    Err(Unfollowed::Chosen(Skipped::Port))
 }
 
 /// Adds the datagram of a line to the connections.
 fn follow(
     following: &mut Following,
     number: u64,
-    heard: Result<Option<(Record, Heard)>, LineFault>,
-) -> Result<Option<(Record, Remark)>, LineFault>
-    // The result is the remark on a datagram that is followed; a fault stays a fault (`found_in`).
+    heard: Result<(Record, Heard), Unfollowed>,
+) -> Result<(Record, Remark), Unfollowed>
+    // The result is the remark on a datagram that is followed; the reason for any other stays (`found_in`).
     ensures found { result ≡ found_in following.old.connections number heard }
     // Only a datagram that is followed changes the connections.
     ensures connections { following.new.connections
@@ -310,12 +350,11 @@ fn follow(
         ≡ forgotten_behind following.old.forgotten following.old.connections heard }
 {
     match heard {
-        Ok(Some((record, heard))) => {
+        Ok((record, heard)) => {
             let remark = following.hear(number, &record, &heard);
-            Ok(Some((record, remark)))
+            Ok((record, remark))
         }
-        Ok(None) => Ok(None),
-        Err(fault) => Err(fault),
+        Err(why) => Err(why),
     }
 }
 

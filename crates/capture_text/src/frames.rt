@@ -8,6 +8,7 @@ ghost use Rattle.capture.specs.Whole.{connections_after, damaged_after, forgotte
 ghost use Rattle.capture.specs.Frames.{found_in};
 ghost use Rattle.capture_text.specs.FaultText.{frame_text, frame_word};
 ghost use Rattle.capture_text.specs.FrameSteps.{connections_seen, damaged_seen, datagrams_seen, fault_seen, first_seen, forgotten_seen, frame_seen, gone_seen, payload_at, record_found, seen_found, seen_passed, seen_text, unreadable_seen, IsWithin};
+ghost use Rattle.capture_text.specs.Passing.{passed_within};
 ghost use Rattle.capture_text.specs.Steps.{first_of, told_text};
 
 use crate::course::{Asked, Course, start, write_wanted};
@@ -28,13 +29,26 @@ pub enum FrameFault {
     Length,
 }
 
+/// Why a frame or a line is passed over without a fault.
+#[derive(Clone, Copy, Debug, PartialEq, Eq)]
+pub(crate) enum Skipped {
+    /// Its datagram has no chosen port.
+    Port,
+    /// It carries no IP packet.
+    NoIp,
+    /// Its packet carries something other than UDP.
+    NoUdp,
+    /// Its packet carries another one that is not read.
+    Tunnel,
+}
+
 /// The datagram of a frame.
 #[derive(Clone, Copy, Debug, PartialEq, Eq)]
 pub(crate) enum Seen {
     /// A datagram, with the places of its payload in the frame.
     Datagram(Record, usize, usize),
-    /// Something other than UDP over IP, or a datagram without a chosen port.
-    Other,
+    /// Something that is not followed.
+    Other(Skipped),
     /// A datagram that is not read.
     Unread(FrameFault),
 }
@@ -83,6 +97,8 @@ impl Course {
         ensures forgotten { self.new.following.forgotten
             ≡ forgotten_seen asked.now.rule self.old.following.forgotten self.old.following.connections octets.now
             (frame_seen asked.now.ports link time octets.now) }
+        // A frame without a followed datagram adds 1 to the count of its kind; any other changes none (`passed_within`).
+        ensures passed { self.new.passed ≡ passed_within self.old.passed (frame_seen asked.now.ports link time octets.now) }
         // The result is the fault of a frame that is not read, and `None` for any other frame.
         ensures fault { IfOk result (λ fault. fault ≡ fault_seen (frame_seen asked.now.ports link time octets.now)) }
         // On success the line and telegrams of a followed datagram are appended, as far as they are asked for; for
@@ -92,8 +108,10 @@ impl Course {
             (frame_seen asked.now.ports link time octets.now))) }
     {
         self.lines = self.lines.saturating_add(1);
-        match look(&asked.ports, link, time, octets) {
-            Seen::Other => Ok(None),
+        let seen = look(&asked.ports, link, time, octets);
+        self.passed.count_frame(&seen);
+        match seen {
+            Seen::Other(_) => Ok(None),
             Seen::Unread(fault) => {
                 self.unreadable = self.unreadable.saturating_add(1);
                 Ok(Some(fault))
@@ -115,6 +133,8 @@ impl Course {
     ) -> io::Result<()>
         // The datagram itself is not counted as a line.
         ensures lines { self.new.lines ≡ self.old.lines }
+        // The datagram is not counted as passed over.
+        ensures passed { self.new.passed ≡ self.old.passed }
         // The datagram is not counted as unreadable.
         ensures unreadable { self.new.unreadable ≡ self.old.unreadable }
         // The time of the first datagram is set if there was none.
@@ -168,7 +188,7 @@ fn look(ports: &Option<Ports>, link: Option<Link>, time: u64, octets: &[u8]) -> 
                 if is_followed(ports, &record) {
                     return Seen::Datagram(record, found.start, found.end);
                 }
-                Seen::Other
+                Seen::Other(Skipped::Port)
             }
             Err(why) => pass(why),
         },
@@ -197,7 +217,9 @@ fn pass(why: Passed) -> Seen
     ensures within { IsWithin 0 result }
 {
     match why {
-        Passed::Other => Seen::Other,
+        Passed::NoIp => Seen::Other(Skipped::NoIp),
+        Passed::NoUdp => Seen::Other(Skipped::NoUdp),
+        Passed::Tunnel => Seen::Other(Skipped::Tunnel),
         Passed::Truncated => Seen::Unread(FrameFault::Truncated),
         Passed::Fragment => Seen::Unread(FrameFault::Fragment),
         Passed::Length => Seen::Unread(FrameFault::Length),

@@ -104,7 +104,7 @@ fn follow_input<R: Read + Drop, O: Write, E: Write>(
             follow_frames(
                 alloc,
                 &mut rest,
-                recording,
+                &mut recording,
                 asked,
                 &mut course,
                 &mut writer,
@@ -279,13 +279,12 @@ fn follow_line<W: Write, E: Write>(
 fn follow_frames<R: Read + Drop, W: Write, E: Write, A: Allocator + Copy>(
     alloc: A,
     reader: &mut BufReader<R, A>,
-    recording: Recording,
+    recording: &mut Recording,
     asked: &Asked,
     course: &mut Course,
     writer: &mut W,
     err: &mut E,
 ) -> Result<(), Stop> {
-    let mut recording = recording;
     let mut block = Vec::new(alloc);
     for _ in 0..u64::MAX {
         if reader.buffer().is_empty() {
@@ -487,7 +486,8 @@ fn is_whole(part: FilePart, size: usize) -> bool
         | FilePart::Section
         | FilePart::Order(_)
         | FilePart::Opening(_, _)
-        | FilePart::Rest(_, _, _) => false,
+        | FilePart::Rest(_, _, _)
+        | FilePart::Skipped(_, _, _) => false,
     }
 }
 

@@ -8,6 +8,7 @@ ghost use Rattle.capture_text.specs.SummaryText.{all_text, came_text, connection
 use crate::pieces::{
     channel_name, reached, write_address, write_duration, write_ends, write_since,
 };
+use crate::passed::{PassedOver, write_passed};
 use crate::reasons::write_reasons;
 use crate::sentence::write_sentence;
 use crate::table::write_sessions;
@@ -40,10 +41,15 @@ pub struct CaptureCounts {
     pub forgotten: u64,
     /// Lines or frames that were not a datagram.
     pub unreadable: u64,
+    /// Lines or frames that were read.
+    pub frames: u64,
+    /// Lines or frames that were passed over, by kind.
+    pub passed: PassedOver,
 }
 
 /// Writes the sums: for each connection a line for each direction, with one for each of its channels, one for each of
-/// its last sessions, and a sentence; then a line for all, with the forgotten ones (`gone`).
+/// its last sessions, and a sentence; then one for what was passed over, if anything was, and a line for all, with the
+/// forgotten ones (`gone`).
 ///
 /// # Errors
 ///
@@ -56,11 +62,12 @@ pub fn write_summary<W: Write>(
     counts: CaptureCounts,
 ) -> io::Result<()>
     // On success the lines of each connection, with its directions, channels, sessions and sentence, are appended,
-    // then one line for all (`summary_text`).
+    // then one line for what was passed over, and one for all (`summary_text`).
     ensures { OnOk result (Appends (W.contents writer.old) (W.contents writer.new)
         (summary_text scale connections.now (totals_of gone connections.now) counts)) }
 {
     write_connections(writer, scale, connections)?;
+    write_passed(writer, &counts.passed)?;
     write_all(writer, sum_up(gone, connections), counts)?;
     Ok(())
 }
