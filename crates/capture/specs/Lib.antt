@@ -14,3 +14,4 @@ pub mod Wrappings
 pub mod Frames
 pub mod Times
 pub mod Recordings
+pub mod Instants

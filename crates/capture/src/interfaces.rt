@@ -209,7 +209,7 @@ fn decimal(power: u8, ticks: u64) -> u64
 }
 
 /// Returns a power of ten, up to the 13th.
-fn ten_to_the(power: u8) -> u64
+pub(crate) fn ten_to_the(power: u8) -> u64
     // The result is 10 to the `power`; from 13 on it is always 10^13.
     ensures { result ≡ ten_to power }
 {

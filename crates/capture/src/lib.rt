@@ -13,6 +13,7 @@ mod file;
 mod following;
 mod frame;
 mod heard;
+mod instants;
 mod interfaces;
 mod law;
 mod line;
@@ -36,6 +37,7 @@ pub use file::{
 pub use following::{Following, Remark, Totals, sum_up};
 pub use frame::{Found, Link, Passed, find_datagram};
 pub use heard::{Header, Heard, hear};
+pub use instants::{Instant, Span, is_between, read_instant};
 pub use interfaces::{Interface, TimeOffset};
 pub use law::sums_law;
 pub use line::{Address, Buffer, Host, LineFault, PAYLOAD_ROOM, Record, read_line};

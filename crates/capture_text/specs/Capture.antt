@@ -52,7 +52,7 @@ read_by c =
 
 -- The remark on the text of the next line.
 abbrev pub seen_in : Asked → Read → List ℕ → Result (Record × Remark) Unfollowed
-seen_in a r text = found_in r.connections (counted r.lines 1) (heard_line a (line_of text))
+seen_in a r text = found_in r.connections (counted r.lines 1) (heard_line a r.first (line_of text))
 
 -- The state after the text of a line.
 abbrev pub with_text : Asked → Read → List ℕ → Read
@@ -61,12 +61,12 @@ with_text a r text =
       lines = counted r.lines 1;
       first = first_behind r.first (seen_in a r text);
       unreadable = unreadable_behind r.unreadable (seen_in a r text);
-      connections = connections_behind r.connections (counted r.lines 1) (heard_line a (line_of text));
-      datagrams = datagrams_behind r.datagrams (heard_line a (line_of text));
-      gone = gone_behind r.gone r.connections (heard_line a (line_of text));
-      damaged = damaged_behind r.damaged (heard_line a (line_of text));
-      forgotten = forgotten_behind r.forgotten r.connections (heard_line a (line_of text));
-      passed = passed_behind r.passed (heard_line a (line_of text));
+      connections = connections_behind r.connections (counted r.lines 1) (heard_line a r.first (line_of text));
+      datagrams = datagrams_behind r.datagrams (heard_line a r.first (line_of text));
+      gone = gone_behind r.gone r.connections (heard_line a r.first (line_of text));
+      damaged = damaged_behind r.damaged (heard_line a r.first (line_of text));
+      forgotten = forgotten_behind r.forgotten r.connections (heard_line a r.first (line_of text));
+      passed = passed_behind r.passed (heard_line a r.first (line_of text));
     }
 
 -- The state after a line that is too long.
@@ -125,12 +125,12 @@ with_seen a r octets seen =
 
 -- The state after a frame.
 abbrev pub with_frame : Asked → Read → Option Link → ℕ → List ℕ → Read
-with_frame a r link time octets = with_seen a r octets (frame_seen a.ports link time octets)
+with_frame a r link time octets = with_seen a r octets (frame_seen a r.first link time octets)
 
 -- What is printed of a frame.
 abbrev pub frame_printed : Asked → Read → Option Link → ℕ → List ℕ → List ℕ
 frame_printed a r link time octets =
-    seen_text a r.first r.connections (counted r.lines 1) octets (frame_seen a.ports link time octets)
+    seen_text a r.first r.connections (counted r.lines 1) octets (frame_seen a r.first link time octets)
 
 -- The line of a frame's fault, if it has one.
 abbrev pub frame_fault_text : ℕ → Option FrameFault → List ℕ
@@ -139,7 +139,7 @@ frame_fault_text number (Some fault) = frame_text number fault
 
 -- The fault that is reported of a frame.
 abbrev pub frame_told : Asked → Read → Option Link → ℕ → List ℕ → List ℕ
-frame_told a r link time octets = frame_fault_text (counted r.lines 1) (fault_seen (frame_seen a.ports link time octets))
+frame_told a r link time octets = frame_fault_text (counted r.lines 1) (fault_seen (frame_seen a r.first link time octets))
 
 -- The state after a recording that cannot go on: what was read stays, and one more is unreadable.
 abbrev pub broken_off : Read → Read

@@ -4,22 +4,21 @@ use Rattle.safe_pdu.specs.declared.CodeRule.{CodeRule}
 use Rattle.capture.specs.declared.connections.Connection.{Connection}
 use Rattle.capture.specs.declared.following.Totals.{Totals}
 use Rattle.capture.specs.declared.line.Record.{Record}
-use Rattle.capture.specs.declared.ports.PortRange.{PortRange}
 use Rattle.capture.specs.Hearing.{heard_of}
 use Rattle.capture.specs.Numbers.{counted}
-use Rattle.capture.specs.Ports.{is_chosen}
 use Rattle.capture.specs.Whole.{connections_after, damaged_after, forgotten_after, gone_after, remark_of}
 use Rattle.capture.specs.declared.frame.Found.{Found}
 use Rattle.capture.specs.declared.frame.Link.{Link}
 use Rattle.capture.specs.declared.frame.Passed.{Passed}
 use Rattle.capture.specs.declared.frame.Passed.TheVariants as passed
 use Rattle.capture.specs.Frames.{found_in}
-use Rattle.capture_text.specs.Steps.{first_of, told_text}
+use Rattle.capture_text.specs.Steps.{first_of, first_skipped, skipped_by, told_text}
 use Rattle.capture_text.specs.declared.course.Asked.{Asked}
 use Rattle.capture_text.specs.declared.frames.FrameFault.{FrameFault}
 use Rattle.capture_text.specs.declared.frames.FrameFault.TheVariants.{Link as UnknownLink, Truncated, Fragment, Length}
 use Rattle.capture_text.specs.declared.frames.Seen.{Seen}
-use Rattle.capture_text.specs.declared.frames.Skipped.TheVariants.{Port, NoIp, NoUdp, Tunnel}
+use Rattle.capture_text.specs.declared.frames.Skipped.{Skipped}
+use Rattle.capture_text.specs.declared.frames.Skipped.TheVariants.{NoIp, NoUdp, Tunnel}
 use Rattle.capture_text.specs.declared.frames.Seen.TheVariants.{Datagram, Other, Unread}
 
 -- The record of a datagram that was found in a frame.
@@ -36,19 +35,24 @@ seen_passed passed.Truncated = Unread Truncated
 seen_passed passed.Fragment = Unread Fragment
 seen_passed passed.Length = Unread Length
 
--- A datagram without a chosen port is passed over, too.
-abbrev pub seen_chosen : Option (List (Option PortRange)) → Record → ℕ → ℕ → Seen
-seen_chosen ports r start end = if is_chosen ports r then Datagram r start end else Other Port
+-- A datagram, or why it is passed over.
+abbrev pub seen_if : Option Skipped → Record → ℕ → ℕ → Seen
+seen_if None r start end = Datagram r start end
+seen_if (Some why) r start end = Other why
+
+-- A datagram that is not followed is passed over, too.
+abbrev pub seen_chosen : Asked → Option ℕ → Record → ℕ → ℕ → Seen
+seen_chosen a first r start end = seen_if (skipped_by a first r) r start end
 
 -- The datagram that was found, or the reason for none.
-abbrev pub seen_found : Option (List (Option PortRange)) → ℕ → Result Found Passed → Seen
-seen_found ports time (Ok f) = seen_chosen ports (record_found time f) f.start f.end
-seen_found ports time (Err why) = seen_passed why
+abbrev pub seen_found : Asked → Option ℕ → ℕ → Result Found Passed → Seen
+seen_found a first time (Ok f) = seen_chosen a first (record_found time f) f.start f.end
+seen_found a first time (Err why) = seen_passed why
 
 -- The datagram of a frame, if there is one that is followed.
-abbrev pub frame_seen : Option (List (Option PortRange)) → Option Link → ℕ → List ℕ → Seen
-frame_seen ports None time octets = Unread UnknownLink
-frame_seen ports (Some link) time octets = seen_found ports time (found_in link octets)
+abbrev pub frame_seen : Asked → Option ℕ → Option Link → ℕ → List ℕ → Seen
+frame_seen a first None time octets = Unread UnknownLink
+frame_seen a first (Some link) time octets = seen_found a first time (found_in link octets)
 
 -- A payload is within this many bytes.
 abbrev pub IsWithin : ℕ → Seen → Type 0
@@ -115,5 +119,5 @@ unreadable_seen unreadable (Unread fault) = counted unreadable 1
 -- The time of the first datagram after a frame.
 abbrev pub first_seen : Option ℕ → Seen → Option ℕ
 first_seen first (Datagram r start end) = Some (first_of first r.time)
-first_seen first (Other why) = first
+first_seen first (Other why) = first_skipped first why
 first_seen first (Unread fault) = first

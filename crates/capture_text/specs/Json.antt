@@ -224,7 +224,7 @@ connections_json (c ∷ cs) = connection_json c ++ more_json cs
 
 -- The first time and T_max, at the start of the object.
 unfoldable pub scale_json : Scale → List ℕ
-scale_json s = codes "{\"first\":" ++ time_json s.first ++ joined (codes ",\"t_max\":" ∷ decimal s.t_max ∷ codes ",\"all\":{\"datagrams\":" ∷ [])
+scale_json s = codes "{\"first\":" ++ time_json s.clock.first ++ joined (codes ",\"t_max\":" ∷ decimal s.t_max ∷ codes ",\"all\":{\"datagrams\":" ∷ [])
 
 -- The counts over the whole capture.
 unfoldable pub counts_json : CaptureCounts → List ℕ

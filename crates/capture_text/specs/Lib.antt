@@ -1,3 +1,4 @@
+pub mod Dates
 pub mod Pieces
 pub mod Reasons
 pub mod RemarkText

@@ -11,18 +11,19 @@ use Rattle.capture_text.specs.declared.frames.FrameFault.TheVariants.{Link, Trun
 use Rattle.capture_text.specs.declared.frames.Seen.{Seen}
 use Rattle.capture_text.specs.declared.frames.Seen.TheVariants.{Datagram, Other, Unread}
 use Rattle.capture_text.specs.declared.frames.Skipped.{Skipped}
-use Rattle.capture_text.specs.declared.frames.Skipped.TheVariants.{Port, NoIp, NoUdp, Tunnel}
+use Rattle.capture_text.specs.declared.frames.Skipped.TheVariants.{Port, Time, NoIp, NoUdp, Tunnel}
 use Rattle.capture_text.specs.declared.passed.PassedOver.{PassedOver}
 use Rattle.pdu_text.specs.Lines.{joined}
 
 -- Nothing was passed over.
 abbrev pub no_passed : PassedOver
 no_passed =
-    record { ports = 0; no_ip = 0; no_udp = 0; tunnels = 0; fragments = 0; truncated = 0; lengths = 0; links = 0 }
+    record { ports = 0; times = 0; no_ip = 0; no_udp = 0; tunnels = 0; fragments = 0; truncated = 0; lengths = 0; links = 0 }
 
 -- The counts with one more that has no fault.
 abbrev pub skipped_counted : PassedOver → Skipped → PassedOver
 skipped_counted p Port = record p { ports = counted p.ports 1 }
+skipped_counted p (Time time) = record p { times = counted p.times 1 }
 skipped_counted p NoIp = record p { no_ip = counted p.no_ip 1 }
 skipped_counted p NoUdp = record p { no_udp = counted p.no_udp 1 }
 skipped_counted p Tunnel = record p { tunnels = counted p.tunnels 1 }
@@ -49,14 +50,14 @@ passed_behind p (Err (Chosen why)) = skipped_counted p why
 -- All counts are 0.
 abbrev pub is_all_zero : PassedOver → Bool
 is_all_zero p =
-    nat_eq p.ports 0 && nat_eq p.no_ip 0 && nat_eq p.no_udp 0 && nat_eq p.tunnels 0 && nat_eq p.fragments 0
+    nat_eq p.ports 0 && nat_eq p.times 0 && nat_eq p.no_ip 0 && nat_eq p.no_udp 0 && nat_eq p.tunnels 0 && nat_eq p.fragments 0
     && nat_eq p.truncated 0 && nat_eq p.lengths 0 && nat_eq p.links 0
 
--- What has no fault: other ports, frames without IP, packets without UDP, tunnels.
+-- What has no fault: other ports, other times, frames without IP, packets without UDP, tunnels.
 unfoldable pub rest_text : PassedOver → List ℕ
 rest_text p =
     joined
-    (codes "sum passed over: other ports " ∷ decimal p.ports ∷ codes " no IP " ∷ decimal p.no_ip ∷ codes " no UDP " ∷ decimal p.no_udp
+    (codes "sum passed over: other ports " ∷ decimal p.ports ∷ codes " other times " ∷ decimal p.times ∷ codes " no IP " ∷ decimal p.no_ip ∷ codes " no UDP " ∷ decimal p.no_udp
     ∷ codes " tunnels " ∷ decimal p.tunnels ∷ [])
 
 -- What is not read: fragments, truncated frames, wrong lengths, unknown link headers.
@@ -78,7 +79,7 @@ passed_lines p = if is_all_zero p then [] else passed_text p
 unfoldable pub rest_json : PassedOver → List ℕ
 rest_json p =
     joined
-    (codes "{\"ports\":" ∷ decimal p.ports ∷ codes ",\"no_ip\":" ∷ decimal p.no_ip ∷ codes ",\"no_udp\":" ∷ decimal p.no_udp
+    (codes "{\"ports\":" ∷ decimal p.ports ∷ codes ",\"times\":" ∷ decimal p.times ∷ codes ",\"no_ip\":" ∷ decimal p.no_ip ∷ codes ",\"no_udp\":" ∷ decimal p.no_udp
     ∷ codes ",\"tunnels\":" ∷ decimal p.tunnels ∷ [])
 
 -- What is not read, as members.

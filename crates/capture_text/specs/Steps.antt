@@ -1,5 +1,5 @@
 -- The step of a capture's line, and what is printed of it.
-use Rattle.std.specs.Prelude.{ℕ, Bool, false, List, [], ◌++◌, length, if◌then◌else◌, Option, Some, None, Result, Ok, Err}
+use Rattle.std.specs.Prelude.{ℕ, Bool, false, List, [], ◌++◌, length, not, if◌then◌else◌, Option, Some, None, Result, Ok, Err}
 use Rattle.capture.specs.declared.connections.Connection.{Connection}
 use Rattle.capture.specs.declared.following.Remark.{Remark}
 use Rattle.capture.specs.declared.following.Totals.{Totals}
@@ -9,6 +9,7 @@ use Rattle.capture.specs.declared.line.Record.{Record}
 use Rattle.capture.specs.Hearing.{heard_of}
 use Rattle.capture.specs.Lines.{Line}
 use Rattle.capture.specs.Numbers.{counted}
+use Rattle.capture.specs.Instants.{is_within}
 use Rattle.capture.specs.Ports.{is_chosen}
 use Rattle.capture.specs.Whole.{connections_after, damaged_after, forgotten_after, gone_after, remark_of, totals_of}
 use Rattle.std.specs.Io.BufRead.{ends_with_byte, strip_last}
@@ -21,7 +22,8 @@ use Rattle.capture_text.specs.Telegrams.{telegram_lines}
 use Rattle.capture_text.specs.declared.course.Asked.{Asked}
 use Rattle.capture_text.specs.declared.course.Unfollowed.{Unfollowed}
 use Rattle.capture_text.specs.declared.course.Unfollowed.TheVariants.{Chosen, Fault}
-use Rattle.capture_text.specs.declared.frames.Skipped.TheVariants.{Port}
+use Rattle.capture_text.specs.declared.frames.Skipped.{Skipped}
+use Rattle.capture_text.specs.declared.frames.Skipped.TheVariants.{Port, Time, NoIp, NoUdp, Tunnel}
 use Rattle.capture_text.specs.declared.passed.PassedOver.{PassedOver}
 use Rattle.capture_text.specs.declared.course.OutputForm.{OutputForm}
 use Rattle.capture_text.specs.declared.course.OutputForm.TheVariants.{Lines, Json}
@@ -32,14 +34,39 @@ use Rattle.capture_text.specs.declared.summary.Scale.{Scale}
 abbrev pub record_of : Line → Record
 record_of l = record { time = l.time; source = l.source; destination = l.destination; size = length l.payload }
 
--- A datagram with its decoding, if it has a chosen port.
-abbrev pub heard_chosen : Asked → Record → List ℕ → Result (Record × Heard) Unfollowed
-heard_chosen a r octets = if is_chosen a.ports r then Ok (r, heard_of a.rule octets) else Err (Chosen Port)
+-- The time of the first datagram.
+abbrev pub first_of : Option ℕ → ℕ → ℕ
+first_of None time = time
+first_of (Some first) time = first
+
+-- Why a datagram is passed over: it has no chosen port, or its time is not asked for.
+abbrev pub skipped_by : Asked → Option ℕ → Record → Option Skipped
+skipped_by a first r =
+    if not (is_chosen a.ports r) then Some Port
+    else if is_within a.span (first_of first r.time) r.time then None
+    else Some (Time r.time)
+
+-- The time of the first datagram after something that is passed over; the first datagram need not be followed.
+abbrev pub first_skipped : Option ℕ → Skipped → Option ℕ
+first_skipped first (Time time) = Some (first_of first time)
+first_skipped first Port = first
+first_skipped first NoIp = first
+first_skipped first NoUdp = first
+first_skipped first Tunnel = first
+
+-- A datagram with its decoding, or why it is passed over.
+abbrev pub heard_if : Option Skipped → Asked → Record → List ℕ → Result (Record × Heard) Unfollowed
+heard_if None a r octets = Ok (r, heard_of a.rule octets)
+heard_if (Some why) a r octets = Err (Chosen why)
+
+-- A datagram with its decoding, if it is followed.
+abbrev pub heard_chosen : Asked → Option ℕ → Record → List ℕ → Result (Record × Heard) Unfollowed
+heard_chosen a first r octets = heard_if (skipped_by a first r) a r octets
 
 -- The decoded datagram of a line, or why none is followed.
-abbrev pub heard_line : Asked → Result Line LineFault → Result (Record × Heard) Unfollowed
-heard_line a (Ok l) = heard_chosen a (record_of l) l.payload
-heard_line a (Err fault) = Err (Fault fault)
+abbrev pub heard_line : Asked → Option ℕ → Result Line LineFault → Result (Record × Heard) Unfollowed
+heard_line a first (Ok l) = heard_chosen a first (record_of l) l.payload
+heard_line a first (Err fault) = Err (Fault fault)
 
 -- The payload of a line; empty if it is not a datagram.
 abbrev pub payload_in : Result Line LineFault → List ℕ
@@ -76,11 +103,6 @@ abbrev pub forgotten_behind : ℕ → List Connection → Result (Record × Hear
 forgotten_behind forgotten cs (Ok h) = forgotten_after forgotten cs h.1
 forgotten_behind forgotten cs (Err why) = forgotten
 
--- The time of the first datagram.
-abbrev pub first_of : Option ℕ → ℕ → ℕ
-first_of None time = time
-first_of (Some first) time = first
-
 -- The telegrams of a datagram, if they are asked for.
 abbrev pub asked_telegrams : Asked → List ℕ → List ℕ
 asked_telegrams a octets = if a.messages then telegram_lines a.rule octets else []
@@ -96,7 +118,7 @@ is_line_told a m = is_told_in a.form a m
 
 -- What times and waits are measured by.
 abbrev pub scale_from : Asked → ℕ → Scale
-scale_from a first = record { first = first; t_max = a.t_max }
+scale_from a first = record { clock = record { first = first; form = a.time }; t_max = a.t_max }
 
 -- The line of a datagram and its telegrams, as far as they are asked for.
 abbrev pub told_text : Asked → ℕ → ℕ → Record → Remark → List ℕ → List ℕ
@@ -111,7 +133,8 @@ found_text a first number octets (Err why) = []
 -- The time of the first datagram after a line.
 abbrev pub first_behind : Option ℕ → Result (Record × Remark) Unfollowed → Option ℕ
 first_behind first (Ok f) = Some (first_of first f.0.time)
-first_behind first (Err why) = first
+first_behind first (Err (Chosen why)) = first_skipped first why
+first_behind first (Err (Fault fault)) = first
 
 -- The count of unreadable lines after a line.
 abbrev pub unreadable_behind : ℕ → Result (Record × Remark) Unfollowed → ℕ

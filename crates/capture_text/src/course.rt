@@ -8,17 +8,18 @@ ghost use Rattle.capture.specs.Numbers.{counted};
 ghost use Rattle.capture.specs.Whole.{connections_after, damaged_after, forgotten_after, gone_after, no_totals, remark_of};
 ghost use Rattle.capture_text.specs.FaultText.{fault_text, fault_word};
 ghost use Rattle.capture_text.specs.Passing.{no_passed, passed_behind};
-ghost use Rattle.capture_text.specs.Steps.{asked_telegrams, connections_behind, counts_of, course_text, damaged_behind, datagrams_behind, fault_in, first_behind, first_of, forgotten_behind, found_in, found_text, gone_behind, heard_chosen, heard_line, is_line_told, payload_in, told_text, unreadable_behind};
+ghost use Rattle.capture_text.specs.Steps.{asked_telegrams, connections_behind, counts_of, course_text, damaged_behind, datagrams_behind, fault_in, first_behind, first_of, forgotten_behind, found_in, found_text, gone_behind, heard_chosen, heard_line, is_line_told, payload_in, scale_from, told_text, unreadable_behind};
 
 use crate::choice::{Remarkable, is_wanted};
-use crate::frames::Skipped;
+use crate::frames::{Skipped, first_with, skip};
 use crate::json::write_json;
 use crate::passed::PassedOver;
+use crate::pieces::{Clock, TimeForm};
 use crate::record::write_record;
 use crate::summary::{CaptureCounts, Scale, write_summary};
 use crate::telegrams::write_telegrams;
 use capture::{
-    Buffer, Following, Heard, LineFault, PAYLOAD_ROOM, Ports, Record, Remark, hear, is_followed,
+    Buffer, Following, Heard, LineFault, PAYLOAD_ROOM, Ports, Record, Remark, Span, hear,
     read_line,
 };
 use safe_pdu::CodeRule;
@@ -50,6 +51,10 @@ pub struct Asked {
     pub ports: Option<Ports>,
     /// The form of the output.
     pub form: OutputForm,
+    /// The form of times in lines.
+    pub time: TimeForm,
+    /// Only datagrams in this time are followed and counted.
+    pub span: Span,
 }
 
 /// Why no datagram of a line is followed.
@@ -114,7 +119,7 @@ impl Course {
     /// Adds a line without its line feed, and writes what is printed of it. Returns the fault of a line that is not a
     /// datagram.
     ///
-    /// A datagram without a chosen port counts only as a line. `buffer` is for the payload.
+    /// A datagram that is passed over counts only as a line and by its kind. `buffer` is for the payload.
     ///
     /// # Errors
     ///
@@ -128,49 +133,50 @@ impl Course {
     ) -> io::Result<Option<LineFault>>
         // The count of lines grows by 1 for every line.
         ensures lines { self.new.lines ≡ counted self.old.lines 1 }
-        // The first datagram that is followed sets the time; no other line changes it (`first_behind`).
+        // The first datagram of a chosen port sets the time; no other line changes it (`first_behind`).
         ensures first { self.new.first ≡ first_behind self.old.first
             (found_in self.old.following.connections (counted self.old.lines 1)
-            (heard_line asked.now (line_of line.now))) }
+            (heard_line asked.now self.old.first (line_of line.now))) }
         // The count of unreadable lines grows by 1 exactly if the line is not a datagram; one without a chosen port
         // is not counted here (`heard_line`).
         ensures unreadable { self.new.unreadable ≡ unreadable_behind self.old.unreadable
             (found_in self.old.following.connections (counted self.old.lines 1)
-            (heard_line asked.now (line_of line.now))) }
+            (heard_line asked.now self.old.first (line_of line.now))) }
         // A followed datagram changes the connections as `connections_after` says; any other line changes none.
         ensures connections { self.new.following.connections
             ≡ connections_behind self.old.following.connections (counted self.old.lines 1)
-            (heard_line asked.now (line_of line.now)) }
+            (heard_line asked.now self.old.first (line_of line.now)) }
         // The count of datagrams grows by 1 exactly if the datagram of the line is followed (`datagrams_behind`).
         ensures datagrams { self.new.following.datagrams
-            ≡ datagrams_behind self.old.following.datagrams (heard_line asked.now (line_of line.now)) }
+            ≡ datagrams_behind self.old.following.datagrams (heard_line asked.now self.old.first (line_of line.now)) }
         // If a connection is forgotten for the datagram, its sums are added to those of the forgotten ones
         // (`gone_behind`).
         ensures gone { self.new.following.gone
             ≡ gone_behind self.old.following.gone self.old.following.connections
-            (heard_line asked.now (line_of line.now)) }
+            (heard_line asked.now self.old.first (line_of line.now)) }
         // The count of damaged datagrams grows by 1 exactly if a followed datagram is not a PDU.
         ensures damaged { self.new.following.damaged
-            ≡ damaged_behind self.old.following.damaged (heard_line asked.now (line_of line.now)) }
+            ≡ damaged_behind self.old.following.damaged (heard_line asked.now self.old.first (line_of line.now)) }
         // If a connection is forgotten for the datagram, the count of forgotten ones grows by 1 (`forgotten_behind`).
         ensures forgotten { self.new.following.forgotten
             ≡ forgotten_behind self.old.following.forgotten self.old.following.connections
-            (heard_line asked.now (line_of line.now)) }
-        // A datagram without a chosen port is counted as passed over; any other line is not.
-        ensures passed { self.new.passed ≡ passed_behind self.old.passed (heard_line asked.now (line_of line.now)) }
+            (heard_line asked.now self.old.first (line_of line.now)) }
+        // A datagram without a chosen port, or at another time than is asked for, is counted as passed over; any other
+        // line is not.
+        ensures passed { self.new.passed ≡ passed_behind self.old.passed (heard_line asked.now self.old.first (line_of line.now)) }
         // The result is the fault of a line that is not a datagram, and `None` for any other line.
         ensures fault { IfOk result (λ fault. fault ≡ fault_in
             (found_in self.old.following.connections (counted self.old.lines 1)
-            (heard_line asked.now (line_of line.now)))) }
+            (heard_line asked.now self.old.first (line_of line.now)))) }
         // On success the line of a followed datagram is appended, if its remark is chosen and the form is lines; then
         // its telegrams, if they are asked for. For any other line nothing is appended.
         ensures written { OnOk result (Appends (W.contents writer.old) (W.contents writer.new)
             (found_text asked.now self.old.first (counted self.old.lines 1) (payload_in (line_of line.now))
             (found_in self.old.following.connections (counted self.old.lines 1)
-            (heard_line asked.now (line_of line.now))))) }
+            (heard_line asked.now self.old.first (line_of line.now))))) }
     {
         self.lines = self.lines.saturating_add(1);
-        let (size, heard) = hear_line(asked, line, buffer);
+        let (size, heard) = hear_line(asked, self.first, line, buffer);
         pass_line(&mut self.passed, &heard);
         let found = follow(&mut self.following, self.lines, heard);
         self.tell(asked, found, &buffer[..size], writer)
@@ -226,7 +232,10 @@ impl Course {
                 write_wanted(writer, asked, first, self.lines, &record, &remark, datagram)?;
                 Ok(None)
             }
-            Err(Unfollowed::Chosen(_)) => Ok(None),
+            Err(Unfollowed::Chosen(why)) => {
+                self.first = first_with(self.first, why);
+                Ok(None)
+            }
             Err(Unfollowed::Fault(fault)) => {
                 self.unreadable = self.unreadable.saturating_add(1);
                 Ok(Some(fault))
@@ -247,10 +256,7 @@ impl Course {
             (counts_of self.now.following.datagrams self.now.following.damaged self.now.following.forgotten
             self.now.unreadable self.now.lines self.now.passed))) }
     {
-        let scale = Scale {
-            first: start(self.first, 0),
-            t_max: asked.t_max,
-        };
+        let scale = scale(asked, start(self.first, 0));
         let counts = CaptureCounts {
             datagrams: self.following.datagrams,
             damaged: self.following.damaged,
@@ -282,11 +288,12 @@ pub(crate) fn start(first: Option<u64>, time: u64) -> u64
 /// Reads a line, and returns the size of its payload and its decoded datagram.
 fn hear_line(
     asked: &Asked,
+    first: Option<u64>,
     line: &[u8],
     buffer: &mut Buffer,
 ) -> (usize, Result<(Record, Heard), Unfollowed>)
     // The second result is the decoded datagram of the line, or the reason why none is followed (`heard_line`).
-    ensures heard { result.1 ≡ heard_line asked.now (line_of line.now) }
+    ensures heard { result.1 ≡ heard_line asked.now first (line_of line.now) }
     // The first bytes of the `buffer`, as many as the first result, are the payload of the line.
     ensures payload { take result.0 buffer.new ≡ payload_in (line_of line.now) }
     // The size of the payload is at most `PAYLOAD_ROOM`.
@@ -294,7 +301,7 @@ fn hear_line(
 {
     match read_line(line, buffer) {
         Ok(record) => {
-            let heard = hear_chosen(asked, &record, &buffer[..record.size]);
+            let heard = hear_chosen(asked, first, &record, &buffer[..record.size]);
             (record.size, heard)
         }
         Err(fault) => (0, Err(Unfollowed::Fault(fault))),
@@ -312,19 +319,20 @@ fn pass_line(passed: &mut PassedOver, heard: &Result<(Record, Heard), Unfollowed
     }
 }
 
-/// Decodes a datagram if one of its ports is chosen.
+/// Decodes a datagram if it is followed.
 fn hear_chosen(
     asked: &Asked,
+    first: Option<u64>,
     record: &Record,
     octets: &[u8],
 ) -> Result<(Record, Heard), Unfollowed>
-    // The result is the decoded datagram if it `is_chosen`; any other is passed over.
-    ensures { result ≡ heard_chosen asked.now «record».now octets.now }
+    // The result is the decoded datagram if it is followed, or the reason why it is passed over (`heard_chosen`).
+    ensures { result ≡ heard_chosen asked.now first «record».now octets.now }
 {
-    if is_followed(&asked.ports, record) {
-        return Ok((*record, hear(octets, &asked.rule)));
+    match skip(asked, first, record) {
+        None => Ok((*record, hear(octets, &asked.rule))),
+        Some(why) => Err(Unfollowed::Chosen(why)),
     }
-    Err(Unfollowed::Chosen(Skipped::Port))
 }
 
 /// Adds the datagram of a line to the connections.
@@ -376,12 +384,22 @@ pub(crate) fn write_wanted<W: Write>(
     if !is_told(asked, remark) {
         return Ok(());
     }
-    let scale = Scale {
-        first,
-        t_max: asked.t_max,
-    };
-    write_record(writer, scale, number, record, remark)?;
+    write_record(writer, scale(asked, first), number, record, remark)?;
     write_asked(writer, asked, datagram)
+}
+
+/// Returns how times, ages and waits are printed.
+fn scale(asked: &Asked, first: u64) -> Scale
+    // Times are printed in the form that is `asked` for, by the time of the `first` datagram.
+    ensures { result ≡ scale_from asked.now first }
+{
+    Scale {
+        clock: Clock {
+            first,
+            form: asked.time,
+        },
+        t_max: asked.t_max,
+    }
 }
 
 /// Returns `true` if the line of a datagram is printed.

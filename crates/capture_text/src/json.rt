@@ -60,7 +60,7 @@ fn write_scale<W: Write>(writer: &mut W, scale: Scale) -> io::Result<()>
 {
     let t_max = scale.t_max;
     write_text(writer, "{\"first\":")?;
-    write_time(writer, scale.first)?;
+    write_time(writer, scale.clock.first)?;
     write!(writer, ",\"t_max\":{t_max},\"all\":{{\"datagrams\":")
 }
 

@@ -7,6 +7,7 @@
 
 mod choice;
 mod course;
+mod dates;
 mod frames;
 mod json;
 mod passed;
@@ -27,6 +28,7 @@ pub use course::{Asked, Course, OutputForm, write_fault};
 pub use frames::{FrameFault, write_frame_fault};
 pub use json::write_json;
 pub use passed::PassedOver;
+pub use pieces::{Clock, TimeForm};
 pub use record::write_record;
 pub use remarks::write_remarks;
 pub use running::{FollowStatus, run};

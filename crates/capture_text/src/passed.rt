@@ -14,6 +14,8 @@ use std::io::Write;
 pub struct PassedOver {
     /// Datagrams without a chosen port.
     pub ports: u64,
+    /// Datagrams whose time is not asked for.
+    pub times: u64,
     /// Frames without an IP packet.
     pub no_ip: u64,
     /// IP packets without UDP.
@@ -33,11 +35,12 @@ pub struct PassedOver {
 impl PassedOver {
     /// Returns the counts before the first frame.
     pub(crate) fn new() -> Self
-        // All eight counts are 0.
+        // All nine counts are 0.
         ensures { result ≡ no_passed }
     {
         PassedOver {
             ports: 0,
+            times: 0,
             no_ip: 0,
             no_udp: 0,
             tunnels: 0,
@@ -67,6 +70,7 @@ impl PassedOver {
     {
         match why {
             Skipped::Port => self.ports = self.ports.saturating_add(1),
+            Skipped::Time(_) => self.times = self.times.saturating_add(1),
             Skipped::NoIp => self.no_ip = self.no_ip.saturating_add(1),
             Skipped::NoUdp => self.no_udp = self.no_udp.saturating_add(1),
             Skipped::Tunnel => self.tunnels = self.tunnels.saturating_add(1),
@@ -104,6 +108,7 @@ fn is_nothing(passed: &PassedOver) -> bool
     ensures { result ≡ is_all_zero passed.now }
 {
     passed.ports == 0
+        && passed.times == 0
         && passed.no_ip == 0
         && passed.no_udp == 0
         && passed.tunnels == 0
@@ -126,16 +131,17 @@ fn write_kinds<W: Write>(writer: &mut W, passed: &PassedOver) -> io::Result<()>
 /// Writes the counts of what has no fault.
 #[tactic(auto, unfolding(crate::specs::Passing::rest_text))]
 fn write_rest<W: Write>(writer: &mut W, passed: &PassedOver) -> io::Result<()>
-    // On success other ports, frames without IP, packets without UDP and tunnels are appended.
+    // On success other ports and times, frames without IP, packets without UDP and tunnels are appended.
     ensures { OnOk result (Appends (W.contents writer.old) (W.contents writer.new) (rest_text passed.now)) }
 {
     let ports = passed.ports;
+    let times = passed.times;
     let no_ip = passed.no_ip;
     let no_udp = passed.no_udp;
     let tunnels = passed.tunnels;
     write!(
         writer,
-        "sum passed over: other ports {ports} no IP {no_ip} no UDP {no_udp} tunnels {tunnels}"
+        "sum passed over: other ports {ports} other times {times} no IP {no_ip} no UDP {no_udp} tunnels {tunnels}"
     )
 }
 
@@ -169,16 +175,17 @@ pub(crate) fn write_passed_json<W: Write>(writer: &mut W, passed: &PassedOver) -
 /// Writes the counts of what has no fault as members, and opens their object.
 #[tactic(auto, unfolding(crate::specs::Passing::rest_json))]
 fn write_rest_json<W: Write>(writer: &mut W, passed: &PassedOver) -> io::Result<()>
-    // On success other ports, frames without IP, packets without UDP and tunnels are appended as members.
+    // On success other ports and times, frames without IP, packets without UDP and tunnels are appended as members.
     ensures { OnOk result (Appends (W.contents writer.old) (W.contents writer.new) (rest_json passed.now)) }
 {
     let ports = passed.ports;
+    let times = passed.times;
     let no_ip = passed.no_ip;
     let no_udp = passed.no_udp;
     let tunnels = passed.tunnels;
     write!(
         writer,
-        "{{\"ports\":{ports},\"no_ip\":{no_ip},\"no_udp\":{no_udp},\"tunnels\":{tunnels}"
+        "{{\"ports\":{ports},\"times\":{times},\"no_ip\":{no_ip},\"no_udp\":{no_udp},\"tunnels\":{tunnels}"
     )
 }
 
