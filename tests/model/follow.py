@@ -345,7 +345,7 @@ class Follower:
 
     def __init__(self, rule):
         self.rule, self.connections, self.damaged, self.forgotten, self.unreadable = rule, [], 0, 0, 0
-        self.frames = self.others = 0  # lines, and how many of them have no chosen port
+        self.frames, self.others = 0, [0, 0]  # lines, and how many of them have no chosen port, and another time than is asked for
         self.datagrams, self.gone = 0, [0] * 6
 
     def line(self, time, line, source, destination, octets):
@@ -389,7 +389,7 @@ class Follower:
         names = ('PDUs', 'missing', 'repeats', 'late', 'differs', 'stale')
         return json.dumps({'first': first or None, 't_max': t_max, 'all': {
             'datagrams': self.datagrams, **dict(zip(names, counts)), 'damaged': self.damaged, 'forgotten': self.forgotten, 'unreadable': self.unreadable,
-                    'frames': self.frames, 'passed': {'ports': self.others, **dict.fromkeys(('no_ip', 'no_udp', 'tunnels', 'fragments', 'truncated', 'lengths', 'links'), 0)}},
+                    'frames': self.frames, 'passed': {'ports': self.others[0], 'times': self.others[1], **dict.fromkeys(('no_ip', 'no_udp', 'tunnels', 'fragments', 'truncated', 'lengths', 'links'), 0)}},
             'connections': [connection.members() for connection in self.connections]}, separators=(',', ':'))
 
     def sums(self, first, t_max):
@@ -397,8 +397,8 @@ class Follower:
             yield from connection.sums(first, t_max)
         counts = [sum(column) for column in zip(self.gone, *(connection.counts() for connection in self.connections))]
         assert sum(counts) - counts[1] + self.damaged == self.datagrams
-        if self.others:
-            yield 'sum passed over: other ports %d no IP 0 no UDP 0 tunnels 0 fragments 0 truncated 0 lengths 0 links 0' % self.others
+        if any(self.others):
+            yield 'sum passed over: other ports %d other times %d no IP 0 no UDP 0 tunnels 0 fragments 0 truncated 0 lengths 0 links 0' % self.others
         yield 'sum all datagrams %d PDUs %d missing %d repeats %d late %d differs %d stale %d damaged %d forgotten %d unreadable %d' % (
             self.datagrams, *counts, self.damaged, self.forgotten, self.unreadable)
 
@@ -511,7 +511,7 @@ def followed(raws, code=8, only=None, t_max=1800, ports=None, as_json=False):
             err.append('line %d: unreadable: %s\n' % (line, seen))
             continue
         if ports and not any(int(end.rpartition(':')[2]) in some for end in seen[1:3] for some in ports):
-            follower.others += 1
+            follower.others[0] += 1
             continue
         first = seen[0] if first is None else first
         said, words = follower.line(seen[0], line, *seen[1:])

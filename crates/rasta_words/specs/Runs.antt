@@ -15,6 +15,7 @@ use Rattle.rasta_words.specs.declared.status.CountsForm.{CountsForm}
 use Rattle.rasta_words.specs.declared.status.CountsForm.TheVariants as counts_form
 use Rattle.rasta_words.specs.declared.status.Telling.{Telling}
 use Rattle.rasta_words.specs.Choices.{file_rule, is_flagged, with_rules}
+use Rattle.rasta_words.specs.Seconds.{AreSecondsChosen}
 use Rattle.rasta_words.specs.declared.command_line.RunRequest.{RunRequest}
 use Rattle.settings_file.specs.declared.Word.{Word}
 use Rattle.settings_file.specs.declared.Word.TheVariants.{Il, Fe, Pair}
@@ -135,21 +136,6 @@ abbrev pub form_word : CountsForm → Text
 form_word counts_form.Text = codes "text"
 form_word counts_form.Json = codes "json"
 form_word counts_form.Prometheus = codes "prometheus"
-
--- the word is a number of seconds from 1 to 86,400 (a day), in decimal digits, after an optional plus
-abbrev pub IsSeconds : Text → ℕ → Type 0
-IsSeconds word seconds =
-    IsNumeral 10 (without_leading_plus word) × (digits_value 10 (without_leading_plus word) ≡ seconds) × (1 ≤ seconds) × (seconds ≤ 86400)
-
--- the word names these seconds
-abbrev pub IsWrittenIn : Text → Option ℕ → Type 0
-IsWrittenIn word None = ⊥
-IsWrittenIn word (Some seconds) = IsSeconds word seconds
-
--- the seconds that the word of `--every` names; without the option none, so counts are printed only at the end
-abbrev pub AreSecondsChosen : Option Text → Option ℕ → Type 0
-AreSecondsChosen None every = every ≡ None
-AreSecondsChosen (Some word) every = IsWrittenIn word every
 
 -- the counts have the form of the first word and the seconds of the second
 abbrev pub AreTold : Text → Option Text → Option Telling → Type 0

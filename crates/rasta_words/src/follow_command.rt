@@ -3,7 +3,7 @@
 ghost use Rattle.std.specs.Prelude.{◌≡◌, IfOk, false};
 ghost use Rattle.clap.specs.declared.Command.TheViews.{out-Command};
 ghost use Rattle.clap.specs.Words.{app_of};
-ghost use Rattle.rasta_words.specs.Choices.{chosen_code_rules, follow_app, lines_rules, sums_rules, with_rules};
+ghost use Rattle.rasta_words.specs.Choices.{chosen_code_rules, follow_app, lines_rules, sums_rules, times_rules, with_rules};
 
 use clap::{Arg, ArgAction, Command};
 use std::alloc::{AllocError, Global};
@@ -24,6 +24,7 @@ pub fn follow_command<'a>(alloc: Global) -> Result<Command<'a>, AllocError>
     let command = add_code(alloc, command)?;
     let command = add_lines(alloc, command)?;
     let command = add_sums(alloc, command)?;
+    let command = add_times(alloc, command)?;
     let file = Arg::new(alloc, "file").required(true).help(
         "Capture file, or - for standard input: pcap, pcapng, or the output of `tshark -T fields -e frame.time_epoch -e ip.src -e udp.srcport -e ip.dst -e udp.dstport -e udp.payload`",
     );
@@ -87,4 +88,28 @@ fn add_sums<'a>(alloc: Global, command: Command<'a>) -> Result<Command<'a>, Allo
         .action(ArgAction::SetTrue)
         .help("Print only the summary, as one line of JSON");
     command.arg(ports)?.arg(json)
+}
+
+/// Adds `--time`, `--from`, `--to` and `--every` to `follow`.
+#[inline(never)]
+fn add_times<'a>(alloc: Global, command: Command<'a>) -> Result<Command<'a>, AllocError>
+    requires local { (out-Command command.entry).has_globals ≡ false }
+    // `add_times` adds the options of `times_rules` to the command.
+    ensures app { IfOk result (λ added. app_of added ≡ with_rules (app_of command.entry) times_rules) }
+    // No argument that `add_times` adds is global.
+    ensures local { IfOk result (λ added. (out-Command added).has_globals ≡ false) }
+{
+    let time = Arg::new(alloc, "time").long("time").help(
+        "Form of times in lines: since (seconds since the first datagram), epoch (seconds since 1970) or utc [default: since]",
+    );
+    let from = Arg::new(alloc, "from").long("from").help(
+        "Read only datagrams from this instant on: seconds since the first datagram, @ and seconds since 1970, or a date and time in UTC such as 2026-11-27T03:12:00",
+    );
+    let to = Arg::new(alloc, "to").long("to").help(
+        "Read only datagrams up to this instant",
+    );
+    let every = Arg::new(alloc, "every").long("every").help(
+        "Also print the summary so far each time that so many seconds have passed in the recording: 1 to 86400",
+    );
+    command.arg(time)?.arg(from)?.arg(to)?.arg(every)
 }

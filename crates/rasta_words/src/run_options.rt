@@ -3,7 +3,8 @@
 ghost use Rattle.std.specs.Prelude.{◌≡◌, ℕ, Option, Some, Ok, IsErr, IfOk, IfErr, IfSome, false};
 ghost use Rattle.std.specs.Option.{option_copied};
 ghost use Rattle.clap.specs.Words.{found_of, rows_of};
-ghost use Rattle.rasta_words.specs.Runs.{HasNoRun, IsEndChosen, IsLogChosen, IsTimeChosen, IsLengthChosen, IsRun, AreCountsChosen, AreSecondsChosen, IsSeconds, expected_word, form_word, log_word, time_word, IsTurns};
+ghost use Rattle.rasta_words.specs.Runs.{HasNoRun, IsEndChosen, IsLogChosen, IsTimeChosen, IsLengthChosen, IsRun, AreCountsChosen, expected_word, form_word, log_word, time_word, IsTurns};
+ghost use Rattle.rasta_words.specs.Seconds.{AreSecondsChosen, IsSeconds};
 ghost use Rattle.rasta_words.specs.Rejections.{AreCountsRejected, IsLengthRejected, IsRunRejected, NamesGiven};
 ghost use Rattle.rasta_words.specs.declared.rejection.Choice.TheVariants as choice;
 
@@ -114,7 +115,7 @@ fn chosen_seconds<'a>(word: Option<&'a str>) -> Result<Option<u32>, Rejection<'a
 }
 
 /// Returns the number of seconds that a word names.
-fn seconds(word: &str) -> Option<u32>
+pub(crate) fn seconds(word: &str) -> Option<u32>
     // The result of `seconds` is the decimal number of the word, 1 to 86,400.
     ensures found { IfSome result (IsSeconds word.now) }
     // `seconds` returns the number of each word that names 1 to 86,400.
