@@ -18,10 +18,10 @@ use Rattle.capture_text.specs.declared.frames.FrameFault.{FrameFault}
 use Rattle.capture_text.specs.declared.frames.Seen.{Seen}
 use Rattle.capture_text.specs.declared.passed.PassedOver.{PassedOver}
 use Rattle.capture_text.specs.FaultText.{fault_text, frame_text, recording_text}
-use Rattle.capture_text.specs.FrameSteps.{connections_seen, damaged_seen, datagrams_seen, fault_seen, first_seen, forgotten_seen, frame_seen, gone_seen, seen_text, unreadable_seen}
+use Rattle.capture_text.specs.FrameSteps.{connections_seen, damaged_seen, datagrams_seen, fault_seen, first_seen, forgotten_seen, frame_seen, gone_seen, latest_seen, seen_text, unreadable_seen}
 use Rattle.capture_text.specs.Lines.{is_long}
 use Rattle.capture_text.specs.Passing.{passed_behind, passed_within}
-use Rattle.capture_text.specs.Steps.{connections_behind, damaged_behind, datagrams_behind, fault_in, fault_lines, first_behind, forgotten_behind, found_in, found_text, gone_behind, heard_line, payload_in, unreadable_behind, without_end}
+use Rattle.capture_text.specs.Steps.{connections_behind, counts_of, course_text, damaged_behind, datagrams_behind, due_next, due_text, fault_in, fault_lines, first_behind, forgotten_behind, found_in, found_text, gone_behind, heard_line, is_due, latest_behind, payload_in, unreadable_behind, without_end}
 
 -- The state of a capture that is being read.
 pub record Read : Type 0 where
@@ -34,6 +34,8 @@ pub record Read : Type 0 where
   pub damaged : ℕ  -- datagrams that are not a PDU
   pub forgotten : ℕ  -- connections that were forgotten
   pub passed : PassedOver  -- frames and lines that were passed over, by kind
+  pub latest : ℕ  -- the time of the last datagram that was followed
+  pub due : Option ℕ  -- when sums are due
 
 -- The state that a course has.
 abbrev pub read_by : Course → Read
@@ -48,6 +50,8 @@ read_by c =
       damaged = c.following.damaged;
       forgotten = c.following.forgotten;
       passed = c.passed;
+      latest = c.latest;
+      due = c.due;
     }
 
 -- The remark on the text of the next line.
@@ -67,15 +71,31 @@ with_text a r text =
       damaged = damaged_behind r.damaged (heard_line a r.first (line_of text));
       forgotten = forgotten_behind r.forgotten r.connections (heard_line a r.first (line_of text));
       passed = passed_behind r.passed (heard_line a r.first (line_of text));
+      latest = latest_behind r.latest (seen_in a r text);
+      due = r.due;
     }
 
 -- The state after a line that is too long.
 abbrev pub with_long : Read → Read
 with_long r = record r { lines = counted r.lines 1; unreadable = counted r.unreadable 1 }
 
--- The state after a line.
+-- The state after a line that was read.
+abbrev pub with_read : Asked → Read → List ℕ → Read
+with_read a r line = if is_long line then with_long r else with_text a r (without_end line)
+
+-- The state after the sums, if they were due.
+abbrev pub with_sums : Asked → Read → Read
+with_sums a r = record r { due = due_next a.every r.due r.first r.latest }
+
+-- The sums, if they are due.
+abbrev pub sums_printed : Asked → Read → List ℕ
+sums_printed a r =
+    due_text (is_due r.due r.latest)
+    (course_text a r.first r.gone r.connections (counts_of r.datagrams r.damaged r.forgotten r.unreadable r.lines r.passed))
+
+-- The state after a line and the sums.
 abbrev pub with_line : Asked → Read → List ℕ → Read
-with_line a r line = if is_long line then with_long r else with_text a r (without_end line)
+with_line a r line = with_sums a (with_read a r line)
 
 -- What is printed of the text of a line.
 abbrev pub text_printed : Asked → Read → List ℕ → List ℕ
@@ -85,9 +105,13 @@ text_printed a r text = found_text a r.first (counted r.lines 1) (payload_in (li
 abbrev pub text_told : Asked → Read → List ℕ → List ℕ
 text_told a r text = fault_lines (counted r.lines 1) (fault_in (seen_in a r text))
 
--- What is printed of a line.
+-- What is printed of a line that was read.
+abbrev pub read_printed : Asked → Read → List ℕ → List ℕ
+read_printed a r line = if is_long line then [] else text_printed a r (without_end line)
+
+-- What is printed of a line, and the sums after it.
 abbrev pub line_printed : Asked → Read → List ℕ → List ℕ
-line_printed a r line = if is_long line then [] else text_printed a r (without_end line)
+line_printed a r line = read_printed a r line ++ sums_printed a (with_read a r line)
 
 -- The fault that is reported of a line.
 abbrev pub line_told : Asked → Read → List ℕ → List ℕ
@@ -121,6 +145,8 @@ with_seen a r octets seen =
       damaged = damaged_seen a.rule r.damaged octets seen;
       forgotten = forgotten_seen a.rule r.forgotten r.connections octets seen;
       passed = passed_within r.passed seen;
+      latest = latest_seen r.latest seen;
+      due = r.due;
     }
 
 -- The state after a frame.

@@ -121,3 +121,9 @@ abbrev pub first_seen : Option ℕ → Seen → Option ℕ
 first_seen first (Datagram r start end) = Some (first_of first r.time)
 first_seen first (Other why) = first_skipped first why
 first_seen first (Unread fault) = first
+
+-- The time of the last datagram after a frame.
+abbrev pub latest_seen : ℕ → Seen → ℕ
+latest_seen latest (Datagram r start end) = r.time
+latest_seen latest (Other why) = latest
+latest_seen latest (Unread fault) = latest

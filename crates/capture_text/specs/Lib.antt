@@ -16,3 +16,4 @@ pub mod Steps
 pub mod FrameSteps
 pub mod Lines
 pub mod Capture
+pub mod Stops

@@ -1,5 +1,5 @@
 -- The step of a capture's line, and what is printed of it.
-use Rattle.std.specs.Prelude.{ℕ, Bool, false, List, [], ◌++◌, length, not, if◌then◌else◌, Option, Some, None, Result, Ok, Err}
+use Rattle.std.specs.Prelude.{ℕ, ◌+◌, ◌-◌, ◌*◌, ◌/◌, ◌^◌, ◌||◌, Bool, true, false, List, [], ◌++◌, length, not, nat_le, min, max, if◌then◌else◌, Option, Some, None, is_none, Result, Ok, Err}
 use Rattle.capture.specs.declared.connections.Connection.{Connection}
 use Rattle.capture.specs.declared.following.Remark.{Remark}
 use Rattle.capture.specs.declared.following.Totals.{Totals}
@@ -135,6 +135,40 @@ abbrev pub first_behind : Option ℕ → Result (Record × Remark) Unfollowed �
 first_behind first (Ok f) = Some (first_of first f.0.time)
 first_behind first (Err (Chosen why)) = first_skipped first why
 first_behind first (Err (Fault fault)) = first
+
+-- The time of the last datagram after a line.
+abbrev pub latest_behind : ℕ → Result (Record × Remark) Unfollowed → ℕ
+latest_behind latest (Ok f) = f.0.time
+latest_behind latest (Err why) = latest
+
+-- Sums are due at a time.
+abbrev pub is_due : Option ℕ → ℕ → Bool
+is_due None time = false
+is_due (Some due) time = nat_le due time
+
+-- The microseconds of a period in seconds, at least one.
+abbrev pub period_of : ℕ → ℕ
+period_of seconds = max seconds 1 * 1000000
+
+-- The next time after whole periods since the first datagram.
+abbrev pub next_period : ℕ → ℕ → ℕ → ℕ
+next_period seconds first time =
+    counted first (min (((time - first) / period_of seconds + 1) * period_of seconds) (2 ^ 64 - 1))
+
+-- When sums are due next, after a datagram at this time.
+abbrev pub due_with : ℕ → Option ℕ → ℕ → ℕ → Option ℕ
+due_with seconds due first time =
+    if is_due due time || is_none due then Some (next_period seconds first time) else due
+
+-- When sums are due next: without a period, or before the first datagram, they are not.
+abbrev pub due_next : Option ℕ → Option ℕ → Option ℕ → ℕ → Option ℕ
+due_next (Some seconds) due (Some first) time = due_with seconds due first time
+due_next _ due _ time = None
+
+-- What is printed if it is due.
+abbrev pub due_text : Bool → List ℕ → List ℕ
+due_text true text = text
+due_text false text = []
 
 -- The count of unreadable lines after a line.
 abbrev pub unreadable_behind : ℕ → Result (Record × Remark) Unfollowed → ℕ

@@ -8,7 +8,7 @@ ghost use Rattle.capture.specs.Numbers.{counted};
 ghost use Rattle.capture.specs.Whole.{connections_after, damaged_after, forgotten_after, gone_after, no_totals, remark_of};
 ghost use Rattle.capture_text.specs.FaultText.{fault_text, fault_word};
 ghost use Rattle.capture_text.specs.Passing.{no_passed, passed_behind};
-ghost use Rattle.capture_text.specs.Steps.{asked_telegrams, connections_behind, counts_of, course_text, damaged_behind, datagrams_behind, fault_in, first_behind, first_of, forgotten_behind, found_in, found_text, gone_behind, heard_chosen, heard_line, is_line_told, payload_in, scale_from, told_text, unreadable_behind};
+ghost use Rattle.capture_text.specs.Steps.{asked_telegrams, connections_behind, counts_of, course_text, damaged_behind, due_next, due_text, datagrams_behind, fault_in, first_behind, first_of, forgotten_behind, found_in, found_text, gone_behind, heard_chosen, heard_line, is_due, is_line_told, latest_behind, next_period, payload_in, scale_from, told_text, unreadable_behind};
 
 use crate::choice::{Remarkable, is_wanted};
 use crate::frames::{Skipped, first_with, skip};
@@ -55,6 +55,8 @@ pub struct Asked {
     pub time: TimeForm,
     /// Only datagrams in this time are followed and counted.
     pub span: Span,
+    /// The sums so far are also printed each time that these seconds have passed in the recording; at least 1.
+    pub every: Option<u32>,
 }
 
 /// Why no datagram of a line is followed.
@@ -79,6 +81,10 @@ pub struct Course {
     pub unreadable: u64,
     /// How many of them were passed over, by kind.
     pub passed: PassedOver,
+    /// The time of the last datagram that was followed, in microseconds; 0 before it.
+    pub latest: u64,
+    /// The time from which on sums are due, in microseconds; `None` before the first datagram.
+    pub due: Option<u64>,
 }
 
 impl Course {
@@ -106,6 +112,10 @@ impl Course {
         ensures unreadable { IfOk result (λ course. course.unreadable ≡ 0) }
         // A new `Course` has passed over nothing.
         ensures passed { IfOk result (λ course. course.passed ≡ no_passed) }
+        // A new `Course` has no time of a last datagram.
+        ensures latest { IfOk result (λ course. course.latest ≡ 0) }
+        // A new `Course` has no time at which sums are due.
+        ensures due { IfOk result (λ course. course.due ≡ None) }
     {
         Ok(Course {
             following: Following::new(alloc)?,
@@ -113,6 +123,8 @@ impl Course {
             lines: 0,
             unreadable: 0,
             passed: PassedOver::new(),
+            latest: 0,
+            due: None,
         })
     }
 
@@ -164,6 +176,12 @@ impl Course {
         // A datagram without a chosen port, or at another time than is asked for, is counted as passed over; any other
         // line is not.
         ensures passed { self.new.passed ≡ passed_behind self.old.passed (heard_line asked.now self.old.first (line_of line.now)) }
+        // A datagram that is followed sets the time of the last one; no other line changes it (`latest_behind`).
+        ensures latest { self.new.latest ≡ latest_behind self.old.latest
+            (found_in self.old.following.connections (counted self.old.lines 1)
+            (heard_line asked.now self.old.first (line_of line.now))) }
+        // The time at which sums are due stays.
+        ensures due { self.new.due ≡ self.old.due }
         // The result is the fault of a line that is not a datagram, and `None` for any other line.
         ensures fault { IfOk result (λ fault. fault ≡ fault_in
             (found_in self.old.following.connections (counted self.old.lines 1)
@@ -186,6 +204,10 @@ impl Course {
     pub fn pass_long(&mut self)
         // A line that is too long changes nothing in the connections and their counts.
         ensures following { self.new.following ≡ self.old.following }
+        // A line that is too long does not set the time of the last datagram.
+        ensures latest { self.new.latest ≡ self.old.latest }
+        // A line that is too long does not change when sums are due.
+        ensures due { self.new.due ≡ self.old.due }
         // A line that is too long is not counted as passed over.
         ensures passed { self.new.passed ≡ self.old.passed }
         // A line that is too long does not set the time of the first datagram.
@@ -210,6 +232,10 @@ impl Course {
     ) -> io::Result<Option<LineFault>>
         // Printing changes nothing in the connections and their counts.
         ensures following { self.new.following ≡ self.old.following }
+        // A datagram that was `found` sets the time of the last one.
+        ensures latest { self.new.latest ≡ latest_behind self.old.latest found }
+        // Printing does not change when sums are due.
+        ensures due { self.new.due ≡ self.old.due }
         // Printing does not count what is passed over.
         ensures passed { self.new.passed ≡ self.old.passed }
         // Printing does not count a line.
@@ -229,6 +255,7 @@ impl Course {
             Ok((record, remark)) => {
                 let first = start(self.first, record.time);
                 self.first = Some(first);
+                self.latest = record.time;
                 write_wanted(writer, asked, first, self.lines, &record, &remark, datagram)?;
                 Ok(None)
             }
@@ -241,6 +268,41 @@ impl Course {
                 Ok(Some(fault))
             }
         }
+    }
+
+    /// Writes the sums so far, if they are due, and sets when they are due next.
+    ///
+    /// # Errors
+    ///
+    /// The error of the writer. What was written before it stays, and the next time is set.
+    pub fn sum_if_due<W: Write>(&mut self, asked: &Asked, writer: &mut W) -> io::Result<()>
+        // The sums are due next after whole periods since the first datagram, if they were due (`due_next`).
+        ensures due { self.new.due ≡ due_next asked.now.every self.old.due self.old.first self.old.latest }
+        // The sums change nothing in the connections and their counts.
+        ensures following { self.new.following ≡ self.old.following }
+        // The sums do not change the time of the first datagram.
+        ensures first { self.new.first ≡ self.old.first }
+        // The sums do not change the time of the last datagram.
+        ensures latest { self.new.latest ≡ self.old.latest }
+        // The sums are not counted as a line.
+        ensures lines { self.new.lines ≡ self.old.lines }
+        // The sums are not counted as unreadable.
+        ensures unreadable { self.new.unreadable ≡ self.old.unreadable }
+        // The sums are not counted as passed over.
+        ensures passed { self.new.passed ≡ self.old.passed }
+        // On success the sums of `sum` are appended if they are due; otherwise nothing is.
+        ensures written { OnOk result (Appends (W.contents writer.old) (W.contents writer.new)
+            (due_text (is_due self.old.due self.old.latest)
+            (course_text asked.now self.old.first self.old.following.gone self.old.following.connections
+            (counts_of self.old.following.datagrams self.old.following.damaged self.old.following.forgotten
+            self.old.unreadable self.old.lines self.old.passed)))) }
+    {
+        let is_due = has_passed(self.due, self.latest);
+        self.due = next_due(asked.every, self.due, self.first, self.latest);
+        if is_due {
+            return self.sum(asked, writer);
+        }
+        Ok(())
     }
 
     /// Writes the sums over all lines so far, as lines or as one JSON object.
@@ -272,6 +334,41 @@ impl Course {
             OutputForm::Json => write_json(writer, scale, gone, connections, counts),
         }
     }
+}
+
+/// Returns `true` if sums are due at a time.
+fn has_passed(due: Option<u64>, time: u64) -> bool
+    // Sums are due from their time on; before the first datagram they are not (`is_due`).
+    ensures { result ≡ is_due due time }
+{
+    match due {
+        None => false,
+        Some(due) => due <= time,
+    }
+}
+
+/// Returns when sums are due next, after a datagram at a time.
+fn next_due(every: Option<u32>, due: Option<u64>, first: Option<u64>, time: u64) -> Option<u64>
+    // Without a period, and before the first datagram, no sums are due. The time stays if it has not passed; otherwise
+    // it is the next one after whole periods since the first datagram (`due_next`).
+    ensures { result ≡ due_next every due first time }
+{
+    let seconds = every?;
+    let first = first?;
+    if has_passed(due, time) || due.is_none() {
+        return Some(after_periods(seconds, first, time));
+    }
+    due
+}
+
+/// Returns the next time after whole periods of so many seconds since the first datagram.
+fn after_periods(seconds: u32, first: u64, time: u64) -> u64
+    // The result is after the `time`, limited to 2^64 - 1 (`next_period`).
+    ensures { result ≡ next_period seconds first time }
+{
+    let period = seconds.max(1) as u64 * 1_000_000;
+    let periods = time.saturating_sub(first) / period + 1;
+    first.saturating_add(periods.saturating_mul(period))
 }
 
 /// Returns the time of the first datagram, or this time.

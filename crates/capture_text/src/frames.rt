@@ -7,7 +7,7 @@ ghost use Rattle.capture.specs.Numbers.{counted};
 ghost use Rattle.capture.specs.Whole.{connections_after, damaged_after, forgotten_after, gone_after, remark_of};
 ghost use Rattle.capture.specs.Frames.{found_in};
 ghost use Rattle.capture_text.specs.FaultText.{frame_text, frame_word};
-ghost use Rattle.capture_text.specs.FrameSteps.{connections_seen, damaged_seen, datagrams_seen, fault_seen, first_seen, forgotten_seen, frame_seen, gone_seen, payload_at, record_found, seen_chosen, seen_found, seen_passed, seen_text, unreadable_seen, IsWithin};
+ghost use Rattle.capture_text.specs.FrameSteps.{connections_seen, damaged_seen, datagrams_seen, fault_seen, first_seen, forgotten_seen, frame_seen, gone_seen, latest_seen, payload_at, record_found, seen_chosen, seen_found, seen_passed, seen_text, unreadable_seen, IsWithin};
 ghost use Rattle.capture_text.specs.Passing.{passed_within};
 ghost use Rattle.capture_text.specs.Steps.{first_of, first_skipped, skipped_by, told_text};
 
@@ -101,6 +101,11 @@ impl Course {
             (frame_seen asked.now self.old.first link time octets.now) }
         // A frame without a followed datagram adds 1 to the count of its kind; any other changes none (`passed_within`).
         ensures passed { self.new.passed ≡ passed_within self.old.passed (frame_seen asked.now self.old.first link time octets.now) }
+        // A datagram that is followed sets the time of the last one; no other frame changes it (`latest_seen`).
+        ensures latest { self.new.latest
+            ≡ latest_seen self.old.latest (frame_seen asked.now self.old.first link time octets.now) }
+        // A frame does not change when sums are due.
+        ensures due { self.new.due ≡ self.old.due }
         // The result is the fault of a frame that is not read, and `None` for any other frame.
         ensures fault { IfOk result (λ fault. fault ≡ fault_seen (frame_seen asked.now self.old.first link time octets.now)) }
         // On success the line and telegrams of a followed datagram are appended, as far as they are asked for; for
@@ -138,6 +143,10 @@ impl Course {
     ) -> io::Result<()>
         // The datagram itself is not counted as a line.
         ensures lines { self.new.lines ≡ self.old.lines }
+        // The time of the last datagram is that of this one.
+        ensures latest { self.new.latest ≡ «record».now.time }
+        // The datagram does not change when sums are due.
+        ensures due { self.new.due ≡ self.old.due }
         // The datagram is not counted as passed over.
         ensures passed { self.new.passed ≡ self.old.passed }
         // The datagram is not counted as unreadable.
@@ -172,6 +181,7 @@ impl Course {
         let remark = self.following.hear(number, record, &heard);
         let first = start(self.first, record.time);
         self.first = Some(first);
+        self.latest = record.time;
         write_wanted(writer, asked, first, number, record, &remark, payload)
     }
 }

@@ -8,12 +8,14 @@ ghost use Rattle.std.specs.Prelude.{◌≡◌, ◌≤◌, ◌<◌, ◌^◌, [], 
 ghost use Rattle.std.specs.Io.Buffered.{reader_remaining};
 ghost use Rattle.std.specs.Io.BufRead.{DropsThrough, take_through};
 ghost use Rattle.std.specs.Io.KnownBytes.{Appends};
+ghost use Rattle.std.specs.IoError.{error_kind};
 ghost use Rattle.capture.specs.Numbers.{counted};
-ghost use Rattle.capture_text.specs.Capture.{broken_off, end_told, ended_at, frame_printed, frame_told, is_whole_at, line_printed, line_told, lines_printed, lines_told, read_by, text_printed, text_told, with_frame, with_line, with_lines, with_long, with_text};
+ghost use Rattle.capture_text.specs.Capture.{broken_off, end_told, ended_at, frame_printed, frame_told, is_whole_at, line_printed, line_told, lines_printed, lines_told, read_by, read_printed, sums_printed, text_printed, text_told, with_frame, with_line, with_lines, with_long, with_read, with_sums, with_text};
 ghost use Rattle.capture_text.specs.FaultText.{fault_text, file_fault_word, foreign_of, foreign_word, forgotten_told, frame_text, has_front, recording_text};
 ghost use Rattle.capture_text.specs.FrameSteps.{payload_at};
 ghost use Rattle.capture_text.specs.Lines.{cut, lines_of};
 ghost use Rattle.capture_text.specs.Steps.{without_end};
+ghost use Rattle.capture_text.specs.Stops.{output_stop};
 
 use crate::course::{Asked, Course, write_fault};
 use crate::frames::{FrameFault, write_frame_fault};
@@ -36,6 +38,8 @@ pub enum FollowStatus {
     Memory,
     /// The reader failed.
     File,
+    /// Nobody reads standard output any more: its reader has closed it.
+    Unread,
     /// An output failed.
     Output,
 }
@@ -54,11 +58,14 @@ pub(crate) enum ForeignForm {
 }
 
 /// Why a run stops early.
-enum Stop {
+#[derive(Clone, Copy, Debug, PartialEq, Eq)]
+pub(crate) enum Stop {
     /// An allocation failed.
     Memory,
     /// The reader failed.
     File,
+    /// Nobody reads standard output any more.
+    Unread,
     /// An output failed.
     Output,
 }
@@ -80,6 +87,7 @@ pub fn run<R: Read + Drop, O: Write, E: Write>(
         Ok(_) => FollowStatus::Unreadable,
         Err(Stop::Memory) => FollowStatus::Memory,
         Err(Stop::File) => FollowStatus::File,
+        Err(Stop::Unread) => FollowStatus::Unread,
         Err(Stop::Output) => FollowStatus::Output,
     }
 }
@@ -122,7 +130,7 @@ fn follow_input<R: Read + Drop, O: Write, E: Write>(
     }
     match course.sum(asked, &mut writer) {
         Ok(()) => {}
-        Err(_) => return Err(Stop::Output),
+        Err(error) => return Err(stop_at_output(&error)),
     }
     flush(&mut writer)?;
     tell_forgotten(&course, err)?;
@@ -250,7 +258,7 @@ fn next_line<R: BufRead, A: Allocator>(reader: &mut R, line: &mut Vec<u8, A>) ->
     }
 }
 
-/// Adds a line, or the prefix of one that is too long. Its text goes to `writer`, its fault to `err`.
+/// Adds a line, or the prefix of one that is too long, and prints the sums if they are due.
 fn follow_line<W: Write, E: Write>(
     course: &mut Course,
     asked: &Asked,
@@ -259,13 +267,49 @@ fn follow_line<W: Write, E: Write>(
     writer: &mut W,
     err: &mut E,
 ) -> Result<(), Stop>
-    // The state is that after this line: a long one counts as unreadable, any other is added without its line end
-    // (`with_line`).
-    ensures read { read_by course.new ≡ with_line asked.now (read_by course.old) line.now }
-    // On success the text of the line is appended to `writer`; for a long one, nothing is.
+    // On success the state is that after this line, with the next time of sums (`with_line`).
+    ensures read { OnOk result (read_by course.new ≡ with_line asked.now (read_by course.old) line.now) }
+    // On success the text of the line and the sums, if they are due, are appended to `writer`.
     ensures printed { OnOk result (Appends (W.contents writer.old) (W.contents writer.new)
         (line_printed asked.now (read_by course.old) line.now)) }
     // On success the fault of the line, if any, is appended to `err`; a long line has one.
+    ensures told { OnOk result (Appends (E.contents err.old) (E.contents err.new)
+        (line_told asked.now (read_by course.old) line.now)) }
+{
+    take_any(course, asked, line, buffer, writer, err)?;
+    write_due(course, asked, writer)
+}
+
+/// Prints the sums if they are due.
+fn write_due<W: Write>(course: &mut Course, asked: &Asked, writer: &mut W) -> Result<(), Stop>
+    // The state has the next time of sums; nothing else changes (`with_sums`).
+    ensures read { read_by course.new ≡ with_sums asked.now (read_by course.old) }
+    // On success the sums are appended to `writer` if they are due.
+    ensures printed { OnOk result (Appends (W.contents writer.old) (W.contents writer.new)
+        (sums_printed asked.now (read_by course.old))) }
+{
+    match course.sum_if_due(asked, writer) {
+        Ok(()) => Ok(()),
+        Err(error) => Err(stop_at_output(&error)),
+    }
+}
+
+/// Adds a line, or the prefix of one that is too long. Its text goes to `writer`, its fault to `err`.
+fn take_any<W: Write, E: Write>(
+    course: &mut Course,
+    asked: &Asked,
+    line: &[u8],
+    buffer: &mut Buffer,
+    writer: &mut W,
+    err: &mut E,
+) -> Result<(), Stop>
+    // The state is that after this line: a long one counts as unreadable, any other is added without its line end
+    // (`with_read`).
+    ensures read { read_by course.new ≡ with_read asked.now (read_by course.old) line.now }
+    // On success the text of the line is appended to `writer`; for a long one, nothing is.
+    ensures printed { OnOk result (Appends (W.contents writer.old) (W.contents writer.new)
+        (read_printed asked.now (read_by course.old) line.now)) }
+    // On success the fault of the line is appended to `err`, and for a long one that it is too long.
     ensures told { OnOk result (Appends (E.contents err.old) (E.contents err.new)
         (line_told asked.now (read_by course.old) line.now)) }
 {
@@ -299,6 +343,7 @@ fn follow_frames<R: Read + Drop, W: Write, E: Write, A: Allocator + Copy>(
         match recording.take(block.as_slice()) {
             Ok(BlockContent::Frame(framed)) => {
                 take_framed(course, asked, &framed, block.as_slice(), writer, err)?;
+                write_due(course, asked, writer)?;
             }
             Ok(_) => {}
             Err(fault) => return give_up(course, name_of_file_fault(fault), err),
@@ -328,7 +373,7 @@ fn take_text<W: Write, E: Write>(
     match course.take_line(asked, line, buffer, writer) {
         Ok(None) => Ok(()),
         Ok(Some(fault)) => tell(err, course.lines, fault),
-        Err(_) => Err(Stop::Output),
+        Err(error) => Err(stop_at_output(&error)),
     }
 }
 
@@ -342,6 +387,17 @@ fn take_long<E: Write>(course: &mut Course, err: &mut E) -> Result<(), Stop>
 {
     course.pass_long();
     tell(err, course.lines, LineFault::Long)
+}
+
+/// Returns why a failed output stops a run.
+fn stop_at_output(error: &io::Error) -> Stop
+    // An output that its reader has closed is `Unread`; any other failure is `Output` (`output_stop`).
+    ensures { result ≡ output_stop (error_kind error.now) }
+{
+    match error.kind() {
+        ErrorKind::BrokenPipe => Stop::Unread,
+        _ => Stop::Output,
+    }
 }
 
 /// Returns why a failed reading stops a run.
@@ -410,7 +466,7 @@ fn flush<W: Write>(writer: &mut W) -> Result<(), Stop>
 {
     match writer.flush() {
         Ok(()) => Ok(()),
-        Err(_) => Err(Stop::Output),
+        Err(error) => Err(stop_at_output(&error)),
     }
 }
 
@@ -443,7 +499,7 @@ fn take_framed<W: Write, E: Write>(
     match course.take_frame(asked, framed.link, framed.time, octets, writer) {
         Ok(None) => Ok(()),
         Ok(Some(fault)) => tell_frame(err, course.lines, fault),
-        Err(_) => Err(Stop::Output),
+        Err(error) => Err(stop_at_output(&error)),
     }
 }
 

@@ -6,7 +6,7 @@ use Rattle.capture_text.specs.Steps.{without_end}
 use Rattle.capture.specs.Numbers.{counted}
 use Rattle.capture.specs.declared.line.LineFault.TheVariants.{Long}
 use Rattle.capture_text.proofs.Following.{not_long}
-use Rattle.capture_text.proofs.running.follow_line.Goals as goal
+use Rattle.capture_text.proofs.running.take_any.Goals as goal
 
 pub returns-clause-read : goal.returns-clause-read
 returns-clause-read g c =
