@@ -488,11 +488,7 @@ fn block(big: bool, octets: &[u8]) -> Result<Step, FileFault>
         if !is_long_enough(size) {
             return Err(FileFault::Length);
         }
-        return Ok(on_to(FilePart::Skipped(
-            big,
-            size.saturating_sub(12),
-            size,
-        )));
+        return Ok(on_to(FilePart::Skipped(big, size.saturating_sub(12), size)));
     }
     if !is_sized(12, size) {
         return Err(FileFault::Length);

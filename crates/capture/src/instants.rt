@@ -238,13 +238,7 @@ fn days_of(year: u64, month: u64) -> u64
     ensures bound { result ≤ 31 }
 {
     match month {
-        2 => {
-            if is_leap_year(year) {
-                29
-            } else {
-                28
-            }
-        }
+        2 => { if is_leap_year(year) { 29 } else { 28 } }
         4 | 6 | 9 | 11 => 30,
         _ => 31,
     }

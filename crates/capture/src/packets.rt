@@ -14,8 +14,8 @@ pub(crate) fn enhanced(
     inner: &[u8],
 ) -> Result<Step, FileFault>
     requires { length inner.now ≤ 2 ^ 32 }
-    // Too few bytes, or a frame beyond the block, are `Length`. An interface that is not described is `Interface`.
-    // Otherwise the frame starts at byte 20 (`packet_with`, `frame_on`).
+    // Too few bytes, or a frame beyond the block, are a fault, and an interface that is not described. Otherwise the
+    // frame starts at byte 20 (`packet_step`).
     ensures step { result ≡ packet_step interfaces.now big inner.now }
     // The frame of an enhanced packet is within the `inner` bytes.
     ensures within { IfOk result (λ step. EndsWithin inner.now step.event) }
@@ -99,8 +99,8 @@ pub(crate) fn obsolete(
     inner: &[u8],
 ) -> Result<Step, FileFault>
     requires { length inner.now ≤ 2 ^ 32 }
-    // Too few bytes, or a frame beyond the block, are `Length`. An interface that is not described is `Interface`.
-    // Otherwise the frame starts at byte 20 (`obsolete_step`).
+    // Too few bytes, or a frame beyond the block, are a fault, and an interface that is not described. Otherwise the
+    // frame starts at byte 20, as in an enhanced packet (`obsolete_step`).
     ensures step { result ≡ obsolete_step interfaces.now big inner.now }
     // The frame of an obsolete packet is within the `inner` bytes.
     ensures within { IfOk result (λ step. EndsWithin inner.now step.event) }

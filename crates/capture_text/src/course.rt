@@ -19,8 +19,7 @@ use crate::record::write_record;
 use crate::summary::{CaptureCounts, Scale, write_summary};
 use crate::telegrams::write_telegrams;
 use capture::{
-    Buffer, Following, Heard, LineFault, PAYLOAD_ROOM, Ports, Record, Remark, Span, hear,
-    read_line,
+    Buffer, Following, Heard, LineFault, PAYLOAD_ROOM, Ports, Record, Remark, Span, hear, read_line,
 };
 use safe_pdu::CodeRule;
 use std::alloc::{AllocError, Global};
@@ -290,7 +289,7 @@ impl Course {
         ensures unreadable { self.new.unreadable ≡ self.old.unreadable }
         // The sums are not counted as passed over.
         ensures passed { self.new.passed ≡ self.old.passed }
-        // On success the sums of `sum` are appended if they are due; otherwise nothing is.
+        // On success all sums so far are appended if they are due; otherwise nothing is (`due_text`).
         ensures written { OnOk result (Appends (W.contents writer.old) (W.contents writer.new)
             (due_text (is_due self.old.due self.old.latest)
             (course_text asked.now self.old.first self.old.following.gone self.old.following.connections

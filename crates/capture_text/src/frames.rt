@@ -198,7 +198,13 @@ fn look(asked: &Asked, first: Option<u64>, link: Option<Link>, time: u64, octets
     match link {
         None => Seen::Unread(FrameFault::Link),
         Some(link) => match find_datagram(link, octets) {
-            Ok(found) => choose(asked, first, record_of(time, &found), found.start, found.end),
+            Ok(found) => choose(
+                asked,
+                first,
+                record_of(time, &found),
+                found.start,
+                found.end,
+            ),
             Err(why) => pass(why),
         },
     }

@@ -150,7 +150,7 @@ fn responds(opening: Option<SessionOpening>) -> bool
 /// Writes the time of the last PDU of a connection.
 #[tactic(auto, unfolding(crate::specs::Sentence::last_heard_text))]
 fn write_last_heard<W: Write>(writer: &mut W, clock: Clock, last: u64) -> io::Result<()>
-    // On success the time of the `last` PDU since `first` is appended.
+    // On success the time of the `last` PDU by this `clock` is appended.
     ensures { OnOk result (Appends (W.contents writer.old) (W.contents writer.new) (last_heard_text clock last)) }
 {
     write_text(writer, ", last PDU at ")?;

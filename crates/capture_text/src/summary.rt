@@ -5,10 +5,10 @@ ghost use Rattle.std.specs.Io.KnownBytes.{Appends};
 ghost use Rattle.capture.specs.Whole.{totals_of};
 ghost use Rattle.capture_text.specs.SummaryText.{all_text, came_text, connection_text, connections_text, counts_text, damaged_text, date_text, datagrams_of, datagrams_text, direction_text, ending_text, first_lines, half_text, kinds_text, known_channel_text, last_text, longest_text, maybe_channel_text, numbers_text, oldest_text, opening_text, other_totals_text, others_text, place_text, places_text, route_text, silence_text, sum_text, summary_text, tally_text, totals_text};
 
+use crate::passed::{PassedOver, write_passed};
 use crate::pieces::{
     Clock, channel_name, reached, write_address, write_duration, write_ends, write_since, write_utc,
 };
-use crate::passed::{PassedOver, write_passed};
 use crate::reasons::write_reasons;
 use crate::sentence::write_sentence;
 use crate::table::write_sessions;
@@ -61,8 +61,8 @@ pub fn write_summary<W: Write>(
     connections: &[Entry],
     counts: CaptureCounts,
 ) -> io::Result<()>
-    // On success the date and time of the first datagram and the lines of each connection, with its directions,
-    // channels, sessions and sentence, are appended, then what was passed over, and one line for all (`summary_text`).
+    // On success the date of the first datagram is appended, then the lines of each connection, with its directions,
+    // channels, sessions and sentence, what was passed over, and one line for all (`summary_text`).
     ensures { OnOk result (Appends (W.contents writer.old) (W.contents writer.new)
         (summary_text scale connections.now (totals_of gone connections.now) counts)) }
 {

@@ -241,7 +241,12 @@ fn write_left<W: Write>(
 
 /// Writes the DiscReq of an end.
 #[tactic(auto, unfolding(crate::specs::TableText::leaving_text))]
-fn write_leaving<W: Write>(writer: &mut W, clock: Clock, end: u32, parting: Parting) -> io::Result<()>
+fn write_leaving<W: Write>(
+    writer: &mut W,
+    clock: Clock,
+    end: u32,
+    parting: Parting,
+) -> io::Result<()>
     // On success the identifier of `end`, the time since `clock`, whether the other end had left before, and the
     // reason are appended.
     ensures { OnOk result (Appends (W.contents writer.old) (W.contents writer.new)

@@ -13,10 +13,9 @@ use std::alloc::Global;
 use std::io::{Read, Write};
 
 /// Runs `follow` over the capture of a reader. The lines of its datagrams and the summary go to `out`, lines that
-/// are not datagrams to `err`. It returns `Done` if each line was a datagram, or if the reader of `out` has closed it,
-/// `Refused` if a line was not a datagram, and else the status of the fault that stopped it: of the file, of memory or
-/// of an output. An initial value that is not
-/// 32 hex digits is `fault: hex`.
+/// are not datagrams to `err`. It returns `Done` if each line was a datagram, and `Refused` if one was not. It also
+/// returns `Done` if the reader of `out` has closed it, and else the status of the fault that stopped it: of the file,
+/// of memory or of an output. An initial value that is not 32 hex digits is `fault: hex`.
 ///
 /// It is not inlined, so that its stack is not that of every subcommand.
 #[inline(never)]

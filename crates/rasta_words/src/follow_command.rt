@@ -105,9 +105,9 @@ fn add_times<'a>(alloc: Global, command: Command<'a>) -> Result<Command<'a>, All
     let from = Arg::new(alloc, "from").long("from").help(
         "Read only datagrams from this instant on: seconds since the first datagram, @ and seconds since 1970, or a date and time in UTC such as 2026-11-27T03:12:00",
     );
-    let to = Arg::new(alloc, "to").long("to").help(
-        "Read only datagrams up to this instant",
-    );
+    let to = Arg::new(alloc, "to")
+        .long("to")
+        .help("Read only datagrams up to this instant");
     let every = Arg::new(alloc, "every").long("every").help(
         "Also print the summary so far each time that so many seconds have passed in the recording: 1 to 86400",
     );

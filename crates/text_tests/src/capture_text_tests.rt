@@ -2,9 +2,7 @@
 
 use crate::assertions::{assert_equal, assert_true};
 use capture::{Judged, Remarks, Span};
-use capture_text::{
-    Asked, FollowStatus, OutputForm, Remarkable, TimeForm, run, write_remarks,
-};
+use capture_text::{Asked, FollowStatus, OutputForm, Remarkable, TimeForm, run, write_remarks};
 use md4::INITIAL_VALUE;
 use safe_pdu::{CodeLength, CodeRule, Kind, Leaving};
 use std::alloc::Allocator;
