@@ -1,6 +1,9 @@
 -- A whole capture: its state after lines and frames, and what is printed.
-use Rattle.std.specs.Prelude.{ℕ, Bool, false, nat_eq, List, [], ◌∷◌, ◌++◌, codes, if◌then◌else◌, Option, Some, None, Result}
+use Rattle.std.specs.Prelude.{ℕ, Bool, false, nat_eq, List, [], ◌∷◌, ◌++◌, codes, if◌then◌else◌, Option, Some, None, Result, Ok, Err}
 use Rattle.capture.specs.declared.connections.Connection.{Connection}
+use Rattle.capture.specs.declared.file.BlockContent.{BlockContent}
+use Rattle.capture.specs.declared.file.BlockContent.TheVariants as content
+use Rattle.capture.specs.declared.file.FileFault.{FileFault}
 use Rattle.capture.specs.declared.file.FilePart.{FilePart}
 use Rattle.capture.specs.declared.file.FilePart.TheVariants as part
 use Rattle.capture.specs.declared.following.Remark.{Remark}
@@ -17,8 +20,8 @@ use Rattle.capture_text.specs.declared.course.Unfollowed.{Unfollowed}
 use Rattle.capture_text.specs.declared.frames.FrameFault.{FrameFault}
 use Rattle.capture_text.specs.declared.frames.Seen.{Seen}
 use Rattle.capture_text.specs.declared.passed.PassedOver.{PassedOver}
-use Rattle.capture_text.specs.FaultText.{fault_text, frame_text, recording_text}
-use Rattle.capture_text.specs.FrameSteps.{connections_seen, damaged_seen, datagrams_seen, fault_seen, first_seen, forgotten_seen, frame_seen, gone_seen, latest_seen, seen_text, unreadable_seen}
+use Rattle.capture_text.specs.FaultText.{fault_text, file_fault_word, frame_text, recording_text}
+use Rattle.capture_text.specs.FrameSteps.{connections_seen, damaged_seen, datagrams_seen, fault_seen, first_seen, forgotten_seen, frame_seen, gone_seen, latest_seen, payload_at, seen_text, unreadable_seen}
 use Rattle.capture_text.specs.Lines.{is_long}
 use Rattle.capture_text.specs.Passing.{passed_behind, passed_within}
 use Rattle.capture_text.specs.Steps.{connections_behind, counts_of, course_text, damaged_behind, datagrams_behind, due_next, due_text, fault_in, fault_lines, first_behind, forgotten_behind, found_in, found_text, gone_behind, heard_line, is_due, latest_behind, payload_in, unreadable_behind, without_end}
@@ -191,3 +194,25 @@ ended_at p size r = if is_whole_at p size then r else broken_off r
 -- What is reported at the end of a recording.
 abbrev pub end_told : FilePart → ℕ → Read → List ℕ
 end_told p size r = if is_whole_at p size then [] else recording_text r.lines (codes "it ends within a block")
+
+-- The state after a block: after its frame and the sums, or after its fault.
+abbrev pub with_block : Asked → Read → List ℕ → Result BlockContent FileFault → Read
+with_block a r octets (Ok (content.Frame f)) = with_sums a (with_frame a r f.link f.time (payload_at f.start f.end octets))
+with_block a r octets (Ok content.Nothing) = r
+with_block a r octets (Ok content.Text) = r
+with_block a r octets (Err fault) = broken_off r
+
+-- What is printed of a block: of its frame, and the sums if they are due.
+abbrev pub block_printed : Asked → Read → List ℕ → Result BlockContent FileFault → List ℕ
+block_printed a r octets (Ok (content.Frame f)) =
+    frame_printed a r f.link f.time (payload_at f.start f.end octets) ++ sums_printed a (with_frame a r f.link f.time (payload_at f.start f.end octets))
+block_printed a r octets (Ok content.Nothing) = []
+block_printed a r octets (Ok content.Text) = []
+block_printed a r octets (Err fault) = []
+
+-- The fault that is reported of a block: that of its frame, or its own.
+abbrev pub block_told : Asked → Read → List ℕ → Result BlockContent FileFault → List ℕ
+block_told a r octets (Ok (content.Frame f)) = frame_told a r f.link f.time (payload_at f.start f.end octets)
+block_told a r octets (Ok content.Nothing) = []
+block_told a r octets (Ok content.Text) = []
+block_told a r octets (Err fault) = recording_text r.lines (file_fault_word fault)

@@ -39,7 +39,7 @@ const YEAR: u64 = 365;
 const EPOCH: u64 = 719_468;
 
 /// Returns the date of a day, counted from the start of 1970.
-pub(crate) fn date(days: u64) -> Date
+pub(crate) fn date_of_day(days: u64) -> Date
     requires { days < 2 ^ 40 }
     // The day is counted from the 1 March of the year 0, by cycles of 400 years (`date_of`).
     ensures { result ≡ date_of days }

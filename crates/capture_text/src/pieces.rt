@@ -4,7 +4,7 @@ ghost use Rattle.std.specs.Prelude.{◌≡◌, ◌<◌, OnOk};
 ghost use Rattle.std.specs.Io.KnownBytes.{Appends};
 ghost use Rattle.capture_text.specs.Pieces.{address_text, channel_text, difference_text, duration_text, ends_text, moment_digits, reached_text, since_text, six_digits, utc_text, v4_text, v6_text};
 
-use crate::dates::{Date, date};
+use crate::dates::{Date, date_of_day};
 use capture::{Address, Host};
 use std::io;
 use std::io::Write;
@@ -73,7 +73,7 @@ pub(crate) fn write_utc<W: Write>(writer: &mut W, micros: u64) -> io::Result<()>
     // On success the year and the rest of the date and time are appended (`utc_text`).
     ensures { OnOk result (Appends (W.contents writer.old) (W.contents writer.new) (utc_text micros)) }
 {
-    let date = date(micros / 86_400_000_000);
+    let date = date_of_day(micros / 86_400_000_000);
     let year = date.year;
     write!(writer, "{year}")?;
     let digits = spell_moment(date, micros % 86_400_000_000);

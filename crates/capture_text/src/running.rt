@@ -4,13 +4,14 @@
 //! the reader under a `Take` holds afterwards. No clause says when a run stops with a fault. `tests/compare_follow`
 //! has a capture of 200,000 lines.
 
-ghost use Rattle.std.specs.Prelude.{◌≡◌, ◌≤◌, ◌<◌, ◌^◌, [], length, OnOk, IfOk, IfSome};
+ghost use Rattle.std.specs.Prelude.{◌≡◌, ◌≤◌, ◌<◌, ◌^◌, [], length, is_ok, OnOk, IfOk, IfSome};
 ghost use Rattle.std.specs.Io.Buffered.{reader_remaining};
 ghost use Rattle.std.specs.Io.BufRead.{DropsThrough, take_through};
 ghost use Rattle.std.specs.Io.KnownBytes.{Appends};
 ghost use Rattle.std.specs.IoError.{error_kind};
 ghost use Rattle.capture.specs.Numbers.{counted};
-ghost use Rattle.capture_text.specs.Capture.{broken_off, end_told, ended_at, frame_printed, frame_told, is_whole_at, line_printed, line_told, lines_printed, lines_told, read_by, read_printed, sums_printed, text_printed, text_told, with_frame, with_line, with_lines, with_long, with_read, with_sums, with_text};
+ghost use Rattle.capture.specs.Recordings.{event_of, going_on, step_of};
+ghost use Rattle.capture_text.specs.Capture.{block_printed, block_told, broken_off, end_told, ended_at, frame_printed, frame_told, is_whole_at, line_printed, line_told, lines_printed, lines_told, read_by, read_printed, sums_printed, text_printed, text_told, with_block, with_frame, with_line, with_lines, with_long, with_read, with_sums, with_text};
 ghost use Rattle.capture_text.specs.FaultText.{fault_text, file_fault_word, foreign_of, foreign_word, forgotten_told, frame_text, has_front, recording_text};
 ghost use Rattle.capture_text.specs.FrameSteps.{payload_at};
 ghost use Rattle.capture_text.specs.Lines.{cut, lines_of};
@@ -319,7 +320,7 @@ fn take_any<W: Write, E: Write>(
     take_text(course, asked, without_feed(line), buffer, writer, err)
 }
 
-/// Follows the frames of a recording to its end or its first fault.
+/// Follows the blocks of a recording to its end or its first fault.
 fn follow_frames<R: Read + Drop, W: Write, E: Write, A: Allocator + Copy>(
     alloc: A,
     reader: &mut BufReader<R, A>,
@@ -340,16 +341,52 @@ fn follow_frames<R: Read + Drop, W: Write, E: Write, A: Allocator + Copy>(
         if size < wanted {
             return end(course, recording.part, size, err);
         }
-        match recording.take(block.as_slice()) {
-            Ok(BlockContent::Frame(framed)) => {
-                take_framed(course, asked, &framed, block.as_slice(), writer, err)?;
-                write_due(course, asked, writer)?;
-            }
-            Ok(_) => {}
-            Err(fault) => return give_up(course, name_of_file_fault(fault), err),
+        let goes_on = take_block(course, recording, asked, block.as_slice(), writer, err)?;
+        if !goes_on {
+            return Ok(());
         }
     }
     Ok(())
+}
+
+/// Adds a block of a recording, prints the sums if they are due, and returns whether the recording goes on. A block
+/// with a fault is reported, and ends it.
+fn take_block<W: Write, E: Write>(
+    course: &mut Course,
+    recording: &mut Recording,
+    asked: &Asked,
+    block: &[u8],
+    writer: &mut W,
+    err: &mut E,
+) -> Result<bool, Stop>
+    requires { length block.now < 2 ^ 32 }
+    // After the block, the recording is that of its step; after a fault it has not changed (`going_on`).
+    ensures next { recording.new ≡ going_on recording.old (step_of recording.old block.now) }
+    // On success the state is that after the frame of the block and the sums; after a fault of the block the recording
+    // counts as unreadable (`with_block`).
+    ensures read { OnOk result (read_by course.new
+        ≡ with_block asked.now (read_by course.old) block.now (event_of (step_of recording.old block.now))) }
+    // On success the text of the frame's datagram and the sums, if they are due, are appended to `writer`.
+    ensures printed { OnOk result (Appends (W.contents writer.old) (W.contents writer.new)
+        (block_printed asked.now (read_by course.old) block.now (event_of (step_of recording.old block.now)))) }
+    // On success the fault of the frame or the block, if any, is appended to `err` (`block_told`).
+    ensures told { OnOk result (Appends (E.contents err.old) (E.contents err.new)
+        (block_told asked.now (read_by course.old) block.now (event_of (step_of recording.old block.now)))) }
+    // The recording goes on exactly if the block has no fault.
+    ensures goes_on { IfOk result (λ goes_on. goes_on ≡ is_ok (event_of (step_of recording.old block.now))) }
+{
+    match recording.take(block) {
+        Ok(BlockContent::Frame(framed)) => {
+            take_framed(course, asked, &framed, block, writer, err)?;
+            write_due(course, asked, writer)?;
+            Ok(true)
+        }
+        Ok(BlockContent::Nothing | BlockContent::Text) => Ok(true),
+        Err(fault) => {
+            give_up(course, name_of_file_fault(fault), err)?;
+            Ok(false)
+        }
+    }
 }
 
 /// Adds a line without its line feed. Its text goes to `writer`, its fault to `err`.
