@@ -21,10 +21,10 @@ use Rattle.capture_text.specs.declared.frames.FrameFault.{FrameFault}
 use Rattle.capture_text.specs.declared.frames.Seen.{Seen}
 use Rattle.capture_text.specs.declared.passed.PassedOver.{PassedOver}
 use Rattle.capture_text.specs.FaultText.{fault_text, file_fault_word, frame_text, recording_text}
-use Rattle.capture_text.specs.FrameSteps.{connections_seen, damaged_seen, datagrams_seen, fault_seen, first_seen, forgotten_seen, frame_seen, gone_seen, latest_seen, payload_at, seen_text, unreadable_seen}
+use Rattle.capture_text.specs.FrameSteps.{connections_seen, damaged_seen, datagrams_seen, fault_seen, first_seen, forgotten_seen, frame_seen, gone_seen, latest_seen, miscoded_seen, payload_at, seen_text, unreadable_seen}
 use Rattle.capture_text.specs.Lines.{is_long}
 use Rattle.capture_text.specs.Passing.{passed_behind, passed_within}
-use Rattle.capture_text.specs.Steps.{connections_behind, counts_of, course_text, damaged_behind, datagrams_behind, due_next, due_text, fault_in, fault_lines, first_behind, forgotten_behind, found_in, found_text, gone_behind, heard_line, is_due, latest_behind, payload_in, unreadable_behind, without_end}
+use Rattle.capture_text.specs.Steps.{connections_behind, counts_of, course_text, damaged_behind, datagrams_behind, due_next, due_text, fault_in, fault_lines, first_behind, forgotten_behind, found_in, found_text, gone_behind, heard_line, is_due, latest_behind, miscoded_behind, payload_in, unreadable_behind, without_end}
 
 -- The state of a capture that is being read.
 pub record Read : Type 0 where
@@ -35,6 +35,7 @@ pub record Read : Type 0 where
   pub datagrams : ℕ
   pub gone : Totals  -- sums over the connections that were forgotten
   pub damaged : ℕ  -- datagrams that are not a PDU
+  pub miscoded : ℕ  -- datagrams with a wrong safety code
   pub forgotten : ℕ  -- connections that were forgotten
   pub passed : PassedOver  -- frames and lines that were passed over, by kind
   pub latest : ℕ  -- the time of the last datagram that was followed
@@ -51,6 +52,7 @@ read_by c =
       datagrams = c.following.datagrams;
       gone = c.following.gone;
       damaged = c.following.damaged;
+      miscoded = c.following.miscoded;
       forgotten = c.following.forgotten;
       passed = c.passed;
       latest = c.latest;
@@ -72,6 +74,7 @@ with_text a r text =
       datagrams = datagrams_behind r.datagrams (heard_line a r.first (line_of text));
       gone = gone_behind r.gone r.connections (heard_line a r.first (line_of text));
       damaged = damaged_behind r.damaged (heard_line a r.first (line_of text));
+      miscoded = miscoded_behind r.miscoded (heard_line a r.first (line_of text));
       forgotten = forgotten_behind r.forgotten r.connections (heard_line a r.first (line_of text));
       passed = passed_behind r.passed (heard_line a r.first (line_of text));
       latest = latest_behind r.latest (seen_in a r text);
@@ -146,6 +149,7 @@ with_seen a r octets seen =
       datagrams = datagrams_seen r.datagrams seen;
       gone = gone_seen a.rule r.gone r.connections octets seen;
       damaged = damaged_seen a.rule r.damaged octets seen;
+      miscoded = miscoded_seen a.rule r.miscoded octets seen;
       forgotten = forgotten_seen a.rule r.forgotten r.connections octets seen;
       passed = passed_within r.passed seen;
       latest = latest_seen r.latest seen;

@@ -6,7 +6,7 @@ use Rattle.capture.specs.declared.following.Totals.{Totals}
 use Rattle.capture.specs.declared.line.Record.{Record}
 use Rattle.capture.specs.Hearing.{heard_of}
 use Rattle.capture.specs.Numbers.{counted}
-use Rattle.capture.specs.Whole.{connections_after, damaged_after, forgotten_after, gone_after, remark_of}
+use Rattle.capture.specs.Whole.{connections_after, damaged_after, forgotten_after, gone_after, miscoded_after, remark_of}
 use Rattle.capture.specs.declared.frame.Found.{Found}
 use Rattle.capture.specs.declared.frame.Link.{Link}
 use Rattle.capture.specs.declared.frame.Passed.{Passed}
@@ -82,6 +82,12 @@ abbrev pub damaged_seen : CodeRule → ℕ → List ℕ → Seen → ℕ
 damaged_seen rule damaged octets (Datagram r start end) = damaged_after damaged (heard_of rule (payload_at start end octets))
 damaged_seen rule damaged octets (Other why) = damaged
 damaged_seen rule damaged octets (Unread fault) = damaged
+
+-- The count of datagrams with a wrong safety code after a frame.
+abbrev pub miscoded_seen : CodeRule → ℕ → List ℕ → Seen → ℕ
+miscoded_seen rule miscoded octets (Datagram r start end) = miscoded_after miscoded (heard_of rule (payload_at start end octets))
+miscoded_seen rule miscoded octets (Other why) = miscoded
+miscoded_seen rule miscoded octets (Unread fault) = miscoded
 
 -- The sums of forgotten connections after a frame.
 abbrev pub gone_seen : CodeRule → Totals → List Connection → List ℕ → Seen → Totals

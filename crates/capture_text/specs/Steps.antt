@@ -11,7 +11,7 @@ use Rattle.capture.specs.Lines.{Line}
 use Rattle.capture.specs.Numbers.{counted}
 use Rattle.capture.specs.Instants.{is_within}
 use Rattle.capture.specs.Ports.{is_chosen}
-use Rattle.capture.specs.Whole.{connections_after, damaged_after, forgotten_after, gone_after, remark_of, totals_of}
+use Rattle.capture.specs.Whole.{connections_after, damaged_after, forgotten_after, gone_after, miscoded_after, remark_of, totals_of}
 use Rattle.std.specs.Io.BufRead.{ends_with_byte, strip_last}
 use Rattle.capture_text.specs.Choice.{is_asked}
 use Rattle.capture_text.specs.FaultText.{fault_text}
@@ -97,6 +97,11 @@ gone_behind gone cs (Err why) = gone
 abbrev pub damaged_behind : ℕ → Result (Record × Heard) Unfollowed → ℕ
 damaged_behind damaged (Ok h) = damaged_after damaged h.1
 damaged_behind damaged (Err why) = damaged
+
+-- The count of datagrams with a wrong safety code after a line.
+abbrev pub miscoded_behind : ℕ → Result (Record × Heard) Unfollowed → ℕ
+miscoded_behind miscoded (Ok h) = miscoded_after miscoded h.1
+miscoded_behind miscoded (Err why) = miscoded
 
 -- The count of forgotten connections after a line.
 abbrev pub forgotten_behind : ℕ → List Connection → Result (Record × Heard) Unfollowed → ℕ

@@ -8,7 +8,7 @@ ghost use Rattle.capture.specs.Numbers.{counted};
 ghost use Rattle.capture.specs.Whole.{connections_after, damaged_after, forgotten_after, gone_after, no_totals, remark_of};
 ghost use Rattle.capture_text.specs.FaultText.{fault_text, fault_word};
 ghost use Rattle.capture_text.specs.Passing.{no_passed, passed_behind};
-ghost use Rattle.capture_text.specs.Steps.{asked_telegrams, connections_behind, counts_of, course_text, damaged_behind, due_next, due_text, datagrams_behind, fault_in, first_behind, first_of, forgotten_behind, found_in, found_text, gone_behind, heard_chosen, heard_line, is_due, is_line_told, latest_behind, next_period, payload_in, scale_from, told_text, unreadable_behind};
+ghost use Rattle.capture_text.specs.Steps.{asked_telegrams, connections_behind, counts_of, course_text, damaged_behind, due_next, due_text, datagrams_behind, fault_in, first_behind, first_of, forgotten_behind, found_in, found_text, gone_behind, heard_chosen, heard_line, is_due, is_line_told, latest_behind, miscoded_behind, next_period, payload_in, scale_from, told_text, unreadable_behind};
 
 use crate::choice::{Remarkable, is_wanted};
 use crate::frames::{Skipped, first_with, skip};
@@ -99,6 +99,8 @@ impl Course {
         ensures datagrams { IfOk result (λ course. course.following.datagrams ≡ 0) }
         // A new `Course` has counted no damaged datagram.
         ensures damaged { IfOk result (λ course. course.following.damaged ≡ 0) }
+        // A new `Course` has counted no datagram with a wrong safety code.
+        ensures miscoded { IfOk result (λ course. course.following.miscoded ≡ 0) }
         // A new `Course` has no sums of forgotten connections.
         ensures gone { IfOk result (λ course. course.following.gone ≡ no_totals) }
         // A new `Course` has forgotten no connection.
@@ -168,6 +170,9 @@ impl Course {
         // The count of damaged datagrams grows by 1 exactly if a followed datagram is not a PDU.
         ensures damaged { self.new.following.damaged
             ≡ damaged_behind self.old.following.damaged (heard_line asked.now self.old.first (line_of line.now)) }
+        // The count of datagrams with a wrong safety code grows by 1 exactly if a followed datagram has one.
+        ensures miscoded { self.new.following.miscoded
+            ≡ miscoded_behind self.old.following.miscoded (heard_line asked.now self.old.first (line_of line.now)) }
         // If a connection is forgotten for the datagram, the count of forgotten ones grows by 1 (`forgotten_behind`).
         ensures forgotten { self.new.following.forgotten
             ≡ forgotten_behind self.old.following.forgotten self.old.following.connections
@@ -446,6 +451,8 @@ fn follow(
     ensures datagrams { following.new.datagrams ≡ datagrams_behind following.old.datagrams heard }
     // Only a followed datagram that is not a PDU adds to the count of damaged ones.
     ensures damaged { following.new.damaged ≡ damaged_behind following.old.damaged heard }
+    // Only a followed datagram with a wrong safety code adds to their count.
+    ensures miscoded { following.new.miscoded ≡ miscoded_behind following.old.miscoded heard }
     // If the datagram makes a connection forgotten, its sums are kept.
     ensures gone { following.new.gone
         ≡ gone_behind following.old.gone following.old.connections heard }

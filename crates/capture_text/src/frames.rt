@@ -4,10 +4,10 @@ ghost use Rattle.std.specs.Prelude.{◌≡◌, Some, ◌≤◌, ◌^◌, ◌<◌
 ghost use Rattle.std.specs.Io.KnownBytes.{Appends};
 ghost use Rattle.capture.specs.Hearing.{heard_of};
 ghost use Rattle.capture.specs.Numbers.{counted};
-ghost use Rattle.capture.specs.Whole.{connections_after, damaged_after, forgotten_after, gone_after, remark_of};
+ghost use Rattle.capture.specs.Whole.{connections_after, damaged_after, forgotten_after, gone_after, miscoded_after, remark_of};
 ghost use Rattle.capture.specs.Frames.{found_in};
 ghost use Rattle.capture_text.specs.FaultText.{frame_text, frame_word};
-ghost use Rattle.capture_text.specs.FrameSteps.{connections_seen, damaged_seen, datagrams_seen, fault_seen, first_seen, forgotten_seen, frame_seen, gone_seen, latest_seen, payload_at, record_found, seen_chosen, seen_found, seen_passed, seen_text, unreadable_seen, IsWithin};
+ghost use Rattle.capture_text.specs.FrameSteps.{connections_seen, damaged_seen, datagrams_seen, fault_seen, first_seen, forgotten_seen, frame_seen, gone_seen, latest_seen, miscoded_seen, payload_at, record_found, seen_chosen, seen_found, seen_passed, seen_text, unreadable_seen, IsWithin};
 ghost use Rattle.capture_text.specs.Passing.{passed_within};
 ghost use Rattle.capture_text.specs.Steps.{first_of, first_skipped, skipped_by, told_text};
 
@@ -91,6 +91,10 @@ impl Course {
         ensures damaged { self.new.following.damaged
             ≡ damaged_seen asked.now.rule self.old.following.damaged octets.now
             (frame_seen asked.now self.old.first link time octets.now) }
+        // The count of datagrams with a wrong safety code grows by 1 exactly if the frame has a followed one.
+        ensures miscoded { self.new.following.miscoded
+            ≡ miscoded_seen asked.now.rule self.old.following.miscoded octets.now
+            (frame_seen asked.now self.old.first link time octets.now) }
         // If a connection is forgotten for the datagram, its sums are added to those of the forgotten ones.
         ensures gone { self.new.following.gone
             ≡ gone_seen asked.now.rule self.old.following.gone self.old.following.connections octets.now
@@ -162,6 +166,9 @@ impl Course {
         // The datagram is counted as damaged exactly if it is not a PDU.
         ensures damaged { self.new.following.damaged
             ≡ damaged_after self.old.following.damaged (heard_of asked.now.rule payload.now) }
+        // The datagram is counted as one with a wrong safety code exactly if it has one.
+        ensures miscoded { self.new.following.miscoded
+            ≡ miscoded_after self.old.following.miscoded (heard_of asked.now.rule payload.now) }
         // The sums of a connection that is forgotten for the datagram are kept.
         ensures gone { self.new.following.gone
             ≡ gone_after self.old.following.gone self.old.following.connections
