@@ -346,6 +346,7 @@ class Follower:
 
     def __init__(self, rule):
         self.rule, self.connections, self.damaged, self.forgotten, self.unreadable = rule, [], 0, 0, 0
+        self.miscoded = 0  # datagrams with a wrong safety code
         self.frames, self.others = 0, [0, 0]  # lines, and how many of them have no chosen port, and another time than is asked for
         self.datagrams, self.gone = 0, [0] * 6
 
@@ -356,6 +357,7 @@ class Follower:
         number, p = (None, None) if isinstance(seen, str) else (seen[0], safe_seen(seen[1], self.rule))
         if p is None or isinstance(p, str):
             self.damages(source, destination)
+            self.miscoded += p == 'Code'
             return way if p is None else '%s red %d' % (way, number), [fault('red', seen) if p is None else fault('safe', p)]
         connection = self.connection(sorted((p.sender, p.receiver)))
         connection.last = time
@@ -576,6 +578,8 @@ def followed(raws, code=8, only=None, t_max=1800, ports=None, as_json=False, tim
     out += sums()
     if follower.forgotten:
         err.append('connections: %d were forgotten, since more than %d were recorded at once; choose some by --ports\n' % (follower.forgotten, CONNECTIONS))
+    if follower.miscoded and follower.miscoded == follower.datagrams:
+        err.append('datagrams: all %d have another safety code; choose it by --code or --iv\n' % follower.miscoded)
     return ''.join(out), ''.join(err), 1 if err else 0
 
 
