@@ -1,9 +1,9 @@
 use crate::assertions::{assert_equal, assert_true, assert_true_at};
-use capture::read_ports;
-use capture_text::Remarkable;
+use capture::{Instant, Span, read_ports};
+use capture_text::{Remarkable, TimeForm};
 use rasta_words::{
-    Choice, CountsForm, FollowRequest, LogLevel, LogTime, Rejection, Request, RunLength,
-    RunRequest, Telling, WordsFault, command,
+    Choice, CountsForm, FollowRequest, FollowTimes, LogLevel, LogTime, Rejection, Request,
+    RunLength, RunRequest, Telling, WordsFault, command,
 };
 use safe_pdu::CodeLength;
 use settings_file::Word as Ends;
@@ -77,6 +77,14 @@ fn accepts_the_words_of_follow(rt: HostRuntime) -> Result<(), Fail> {
         file: "night.tsv",
         ports: None,
         json: false,
+        times: FollowTimes {
+            form: TimeForm::Since,
+            span: Span {
+                from: None,
+                to: None,
+            },
+            every: None,
+        },
     };
     let words = ["rasta", "follow", "night.tsv"];
     let Ok(found) = command(rt.alloc(), &words) else {
@@ -98,6 +106,14 @@ fn accepts_the_words_of_follow(rt: HostRuntime) -> Result<(), Fail> {
         "--ports",
         "46101-46102,5000",
         "--json",
+        "--time",
+        "utc",
+        "--from",
+        "90.5",
+        "--to",
+        "2026-11-27T03:12:00Z",
+        "--every",
+        "60",
         "-",
     ];
     let Ok(found) = command(rt.alloc(), &words) else {
@@ -115,6 +131,14 @@ fn accepts_the_words_of_follow(rt: HostRuntime) -> Result<(), Fail> {
             file: "-",
             ports: read_ports(b"46101-46102,5000"),
             json: true,
+            times: FollowTimes {
+                form: TimeForm::Utc,
+                span: Span {
+                    from: Some(Instant::Since(90_500_000)),
+                    to: Some(Instant::At(1_795_749_120_000_000)),
+                },
+                every: Some(60),
+            },
         }),
     );
     for (choice, option, text) in [
@@ -124,6 +148,10 @@ fn accepts_the_words_of_follow(rt: HostRuntime) -> Result<(), Fail> {
         ("--t-max", Choice::TMax, "4294967296"),
         ("--ports", Choice::Ports, "2-1"),
         ("--ports", Choice::Ports, "1,2,3,4,5"),
+        ("--time", Choice::Times, "run"),
+        ("--from", Choice::From, "27.11.2026"),
+        ("--to", Choice::To, "2026-02-30T00:00:00"),
+        ("--every", Choice::Period, "0"),
     ] {
         let words = ["rasta", "follow", choice, text, "night.tsv"];
         let value = Rejection::Value {
