@@ -233,8 +233,11 @@ counts_json c =
     (codes ",\"damaged\":" ∷ decimal c.damaged ∷ codes ",\"forgotten\":" ∷ decimal c.forgotten ∷ codes ",\"unreadable\":"
     ∷ decimal c.unreadable ∷ codes ",\"frames\":" ∷ decimal c.frames ∷ [])
 
+-- The sums of all connections, and the start of their list.
+unfoldable pub all_json : Totals → CaptureCounts → List ℕ
+all_json t c =
+    decimal c.datagrams ++ numbers_json t ++ counts_json c ++ passed_json c.passed ++ codes "},\"connections\":["
+
 -- The whole object.
 unfoldable pub sums_json : Scale → List Connection → Totals → CaptureCounts → List ℕ
-sums_json s cs t c =
-    scale_json s ++ decimal c.datagrams ++ numbers_json t ++ counts_json c ++ passed_json c.passed ++ codes "},\"connections\":["
-    ++ connections_json cs ++ codes "]}\n"
+sums_json s cs t c = scale_json s ++ all_json t c ++ connections_json cs ++ codes "]}\n"

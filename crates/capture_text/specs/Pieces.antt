@@ -39,10 +39,13 @@ moment_digits d micros =
     ∷ digit 10000 (micros % 1000000) ∷ digit 1000 (micros % 1000000) ∷ digit 100 (micros % 1000000) ∷ digit 10 (micros % 1000000)
     ∷ digit 1 (micros % 1000000) ∷ 90 ∷ []
 
+-- A date and a time of day in UTC.
+unfoldable pub moment_text : Date → ℕ → List ℕ
+moment_text d micros = joined (decimal d.year ∷ moment_digits d micros ∷ [])
+
 -- A time as date and time of day in UTC.
-unfoldable pub utc_text : ℕ → List ℕ
-utc_text micros =
-    joined (decimal (date_of (micros / 86400000000)).year ∷ moment_digits (date_of (micros / 86400000000)) (micros % 86400000000) ∷ [])
+abbrev pub utc_text : ℕ → List ℕ
+utc_text micros = moment_text (date_of (micros / 86400000000)) (micros % 86400000000)
 
 -- A time in this form.
 abbrev pub time_in : TimeForm → ℕ → ℕ → List ℕ

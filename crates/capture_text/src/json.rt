@@ -3,7 +3,7 @@
 ghost use Rattle.std.specs.Prelude.{◌≡◌, ◌<◌, OnOk, None, Some};
 ghost use Rattle.std.specs.Io.KnownBytes.{Appends};
 ghost use Rattle.capture.specs.Whole.{totals_of};
-ghost use Rattle.capture_text.specs.Json.{ages_json, both_json, came_json, channel_json, channels_json, coming_json, comma, connection_json, connections_json, counts_json, damaged_json, direction_json, directions_json, ends_json, greatest_json, high_json, kinds_json, known_channel_json, leaving_json, listed_channel_json, listed_json, losses_json, lost_json, low_json, more_json, name_json, near_json, numbers_json, opened_at_json, opened_json, opening_json, openings_json, others_json, parting_json, place_json, place_number_json, reasons_json, route_json, scale_json, sums_json, time_json, times_json, totals_in, up_json, whole_json, window_json};
+ghost use Rattle.capture_text.specs.Json.{ages_json, all_json, both_json, came_json, channel_json, channels_json, coming_json, comma, connection_json, connections_json, counts_json, damaged_json, direction_json, directions_json, ends_json, greatest_json, high_json, kinds_json, known_channel_json, leaving_json, listed_channel_json, listed_json, losses_json, lost_json, low_json, more_json, name_json, near_json, numbers_json, opened_at_json, opened_json, opening_json, openings_json, others_json, parting_json, place_json, place_number_json, reasons_json, route_json, scale_json, sums_json, time_json, times_json, totals_in, up_json, whole_json, window_json};
 
 use crate::passed::write_passed_json;
 use crate::pieces::write_address;
@@ -40,15 +40,25 @@ pub fn write_json<W: Write>(
     ensures { OnOk result (Appends (W.contents writer.old) (W.contents writer.new)
         (sums_json scale connections.now (totals_of gone connections.now) counts)) }
 {
-    let datagrams = counts.datagrams;
     write_scale(writer, scale)?;
+    write_all(writer, sum_up(gone, connections), counts)?;
+    write_connections(writer, connections)?;
+    write_text(writer, "]}\n")?;
+    Ok(())
+}
+
+/// Writes the sums of all connections, ends their object and opens the list of connections.
+#[tactic(auto, unfolding(crate::specs::Json::all_json))]
+fn write_all<W: Write>(writer: &mut W, totals: Totals, counts: CaptureCounts) -> io::Result<()>
+    // On success the datagrams, the `totals`, the `counts` and what was passed over are appended (`all_json`).
+    ensures { OnOk result (Appends (W.contents writer.old) (W.contents writer.new) (all_json totals counts)) }
+{
+    let datagrams = counts.datagrams;
     write!(writer, "{datagrams}")?;
-    write_numbers(writer, sum_up(gone, connections))?;
+    write_numbers(writer, totals)?;
     write_counts(writer, counts)?;
     write_passed_json(writer, &counts.passed)?;
     write_text(writer, "},\"connections\":[")?;
-    write_connections(writer, connections)?;
-    write_text(writer, "]}\n")?;
     Ok(())
 }
 

@@ -2,7 +2,7 @@
 
 ghost use Rattle.std.specs.Prelude.{◌≡◌, ◌<◌, OnOk};
 ghost use Rattle.std.specs.Io.KnownBytes.{Appends};
-ghost use Rattle.capture_text.specs.Pieces.{address_text, channel_text, difference_text, duration_text, ends_text, moment_digits, reached_text, since_text, six_digits, utc_text, v4_text, v6_text};
+ghost use Rattle.capture_text.specs.Pieces.{address_text, channel_text, difference_text, duration_text, ends_text, moment_digits, moment_text, reached_text, since_text, six_digits, utc_text, v4_text, v6_text};
 
 use crate::dates::{Date, date_of_day};
 use capture::{Address, Host};
@@ -68,15 +68,27 @@ pub(crate) fn write_duration<W: Write>(writer: &mut W, micros: u64) -> io::Resul
 }
 
 /// Writes a time as date and time of day in UTC.
-#[tactic(auto, unfolding(crate::specs::Pieces::utc_text))]
 pub(crate) fn write_utc<W: Write>(writer: &mut W, micros: u64) -> io::Result<()>
-    // On success the year and the rest of the date and time are appended (`utc_text`).
+    // On success the date of the day and the time of day are appended (`utc_text`).
     ensures { OnOk result (Appends (W.contents writer.old) (W.contents writer.new) (utc_text micros)) }
 {
-    let date = date_of_day(micros / 86_400_000_000);
+    write_moment(
+        writer,
+        date_of_day(micros / 86_400_000_000),
+        micros % 86_400_000_000,
+    )
+}
+
+/// Writes a date and a time of day, in microseconds since midnight.
+#[tactic(auto, unfolding(crate::specs::Pieces::moment_text))]
+fn write_moment<W: Write>(writer: &mut W, date: Date, micros: u64) -> io::Result<()>
+    requires { micros < 86400000000 }
+    // On success the year and the rest of the `date` and the time are appended (`moment_text`).
+    ensures { OnOk result (Appends (W.contents writer.old) (W.contents writer.new) (moment_text date micros)) }
+{
     let year = date.year;
     write!(writer, "{year}")?;
-    let digits = spell_moment(date, micros % 86_400_000_000);
+    let digits = spell_moment(date, micros);
     writer.write_all(&digits)
 }
 
