@@ -199,6 +199,10 @@ ended_at p size r = if is_whole_at p size then r else broken_off r
 abbrev pub end_told : FilePart → ℕ → Read → List ℕ
 end_told p size r = if is_whole_at p size then [] else recording_text r.lines (codes "it ends within a block")
 
+-- What is printed of a frame, and the sums after it.
+abbrev pub shown_printed : Asked → Read → Option Link → ℕ → List ℕ → List ℕ
+shown_printed a r link time octets = frame_printed a r link time octets ++ sums_printed a (with_frame a r link time octets)
+
 -- The state after a block: after its frame and the sums, or after its fault.
 abbrev pub with_block : Asked → Read → List ℕ → Result BlockContent FileFault → Read
 with_block a r octets (Ok (content.Frame f)) = with_sums a (with_frame a r f.link f.time (payload_at f.start f.end octets))
@@ -208,8 +212,7 @@ with_block a r octets (Err fault) = broken_off r
 
 -- What is printed of a block: of its frame, and the sums if they are due.
 abbrev pub block_printed : Asked → Read → List ℕ → Result BlockContent FileFault → List ℕ
-block_printed a r octets (Ok (content.Frame f)) =
-    frame_printed a r f.link f.time (payload_at f.start f.end octets) ++ sums_printed a (with_frame a r f.link f.time (payload_at f.start f.end octets))
+block_printed a r octets (Ok (content.Frame f)) = shown_printed a r f.link f.time (payload_at f.start f.end octets)
 block_printed a r octets (Ok content.Nothing) = []
 block_printed a r octets (Ok content.Text) = []
 block_printed a r octets (Err fault) = []

@@ -44,7 +44,7 @@ unfoldable pub moment_text : Date → ℕ → List ℕ
 moment_text d micros = joined (decimal d.year ∷ moment_digits d micros ∷ [])
 
 -- A time as date and time of day in UTC.
-abbrev pub utc_text : ℕ → List ℕ
+unfoldable pub utc_text : ℕ → List ℕ
 utc_text micros = moment_text (date_of (micros / 86400000000)) (micros % 86400000000)
 
 -- A time in this form.

@@ -1,6 +1,7 @@
 //! The sums as one JSON object.
 
 ghost use Rattle.std.specs.Prelude.{◌≡◌, ◌<◌, OnOk, None, Some};
+ghost use Rattle.std.specs.Fmt.{decimal};
 ghost use Rattle.std.specs.Io.KnownBytes.{Appends};
 ghost use Rattle.capture.specs.Whole.{totals_of};
 ghost use Rattle.capture_text.specs.Json.{ages_json, all_json, both_json, came_json, channel_json, channels_json, coming_json, comma, connection_json, connections_json, counts_json, damaged_json, direction_json, directions_json, ends_json, greatest_json, high_json, kinds_json, known_channel_json, leaving_json, listed_channel_json, listed_json, losses_json, lost_json, low_json, more_json, name_json, near_json, numbers_json, opened_at_json, opened_json, opening_json, openings_json, others_json, parting_json, place_json, place_number_json, reasons_json, route_json, scale_json, sums_json, time_json, times_json, totals_in, up_json, whole_json, window_json};
@@ -53,13 +54,20 @@ fn write_all<W: Write>(writer: &mut W, totals: Totals, counts: CaptureCounts) ->
     // On success the datagrams, the `totals`, the `counts` and what was passed over are appended (`all_json`).
     ensures { OnOk result (Appends (W.contents writer.old) (W.contents writer.new) (all_json totals counts)) }
 {
-    let datagrams = counts.datagrams;
-    write!(writer, "{datagrams}")?;
+    write_count(writer, counts.datagrams)?;
     write_numbers(writer, totals)?;
     write_counts(writer, counts)?;
     write_passed_json(writer, &counts.passed)?;
     write_text(writer, "},\"connections\":[")?;
     Ok(())
+}
+
+/// Writes a number.
+fn write_count<W: Write>(writer: &mut W, count: u64) -> io::Result<()>
+    // On success the digits of `count` are appended.
+    ensures { OnOk result (Appends (W.contents writer.old) (W.contents writer.new) (decimal count)) }
+{
+    write!(writer, "{count}")
 }
 
 /// Writes the first time and T_max, and opens the object of all sums.

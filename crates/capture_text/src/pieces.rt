@@ -68,6 +68,7 @@ pub(crate) fn write_duration<W: Write>(writer: &mut W, micros: u64) -> io::Resul
 }
 
 /// Writes a time as date and time of day in UTC.
+#[tactic(auto, unfolding(crate::specs::Pieces::utc_text))]
 pub(crate) fn write_utc<W: Write>(writer: &mut W, micros: u64) -> io::Result<()>
     // On success the date of the day and the time of day are appended (`utc_text`).
     ensures { OnOk result (Appends (W.contents writer.old) (W.contents writer.new) (utc_text micros)) }

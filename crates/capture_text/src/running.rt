@@ -11,7 +11,7 @@ ghost use Rattle.std.specs.Io.KnownBytes.{Appends};
 ghost use Rattle.std.specs.IoError.{error_kind};
 ghost use Rattle.capture.specs.Numbers.{counted};
 ghost use Rattle.capture.specs.Recordings.{event_of, going_on, step_of};
-ghost use Rattle.capture_text.specs.Capture.{block_printed, block_told, broken_off, end_told, ended_at, frame_printed, frame_told, is_whole_at, line_printed, line_told, lines_printed, lines_told, read_by, read_printed, sums_printed, text_printed, text_told, with_block, with_frame, with_line, with_lines, with_long, with_read, with_sums, with_text};
+ghost use Rattle.capture_text.specs.Capture.{block_printed, block_told, broken_off, end_told, ended_at, frame_printed, frame_told, is_whole_at, line_printed, line_told, lines_printed, lines_told, read_by, read_printed, shown_printed, sums_printed, text_printed, text_told, with_block, with_frame, with_line, with_lines, with_long, with_read, with_sums, with_text};
 ghost use Rattle.capture_text.specs.FaultText.{are_miscoded, fault_text, faults_in, file_fault_word, foreign_of, foreign_word, forgotten_told, frame_text, has_front, miscoded_text, miscoded_told, recording_text};
 ghost use Rattle.capture_text.specs.FrameSteps.{payload_at};
 ghost use Rattle.capture_text.specs.Lines.{cut, lines_of};
@@ -331,7 +331,8 @@ fn follow_line<W: Write, E: Write>(
         (line_told asked.now (read_by course.old) line.now)) }
 {
     take_any(course, asked, line, buffer, writer, err)?;
-    write_due(course, asked, writer)
+    write_due(course, asked, writer)?;
+    Ok(())
 }
 
 /// Prints the sums if they are due.
@@ -430,8 +431,7 @@ fn take_block<W: Write, E: Write>(
 {
     match recording.take(block) {
         Ok(BlockContent::Frame(framed)) => {
-            take_framed(course, asked, &framed, block, writer, err)?;
-            write_due(course, asked, writer)?;
+            take_shown(course, asked, &framed, block, writer, err)?;
             Ok(true)
         }
         Ok(BlockContent::Nothing | BlockContent::Text) => Ok(true),
@@ -558,6 +558,36 @@ fn flush<W: Write>(writer: &mut W) -> Result<(), Stop>
         Ok(()) => Ok(()),
         Err(error) => Err(stop_at_output(&error)),
     }
+}
+
+/// Adds the frame of a block, and prints the sums if they are due.
+fn take_shown<W: Write, E: Write>(
+    course: &mut Course,
+    asked: &Asked,
+    framed: &Framed,
+    block: &[u8],
+    writer: &mut W,
+    err: &mut E,
+) -> Result<(), Stop>
+    requires order { framed.now.start ≤ framed.now.end }
+    requires within { framed.now.end ≤ length block.now }
+    requires size { length block.now < 2 ^ 32 }
+    // On success the state is that after this frame, with the next time of sums.
+    ensures read { OnOk result (read_by course.new
+        ≡ with_sums asked.now (with_frame asked.now (read_by course.old) framed.now.link framed.now.time
+        (payload_at framed.now.start framed.now.end block.now))) }
+    // On success the text of the frame's datagram and the sums, if they are due, are appended to `writer`.
+    ensures printed { OnOk result (Appends (W.contents writer.old) (W.contents writer.new)
+        (shown_printed asked.now (read_by course.old) framed.now.link framed.now.time
+        (payload_at framed.now.start framed.now.end block.now))) }
+    // On success the fault of the frame, if it has one, is appended to `err`.
+    ensures told { OnOk result (Appends (E.contents err.old) (E.contents err.new)
+        (frame_told asked.now (read_by course.old) framed.now.link framed.now.time
+        (payload_at framed.now.start framed.now.end block.now))) }
+{
+    take_framed(course, asked, framed, block, writer, err)?;
+    write_due(course, asked, writer)?;
+    Ok(())
 }
 
 /// Adds the frame of a block, and reports why its datagram is not read.
