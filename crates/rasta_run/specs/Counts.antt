@@ -1,5 +1,5 @@
 -- The printed counts of an end: a line for each channel, and one for the connection, in words or as JSON.
-use Rattle.std.specs.Prelude.{ℕ, ◌+◌, ◌-◌, nat_le, Bool, true, false, List, [], ◌∷◌, codes, slice_index_or, Option, Some, None, if◌then◌else◌}
+use Rattle.std.specs.Prelude.{ℕ, ◌+◌, ◌-◌, ◌*◌, ◌^◌, min, nat_le, Bool, true, false, List, [], ◌∷◌, codes, slice_index_or, Option, Some, None, if◌then◌else◌}
 use Rattle.std.specs.Fmt.{decimal}
 use Rattle.std.specs.List.{flat_map}
 use Rattle.end_settings.specs.declared.Side.{Side}
@@ -8,6 +8,7 @@ use Rattle.rasta_run.specs.declared.counts.Counted.{Counted}
 use Rattle.rasta_run.specs.declared.counting.Teller.{Teller}
 use Rattle.rasta_run.specs.declared.logging.Listening.{Listening}
 use Rattle.rasta_run.specs.Counting.{accepted, dropped, no_datagrams, oldest}
+use Rattle.rasta_run.specs.Silence.{hears_all}
 use Rattle.rasta_run.specs.Totals.{sum}
 use Rattle.stack_end.specs.Statistics.{none_received}
 use Rattle.stack_end.specs.declared.statistics.ReceptionCounts.{ReceptionCounts}
@@ -144,3 +145,27 @@ is_off t = is_off_by t.telling
 abbrev pub is_due : Option ℕ → ℕ → Bool
 is_due None now = false
 is_due (Some next) now = nat_le next now
+
+-- the time of the next counts, this many seconds later if they are printed before the end
+abbrev pub next_every : Option ℕ → ℕ → Option ℕ
+next_every None now = None
+next_every (Some seconds) now = Some (min (now + seconds * 1_000) (2 ^ 64 - 1))
+
+-- the time of the next counts
+abbrev pub next_after : Option Telling → ℕ → Option ℕ
+next_after None now = None
+next_after (Some telling) now = next_every telling.every now
+
+-- the time of the next counts after a look
+abbrev pub next_by : (due : Bool) → Option Telling → Option ℕ → ℕ → Option ℕ
+next_by true telling next now = next_after telling now
+next_by false telling next now = next
+
+-- the printer after a look at what is counted: it records which channels received something
+abbrev pub looked_at : Teller → Counted → ℕ → Teller
+looked_at t c now =
+    record t { next = next_by (is_due t.next now) t.telling t.next now; heard = hears_all c.sums.channels t.count now (2 ^ 64 - 1) t.heard }
+
+-- the same, if counts are printed
+abbrev pub looked : Teller → Counted → ℕ → Teller
+looked t c now = if is_off t then t else looked_at t c now

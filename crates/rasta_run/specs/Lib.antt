@@ -24,4 +24,5 @@ pub mod Done
 pub mod Refusal
 pub mod Following
 pub mod Starting
+pub mod Turning
 pub mod Checked

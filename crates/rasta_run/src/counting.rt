@@ -2,12 +2,13 @@
 //!
 //! Each channel has one flat line and the connection one, so that `grep` and `jq` can read them.
 
-ghost use Rattle.std.specs.Prelude.{◌≡◌, ◌+◌, ◌<◌, OnOk};
+ghost use Rattle.std.specs.Prelude.{◌≡◌, ◌+◌, ◌-◌, ◌<◌, ◌^◌, ◌∷◌, [], OnOk};
 ghost use Rattle.std.specs.Io.KnownBytes.{Appends};
 ghost use Rattle.std.specs.List.{flat_map};
 ghost use Rattle.octets.specs.declared.limits.TheConstants.{CHANNELS_MAX};
 ghost use Rattle.rasta_run.specs.Counting as counting;
 ghost use Rattle.rasta_run.specs.Counts as counts;
+ghost use Rattle.rasta_run.specs.Silence.{hears_at, unheard};
 
 use crate::logging::Listening;
 use crate::{ChannelCounts, Counted};
@@ -39,7 +40,18 @@ pub struct Teller {
 
 impl Teller {
     /// Returns the printer of counts for an end that is opened now.
-    pub fn new(side: Side, t_max: u64, telling: Option<Telling>, count: usize, now: u64) -> Self {
+    pub fn new(side: Side, t_max: u64, telling: Option<Telling>, count: usize, now: u64) -> Self
+        // A new printer is of this end, has this form and number of channels, and prints next after the seconds of
+        // the form. Nothing has come on any channel.
+        ensures { result ≡ record {
+          side = side;
+          t_max = t_max;
+          telling = telling;
+          next = counts.next_after telling now;
+          heard = unheard 0 ∷ unheard 0 ∷ unheard 0 ∷ unheard 0 ∷ [];
+          count = count;
+        } }
+    {
         let unheard = Listening {
             came: 0,
             at: 0,
@@ -66,17 +78,32 @@ impl Teller {
     /// Records which channels received something, and returns whether the counts are due.
     pub fn look(&mut self, counted: &Counted, now: Milliseconds) -> bool
         // `look` returns true if and only if there is a next time and it is reached.
-        ensures { result ≡ counts.is_due self.old.next now }
+        ensures due { result ≡ counts.is_due self.old.next now }
+        // `look` records of each channel whether it received something since the last look. Counts that are due are
+        // printed next after the seconds of the form.
+        ensures looked { self.new ≡ counts.looked_at self.old counted.now now }
     {
         let is_due = is_due(self.next, now);
-        if is_due {
-            self.next = next_after(self.telling, now);
-        }
-        for channel in 0..self.count.min(CHANNELS_MAX) {
-            let came = counted.sums.channels[channel].received;
-            let _said = self.heard[channel].look(came, now, u64::MAX);
-        }
+        self.next = next_by(is_due, self.telling, self.next, now);
+        self.look_at(counted, now, 0);
+        self.look_at(counted, now, 1);
+        self.look_at(counted, now, 2);
+        self.look_at(counted, now, 3);
         is_due
+    }
+
+    /// Records whether the channel at a place, from 0, received something, if the end has it.
+    fn look_at(&mut self, counted: &Counted, now: Milliseconds, place: usize)
+        requires { place < CHANNELS_MAX }
+        // `look_at` compares the count of this channel with the one before, and of no other.
+        ensures { self.new ≡ record self.old {
+          heard = hears_at counted.now.sums.channels self.old.count now (2 ^ 64 - 1) place self.old.heard;
+        } }
+    {
+        if place < self.count {
+            let came = counted.sums.channels[place].received;
+            let _said = self.heard[place].look(came, now, u64::MAX);
+        }
     }
 
     /// Prints the counts, if there is a form for them.
@@ -156,15 +183,40 @@ impl Teller {
 }
 
 /// Returns when counts are printed next, in milliseconds.
-fn next_after(telling: Option<Telling>, now: u64) -> Option<u64> {
+fn next_after(telling: Option<Telling>, now: u64) -> Option<u64>
+    // `next_after` returns the time after the seconds of the form, if there is a form that has some.
+    ensures { result ≡ counts.next_after telling now }
+{
     match telling {
-        Some(
-            Telling {
-                every: Some(seconds),
-                ..
-            },
-        ) => Some(now.saturating_add(u64::from(seconds).saturating_mul(1_000))),
-        _ => None,
+        None => None,
+        Some(telling) => next_every(telling.every, now),
+    }
+}
+
+/// Returns the time that is some seconds later, in milliseconds.
+fn next_every(every: Option<u32>, now: u64) -> Option<u64>
+    // `next_every` returns the time after the seconds, and `None` without any.
+    ensures { result ≡ counts.next_every every now }
+{
+    match every {
+        None => None,
+        Some(seconds) => Some(now.saturating_add(u64::from(seconds) * 1_000)),
+    }
+}
+
+/// Returns when counts are printed next, after a look.
+fn next_by(
+    is_due: bool,
+    telling: Option<Telling>,
+    next: Option<u64>,
+    now: u64,
+) -> Option<u64>
+    // `next_by` returns a new time if counts are due, and else the time so far.
+    ensures { result ≡ counts.next_by is_due telling next now }
+{
+    match is_due {
+        true => next_after(telling, now),
+        false => next,
     }
 }
 

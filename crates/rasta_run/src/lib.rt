@@ -4,11 +4,11 @@
 //! script, a capture or a whole run over sockets, nor the order of the log; tests do.
 #![tactic(auto)]
 
-mod both;
 mod check;
 mod counting;
 mod counts;
 mod drawing;
+mod finishing;
 mod follow;
 mod header;
 mod input;
@@ -20,9 +20,12 @@ mod pending;
 mod printing;
 mod program;
 mod progress;
+mod putting;
 mod readiness;
 mod recorded_channels;
 mod recorder;
+mod reopening;
+mod running;
 mod scripts;
 mod settings;
 mod show;
