@@ -2,8 +2,8 @@ use crate::assertions::{assert_equal, assert_true, assert_true_at};
 use capture::read_ports;
 use capture_text::Remarkable;
 use rasta_words::{
-    Choice, CountsForm, FollowRequest, LogLevel, Rejection, Request, RunLength, RunRequest,
-    Telling, WordsFault, command,
+    Choice, CountsForm, FollowRequest, LogLevel, LogTime, Rejection, Request, RunLength,
+    RunRequest, Telling, WordsFault, command,
 };
 use safe_pdu::CodeLength;
 use settings_file::Word as Ends;
@@ -153,6 +153,7 @@ fn accepts_the_words_of_the_ends(rt: HostRuntime) -> Result<(), Fail> {
                 file,
                 length: RunLength::Turns(turns),
                 log: LogLevel::Off,
+                time: LogTime::Utc,
                 expected: None,
                 keep: false,
                 counts: None,
@@ -173,17 +174,41 @@ fn accepts_the_words_of_the_ends(rt: HostRuntime) -> Result<(), Fail> {
         file: "ends.toml",
         length: RunLength::UntilEnd,
         log: LogLevel::Off,
+        time: LogTime::Utc,
         expected: None,
         keep: false,
         counts: None,
     };
     assert_equal(&rt, found, Request::Net(running));
+    for (text, time) in [("utc", LogTime::Utc), ("run", LogTime::Run)] {
+        let words = ["rasta", "fe", "--until-end", "--time", text, "ends.toml"];
+        let Ok(found) = command(rt.alloc(), &words) else {
+            return Err(Fail::from("refused"));
+        };
+        assert_equal(&rt, found, Request::Net(RunRequest { time, ..running }));
+    }
     let no_turns = Rejection::Value {
         option: Choice::Turns,
         value: "0",
     };
-    let lists: [(&[&str], Rejection); 3] = [
+    let no_time = Rejection::Value {
+        option: Choice::LogTime,
+        value: "local",
+    };
+    let lists: [(&[&str], Rejection); 4] = [
         (&["rasta", "il", "ends.toml", "--turns", "0"], no_turns),
+        (
+            &[
+                "rasta",
+                "il",
+                "ends.toml",
+                "--turns",
+                "1",
+                "--time",
+                "local",
+            ],
+            no_time,
+        ),
         (&["rasta", "il", "ends.toml"], Rejection::NoLength),
         (
             &["rasta", "il", "ends.toml", "--turns", "1", "--until-end"],
@@ -203,7 +228,11 @@ fn accepts_the_words_of_the_ends(rt: HostRuntime) -> Result<(), Fail> {
 // An end is kept, and counts are told, where words ask for it; a choice of counts that is none is refused.
 #[test]
 fn accepts_kept_ends_and_counts(rt: HostRuntime) -> Result<(), Fail> {
-    let forms = [("text", CountsForm::Text), ("json", CountsForm::Json)];
+    let forms = [
+        ("text", CountsForm::Text),
+        ("json", CountsForm::Json),
+        ("prometheus", CountsForm::Prometheus),
+    ];
     for (text, form) in forms {
         for (seconds, every) in [("1", 1), ("60", 60), ("86400", 86_400)] {
             let words = [
@@ -290,6 +319,7 @@ fn kept_until_end(keep: bool, counts: Option<Telling>) -> RunRequest<'static> {
         file: "ends.toml",
         length: RunLength::UntilEnd,
         log: LogLevel::Off,
+        time: LogTime::Utc,
         expected: None,
         keep,
         counts,

@@ -8,19 +8,21 @@ use Rattle.settings_file.specs.declared.Word.{Word}
 use Rattle.rasta_words.specs.declared.status.CountsForm.{CountsForm}
 use Rattle.rasta_words.specs.declared.status.Expected.{Expected}
 use Rattle.rasta_words.specs.declared.status.LogLevel.{LogLevel}
+use Rattle.rasta_words.specs.declared.status.LogTime as times
 use Rattle.rasta_words.specs.declared.status.RunLength.{RunLength}
 use Rattle.rasta_words.specs.declared.rejection.Choice.{Choice}
-use Rattle.rasta_words.specs.declared.rejection.Choice.TheVariants.{ShowCode, Turns, Log, Expect, Stats, Every, Code, Only, TMax, Ports}
+use Rattle.rasta_words.specs.declared.rejection.Choice.TheVariants.{ShowCode, Turns, Log, LogTime, Expect, Stats, Every, Code, Only, TMax, Ports}
 use Rattle.rasta_words.specs.declared.rejection.Rejection.{Rejection}
 use Rattle.rasta_words.specs.declared.rejection.Rejection.TheVariants.{Value, NoLength, TwoLengths, EveryAlone, Missing}
 use Rattle.rasta_words.specs.Choices.{IsAgeChosen, IsCodeChosen, IsMilliseconds, IsPorts, IsRemarkChosen, IsWritten, code_word, is_flagged}
-use Rattle.rasta_words.specs.Runs.{IsEndChosen, IsLengthChosen, IsLogChosen, IsSeconds, IsTurns, ends_word, expected_word, form_word, log_word}
+use Rattle.rasta_words.specs.Runs.{IsEndChosen, IsLengthChosen, IsLogChosen, IsSeconds, IsTimeChosen, IsTurns, ends_word, expected_word, form_word, log_word, time_word}
 
 -- the name of an option, under which clap keeps its value
 abbrev pub option_name : Choice → Text
 option_name ShowCode = codes "code"
 option_name Turns = codes "turns"
 option_name Log = codes "log"
+option_name LogTime = codes "time"
 option_name Expect = codes "expect"
 option_name Stats = codes "stats"
 option_name Every = codes "every"
@@ -34,6 +36,7 @@ abbrev pub IsUnfit : Choice → Text → Type 0
 IsUnfit ShowCode word = (code : CodeLength) → word ≢ code_word code
 IsUnfit Turns word = (turns : ℕ) → ¬ IsTurns word turns
 IsUnfit Log word = (level : LogLevel) → word ≢ log_word level
+IsUnfit LogTime word = (time : times.LogTime) → word ≢ time_word time
 IsUnfit Expect word = (expected : Expected) → word ≢ expected_word expected
 IsUnfit Stats word = (form : CountsForm) → word ≢ form_word form
 IsUnfit Every word = (seconds : ℕ) → ¬ IsSeconds word seconds
@@ -84,6 +87,10 @@ HasLength rows = (length : RunLength) × IsLengthChosen (first_of (codes "turns"
 abbrev pub HasLog : List Row → Type 0
 HasLog rows = (level : LogLevel) × IsLogChosen (first_of (codes "log") rows) level
 
+-- `--time` of `il`, `fe` and `pair` is valid or absent
+abbrev pub HasTime : List Row → Type 0
+HasTime rows = (time : times.LogTime) × IsTimeChosen (first_of (codes "time") rows) time
+
 -- `--expect` is valid or absent
 abbrev pub HasEnd : List Row → Type 0
 HasEnd rows = (expected : Option Expected) × IsEndChosen (first_of (codes "expect") rows) expected
@@ -114,14 +121,15 @@ IsFollowRejected rows r =
     ⊎ Lacks (codes "file") rows r
     ⊎ (HasCode rows × HasRemark rows × HasAge rows × NamesGiven Ports (first_of (codes "ports") rows) r)
 
--- why the entries of `il`, `fe` and `pair` are not a request: their length, or the first option that is not valid, in the order --log, --expect, --stats, --every
+-- why the entries of `il`, `fe` and `pair` are not a request: their length, or the first option that is not valid, in the order --log, --time, --expect, --stats, --every
 abbrev pub IsRunRejected : List Row → Rejection → Type 0
 IsRunRejected rows r =
     Lacks (codes "file") rows r
     ⊎ IsLengthRejected (first_of (codes "turns") rows) (is_flagged (first_of (codes "until-end") rows)) r
     ⊎ (HasLength rows × NamesGiven Log (first_of (codes "log") rows) r)
-    ⊎ (HasLength rows × HasLog rows × NamesGiven Expect (first_of (codes "expect") rows) r)
-    ⊎ (HasLength rows × HasLog rows × HasEnd rows × AreCountsRejected (first_of (codes "stats") rows) (first_of (codes "every") rows) r)
+    ⊎ (HasLength rows × HasLog rows × NamesGiven LogTime (first_of (codes "time") rows) r)
+    ⊎ (HasLength rows × HasLog rows × HasTime rows × NamesGiven Expect (first_of (codes "expect") rows) r)
+    ⊎ (HasLength rows × HasLog rows × HasTime rows × HasEnd rows × AreCountsRejected (first_of (codes "stats") rows) (first_of (codes "every") rows) r)
 
 -- no subcommand has this name
 abbrev pub IsStrange : Text → Type 0

@@ -1,18 +1,20 @@
 -- The options of `il`, `fe` and `pair`, and the words that name their values.
-use Rattle.std.specs.Prelude.{◌≡◌, ⊤, ℕ, ◌≤◌, Bool, false, true, List, codes, Option, None, Some}
+use Rattle.std.specs.Prelude.{◌≡◌, ⊤, ℕ, ◌≤◌, Bool, false, true, List, [], ◌∷◌, codes, Option, None, Some}
 use Rattle.std.specs.Str.Parse.{IsNumeral, digits_value, without_leading_plus}
-use Rattle.clap.specs.Words.{App, Row, Rule, Text, first_of, new_app, new_rule, with_rule}
+use Rattle.clap.specs.Words.{App, Row, Rule, Text, first_of, new_app, new_rule}
 use Rattle.clap.specs.declared.builder.action.ArgAction.TheVariants.{SetTrue}
 use Rattle.rasta_words.specs.declared.status.RunLength.{RunLength}
 use Rattle.rasta_words.specs.declared.status.RunLength.TheVariants.{Turns, UntilEnd}
 use Rattle.rasta_words.specs.declared.status.LogLevel.{LogLevel}
 use Rattle.rasta_words.specs.declared.status.LogLevel.TheVariants.{Off, State, All}
+use Rattle.rasta_words.specs.declared.status.LogTime.{LogTime}
+use Rattle.rasta_words.specs.declared.status.LogTime.TheVariants.{Utc, Run}
 use Rattle.rasta_words.specs.declared.status.Expected.{Expected}
 use Rattle.rasta_words.specs.declared.status.Expected.TheVariants.{Up, Settled}
 use Rattle.rasta_words.specs.declared.status.CountsForm.{CountsForm}
 use Rattle.rasta_words.specs.declared.status.CountsForm.TheVariants as counts_form
 use Rattle.rasta_words.specs.declared.status.Telling.{Telling}
-use Rattle.rasta_words.specs.Choices.{file_rule, is_flagged}
+use Rattle.rasta_words.specs.Choices.{file_rule, is_flagged, with_rules}
 use Rattle.rasta_words.specs.declared.command_line.RunRequest.{RunRequest}
 use Rattle.settings_file.specs.declared.Word.{Word}
 use Rattle.settings_file.specs.declared.Word.TheVariants.{Il, Fe, Pair}
@@ -23,8 +25,8 @@ ends_word Il = codes "il"
 ends_word Fe = codes "fe"
 ends_word Pair = codes "pair"
 
--- `--turns N` of il FILE (--turns N | --until-end) [--log off|state|all] [--expect up|settled] [--keep] [--stats text|json [--every N]]; fe and pair have
--- the same
+-- `--turns N` of il FILE (--turns N | --until-end) [--log off|state|all] [--time utc|run] [--expect up|settled] [--keep] [--stats text|json|prometheus
+-- [--every N]]; fe and pair have the same
 abbrev pub turns_rule : Rule
 turns_rule = record (new_rule (codes "turns")) { long = Some (codes "turns") }
 
@@ -36,25 +38,13 @@ until_end_rule = record (new_rule (codes "until-end")) { long = Some (codes "unt
 abbrev pub log_rule : Rule
 log_rule = record (new_rule (codes "log")) { long = Some (codes "log") }
 
+-- `--time`
+abbrev pub time_rule : Rule
+time_rule = record (new_rule (codes "time")) { long = Some (codes "time") }
+
 -- `--expect`
 abbrev pub expect_rule : Rule
 expect_rule = record (new_rule (codes "expect")) { long = Some (codes "expect") }
-
--- the command of this name with `--turns`
-abbrev pub turns_app : Text → App
-turns_app name = with_rule (new_app name) turns_rule
-
--- with `--until-end`, too
-abbrev pub ending_app : Text → App
-ending_app name = with_rule (turns_app name) until_end_rule
-
--- with `--log`, too
-abbrev pub logged_app : Text → App
-logged_app name = with_rule (ending_app name) log_rule
-
--- with `--expect`, too
-abbrev pub expecting_app : Text → App
-expecting_app name = with_rule (logged_app name) expect_rule
 
 -- `--keep`, a flag
 abbrev pub keep_rule : Rule
@@ -68,21 +58,27 @@ stats_rule = record (new_rule (codes "stats")) { long = Some (codes "stats") }
 abbrev pub every_rule : Rule
 every_rule = record (new_rule (codes "every")) { long = Some (codes "every") }
 
--- with `--keep`, too
-abbrev pub keeping_app : Text → App
-keeping_app name = with_rule (expecting_app name) keep_rule
+-- how long ends run
+abbrev pub length_rules : List Rule
+length_rules = turns_rule ∷ until_end_rule ∷ []
 
--- with `--stats`, too
-abbrev pub counting_app : Text → App
-counting_app name = with_rule (keeping_app name) stats_rule
+-- what is logged, with which times
+abbrev pub log_rules : List Rule
+log_rules = log_rule ∷ time_rule ∷ []
 
--- with `--every`, too
-abbrev pub repeating_app : Text → App
-repeating_app name = with_rule (counting_app name) every_rule
+-- what is expected of an end, and whether it is opened again
+abbrev pub end_rules : List Rule
+end_rules = expect_rule ∷ keep_rule ∷ []
 
--- with FILE, too: the whole command of this name
+-- which counts are printed, and when
+abbrev pub counts_rules : List Rule
+counts_rules = stats_rule ∷ every_rule ∷ []
+
+-- the whole command of this name
 abbrev pub net_app : Text → App
-net_app name = with_rule (repeating_app name) file_rule
+net_app name =
+    with_rules (new_app name)
+    (turns_rule ∷ until_end_rule ∷ log_rule ∷ time_rule ∷ expect_rule ∷ keep_rule ∷ stats_rule ∷ every_rule ∷ file_rule ∷ [])
 
 -- the word is a number of turns from 1 to 1,000,000, in decimal digits, after an optional plus
 abbrev pub IsTurns : Text → ℕ → Type 0
@@ -109,6 +105,16 @@ abbrev pub IsLogChosen : Option Text → LogLevel → Type 0
 IsLogChosen None level = level ≡ Off
 IsLogChosen (Some word) level = word ≡ log_word level
 
+-- the word for the times of the log
+abbrev pub time_word : LogTime → Text
+time_word Utc = codes "utc"
+time_word Run = codes "run"
+
+-- the times of the log that the word of `--time` names; `Utc` without the option
+abbrev pub IsTimeChosen : Option Text → LogTime → Type 0
+IsTimeChosen None time = time ≡ Utc
+IsTimeChosen (Some word) time = word ≡ time_word time
+
 -- the word for an expected state
 abbrev pub expected_word : Expected → Text
 expected_word Up = codes "up"
@@ -128,6 +134,7 @@ IsEndChosen (Some word) expected = IsEndWritten word expected
 abbrev pub form_word : CountsForm → Text
 form_word counts_form.Text = codes "text"
 form_word counts_form.Json = codes "json"
+form_word counts_form.Prometheus = codes "prometheus"
 
 -- the word is a number of seconds from 1 to 86,400 (a day), in decimal digits, after an optional plus
 abbrev pub IsSeconds : Text → ℕ → Type 0
@@ -160,8 +167,8 @@ abbrev pub IsRun : List Row → RunRequest → Type 0
 IsRun rows r =
     (first_of (codes "file") rows ≡ Some r.file.now)
     × IsLengthChosen (first_of (codes "turns") rows) (is_flagged (first_of (codes "until-end") rows)) r.length
-    × IsLogChosen (first_of (codes "log") rows) r.log × IsEndChosen (first_of (codes "expect") rows) r.expected
-    × (is_flagged (first_of (codes "keep") rows) ≡ r.keep)
+    × IsLogChosen (first_of (codes "log") rows) r.log × IsTimeChosen (first_of (codes "time") rows) r.time
+    × IsEndChosen (first_of (codes "expect") rows) r.expected × (is_flagged (first_of (codes "keep") rows) ≡ r.keep)
     × AreCountsChosen (first_of (codes "stats") rows) (first_of (codes "every") rows) r.counts
 
 -- no run has the values of these entries

@@ -11,7 +11,7 @@ use crate::follow_options::choices;
 use crate::program_command::rasta_command;
 use crate::rejection::{Choice, Rejection};
 use crate::run_options::ends_run;
-use crate::{Expected, LogLevel, RunLength, Telling};
+use crate::{Expected, LogLevel, LogTime, RunLength, Telling};
 use capture::Ports;
 use capture_text::Remarkable;
 use clap::ArgMatches;
@@ -65,6 +65,8 @@ pub struct RunRequest<'a> {
     pub length: RunLength,
     /// `--log`: what goes to standard error; `Off` by default.
     pub log: LogLevel,
+    /// `--time`: the times of the log; `Utc` by default.
+    pub time: LogTime,
     /// `--expect`: the state in which each end must be when the run is over.
     pub expected: Option<Expected>,
     /// `--keep`: an end that has lost its connection is opened again.

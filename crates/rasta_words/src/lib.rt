@@ -14,4 +14,6 @@ mod status;
 pub use command_line::{FollowRequest, Request, RunRequest, WordsFault, command};
 pub use program_command::VERSION;
 pub use rejection::{Choice, Rejection};
-pub use status::{CountsForm, Expected, Fault, LogLevel, RunLength, Status, Telling, report};
+pub use status::{
+    CountsForm, Expected, Fault, LogLevel, LogTime, RunLength, Status, Telling, report,
+};

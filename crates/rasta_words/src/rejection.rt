@@ -14,6 +14,8 @@ pub enum Choice {
     Turns,
     /// `--log` of `il`, `fe` and `pair`.
     Log,
+    /// `--time` of `il`, `fe` and `pair`.
+    LogTime,
     /// `--expect` of `il`, `fe` and `pair`.
     Expect,
     /// `--stats` of `il`, `fe` and `pair`.
@@ -60,6 +62,7 @@ impl Choice {
             Choice::ShowCode | Choice::Code => "code",
             Choice::Turns => "turns",
             Choice::Log => "log",
+            Choice::LogTime => "time",
             Choice::Expect => "expect",
             Choice::Stats => "stats",
             Choice::Every => "every",
@@ -75,8 +78,9 @@ impl Choice {
             Choice::ShowCode | Choice::Code => "0, 8 or 16",
             Choice::Turns => "1 to 1000000",
             Choice::Log => "off, state or all",
+            Choice::LogTime => "utc or run",
             Choice::Expect => "up or settled",
-            Choice::Stats => "text or json",
+            Choice::Stats => "text, json or prometheus",
             Choice::Every => "1 to 86400",
             Choice::Only => {
                 "opens, repeat, differs, ahead, late, stale, anew, resent, age, waits, reason or fault"
@@ -106,7 +110,7 @@ const FOLLOW_USAGE: &str =
 
 /// The usage of `il`, `fe` and `pair`.
 const RUN_USAGE: &str =
-    "Usage: rasta <il|fe|pair> [--log <off|state|all>] [--expect <up|settled>] [--keep] [--stats <text|json> [--every <seconds>]] <--turns <turns>|--until-end> <file>\n\nFor more information, try 'rasta --help'.";
+    "Usage: rasta <il|fe|pair> [--log <off|state|all>] [--time <utc|run>] [--expect <up|settled>] [--keep] [--stats <text|json|prometheus> [--every <seconds>]] <--turns <turns>|--until-end> <file>\n\nFor more information, try 'rasta --help'.";
 
 /// The usage of the program.
 const USAGE: &str = "Usage: rasta <COMMAND>\n\nFor more information, try 'rasta --help'.";
