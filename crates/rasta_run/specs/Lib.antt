@@ -25,4 +25,7 @@ pub mod Refusal
 pub mod Following
 pub mod Starting
 pub mod Turning
+pub mod Metrics
+pub mod Calendar
+pub mod Stamping
 pub mod Checked

@@ -1,5 +1,5 @@
 -- What the log says of the run itself, beside the events of an end.
-use Rattle.std.specs.Prelude.{ℕ, ◌/◌, ◌%◌, List, [], ◌∷◌, codes, Option, Some, None, if◌then◌else◌}
+use Rattle.std.specs.Prelude.{ℕ, ◌/◌, ◌%◌, List, [], ◌∷◌, codes}
 use Rattle.std.specs.Fmt.{decimal}
 use Rattle.end_settings.specs.declared.Side.{Side}
 use Rattle.pdu_text.specs.Lines.{joined}
@@ -7,8 +7,6 @@ use Rattle.pdu_text.specs.Names.{side_name}
 use Rattle.pdu_text.specs.Pieces.{three_digits}
 use Rattle.rasta_run.specs.declared.noticing.Notice.{Notice}
 use Rattle.rasta_run.specs.declared.noticing.Notice.TheVariants.{Deaf, Receives, InDoubt, NoTurn, Fruitless, Session, Unread}
-use Rattle.rasta_run.specs.Telling.{is_off}
-use Rattle.rasta_words.specs.declared.status.LogLevel.{LogLevel}
 
 -- receptions succeed again, after this many turns in which one failed
 unfoldable pub receives_text : ℕ → List ℕ
@@ -49,8 +47,3 @@ notice_front at side =
 -- TIME END TEXT
 abbrev pub notice_line : ℕ → Side → Notice → List ℕ
 notice_line at side notice = joined (notice_front at side ∷ notice_text notice ∷ codes "\n" ∷ [])
-
--- what a log of this level has of a notice, if there is one
-abbrev pub noticed : LogLevel → ℕ → Side → Option Notice → List ℕ
-noticed level at side None = []
-noticed level at side (Some notice) = if is_off level then [] else notice_line at side notice

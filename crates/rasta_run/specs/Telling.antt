@@ -1,5 +1,5 @@
 -- The events that are recorded for the log.
-use Rattle.std.specs.Prelude.{ℕ, Bool, true, false, not, ◌&&◌, ◌||◌, ◌-◌, ◌%◌, nat_le, nat_lt, List, [], slice_index_or, Option, Some, None, if◌then◌else◌}
+use Rattle.std.specs.Prelude.{ℕ, Bool, true, false, not, ◌&&◌, ◌||◌, ◌-◌, ◌%◌, nat_le, nat_lt, List, slice_index_or, Option, Some, None, if◌then◌else◌}
 use Rattle.end_settings.specs.declared.Side.{Side}
 use Rattle.end_settings.specs.declared.Side.TheVariants.{Interlocking, FieldElement}
 use Rattle.red_layer.specs.declared.RedEvent.{RedEvent}
@@ -11,11 +11,7 @@ use Rattle.pdu_text.specs.declared.causes.Cause.{Cause}
 use Rattle.pdu_text.specs.declared.causes.Cause.TheVariants.{Early, Part, Stranger}
 use Rattle.pdu_text.specs.declared.lines.Happening.{Happening}
 use Rattle.pdu_text.specs.declared.lines.Happening.TheVariants.{State, Phase, Anew, Left, PeerLeft, Asked, Resent, PutRefused, InitRefused, Silent, Heard, Dropped}
-use Rattle.pdu_text.specs.LogLines.{happening_text}
-use Rattle.pdu_text.specs.Pieces.{log_line}
-use Rattle.rasta_run.specs.Silence.{said_event}
 use Rattle.rasta_run.specs.Standing.{is_up}
-use Rattle.rasta_run.specs.declared.logging.Said.{Said}
 use Rattle.rasta_words.specs.declared.status.LogLevel.{LogLevel}
 use Rattle.rasta_words.specs.declared.status.LogLevel.TheVariants as level
 use Rattle.pdu_text.specs.declared.endings.Departure.{Departure}
@@ -182,10 +178,6 @@ is_told level.Off quiet new h = false
 is_told level.State quiet new h = is_told_by (dropped_cause h) quiet new h
 is_told level.All quiet new h = true
 
--- the line of an event, or nothing
-abbrev pub told_line : (told : Bool) → ℕ → Side → Happening → List ℕ
-told_line told at side h = if told then log_line at side (happening_text h) else []
-
 -- the datagram is a repetition, which is not a cause
 abbrev pub is_repeat : Cause → Bool
 is_repeat (Early event.Old) = true
@@ -203,12 +195,3 @@ abbrev pub is_off : LogLevel → Bool
 is_off level.Off = true
 is_off level.State = false
 is_off level.All = false
-
--- the line of an event of a channel, if there is one
-abbrev pub channel_line : Option Happening → ℕ → Side → List ℕ
-channel_line None at side = []
-channel_line (Some h) at side = log_line at side (happening_text h)
-
--- what a log of this level has of a change of a channel, numbered from 1
-abbrev pub change_line : LogLevel → ℕ → Side → (channel : ℕ) → Said → List ℕ
-change_line level at side channel said = if is_off level then [] else channel_line (said_event said channel) at side

@@ -53,7 +53,7 @@ abbrev pub TakesTurn : {C A T : Type 0} → (C → Told) → (T → Item → T �
 TakesTurn {C} {A} {T} told takes lost refuses now side s t =
     (works : Bool) × (end : EndValue C A) × (app : T) × Hears told takes works now (s.end, s.app) (end, app) × (lost app ≡ false)
     × PutsNow told refuses now side
-        (record { end = end; left = s.left; put = s.put; refused = s.refused; app = app; deaf = deaf_after works s.deaf; closed = is_over (inside end) }) t
+    (record { end = end; left = s.left; put = s.put; refused = s.refused; app = app; deaf = deaf_after works s.deaf; closed = is_over (inside end) }) t
 
 -- the longest time between two turns that is not logged, in milliseconds
 abbrev pub gap_most : ℕ

@@ -4,7 +4,7 @@ ghost use Rattle.std.specs.Prelude.{◌≡◌, ℕ, ◌+◌, ◌-◌, ◌≤◌,
 ghost use Rattle.pdu_text.specs.Reports.{report_line};
 ghost use Rattle.rasta_run.specs.Counting.{counted_of};
 ghost use Rattle.rasta_run.specs.Counts as counts;
-ghost use Rattle.rasta_run.specs.Noticing.{noticed};
+ghost use Rattle.rasta_run.specs.Stamping.{LogsNotice};
 ghost use Rattle.rasta_run.specs.Standing.{meets};
 ghost use Rattle.rasta_run.specs.Undone as undone;
 ghost use Rattle.rasta_run.specs.Waiting.{IsDeadlineOf, again_at};
@@ -15,6 +15,7 @@ ghost use Rattle.stack_end.specs.EndValue.{EndTurnsAlone, channels_of, inside, s
 ghost use Rattle.stack_end.specs.Turns.{above, closes, is_settled};
 ghost use Rattle.std.specs.Io.KnownBytes.{Appends};
 
+use crate::metrics::Sample;
 use crate::noticing::Notice;
 use crate::standing::is_met;
 use crate::totals::received_on;
@@ -73,8 +74,7 @@ impl<C: Channels, A: Allocator + Copy> Actor<'_, C, A> {
     /// - The error of the writer; what it wrote before stays written.
     pub fn tell_unread<E: Write>(&self, now: Milliseconds, err: &mut E) -> io::Result<()>
         // If `tell_unread` succeeds, it has appended the line of that notice, if the log is not off.
-        ensures { OnOk result (Appends (E.contents err.old) (E.contents err.new)
-            (noticed self.now.log.level now self.now.log.side (Some notice.Unread))) }
+        ensures { OnOk result (LogsNotice (Some notice.Unread) self.now.log now (E.contents err.old) (E.contents err.new)) }
     {
         self.log.notice(Some(Notice::Unread), now, err)
     }
@@ -103,7 +103,7 @@ impl<C: Channels, A: Allocator + Copy> Actor<'_, C, A> {
             taken: counted.accepted(),
             last: self.end.channels_seen().recorder.last_cause,
         };
-        self.log.end(&ending, now, err);
+        let _ = self.log.end(&ending, now, err);
     }
 
     /// Prints what the end leaves undone, if it is anything.
@@ -161,20 +161,40 @@ impl<C: Channels, A: Allocator + Copy> Actor<'_, C, A> {
         self.log_events(now, err);
     }
 
-    /// Prints the counts, if they are due.
-    pub fn tell_due<E: Write>(&mut self, now: Milliseconds, err: &mut E)
+    /// Returns what is counted of the end at a time of the run.
+    pub fn sample(&self, now: Milliseconds) -> Sample
+        // `sample` returns what the end counted in all its openings, and what is counted beside.
+        ensures { result ≡ record {
+          side = self.now.teller.side;
+          count = self.now.teller.count;
+          t_max = self.now.teller.t_max;
+          at = now;
+          counted = counted_of self.now.earlier.sums (statistics_of self.now.end) (channels_of self.now.end).recorder.value self.now.put self.now.taken;
+        } }
+    {
+        self.teller.sample(&self.counted(), now)
+    }
+
+    /// Prints the lines of counts, if they are due. Returns whether counts are due.
+    pub fn tell_due<E: Write>(&mut self, now: Milliseconds, err: &mut E) -> bool
+        // `tell_due` returns true if and only if counts are printed and their time is reached.
+        ensures due { result ≡ counts.is_telling_due self.old.teller now }
         // `tell_due` records which channels received something, if counts are printed, and when they are printed
         // next; it changes nothing else.
-        ensures { self.new ≡ record self.old { teller = counts.looked self.old.teller (counted_of self.old.earlier.sums
-            (statistics_of self.old.end) (channels_of self.old.end).recorder.value self.old.put self.old.taken) now } }
+        ensures kept { self.new ≡ record self.old {
+          teller = counts.looked self.old.teller (counted_of self.old.earlier.sums
+              (statistics_of self.old.end) (channels_of self.old.end).recorder.value self.old.put self.old.taken) now;
+        } }
     {
         if self.teller.is_off() {
-            return;
+            return false;
         }
         let counted = self.counted();
-        if self.teller.look(&counted, now) {
-            let _ = self.tell_counts(now, err);
+        if !self.teller.look(&counted, now) {
+            return false;
         }
+        let _ = self.tell_counts(now, err);
+        true
     }
 }
 

@@ -4,6 +4,7 @@
 //! script, a capture or a whole run over sockets, nor the order of the log; tests do.
 #![tactic(auto)]
 
+mod calendar;
 mod check;
 mod counting;
 mod counts;
@@ -14,6 +15,7 @@ mod header;
 mod input;
 mod keeping;
 mod logging;
+mod metrics;
 mod net;
 mod noticing;
 mod pending;
@@ -29,6 +31,7 @@ mod running;
 mod scripts;
 mod settings;
 mod show;
+mod stamping;
 mod standing;
 mod streams;
 mod ticking;

@@ -6,13 +6,19 @@
 ghost use Rattle.std.specs.Prelude.{◌≡◌, ◌+◌, ◌<◌, Bool, Some, false, nat_le, slice_index_or, slice_set, true, OnOk, if◌then◌else◌};
 ghost use Rattle.octets.specs.declared.limits.TheConstants.{CHANNELS_MAX};
 ghost use Rattle.std.specs.Io.KnownBytes.{Appends};
-ghost use Rattle.rasta_run.specs.Noticing.{noticed};
 ghost use Rattle.rasta_run.specs.Silence.{heard_now, hears, hears_all, hears_at, said_of, unheard};
+ghost use Rattle.rasta_run.specs.Stamping.{Logs, LogsChange, LogsEvent, LogsNotice};
+ghost use Rattle.pdu_text.specs.Endings.{ending_text};
+ghost use Rattle.pdu_text.specs.LogLines.{channel_text, missed_text};
+ghost use Rattle.pdu_text.specs.Pieces.{log_line};
+ghost use Rattle.rasta_run.specs.Noticing.{notice_line};
 ghost use Rattle.rasta_run.specs.Telling as telling;
 ghost use Rattle.stack_end.specs.EndValue.{inside};
 
 use crate::Recorder;
 use crate::noticing::{Notice, write_notice};
+use crate::stamping::{write_stamped, zero_of};
+use arrayvec::ArrayVec;
 use end_settings::Side;
 use octets::Milliseconds;
 use octets::limits::CHANNELS_MAX;
@@ -21,7 +27,7 @@ use pdu_text::{
     Cause, Departure, Ending, Happening, write_channel, write_ending, write_happening,
     write_missed, write_text,
 };
-use rasta_words::LogLevel;
+use rasta_words::{LogLevel, LogTime};
 use red_layer::RedEvent;
 use safe_machine::ConnectionState;
 use safe_pdu::Leaving;
@@ -30,6 +36,10 @@ use stack_end::{End, Leaver, Listener, Statistics};
 use std::alloc::Allocator;
 use std::io;
 use std::io::Write;
+use std::time::Clock;
+
+/// The room for a line of the log, in bytes. The longest one names both addresses of a channel.
+type LogLine = ArrayVec<u8, 1_024>;
 
 /// The greatest number of causes for dropping that are logged once at the level of states.
 const CAUSES_MAX: usize = 16;
@@ -91,6 +101,10 @@ pub struct Log {
     side: Side,
     /// The level of the log.
     level: LogLevel,
+    /// The time at the start of its lines.
+    time: LogTime,
+    /// The time in UTC at which the clock of the run was 0, in milliseconds since 1970; 0 if the system gives none.
+    zero: Milliseconds,
     /// T_max of the end, in milliseconds.
     t_max: Milliseconds,
     /// The number of events that were logged.
@@ -109,10 +123,16 @@ pub struct Log {
 
 impl Log {
     /// Returns the log of an end that is opened now.
-    pub fn new(side: Side, level: LogLevel, settings: &Settings, now: Milliseconds) -> Self
-        // A new log is of this end, with this level and the T_max of the settings.
-        ensures { (result.side ≡ side) × (result.level ≡ level) × (result.t_max ≡ settings.now.config.t_max)
-            × (result.told ≡ 0) × (result.is_quiet ≡ false) }
+    pub fn new(
+        side: Side,
+        level: LogLevel,
+        time: LogTime,
+        settings: &Settings,
+        now: Milliseconds,
+    ) -> Self
+        // A new log is of this end, with this level, this time in its lines and the T_max of the settings.
+        ensures { (result.side ≡ side) × (result.level ≡ level) × (result.time ≡ time)
+            × (result.t_max ≡ settings.now.config.t_max) × (result.told ≡ 0) × (result.is_quiet ≡ false) }
     {
         let unheard = Listening {
             came: 0,
@@ -122,6 +142,8 @@ impl Log {
         Log {
             side,
             level,
+            time,
+            zero: 0,
             t_max: settings.config.t_max,
             told: 0,
             channels: [unheard; CHANNELS_MAX],
@@ -140,15 +162,27 @@ impl Log {
         let pairs = settings.local.iter().zip(settings.remote.iter());
         for (place, (local, remote)) in pairs.enumerate() {
             let channel = place.saturating_add(1);
-            let _ = write_channel(
-                err,
-                now,
-                self.side,
-                channel,
-                local.as_str(),
-                remote.as_str(),
-            );
+            let _ = self.write_channel(channel, local.as_str(), remote.as_str(), now, err);
         }
+    }
+
+    /// Writes the line of a channel, numbered from 1, with both addresses.
+    #[inline(never)]
+    fn write_channel<E: Write>(
+        &self,
+        channel: usize,
+        local: &str,
+        remote: &str,
+        now: Milliseconds,
+        err: &mut E,
+    ) -> io::Result<()>
+        // If `write_channel` succeeds, it has appended the line of the channel, with the time that the log has.
+        ensures { OnOk result (Logs self.now now (log_line now self.now.side (channel_text channel local.now remote.now))
+            (E.contents err.old) (E.contents err.new)) }
+    {
+        let mut line = LogLine::new();
+        write_channel(&mut line, now, self.side, channel, local, remote)?;
+        self.pass(line.as_slice(), now, err)
     }
 
     /// Logs the events since the last call, of an end that came to be closed by this departure, if it is.
@@ -179,8 +213,20 @@ impl Log {
         }
         self.told = recorder.happened;
         if missed > 0 {
-            let _ = write_missed(err, now, self.side, missed);
+            let _ = self.write_missed(missed, now, err);
         }
+    }
+
+    /// Writes how many events were left out.
+    #[inline(never)]
+    fn write_missed<E: Write>(&self, missed: u64, now: Milliseconds, err: &mut E) -> io::Result<()>
+        // If `write_missed` succeeds, it has appended the line with the number, with the time that the log has.
+        ensures { OnOk result (Logs self.now now (log_line now self.now.side (missed_text missed))
+            (E.contents err.old) (E.contents err.new)) }
+    {
+        let mut line = LogLine::new();
+        write_missed(&mut line, now, self.side, missed)?;
+        self.pass(line.as_slice(), now, err)
     }
 
     /// Logs one event, after the one that explains it.
@@ -218,8 +264,8 @@ impl Log {
     ) -> io::Result<()>
         // If `tell` succeeds, it has appended the line of the event if the level includes it. At the level of states
         // a drop counts only if its cause is `new`.
-        ensures told { OnOk result ((new : Bool) × Appends (E.contents err.old) (E.contents err.new)
-            (telling.told_line (telling.is_told self.old.level self.new.is_quiet new happening) now self.old.side happening)) }
+        ensures told { OnOk result ((new : Bool) × LogsEvent (telling.is_told self.old.level self.new.is_quiet new happening)
+            self.new now happening (E.contents err.old) (E.contents err.new)) }
         // Once the session is established, `tell` no longer leaves openings out.
         ensures quiet { self.new.is_quiet ≡ telling.quiet_after happening self.old.is_quiet }
         // `tell` changes only which causes are known, and whether openings are only counted.
@@ -232,7 +278,45 @@ impl Log {
         if !self.tells(happening) {
             return write_text(err, "");
         }
-        write_happening(err, now, self.side, happening)
+        self.write(happening, now, err)
+    }
+
+    /// Writes the line of an event.
+    #[inline(never)]
+    fn write<E: Write>(
+        &self,
+        happening: Happening,
+        now: Milliseconds,
+        err: &mut E,
+    ) -> io::Result<()>
+        // If `write` succeeds, it has appended the line of the event, with the time that the log has.
+        ensures { OnOk result (LogsEvent true self.now now happening (E.contents err.old) (E.contents err.new)) }
+    {
+        let mut line = LogLine::new();
+        write_happening(&mut line, now, self.side, happening)?;
+        self.pass(line.as_slice(), now, err)
+    }
+
+    /// Writes a line that begins with the time of the run, with the time that the log has.
+    fn pass<E: Write>(&self, line: &[u8], now: Milliseconds, err: &mut E) -> io::Result<()>
+        // If `pass` succeeds, it has appended the line with the time that the log has.
+        ensures { OnOk result (Logs self.now now line.now (E.contents err.old) (E.contents err.new)) }
+    {
+        let at = self.zero.saturating_add(now);
+        write_stamped(err, self.time, at, line)
+    }
+
+    /// Reads the system's clock, if lines have the time in UTC.
+    pub fn look_at_clock<K: Clock>(&mut self, system: &K, now: Milliseconds)
+        // `look_at_clock` changes nothing but the time in UTC at which the clock of the run was 0.
+        ensures { self.new ≡ record self.old { zero = self.new.zero } }
+    {
+        if self.time == LogTime::Run || self.is_off() {
+            return;
+        }
+        if let Some(zero) = zero_of(system, now) {
+            self.zero = zero;
+        }
     }
 
     /// Returns whether an event is logged, and records its cause.
@@ -270,13 +354,28 @@ impl Log {
         err: &mut E,
     ) -> io::Result<()>
         // If `notice` succeeds, it has appended the line of the notice, or nothing if there is none or the log is off.
-        ensures { OnOk result (Appends (E.contents err.old) (E.contents err.new)
-            (noticed self.now.level now self.now.side notice)) }
+        ensures { OnOk result (LogsNotice notice self.now now (E.contents err.old) (E.contents err.new)) }
     {
         match notice {
-            Some(notice) if !self.is_off() => write_notice(err, now, self.side, notice),
+            Some(notice) if !self.is_off() => self.write_notice(notice, now, err),
             _ => write_text(err, ""),
         }
+    }
+
+    /// Writes the line of a notice.
+    #[inline(never)]
+    fn write_notice<E: Write>(
+        &self,
+        notice: Notice,
+        now: Milliseconds,
+        err: &mut E,
+    ) -> io::Result<()>
+        // If `write_notice` succeeds, it has appended the line of the notice, with the time that the log has.
+        ensures { OnOk result (Logs self.now now (notice_line now self.now.side notice) (E.contents err.old) (E.contents err.new)) }
+    {
+        let mut line = LogLine::new();
+        write_notice(&mut line, now, self.side, notice)?;
+        self.pass(line.as_slice(), now, err)
     }
 
     /// Only counts openings from now on, or logs them again.
@@ -338,10 +437,9 @@ impl Log {
         // `look_at` compares the count of this channel with the one before, and of no other.
         ensures channels { self.new.channels ≡ hears_at sums.now.channels self.old.count now self.old.t_max place self.old.channels }
         // If `look_at` succeeds, it has appended the line of the channel's change, or nothing.
-        ensures told { OnOk result (Appends (E.contents err.old) (E.contents err.new)
-            (telling.change_line self.old.level now self.old.side (place + 1)
-            (if nat_le self.old.count place then Said.Nothing
-            else said_of (slice_index_or self.old.channels place (unheard 0)) (heard_now self.old.channels sums.now.channels place now self.old.t_max)))) }
+        ensures told { OnOk result (LogsChange (if nat_le self.old.count place then Said.Nothing
+            else said_of (slice_index_or self.old.channels place (unheard 0)) (heard_now self.old.channels sums.now.channels place now self.old.t_max))
+            (place + 1) self.new now (E.contents err.old) (E.contents err.new)) }
         // `look_at` changes neither the level, nor the events that are logged, nor the number of channels.
         ensures kept { (self.new.side ≡ self.old.side) × (self.new.level ≡ self.old.level) × (self.new.told ≡ self.old.told)
             × (self.new.count ≡ self.old.count) × (self.new.t_max ≡ self.old.t_max) }
@@ -364,16 +462,15 @@ impl Log {
     ) -> io::Result<()>
         // If `tell_change` succeeds, it has appended the line of the change, or nothing without a change or if the
         // log is off.
-        ensures { OnOk result (Appends (E.contents err.old) (E.contents err.new)
-            (telling.change_line self.now.level now self.now.side channel said)) }
+        ensures { OnOk result (LogsChange said channel self.now now (E.contents err.old) (E.contents err.new)) }
     {
         if self.is_off() {
             return write_text(err, "");
         }
         match said {
             Said::Nothing => write_text(err, ""),
-            Said::Silent => write_happening(err, now, self.side, Happening::Silent(channel)),
-            Said::Heard => write_happening(err, now, self.side, Happening::Heard(channel)),
+            Said::Silent => self.write(Happening::Silent(channel), now, err),
+            Said::Heard => self.write(Happening::Heard(channel), now, err),
         }
     }
 
@@ -393,8 +490,18 @@ impl Log {
     }
 
     /// Logs why the end is in its state.
-    pub fn end<E: Write>(&self, ending: &Ending, now: Milliseconds, err: &mut E) {
-        let _ = write_ending(err, now, self.side, ending);
+    ///
+    /// # Errors
+    ///
+    /// - The error of the writer; what it wrote before stays written.
+    #[inline(never)]
+    pub fn end<E: Write>(&self, ending: &Ending, now: Milliseconds, err: &mut E) -> io::Result<()>
+        // If `end` succeeds, it has appended the line of the ending, with the time that the log has.
+        ensures { OnOk result (Logs self.now now (log_line now self.now.side (ending_text ending.now)) (E.contents err.old) (E.contents err.new)) }
+    {
+        let mut line = LogLine::new();
+        write_ending(&mut line, now, self.side, ending)?;
+        self.pass(line.as_slice(), now, err)
     }
 
     /// Returns whether nothing is logged.

@@ -27,7 +27,7 @@ use crate::undone::{Outcome, run_status};
 use crate::unopened::{Stopped, Unopened, fault_of, fault_of_end};
 use end_settings::Side;
 use octets::Milliseconds;
-use rasta_words::{Expected, Fault, LogLevel, RunLength, Status, Telling, report};
+use rasta_words::{Expected, Fault, LogLevel, LogTime, RunLength, Status, Telling, report};
 use settings_file::{Ends, Settings, Word};
 use stack_end::End;
 use std::alloc::Global;
@@ -46,6 +46,8 @@ pub struct Run {
     pub length: RunLength,
     /// The level of the log.
     pub log: LogLevel,
+    /// The time at the start of its lines.
+    pub time: LogTime,
     /// The state that is expected at the end.
     pub expected: Option<Expected>,
     /// Whether an end that has lost its connection is opened again.
@@ -239,7 +241,7 @@ fn watch<R: Net>(rt: &R, alloc: Global) -> Result<Watch, Fault> {
 
 /// Opens the field element beside an interlocking, if there is one. It is opened first, so that it receives the
 /// request of the interlocking.
-fn open_second<'a, R: Net + Files, E: Write>(
+fn open_second<'a, R: Net + Clock + Files, E: Write>(
     rt: &R,
     alloc: Global,
     watch: &Watch,
@@ -267,7 +269,7 @@ fn open_second<'a, R: Net + Files, E: Write>(
 }
 
 /// Opens an end on the channels of its settings, which end a wait when something comes, and logs that.
-fn open_side<'a, R: Net + Files, E: Write>(
+fn open_side<'a, R: Net + Clock + Files, E: Write>(
     rt: &R,
     alloc: Global,
     watch: &Watch,
@@ -290,6 +292,7 @@ fn open_side<'a, R: Net + Files, E: Write>(
     let channels = bound(rt, alloc, side, settings, watch)?;
     let mut source = Random { system: rt };
     let mut actor = open_end(&mut source, alloc, channels, side, settings, run, now)?;
+    actor.look_at_clock(rt, now);
     actor.tell_opened(settings, now, err);
     Ok(actor)
 }
@@ -343,7 +346,7 @@ fn open_end<'a, D: Draw>(
     ensures kept { IfOk result (λ actor. (actor.is_kept ≡ run.now.keep) × (actor.keeper.config ≡ settings.now.config)
         × (actor.keeper.opened ≡ now)) }
     // The log and the counts of the end that `open_end` returns are those of the run, with T_max of the file.
-    ensures outputs { IfOk result (λ actor. (actor.log.side ≡ side) × (actor.log.level ≡ run.now.log)
+    ensures outputs { IfOk result (λ actor. (actor.log.side ≡ side) × (actor.log.level ≡ run.now.log) × (actor.log.time ≡ run.now.time)
         × (actor.log.t_max ≡ settings.now.config.t_max) × (actor.teller.side ≡ side)
         × (actor.teller.telling ≡ run.now.counts) × (actor.teller.t_max ≡ settings.now.config.t_max)
         × (actor.teller.count ≡ length settings.now.local.items)) }
@@ -358,7 +361,7 @@ fn open_end<'a, D: Draw>(
     let Ok(recorded) = RecordedChannels::over(alloc, channels, listens) else {
         return Err(Fault::Memory);
     };
-    let log = Log::new(side, run.log, settings, now);
+    let log = Log::new(side, run.log, run.time, settings, now);
     let first_sn = first_number(source, settings.first_sn)?;
     match End::open(alloc, recorded, settings.config, side, first_sn, now) {
         Ok(end) => Ok(Actor::new(

@@ -2,9 +2,9 @@
 
 ghost use Rattle.std.specs.Prelude.{◌≡◌, OnOk};
 ghost use Rattle.std.specs.Io.KnownBytes.{Appends};
-ghost use Rattle.pdu_text.specs.Pieces.{three_digits};
 ghost use Rattle.rasta_run.specs.Noticing as noticing;
 
+use crate::stamping::spell;
 use end_settings::Side;
 use octets::Milliseconds;
 use pdu_text::{side_name, write_text};
@@ -63,18 +63,6 @@ fn write_front<W: Write>(writer: &mut W, at: Milliseconds, side: Side) -> io::Re
     writer.write_all(&digits)?;
     let name = side_name(side);
     write!(writer, " {name} ")
-}
-
-/// Returns the last three digits of a number.
-fn spell(number: u64) -> [u8; 3]
-    // `spell` returns the last three decimal digits, with leading zeros.
-    ensures { result ≡ three_digits number }
-{
-    [
-        (48 + number / 100 % 10) as u8,
-        (48 + number / 10 % 10) as u8,
-        (48 + number / 1 % 10) as u8,
-    ]
 }
 
 /// Writes the text of a notice.

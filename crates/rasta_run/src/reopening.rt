@@ -44,7 +44,7 @@ impl<C: Channels + Drop, A: Allocator + Copy> Actor<'_, C, A> {
         ensures kept { self.new ≡ record self.old {
           keeper = keeping.looked self.old.is_kept (is_stale (inside self.old.end)) (is_up (inside self.old.end).upper.session.phase) now self.old.keeper;
           anew_at = keeping.anew_after self.old.is_kept self.old.side self.old.anew_at
-            (keeping.looked self.old.is_kept (is_stale (inside self.old.end)) (is_up (inside self.old.end).upper.session.phase) now self.old.keeper) now;
+              (keeping.looked self.old.is_kept (is_stale (inside self.old.end)) (is_up (inside self.old.end).upper.session.phase) now self.old.keeper) now;
         } }
     {
         if !self.is_kept {
@@ -165,7 +165,7 @@ impl Actor<'_, UdpChannels> {
         ensures same { IfOk result (λ anew. anew ≡ false → (source.new ≡ source.old) × (self.new ≡ record self.old {
           keeper = keeping.looked self.old.is_kept (is_stale (inside self.old.end)) (is_up (inside self.old.end).upper.session.phase) now self.old.keeper;
           anew_at = keeping.anew_after self.old.is_kept self.old.side self.old.anew_at
-            (keeping.looked self.old.is_kept (is_stale (inside self.old.end)) (is_up (inside self.old.end).upper.session.phase) now self.old.keeper) now;
+              (keeping.looked self.old.is_kept (is_stale (inside self.old.end)) (is_up (inside self.old.end).upper.session.phase) now self.old.keeper) now;
         })) }
         // If `keep` returns true, the end is newly opened with the settings of its keeper and the number that was
         // drawn.

@@ -1,11 +1,12 @@
 //! One end, or an interlocking and a field element in one process, which take turns.
 
-ghost use Rattle.std.specs.Prelude.{◌≡◌, ◌≤◌, ◌+◌, ◌%◌, ◌^◌, None, true, max, IfOk, IfSome, OnOk};
+ghost use Rattle.std.specs.Prelude.{◌≡◌, ℕ, ◌≤◌, ◌+◌, ◌%◌, ◌^◌, None, true, IfOk, IfSome, OnOk};
 ghost use Rattle.rasta_run.specs.Progress.{limit_after};
 ghost use Rattle.rasta_run.specs.Ticking.{greatest_time};
 
 use crate::drawing::Random;
 use crate::input::Feed;
+use crate::metrics::{Samples, write_block};
 use crate::net::{Run, unless_unread};
 use crate::printing::Printer;
 use crate::streams::Streams;
@@ -16,6 +17,7 @@ use crate::waiting::{earlier, take_rest};
 use octets::Milliseconds;
 use rasta_words::{Fault, RunLength};
 use std::alloc::Global;
+use std::io;
 use std::io::{Input, Read, Write};
 use std::net::Net;
 use std::rt::Files;
@@ -64,6 +66,7 @@ impl Running<'_> {
     {
         'turns: for _ in 0..turns {
             let now = clock.read(rt)?;
+            self.look_at_clock(rt, now);
             let heard = self.take_turn(now, &mut streams.out, &mut streams.err)?;
             let anew = self.keep(rt, alloc, now, &mut streams.err)?;
             streams.pass_on()?;
@@ -122,6 +125,7 @@ impl Running<'_> {
     {
         'turns: for _ in 0..TURNS_MOST {
             let now = clock.read(rt)?;
+            self.look_at_clock(rt, now);
             let heard = self.take_turn(now, &mut streams.out, &mut streams.err)?;
             let came = feed.read(&mut streams.gate, now)?;
             let put = self.put_lines(alloc, feed, now, &mut streams.out, &mut streams.err)?;
@@ -138,6 +142,18 @@ impl Running<'_> {
             take_rest(watch, RunLength::UntilEnd, found, now, deadline);
         }
         Ok(())
+    }
+
+    /// Reads the system's clock for the lines of each log.
+    fn look_at_clock<R: Clock>(&mut self, rt: &R, now: Milliseconds)
+        // `look_at_clock` does not change the time of an end, nor the number of turns.
+        ensures { (self.new.first.end ≡ self.old.first.end) × (self.new.turns ≡ self.old.turns)
+            × ((limit : ℕ) → IfSome self.old.second (λ a. a.end.time ≤ limit) → IfSome self.new.second (λ a. a.end.time ≤ limit)) }
+    {
+        self.first.look_at_clock(rt, now);
+        if let Some(second) = &mut self.second {
+            second.look_at_clock(rt, now);
+        }
     }
 
     /// Takes one turn of each end, and returns whether anything was received.
@@ -239,8 +255,34 @@ impl Running<'_> {
         let mut source = Random { system: rt };
         let second = keep_second(&mut self.second, &mut source, alloc, now, err)?;
         let first = self.first.keep(&mut source, alloc, now, err)?;
-        self.first.tell_due(now, err);
+        if self.first.tell_due(now, err) {
+            let _ = self.tell_block(now, err);
+        }
         Ok(first || second)
+    }
+
+    /// Prints the counts of all ends in one block, if that is their form.
+    ///
+    /// # Errors
+    ///
+    /// - The error of the writer; what it wrote before stays written.
+    fn tell_block<E: Write>(&self, now: Milliseconds, err: &mut E) -> io::Result<()> {
+        if !self.first.teller.has_block() {
+            return Ok(());
+        }
+        write_block(err, &self.samples(now))
+    }
+
+    /// Returns what is counted of each end.
+    fn samples(&self, now: Milliseconds) -> Samples {
+        let second = match &self.second {
+            None => None,
+            Some(second) => Some(second.sample(now)),
+        };
+        Samples {
+            first: self.first.sample(now),
+            second,
+        }
     }
 
     /// Returns the earliest deadline of all ends.
@@ -341,6 +383,7 @@ impl Running<'_> {
         if let Some(second) = &mut self.second {
             second.conclude(now, second_met, err);
         }
+        let _ = self.tell_block(now, err);
     }
 }
 
@@ -398,7 +441,7 @@ fn keep_second<R: Files, E: Write>(
         None => Ok(false),
         Some(actor) => {
             let anew = actor.keep(source, alloc, now, err)?;
-            actor.tell_due(now, err);
+            let _due = actor.tell_due(now, err);
             Ok(anew)
         }
     }

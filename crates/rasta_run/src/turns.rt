@@ -3,8 +3,8 @@
 ghost use Rattle.std.specs.Prelude.{◌≡◌, ◌+◌, ◌-◌, ◌≤◌, ◌^◌, ◌%◌, length, ◌==◌, None, false, IfErr, IfOk, OnOk};
 ghost use Rattle.rasta_run.specs.Counting.{counted_of};
 ghost use Rattle.rasta_run.specs.Counts.{told_text};
-ghost use Rattle.rasta_run.specs.Noticing.{noticed};
 ghost use Rattle.rasta_run.specs.Progress as progress;
+ghost use Rattle.rasta_run.specs.Stamping.{LogsNotice};
 ghost use Rattle.rasta_run.specs.Totals as totals;
 ghost use Rattle.rasta_run.specs.Turning as turning;
 ghost use Rattle.rasta_run.specs.Undone.{doubt_of};
@@ -35,6 +35,7 @@ use stack_end::{End, Listener};
 use std::alloc::{Allocator, Global};
 use std::io;
 use std::io::Write;
+use std::time::Clock;
 
 /// The longest time between two turns that is not logged, in milliseconds. The longest wait is 1,000.
 const GAP_MAX: u64 = 1_500;
@@ -140,6 +141,14 @@ impl<'a, C: Channels, A: Allocator + Copy> Actor<'a, C, A> {
             earlier: Totals::none(),
             teller,
         }
+    }
+
+    /// Reads the system's clock for the lines of the log.
+    pub fn look_at_clock<K: Clock>(&mut self, system: &K, now: Milliseconds)
+        // `look_at_clock` changes nothing but the log.
+        ensures { self.new ≡ record self.old { log = self.new.log } }
+    {
+        self.log.look_at_clock(system, now);
     }
 
     /// Logs the channels with which the end was opened, and the events of its opening.
@@ -287,9 +296,11 @@ impl<'a, C: Channels, A: Allocator + Copy> Actor<'a, C, A> {
     pub fn note_progress(&mut self, now: Milliseconds)
         // `note_progress` records `now` if the end has put or confirmed a telegram, was opened again, or waits for its
         // peer; it changes nothing else.
-        ensures { self.new ≡ record self.old { progress = progress.got_on
-            (record { put = self.old.put; confirmed = confirmed_in (inside self.old.end).upper; openings = self.old.openings })
-            (progress.waits_for_peer (inside self.old.end).upper.machine.connection self.old.is_kept) now self.old.progress } }
+        ensures { self.new ≡ record self.old {
+          progress = progress.got_on
+              (record { put = self.old.put; confirmed = confirmed_in (inside self.old.end).upper; openings = self.old.openings })
+              (progress.waits_for_peer (inside self.old.end).upper.machine.connection self.old.is_kept) now self.old.progress;
+        } }
     {
         let gained = Gained {
             put: self.put,
@@ -335,8 +346,8 @@ impl<'a, C: Channels, A: Allocator + Copy> Actor<'a, C, A> {
         // `note_turn` records when the turn was; it changes nothing else.
         ensures kept { self.new ≡ record self.old { last_turn = now } }
         // If `note_turn` succeeds, it has logged a time of more than 1,500 ms since the last turn.
-        ensures told { OnOk result (Appends (E.contents err.old) (E.contents err.new)
-            (noticed self.old.log.level now self.old.log.side (turning.gap_notice (now - self.old.last_turn)))) }
+        ensures told { OnOk result (LogsNotice (turning.gap_notice (now - self.old.last_turn)) self.old.log now
+            (E.contents err.old) (E.contents err.new)) }
     {
         let gap = now.saturating_sub(self.last_turn);
         self.last_turn = now;
@@ -359,8 +370,8 @@ impl<'a, C: Channels, A: Allocator + Copy> Actor<'a, C, A> {
         ensures kept { self.new ≡ record self.old { deaf_turns = turning.deaf_after works self.old.deaf_turns } }
         // If `note_reception` succeeds, it has logged the first turn in which a reception failed, and the first one
         // in which none did.
-        ensures told { OnOk result (Appends (E.contents err.old) (E.contents err.new)
-            (noticed self.old.log.level now self.old.log.side (turning.reception_notice works self.old.deaf_turns))) }
+        ensures told { OnOk result (LogsNotice (turning.reception_notice works self.old.deaf_turns) self.old.log now
+            (E.contents err.old) (E.contents err.new)) }
     {
         let notice = reception_notice(works, self.deaf_turns);
         self.deaf_turns = deaf_after(works, self.deaf_turns);
@@ -377,9 +388,9 @@ impl<'a, C: Channels, A: Allocator + Copy> Actor<'a, C, A> {
         ensures kept { self.new ≡ record self.old { was_closed = is_over (inside self.old.end) } }
         // If `note_loss` succeeds, it has logged the telegrams in doubt, if there are any and the connection was
         // just found closed.
-        ensures told { OnOk result (Appends (E.contents err.old) (E.contents err.new)
-            (noticed self.old.log.level now self.old.log.side (turning.loss_notice self.old.was_closed
-            (is_over (inside self.old.end)) (doubt_of self.old.put self.old.before (confirmed_in (inside self.old.end).upper))))) }
+        ensures told { OnOk result (LogsNotice (turning.loss_notice self.old.was_closed (is_over (inside self.old.end))
+            (doubt_of self.old.put self.old.before (confirmed_in (inside self.old.end).upper))) self.old.log now
+            (E.contents err.old) (E.contents err.new)) }
     {
         let is_closed = is_closed(self.end.state());
         let notice = loss_notice(self.was_closed, is_closed, self.doubt());
