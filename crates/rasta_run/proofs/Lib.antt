@@ -1,3 +1,4 @@
 pub mod Putting
 pub mod Kept
 pub mod Fields
+pub mod Calendar

@@ -1,12 +1,12 @@
 -- The telegrams that a turn puts, one by one.
-use Rattle.std.proofs.Common.{◌≡◌, ◌+◌, ℕ, List, [], ◌∷◌, ◌++◌, Option, Some, length, length-append, ap, sym, subst, ◌∙◌, refl}
+use Rattle.std.proofs.Common.{◌≡◌, ◌+◌, ℕ, Bool, true, List, [], ◌∷◌, ◌++◌, Option, Some, length, length-append, ap, sym, subst, ◌∙◌, refl, add-one}
 use Rattle.std.specs.List.{FoldsTo}
 use Rattle.channels.specs.Told.{Told}
 use Rattle.octets.proofs.Steps.{FoldsTo-append}
 use Rattle.pdi_session.specs.declared.PutFault.TheVariants.{Full}
 use Rattle.settings_file.specs.declared.values.Put.{Put as Telegram}
 use Rattle.stack_end.specs.EndValue.{EndValue}
-use Rattle.rasta_run.specs.Putting.{Answers, IsFullFor, Passes, Putting, PutsBeginning}
+use Rattle.rasta_run.specs.Putting.{Answers, Fed, IsFullFor, Passes, Putting, PutsBeginning, TakesLine, TakesLines}
 
 -- one more telegram is done with
 moved : {A : Type 0} (done rest : List A) (x : A) → done ++ (x ∷ rest) ≡ (done ++ x ∷ []) ++ rest
@@ -24,14 +24,20 @@ one-more R before left rest x s t u n h split step = (
 )
 
 -- the end is full for the next telegram, and nothing has changed
-pub stops : {C A : Type 0} (told : C → Told) (now : ℕ) (before left after rest : List Telegram) (p : Telegram) (s : Putting C A)
-    (v w : EndValue C A) (n m : ℕ) (x y : Option (List ℕ)) (done : List Telegram)
-    → before ≡ done ++ left → FoldsTo (Passes told now) s done (v, n, x) → left ≡ p ∷ rest → Answers v p (Some Full)
-    → after ≡ left → w ≡ v → m ≡ n → y ≡ x → PutsBeginning told now before s after (w, m, y)
-stops told now before left after rest p s v w n m x y done e along split full same-left same-end same-count same-text =
-    let base : PutsBeginning told now before s left (v, n, x) =
+pub stops : {C A T : Type 0} (told : C → Told) (refuses : T → List ℕ → T → Type 0) (now : ℕ) (before left after rest : List Telegram) (p : Telegram)
+    (s : Putting C A T) (v w : EndValue C A) (n m : ℕ) (x y : T) (r q : ℕ) (done : List Telegram)
+    → before ≡ done ++ left → FoldsTo (Passes told refuses now) s done (v, n, x, r) → left ≡ p ∷ rest → Answers v p (Some Full)
+    → after ≡ left → w ≡ v → m ≡ n → y ≡ x → q ≡ r → PutsBeginning told refuses now before s after (w, m, y, q)
+stops told refuses now before left after rest p s v w n m x y r q done e along split full same-left same-end same-count same-app same-refused =
+    let base : PutsBeginning told refuses now before s left (v, n, x, r) =
     (done, e, along, subst (λ l. IsFullFor v l) (sym split) full) in
-    subst (λ l. PutsBeginning told now before s l (w, m, y)) (sym same-left)
-    (subst (λ z. PutsBeginning told now before s left (z, m, y)) (sym same-end)
-    (subst (λ z. PutsBeginning told now before s left (v, z, y)) (sym same-count)
-    (subst (λ z. PutsBeginning told now before s left (v, n, z)) (sym same-text) base)))
+    subst (λ l. PutsBeginning told refuses now before s l (w, m, y, q)) (sym same-left)
+    (subst (λ z. PutsBeginning told refuses now before s left (z, m, y, q)) (sym same-end)
+    (subst (λ z. PutsBeginning told refuses now before s left (v, z, y, q)) (sym same-count)
+    (subst (λ z. PutsBeginning told refuses now before s left (v, n, z, q)) (sym same-app)
+    (subst (λ z. PutsBeginning told refuses now before s left (v, n, x, z)) (sym same-refused) base))))
+
+-- one more line was taken
+pub line-more : {C A T : Type 0} (told : C → Told) (refuses : T → List ℕ → T → Type 0) (now : ℕ) (ended : Bool) (n : ℕ) (s mid t : Fed C A T)
+    → TakesLines told refuses now ended n s mid → TakesLine told refuses now ended mid true t → TakesLines told refuses now ended (n + 1) s t
+line-more told refuses now ended n s mid t h step = subst (λ k. TakesLines told refuses now ended k s t) (sym (add-one n)) (mid, h, step)

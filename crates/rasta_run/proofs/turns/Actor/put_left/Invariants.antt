@@ -1,0 +1,25 @@
+-- The end's time has not changed; the telegrams at first are those done with, one for each iteration, and those left.
+use Rattle.std.proofs.Common.{◌≡◌, ◌≤◌, ◌++◌, List, length}
+use Rattle.std.specs.List.{FoldsTo}
+use Rattle.settings_file.specs.declared.values.Put.{Put}
+use Rattle.rasta_run.specs.Putting.{Passes}
+use Rattle.rasta_run.proofs.turns.Actor.put_left.Given as goal
+
+abbrev pub invariant-puts : goal.invariant-puts
+invariant-puts g l =
+    record {
+      time : l.self.end.time ≤ l.now;
+      kept :
+          l.self ≡ record l.initial.self {
+            end = l.self.end;
+            left = l.self.left;
+            put = l.self.put;
+            refused_entries = l.self.refused_entries;
+            log = l.self.log;
+          };
+      along :
+          (done : List Put) × (length done ≡ l.counter) × (l.initial.self.left.now ≡ done ++ l.self.left.now)
+          × FoldsTo (Passes (λ o. g.C.Channels.told o.inner) g.T.Application.refuses l.now)
+          (l.initial.self.end, l.initial.self.put, l.initial.app, l.initial.self.refused_entries) done
+          (l.self.end, l.self.put, l.app, l.self.refused_entries);
+    }
