@@ -1,5 +1,5 @@
 -- The options of `follow`, and the words that name their values.
-use Rattle.std.specs.Prelude.{◌≡◌, ℕ, ◌≤◌, ◌<◌, ◌^◌, Bool, false, true, List, [], ◌∷◌, codes, Option, None, Some}
+use Rattle.std.specs.Prelude.{◌≡◌, ℕ, ◌≤◌, ◌<◌, ◌^◌, Bool, false, true, List, codes, Option, None, Some}
 use Rattle.std.specs.Option.{option_copied}
 use Rattle.std.specs.Str.{bytes_eq}
 use Rattle.std.specs.Str.Parse.{IsNumeral, digits_value, without_leading_plus}
@@ -45,27 +45,37 @@ json_rule = record (new_rule (codes "json")) { long = Some (codes "json"); actio
 abbrev pub file_rule : Rule
 file_rule = record (new_rule (codes "file")) { required = true }
 
--- the command with these arguments, too
-abbrev pub with_rules : App → List Rule → App
-with_rules app [] = app
-with_rules app (rule ∷ rules) = with_rules (with_rule app rule) rules
+-- `follow` with `--code`
+abbrev pub length_app : App
+length_app = with_rule (new_app (codes "follow")) chosen_code_rule
 
--- the options of the safety code
-abbrev pub chosen_code_rules : List Rule
-chosen_code_rules = chosen_code_rule ∷ iv_rule ∷ []
+-- with `--iv`, too
+abbrev pub chosen_app : App
+chosen_app = with_rule length_app iv_rule
 
--- the options of lines
-abbrev pub lines_rules : List Rule
-lines_rules = only_rule ∷ t_max_rule ∷ messages_rule ∷ []
+-- with `--only`, too
+abbrev pub only_app : App
+only_app = with_rule chosen_app only_rule
 
--- the options of what is read and of sums
-abbrev pub sums_rules : List Rule
-sums_rules = ports_rule ∷ json_rule ∷ []
+-- with `--t-max`, too
+abbrev pub limited_app : App
+limited_app = with_rule only_app t_max_rule
+
+-- with `--messages`, too
+abbrev pub telling_app : App
+telling_app = with_rule limited_app messages_rule
+
+-- with `--ports`, too
+abbrev pub ported_app : App
+ported_app = with_rule telling_app ports_rule
+
+-- with `--json`, too
+abbrev pub summing_app : App
+summing_app = with_rule ported_app json_rule
 
 -- the whole command `follow`
 abbrev pub follow_app : App
-follow_app =
-    with_rules (new_app (codes "follow")) (chosen_code_rule ∷ iv_rule ∷ only_rule ∷ t_max_rule ∷ messages_rule ∷ ports_rule ∷ json_rule ∷ file_rule ∷ [])
+follow_app = with_rule summing_app file_rule
 
 -- the word for a length of the safety code, in bytes
 abbrev pub code_word : CodeLength → Text

@@ -1,8 +1,8 @@
 -- The command line of the program as clap declares it, and the requests that words ask for.
-use Rattle.std.specs.Prelude.{◌≡◌, ⊤, true, List, [], ◌∷◌, codes, Option, Some}
+use Rattle.std.specs.Prelude.{◌≡◌, ⊤, true, List, codes, Option, Some}
 use Rattle.std.specs.Option.{option_copied}
 use Rattle.clap.specs.Words.{App, HasKind, Row, Rule, Text, fault_of, first_of, new_app, new_rule, subcommand_of, with_rule, with_subcommand}
-use Rattle.rasta_words.specs.Choices.{HasChoices, code_word, file_rule, follow_app, iv_rule, with_rules}
+use Rattle.rasta_words.specs.Choices.{HasChoices, code_word, file_rule, follow_app, iv_rule}
 use Rattle.rasta_words.specs.Runs.{IsRun, ends_word, net_app}
 use Rattle.rasta_words.specs.declared.command_line.Request.{Request}
 use Rattle.rasta_words.specs.declared.command_line.Request.TheVariants.{Check, Digest, Show, Sim, Follow, Net}
@@ -19,9 +19,17 @@ code_rule = record (new_rule (codes "code")) { long = Some (codes "code"); requi
 abbrev pub hex_rule : Rule
 hex_rule = record (new_rule (codes "hex")) { required = true }
 
+-- `show` with `--code`
+abbrev pub code_app : App
+code_app = with_rule (new_app (codes "show")) code_rule
+
+-- with `--iv`, too
+abbrev pub coded_app : App
+coded_app = with_rule code_app iv_rule
+
 -- the whole command `show`
 abbrev pub show_app : App
-show_app = with_rules (new_app (codes "show")) (code_rule ∷ iv_rule ∷ hex_rule ∷ [])
+show_app = with_rule coded_app hex_rule
 
 -- the command md4 HEX
 abbrev pub md4_app : App
@@ -43,22 +51,37 @@ check_app = with_rule (new_app (codes "check")) file_rule
 abbrev pub bare_app : App
 bare_app = record (new_app (codes "rasta")) { top = record (new_app (codes "rasta")).top { subcommand_required = true; has_version = true } }
 
--- the program with these subcommands, too
-abbrev pub with_subcommands : App → List App → App
-with_subcommands program [] = program
-with_subcommands program (command ∷ commands) = with_subcommands (with_subcommand program command.top) commands
+-- the program with `md4`
+abbrev pub digest_app : App
+digest_app = with_subcommand bare_app md4_app.top
 
--- the subcommands that use no sockets
-abbrev pub reader_apps : List App
-reader_apps = md4_app ∷ show_app ∷ sim_app ∷ follow_app ∷ []
+-- with `show`, too: the commands that read no file
+abbrev pub plain_app : App
+plain_app = with_subcommand digest_app show_app.top
 
--- the subcommands of ends over sockets
-abbrev pub ends_apps : List App
-ends_apps = net_app (codes "il") ∷ net_app (codes "fe") ∷ net_app (codes "pair") ∷ []
+-- with `sim`, too
+abbrev pub local_app : App
+local_app = with_subcommand plain_app sim_app.top
 
--- the whole program
+-- with `follow`, too
+abbrev pub file_app : App
+file_app = with_subcommand local_app follow_app.top
+
+-- with `il`, too
+abbrev pub il_app : App
+il_app = with_subcommand file_app (net_app (codes "il")).top
+
+-- with `fe`, too
+abbrev pub ends_app : App
+ends_app = with_subcommand il_app (net_app (codes "fe")).top
+
+-- with `pair`, too
+abbrev pub both_app : App
+both_app = with_subcommand ends_app (net_app (codes "pair")).top
+
+-- with `check`, too: the whole program
 abbrev pub rasta_app : App
-rasta_app = with_subcommand (with_subcommands (with_subcommands bare_app reader_apps) ends_apps) check_app.top
+rasta_app = with_subcommand both_app check_app.top
 
 -- the request is that of the subcommand of this name, and its values are those of the entries found there
 abbrev pub HasEntries : Request → Text → List Row → Type 0

@@ -1,7 +1,7 @@
 -- The options of `il`, `fe` and `pair`, and the words that name their values.
-use Rattle.std.specs.Prelude.{◌≡◌, ⊤, ℕ, ◌≤◌, Bool, false, true, List, [], ◌∷◌, codes, Option, None, Some}
+use Rattle.std.specs.Prelude.{◌≡◌, ⊤, ℕ, ◌≤◌, Bool, false, true, List, codes, Option, None, Some}
 use Rattle.std.specs.Str.Parse.{IsNumeral, digits_value, without_leading_plus}
-use Rattle.clap.specs.Words.{App, Row, Rule, Text, first_of, new_app, new_rule}
+use Rattle.clap.specs.Words.{App, Row, Rule, Text, first_of, new_app, new_rule, with_rule}
 use Rattle.clap.specs.declared.builder.action.ArgAction.TheVariants.{SetTrue}
 use Rattle.rasta_words.specs.declared.status.RunLength.{RunLength}
 use Rattle.rasta_words.specs.declared.status.RunLength.TheVariants.{Turns, UntilEnd}
@@ -14,7 +14,7 @@ use Rattle.rasta_words.specs.declared.status.Expected.TheVariants.{Up, Settled}
 use Rattle.rasta_words.specs.declared.status.CountsForm.{CountsForm}
 use Rattle.rasta_words.specs.declared.status.CountsForm.TheVariants as counts_form
 use Rattle.rasta_words.specs.declared.status.Telling.{Telling}
-use Rattle.rasta_words.specs.Choices.{file_rule, is_flagged, with_rules}
+use Rattle.rasta_words.specs.Choices.{file_rule, is_flagged}
 use Rattle.rasta_words.specs.declared.command_line.RunRequest.{RunRequest}
 use Rattle.settings_file.specs.declared.Word.{Word}
 use Rattle.settings_file.specs.declared.Word.TheVariants.{Il, Fe, Pair}
@@ -58,27 +58,41 @@ stats_rule = record (new_rule (codes "stats")) { long = Some (codes "stats") }
 abbrev pub every_rule : Rule
 every_rule = record (new_rule (codes "every")) { long = Some (codes "every") }
 
--- how long ends run
-abbrev pub length_rules : List Rule
-length_rules = turns_rule ∷ until_end_rule ∷ []
+-- the command of this name with `--turns`
+abbrev pub turns_app : Text → App
+turns_app name = with_rule (new_app name) turns_rule
 
--- what is logged, with which times
-abbrev pub log_rules : List Rule
-log_rules = log_rule ∷ time_rule ∷ []
+-- with `--until-end`, too
+abbrev pub ending_app : Text → App
+ending_app name = with_rule (turns_app name) until_end_rule
 
--- what is expected of an end, and whether it is opened again
-abbrev pub end_rules : List Rule
-end_rules = expect_rule ∷ keep_rule ∷ []
+-- with `--log`, too
+abbrev pub logged_app : Text → App
+logged_app name = with_rule (ending_app name) log_rule
 
--- which counts are printed, and when
-abbrev pub counts_rules : List Rule
-counts_rules = stats_rule ∷ every_rule ∷ []
+-- with `--time`, too
+abbrev pub timed_app : Text → App
+timed_app name = with_rule (logged_app name) time_rule
 
--- the whole command of this name
+-- with `--expect`, too
+abbrev pub expecting_app : Text → App
+expecting_app name = with_rule (timed_app name) expect_rule
+
+-- with `--keep`, too
+abbrev pub keeping_app : Text → App
+keeping_app name = with_rule (expecting_app name) keep_rule
+
+-- with `--stats`, too
+abbrev pub counting_app : Text → App
+counting_app name = with_rule (keeping_app name) stats_rule
+
+-- with `--every`, too
+abbrev pub repeating_app : Text → App
+repeating_app name = with_rule (counting_app name) every_rule
+
+-- with FILE, too: the whole command of this name
 abbrev pub net_app : Text → App
-net_app name =
-    with_rules (new_app name)
-    (turns_rule ∷ until_end_rule ∷ log_rule ∷ time_rule ∷ expect_rule ∷ keep_rule ∷ stats_rule ∷ every_rule ∷ file_rule ∷ [])
+net_app name = with_rule (repeating_app name) file_rule
 
 -- the word is a number of turns from 1 to 1,000,000, in decimal digits, after an optional plus
 abbrev pub IsTurns : Text → ℕ → Type 0

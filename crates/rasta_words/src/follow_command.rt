@@ -3,88 +3,134 @@
 ghost use Rattle.std.specs.Prelude.{◌≡◌, IfOk, false};
 ghost use Rattle.clap.specs.declared.Command.TheViews.{out-Command};
 ghost use Rattle.clap.specs.Words.{app_of};
-ghost use Rattle.rasta_words.specs.Choices.{chosen_code_rules, follow_app, lines_rules, sums_rules, with_rules};
+ghost use Rattle.rasta_words.specs.Choices.{chosen_app, follow_app, length_app, limited_app, only_app, ported_app, summing_app, telling_app};
 
 use clap::{Arg, ArgAction, Command};
 use std::alloc::{AllocError, Global};
 
 /// Declares `follow`.
-///
-/// It is not inlined, nor is any function that it calls, so that one stack frame does not hold all arguments.
 #[inline(never)]
 pub fn follow_command<'a>(alloc: Global) -> Result<Command<'a>, AllocError>
-    // `follow_command` declares the subcommand `follow` with all its options and the required argument `file`.
+    // `follow_command` declares the subcommand `follow` with the options of `summing_app` and the required
+    // argument `file`.
     ensures app { IfOk result (λ command. app_of command ≡ follow_app) }
     // No argument that `follow_command` declares is global.
     ensures local { IfOk result (λ command. (out-Command command).has_globals ≡ false) }
 {
-    let command = Command::new(alloc, "follow").about(
-        "Analyse a recorded connection: what was lost, repeated or resent, who disconnected and why",
-    );
-    let command = add_code(alloc, command)?;
-    let command = add_lines(alloc, command)?;
-    let command = add_sums(alloc, command)?;
+    let command = summing_command(alloc)?;
     let file = Arg::new(alloc, "file").required(true).help(
         "Capture file, or - for standard input: pcap, pcapng, or the output of `tshark -T fields -e frame.time_epoch -e ip.src -e udp.srcport -e ip.dst -e udp.dstport -e udp.payload`",
     );
     command.arg(file)
 }
 
-/// Adds `--code` and `--iv` to `follow`.
+/// Declares `follow` without its file.
 #[inline(never)]
-fn add_code<'a>(alloc: Global, command: Command<'a>) -> Result<Command<'a>, AllocError>
-    requires local { (out-Command command.entry).has_globals ≡ false }
-    // `add_code` adds the options of `chosen_code_rules` to the command.
-    ensures app { IfOk result (λ added. app_of added ≡ with_rules (app_of command.entry) chosen_code_rules) }
-    // No argument that `add_code` adds is global.
-    ensures local { IfOk result (λ added. (out-Command added).has_globals ≡ false) }
+fn summing_command<'a>(alloc: Global) -> Result<Command<'a>, AllocError>
+    // `summing_command` declares the subcommand follow with the options of `ported_app` and the flag `--json`.
+    ensures app { IfOk result (λ command. app_of command ≡ summing_app) }
+    // No argument that `summing_command` declares is global.
+    ensures local { IfOk result (λ command. (out-Command command).has_globals ≡ false) }
 {
-    let code = Arg::new(alloc, "code").long("code").help(
-        "Length of the safety code in bytes: 0 (none), 8 or 16 [default: 8]",
-    );
-    let iv = Arg::new(alloc, "iv").long("iv").help(
-        "Initial value of the safety code as 32 hex digits [default: that of RFC 1320]",
-    );
-    command.arg(code)?.arg(iv)
-}
-
-/// Adds the options of lines to `follow`: `--only`, `--t-max` and `--messages`.
-#[inline(never)]
-fn add_lines<'a>(alloc: Global, command: Command<'a>) -> Result<Command<'a>, AllocError>
-    requires local { (out-Command command.entry).has_globals ≡ false }
-    // `add_lines` adds the options of `lines_rules` to the command.
-    ensures app { IfOk result (λ added. app_of added ≡ with_rules (app_of command.entry) lines_rules) }
-    // No argument that `add_lines` adds is global.
-    ensures local { IfOk result (λ added. (out-Command added).has_globals ≡ false) }
-{
-    let only = Arg::new(alloc, "only").long("only").help(
-        "Print only lines with this remark: opens, repeat, differs, ahead, late, stale, anew, resent, age, waits, reason or fault [default: all lines]",
-    );
-    let t_max = Arg::new(alloc, "t-max").long("t-max").help(
-        "T_max in milliseconds, for remarks on ages and waits [default: 1800]",
-    );
-    let messages = Arg::new(alloc, "messages")
-        .long("messages")
-        .action(ArgAction::SetTrue)
-        .help("Print the telegrams of each datagram after its line");
-    command.arg(only)?.arg(t_max)?.arg(messages)
-}
-
-/// Adds `--ports` and `--json` to `follow`.
-#[inline(never)]
-fn add_sums<'a>(alloc: Global, command: Command<'a>) -> Result<Command<'a>, AllocError>
-    requires local { (out-Command command.entry).has_globals ≡ false }
-    // `add_sums` adds the options of `sums_rules` to the command.
-    ensures app { IfOk result (λ added. app_of added ≡ with_rules (app_of command.entry) sums_rules) }
-    // No argument that `add_sums` adds is global.
-    ensures local { IfOk result (λ added. (out-Command added).has_globals ≡ false) }
-{
-    let ports = Arg::new(alloc, "ports").long("ports").help(
-        "Read only datagrams of these UDP ports: 1 to 4 ranges, for example 46101-46102,46201-46202 [default: all]",
-    );
+    let command = ported_command(alloc)?;
     let json = Arg::new(alloc, "json")
         .long("json")
         .action(ArgAction::SetTrue)
         .help("Print only the summary, as one line of JSON");
-    command.arg(ports)?.arg(json)
+    command.arg(json)
+}
+
+/// Declares `follow` with `--code`, `--iv`, `--only`, `--t-max`, `--messages` and `--ports`.
+#[inline(never)]
+fn ported_command<'a>(alloc: Global) -> Result<Command<'a>, AllocError>
+    // `ported_command` declares the subcommand follow with the options of `telling_app` and `--ports`.
+    ensures app { IfOk result (λ command. app_of command ≡ ported_app) }
+    // No argument that `ported_command` declares is global.
+    ensures local { IfOk result (λ command. (out-Command command).has_globals ≡ false) }
+{
+    let command = telling_command(alloc)?;
+    let ports = Arg::new(alloc, "ports").long("ports").help(
+        "Read only datagrams of these UDP ports: 1 to 4 ranges, for example 46101-46102,46201-46202 [default: all]",
+    );
+    command.arg(ports)
+}
+
+/// Declares `follow` with `--code`, `--iv`, `--only`, `--t-max` and `--messages`.
+#[inline(never)]
+fn telling_command<'a>(alloc: Global) -> Result<Command<'a>, AllocError>
+    // `telling_command` declares the subcommand follow with the options of `limited_app` and the flag
+    // `--messages`.
+    ensures app { IfOk result (λ command. app_of command ≡ telling_app) }
+    // No argument that `telling_command` declares is global.
+    ensures local { IfOk result (λ command. (out-Command command).has_globals ≡ false) }
+{
+    let command = limited_command(alloc)?;
+    let messages = Arg::new(alloc, "messages")
+        .long("messages")
+        .action(ArgAction::SetTrue)
+        .help("Print the telegrams of each datagram after its line");
+    command.arg(messages)
+}
+
+/// Declares `follow` with `--code`, `--iv`, `--only` and `--t-max`.
+#[inline(never)]
+fn limited_command<'a>(alloc: Global) -> Result<Command<'a>, AllocError>
+    // `limited_command` declares the subcommand `follow` with the options of `only_app` and `--t-max`.
+    ensures app { IfOk result (λ command. app_of command ≡ limited_app) }
+    // No argument that `limited_command` declares is global.
+    ensures local { IfOk result (λ command. (out-Command command).has_globals ≡ false) }
+{
+    let command = only_command(alloc)?;
+    let t_max = Arg::new(alloc, "t-max").long("t-max").help(
+        "T_max in milliseconds, for remarks on ages and waits [default: 1800]",
+    );
+    command.arg(t_max)
+}
+
+/// Declares `follow` with `--code`, `--iv` and `--only`.
+#[inline(never)]
+fn only_command<'a>(alloc: Global) -> Result<Command<'a>, AllocError>
+    // `only_command` declares the subcommand `follow` with the options of `chosen_app` and `--only`.
+    ensures app { IfOk result (λ command. app_of command ≡ only_app) }
+    // No argument that `only_command` declares is global.
+    ensures local { IfOk result (λ command. (out-Command command).has_globals ≡ false) }
+{
+    let command = chosen_command(alloc)?;
+    let only = Arg::new(alloc, "only").long("only").help(
+        "Print only lines with this remark: opens, repeat, differs, ahead, late, stale, anew, resent, age, waits, reason or fault [default: all lines]",
+    );
+    command.arg(only)
+}
+
+/// Declares `follow` with `--code` and `--iv`.
+#[inline(never)]
+fn chosen_command<'a>(alloc: Global) -> Result<Command<'a>, AllocError>
+    // `chosen_command` declares the subcommand `follow` with the option of `length_app` and `--iv`.
+    ensures app { IfOk result (λ command. app_of command ≡ chosen_app) }
+    // No argument that `chosen_command` declares is global.
+    ensures local { IfOk result (λ command. (out-Command command).has_globals ≡ false) }
+{
+    let command = length_command(alloc)?;
+    let iv = Arg::new(alloc, "iv").long("iv").help(
+        "Initial value of the safety code as 32 hex digits [default: that of RFC 1320]",
+    );
+    command.arg(iv)
+}
+
+/// Declares `follow` with `--code` only.
+#[inline(never)]
+fn length_command<'a>(alloc: Global) -> Result<Command<'a>, AllocError>
+    // `length_command` declares the subcommand `follow` with the option `--code` only.
+    ensures app { IfOk result (λ command. app_of command ≡ length_app) }
+    // No argument that `length_command` declares is global.
+    ensures local { IfOk result (λ command. (out-Command command).has_globals ≡ false) }
+{
+    let code = Arg::new(alloc, "code").long("code").help(
+        "Length of the safety code in bytes: 0 (none), 8 or 16 [default: 8]",
+    );
+    Command::new(alloc, "follow")
+        .about(
+            "Analyse a recorded connection: what was lost, repeated or resent, who disconnected and why",
+        )
+        .arg(code)
 }
