@@ -11,18 +11,21 @@ _rasta() {
     follow--ports) words='' ;;
     il--turns) words='' ;;
     il--log) words='off state all' ;;
+    il--time) words='' ;;
     il--expect) words='up settled' ;;
-    il--stats) words='text json' ;;
+    il--stats) words='text json prometheus' ;;
     il--every) words='' ;;
     fe--turns) words='' ;;
     fe--log) words='off state all' ;;
+    fe--time) words='' ;;
     fe--expect) words='up settled' ;;
-    fe--stats) words='text json' ;;
+    fe--stats) words='text json prometheus' ;;
     fe--every) words='' ;;
     pair--turns) words='' ;;
     pair--log) words='off state all' ;;
+    pair--time) words='' ;;
     pair--expect) words='up settled' ;;
-    pair--stats) words='text json' ;;
+    pair--stats) words='text json prometheus' ;;
     pair--every) words='' ;;
     *)
         case $COMP_CWORD,${COMP_WORDS[1]} in
@@ -31,9 +34,9 @@ _rasta() {
         *,show) words='--code --iv -h --help' ;;
         *,sim) words='-h --help' ;;
         *,follow) words='--code --iv --only --t-max --messages --ports --json -h --help' ;;
-        *,il) words='--turns --until-end --log --expect --keep --stats --every -h --help' ;;
-        *,fe) words='--turns --until-end --log --expect --keep --stats --every -h --help' ;;
-        *,pair) words='--turns --until-end --log --expect --keep --stats --every -h --help' ;;
+        *,il) words='--turns --until-end --log --time --expect --keep --stats --every -h --help' ;;
+        *,fe) words='--turns --until-end --log --time --expect --keep --stats --every -h --help' ;;
+        *,pair) words='--turns --until-end --log --time --expect --keep --stats --every -h --help' ;;
         *,check) words='-h --help' ;;
         2,help) words='md4 show sim follow il fe pair check' ;;
         2,--completion) words='bash' ;;
