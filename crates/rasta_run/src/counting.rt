@@ -105,7 +105,7 @@ impl Teller {
     /// Records whether the channel at a place, from 0, received something, if the end has it.
     fn look_at(&mut self, counted: &Counted, now: Milliseconds, place: usize)
         requires { place < CHANNELS_MAX }
-        // `look_at` compares the count of this channel with the one before, and of no other.
+        // `look_at` records whether this channel has received something, and looks at no other.
         ensures { self.new ≡ record self.old {
           heard = hears_at counted.now.sums.channels self.old.count now (2 ^ 64 - 1) place self.old.heard;
         } }
@@ -140,7 +140,7 @@ impl Teller {
 
     /// Returns the form of the lines, if there are any.
     fn line_form(&self) -> Option<LineForm>
-        // `line_form` returns `Text` or `Json`, and `None` without a form and for that of Prometheus.
+        // `line_form` returns the form of the lines, and `None` without a form or for that of Prometheus.
         ensures { result ≡ counts.line_form self.now.telling }
     {
         match self.telling {

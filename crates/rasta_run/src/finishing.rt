@@ -202,8 +202,8 @@ impl Actor<'_, UdpChannels> {
     /// Returns when the end has something to do without a datagram, in milliseconds. After a reception that failed
     /// it soon tries again, since another channel may have a datagram.
     pub fn next_deadline(&self) -> Option<Milliseconds>
-        // `next_deadline` returns the earliest of the deadline of the end, of the time at which it is to be opened
-        // again, of 10 ms after a turn in which a reception failed, and of the time of the next counts.
+        // `next_deadline` returns the earliest of four times: the deadline of the end, when it is to be opened again,
+        // 10 ms after a turn in which a reception failed, and the next counts.
         ensures { (own : Option ℕ) × IsDeadlineOf (inside self.now.end) own × (result ≡ earliest (earliest (earliest own self.now.anew_at)
             (again_at self.now.deaf_turns self.now.last_turn)) self.now.teller.next) }
     {

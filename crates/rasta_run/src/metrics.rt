@@ -92,7 +92,7 @@ impl ChannelMetric {
 
     /// Returns the name of the metric, after the prefix of all.
     fn name(self) -> &'static str
-        // `name` returns the name of this count; all drops have one.
+        // `name` returns the name of this count; that of dropped datagrams has six causes.
         ensures { result.now ≡ metrics.channel_name self }
     {
         match self {
@@ -112,7 +112,7 @@ impl ChannelMetric {
 
     /// Returns the label of the cause, if the metric has one.
     fn cause(self) -> &'static str
-        // `cause` returns the cause of a drop, and nothing for any other count.
+        // `cause` returns why a datagram was dropped, and nothing for any other count.
         ensures { result.now ≡ metrics.channel_cause self }
     {
         match self {
@@ -208,7 +208,7 @@ impl EndMetric {
 
     /// Returns the name of the metric, after the prefix of all.
     fn name(self) -> &'static str
-        // `name` returns the name of this count; all drops have one.
+        // `name` returns the name of this count; that of dropped PDUs has seven causes.
         ensures { result.now ≡ metrics.end_name self }
     {
         match self {
@@ -236,7 +236,7 @@ impl EndMetric {
 
     /// Returns the label of the cause, if the metric has one.
     fn cause(self) -> &'static str
-        // `cause` returns the cause of a drop, and nothing for any other count.
+        // `cause` returns why a PDU was dropped, and nothing for any other count.
         ensures { result.now ≡ metrics.end_cause self }
     {
         match self {
@@ -521,7 +521,7 @@ fn write_place<W: Write>(
     place: usize,
 ) -> io::Result<()>
     requires { place < CHANNELS_MAX }
-    // If `write_place` succeeds, it has appended the line of this channel, or nothing if the end has fewer.
+    // If `write_place` succeeds, it has appended the metric's line of this channel, or nothing if the end has fewer.
     ensures { OnOk result (Appends (W.contents writer.old) (W.contents writer.new) (metrics.place_text metric sample.now place)) }
 {
     if place >= sample.count {

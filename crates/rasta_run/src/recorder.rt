@@ -89,7 +89,7 @@ impl Recorder {
         ensures closing { self.new.closing ≡ self.old.closing }
         // If the recorder listens, it also keeps the event of a datagram of the first channel; it changes nothing else.
         ensures kept { self.old.listens ≡ true → self.new ≡ recording.after_sent channel datagram.now went self.old }
-        // A recorder that does not listen stays as it is.
+        // A recorder that does not listen counts nothing that is sent.
         ensures off { self.old.listens ≡ false → self.new ≡ self.old }
     {
         if !self.listens {
@@ -104,7 +104,7 @@ impl Recorder {
         // If the recorder listens, it keeps the channel and the header of the datagram, and changes nothing else.
         ensures came { self.old.listens ≡ true
             → self.new ≡ record self.old { came = (channel, header_seen datagram.now) } }
-        // A recorder that does not listen stays as it is.
+        // A recorder that does not listen keeps nothing of what comes.
         ensures off { self.old.listens ≡ false → self.new ≡ self.old }
     {
         if self.listens {
@@ -132,7 +132,7 @@ impl Recorder {
         // If the recorder listens and the note is of a new phase, it keeps that phase.
         ensures phase { self.old.listens ≡ true → (phase : Phase) → note.now ≡ Note.Phase phase
             → self.new ≡ recording.with_event (happening.Phase phase) self.old }
-        // A recorder that does not listen stays as it is.
+        // A recorder that does not listen keeps nothing of a note.
         ensures off { self.old.listens ≡ false → self.new ≡ self.old }
     {
         if !self.listens {
