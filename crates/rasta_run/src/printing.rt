@@ -1,6 +1,6 @@
 //! The lines of the telegrams that an application takes, and of those that were refused.
 
-ghost use Rattle.std.specs.Prelude.{◌≡◌, ℕ, Bool, List, OnOk};
+ghost use Rattle.std.specs.Prelude.{◌≡◌, ℕ, Bool, List, false, OnOk};
 ghost use Rattle.std.specs.Io.KnownBytes.{Appends};
 ghost use Rattle.pdu_text.specs.Reports.{take_line};
 ghost use Rattle.rasta_run.specs.Printing.{Prints, PrintsRefusal};
@@ -54,7 +54,10 @@ pub struct Printer<'a, W> {
 
 impl<'a, W> Printer<'a, W> {
     /// Returns a printer that has printed nothing.
-    pub fn new(side: Side, writer: &'a mut W) -> Self {
+    pub fn new(side: Side, writer: &'a mut W) -> Self
+        // A new printer is of this end, has counted no telegram and has not failed.
+        ensures { (result.side ≡ side) × (result.taken ≡ 0) × (result.failed ≡ false) }
+    {
         Printer {
             side,
             writer,

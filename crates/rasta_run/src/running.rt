@@ -1,6 +1,7 @@
 //! One end, or an interlocking and a field element in one process, which take turns.
 
-ghost use Rattle.std.specs.Prelude.{◌≡◌, ℕ, ◌≤◌, ◌+◌, ◌%◌, ◌^◌, None, true, IfOk, IfSome, OnOk};
+ghost use Rattle.std.specs.Prelude.{◌≡◌, ℕ, ◌≤◌, ◌+◌, ◌%◌, ◌^◌, ◌&&◌, None, true, IfOk, IfSome, OnOk};
+ghost use Rattle.rasta_run.specs.Acting as acting;
 ghost use Rattle.rasta_run.specs.Progress.{limit_after};
 ghost use Rattle.rasta_run.specs.Ticking.{greatest_time};
 
@@ -220,7 +221,10 @@ impl Running<'_> {
     }
 
     /// Returns whether all ends are over, once input has ended.
-    fn are_over(&self, input_done: bool, now: Milliseconds) -> bool {
+    fn are_over(&self, input_done: bool, now: Milliseconds) -> bool
+        // `are_over` is true if and only if the first end is over, and the second one too if there is one.
+        ensures { result ≡ (acting.over input_done now self.now.first && acting.second_over now self.now.second) }
+    {
         let second_over = match &self.second {
             None => true,
             Some(second) => second.is_over(true, now),
@@ -229,7 +233,10 @@ impl Running<'_> {
     }
 
     /// Returns when the later of all ends gives up, in milliseconds.
-    fn limit(&self) -> Milliseconds {
+    fn limit(&self) -> Milliseconds
+        // `limit` returns the time at which the first end gives up, or the later one of two.
+        ensures { result ≡ acting.later_limit self.now.first self.now.second }
+    {
         match &self.second {
             None => self.first.limit(),
             Some(second) => self.first.limit().max(second.limit()),
@@ -309,7 +316,10 @@ impl Running<'_> {
         requires now { now ≤ 2 ^ 62 }
         requires later { (self.old.first.end.time ≤ now) × IfSome self.old.second (λ a. a.end.time ≤ now) }
         // If no state is expected, each end was in it when `finish` succeeds.
-        ensures { run.now.expected ≡ None → IfOk result (λ outcome. outcome.is_met ≡ true) }
+        ensures expected { run.now.expected ≡ None → IfOk result (λ outcome. outcome.is_met ≡ true) }
+        // If `finish` succeeds, its outcome says whether every end was in the expected state at its beginning.
+        ensures met { IfOk result (λ outcome. outcome.is_met ≡ (acting.stands run.now.expected lines self.old.first
+            && acting.second_stands run.now.expected self.old.second)) }
     {
         let first_undone = self.first.undone(lines);
         let second_undone = undone_of(&self.second);
@@ -448,7 +458,10 @@ fn keep_second<R: Files, E: Write>(
 }
 
 /// Returns what the second end leaves undone: nothing, if there is none.
-fn undone_of(second: &Option<Actor<'_, UdpChannels>>) -> Undone {
+fn undone_of(second: &Option<Actor<'_, UdpChannels>>) -> Undone
+    // `undone_of` returns what that end leaves, to which no line of input is offered.
+    ensures { IfSome second.now (λ a. result ≡ acting.left_by a 0) }
+{
     match second {
         None => Undone::nothing(),
         Some(second) => second.undone(0),
@@ -457,8 +470,10 @@ fn undone_of(second: &Option<Actor<'_, UdpChannels>>) -> Undone {
 
 /// Returns whether the second end is in the expected state, if there is one.
 fn is_met(second: &Option<Actor<'_, UdpChannels>>, run: &Run, undone: Undone) -> bool
+    // `is_met` is true without a second end, and else if that is in the expected state.
+    ensures met { IfSome second.now (λ a. undone ≡ acting.left_by a 0) → result ≡ acting.second_stands run.now.expected second.now }
     // If no state is expected, `is_met` returns true.
-    ensures { run.now.expected ≡ None → result ≡ true }
+    ensures none { run.now.expected ≡ None → result ≡ true }
 {
     match second {
         None => true,
