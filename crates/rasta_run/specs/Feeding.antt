@@ -86,16 +86,17 @@ input_of feed = record { next = feed.next; octets = feed.lines.octets.items; cut
 abbrev pub one_more : ℕ → ℕ
 one_more count = min (count + 1) (2 ^ 64 - 1)
 
--- the input after its next line was cut off
-abbrev pub cut_off : Bool → Input → Input
-cut_off ended s = record s { octets = left_behind ended s.octets; cut = cut_after ended s.octets s.cut }
+-- the input after its next line was cut off, with this telegram that is next and this number of lines that are not telegrams
+abbrev pub cut_off : (ended : Bool) → Option Telegram → (unread : ℕ) → Input → Input
+cut_off ended next unread s =
+    record { next = next; octets = left_behind ended s.octets; cut = cut_after ended s.octets s.cut; unread = unread }
 
 -- what is read of an input whose next line is this; `has`: a line was there. A telegram is then next, and a line that is not one is counted.
 abbrev pub ReadsLine : Option (Option (ℕ × List ℕ)) → (ended : Bool) → Input → (has : Bool) → Input → Type 0
 ReadsLine None ended s has t = (has ≡ false) × (t ≡ s)
-ReadsLine (Some None) ended s has t = (has ≡ true) × (t ≡ record (cut_off ended s) { unread = one_more s.unread })
+ReadsLine (Some None) ended s has t = (has ≡ true) × (t ≡ cut_off ended s.next (one_more s.unread) s)
 ReadsLine (Some (Some seen)) ended s has t =
-    (p : Telegram) × (has ≡ true) × (put_seen p ≡ seen) × (t ≡ record (cut_off ended s) { next = Some p })
+    (p : Telegram) × (has ≡ true) × (put_seen p ≡ seen) × (t ≡ cut_off ended (Some p) s.unread s)
 
 -- a line is read, unless a telegram is next already
 abbrev pub ReadsUnless : Option Telegram → (ended : Bool) → Input → (has : Bool) → Input → Type 0

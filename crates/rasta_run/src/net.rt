@@ -252,7 +252,7 @@ fn open_second<'a, R: Net + Clock + Files, E: Write>(
 ) -> Result<Option<Actor<'a, UdpChannels>>, Stopped>
     requires { now ≤ 2 ^ 62 }
     // If `open_second` succeeds, there is an end if and only if there are settings for it.
-    ensures some { IfOk result (λ actor. is_some actor ≡ is_some second) }
+    ensures some { IfOk result (λ actor. is_some actor ≡ is_some second.entry) }
     // The time of an end that `open_second` returns is at most `now`.
     ensures time { IfOk result (λ actor. IfSome actor (λ a. a.end.time ≤ now)) }
     // An end that `open_second` returns is a field element with the telegrams of the file to put.
