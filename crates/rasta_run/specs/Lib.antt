@@ -25,6 +25,7 @@ pub mod Refusal
 pub mod Following
 pub mod Starting
 pub mod Turning
+pub mod Concluding
 pub mod Acting
 pub mod Recording
 pub mod Metrics

@@ -1,10 +1,13 @@
 //! What an end reports: its state, its deadlines, its counts, and what it leaves undone.
 
 ghost use Rattle.std.specs.Prelude.{◌≡◌, ℕ, ◌+◌, ◌-◌, ◌≤◌, ◌^◌, min, length, None, Option, Some, true, OnOk};
+ghost use Rattle.pdu_text.specs.Endings.{ending_text};
+ghost use Rattle.pdu_text.specs.Pieces.{log_line};
 ghost use Rattle.pdu_text.specs.Reports.{report_line};
+ghost use Rattle.rasta_run.specs.Concluding.{ending_of};
 ghost use Rattle.rasta_run.specs.Counting.{counted_of};
 ghost use Rattle.rasta_run.specs.Counts as counts;
-ghost use Rattle.rasta_run.specs.Stamping.{LogsNotice};
+ghost use Rattle.rasta_run.specs.Stamping.{Logs, LogsNotice};
 ghost use Rattle.rasta_run.specs.Standing.{meets};
 ghost use Rattle.rasta_run.specs.Undone as undone;
 ghost use Rattle.rasta_run.specs.Waiting.{IsDeadlineOf, again_at};
@@ -88,12 +91,22 @@ impl<C: Channels, A: Allocator + Copy> Actor<'_, C, A> {
         self.log_events(now, err);
         let _ = self.tell_counts(now, err);
         if !met || !self.log.is_off() {
-            self.log_ending(now, err);
+            let _ = self.log_ending(now, err);
         }
     }
 
     /// Logs why the end is in its state.
-    fn log_ending<E: Write>(&self, now: Milliseconds, err: &mut E) {
+    ///
+    /// # Errors
+    ///
+    /// - The error of the writer; what it wrote before stays written.
+    fn log_ending<E: Write>(&self, now: Milliseconds, err: &mut E) -> io::Result<()>
+        // If `log_ending` succeeds, it has appended the line of the end with its state and phase, how it disconnected,
+        // and what came.
+        ensures { OnOk result (Logs self.now.log now (log_line now self.now.log.side (ending_text (ending_of self.now.log.side self.now.end
+            (counted_of self.now.earlier.sums (statistics_of self.now.end) (channels_of self.now.end).recorder.value self.now.put self.now.taken)
+            (channels_of self.now.end).recorder.value.last_cause))) (E.contents err.old) (E.contents err.new)) }
+    {
         let counted = self.counted();
         let ending = Ending {
             state: self.end.state(),
@@ -103,7 +116,7 @@ impl<C: Channels, A: Allocator + Copy> Actor<'_, C, A> {
             taken: counted.accepted(),
             last: self.end.channels_seen().recorder.last_cause,
         };
-        let _ = self.log.end(&ending, now, err);
+        self.log.end(&ending, now, err)
     }
 
     /// Prints what the end leaves undone, if it is anything.

@@ -136,6 +136,11 @@ impl<O: Write, E: Write, G: Gate> Streams<O, E, G> {
         // At the end of a run no byte of standard output is lost or repeated.
         ensures whole { Keeps (append_known (O.contents self.old.out.writer) self.old.out.octets.items)
             (append_known (O.contents self.new.out.writer) self.new.out.octets.items) }
+        // `print_rest` writes what waits for standard output as long as that is ready. It fails if and only if a write
+        // has failed.
+        ensures passed { (before : G) × (after : G) × PassesAll O.contents G.asks self.old.out.stream
+            (record { writer = self.old.out.writer; octets = self.old.out.octets.items; gate = before }) (is_ok result)
+            (record { writer = self.new.out.writer; octets = self.new.out.octets.items; gate = after }) }
         // `print_rest` returns true if and only if nothing waits any more.
         ensures rest { IfOk result (λ printed. printed ≡ (length self.new.out.octets.items == 0)) }
         // `print_rest` leaves no line of standard output out.
