@@ -4,7 +4,7 @@
 
 ghost use Rattle.std.specs.Prelude.{◌≡◌, ◌≤◌, ◌<◌, ◌++◌, [], Bool, List, ℕ, None, false, true, is_some, length, nat_eq, nat_lt, IfErr, IfOk, OnErr, OnOk, IfSome};
 ghost use Rattle.std.specs.Io.KnownBytes.{Appends, Consumes};
-ghost use Rattle.rasta_run.specs.Feeding.{Reads, ahead_most, cut_after, feed_place, input_of, is_done, is_open, is_wanted, IsNumbered, left_behind, line_read, line_seen, lines_left, next_line, none_text, one_more, unfed_line, unput};
+ghost use Rattle.rasta_run.specs.Feeding.{Reads, ReadsLine, ahead_most, cut_after, feed_place, input_of, is_done, is_open, is_wanted, IsNumbered, left_behind, line_read, line_seen, lines_left, next_line, none_text, one_more, unfed_line, unput};
 
 use crate::readiness::{Gate, Readiness, Stream};
 use octets::Milliseconds;
@@ -144,9 +144,22 @@ impl<I: Read + Drop> Feed<I> {
         // `prepare` fails only with `Memory`, and changes nothing then.
         ensures refused { IfErr result (λ why. (why ≡ Fault.Memory) × (self.new ≡ self.old)) }
     {
-        if self.next.is_some() {
-            return Ok(true);
+        match &self.next {
+            Some(_) => Ok(true),
+            None => self.read_line(alloc, err),
         }
+    }
+
+    /// Cuts off the next line and reads it, and returns whether there was one.
+    fn read_line<E: Write>(&mut self, alloc: Global, err: &mut E) -> Result<bool, Fault>
+        // The telegram that the line spells is next after `read_line`; a line that is not one is counted.
+        ensures read { IfOk result (λ has. ReadsLine (line_read (is_some self.old.ended) self.old.lines.octets.items)
+            (is_some self.old.ended) (input_of self.old) has (input_of self.new)) }
+        // `read_line` takes its line from what was read before.
+        ensures kept { (self.new.reader ≡ self.old.reader) × (self.new.ended ≡ self.old.ended) }
+        // `read_line` fails only with `Memory`; then it has cut off no line.
+        ensures refused { IfErr result (λ why. (why ≡ Fault.Memory) × (self.new ≡ self.old)) }
+    {
         match self.lines.next(alloc, self.ended.is_some()) {
             Ok(Line::Missing) => Ok(false),
             Ok(Line::Telegram(put)) => {
