@@ -1,12 +1,12 @@
 -- The telegrams that a turn puts, one by one.
-use Rattle.std.proofs.Common.{◌≡◌, ◌+◌, ℕ, Bool, true, List, [], ◌∷◌, ◌++◌, Option, Some, length, length-append, ap, sym, subst, ◌∙◌, refl, add-one}
+use Rattle.std.proofs.Common.{◌≡◌, ◌+◌, ℕ, Bool, true, false, List, [], ◌∷◌, ◌++◌, Option, Some, length, length-append, ap, sym, subst, ◌∙◌, refl, add-one}
 use Rattle.std.specs.List.{FoldsTo}
 use Rattle.channels.specs.Told.{Told}
 use Rattle.octets.proofs.Steps.{FoldsTo-append}
 use Rattle.pdi_session.specs.declared.PutFault.TheVariants.{Full}
 use Rattle.settings_file.specs.declared.values.Put.{Put as Telegram}
 use Rattle.stack_end.specs.EndValue.{EndValue}
-use Rattle.rasta_run.specs.Putting.{Answers, Fed, IsFullFor, Passes, Putting, PutsBeginning, TakesLine, TakesLines}
+use Rattle.rasta_run.specs.Putting.{Answers, Fed, IsFullFor, Passes, Putting, PutsBeginning, TakesInput, TakesInputIf, TakesLine, TakesLines}
 
 -- one more telegram is done with
 moved : {A : Type 0} (done rest : List A) (x : A) → done ++ (x ∷ rest) ≡ (done ++ x ∷ []) ++ rest
@@ -41,3 +41,13 @@ stops told refuses now before left after rest p s v w n m x y r q done e along s
 pub line-more : {C A T : Type 0} (told : C → Told) (refuses : T → List ℕ → T → Type 0) (now : ℕ) (ended : Bool) (n : ℕ) (s mid t : Fed C A T)
     → TakesLines told refuses now ended n s mid → TakesLine told refuses now ended mid true t → TakesLines told refuses now ended (n + 1) s t
 line-more told refuses now ended n s mid t h step = subst (λ k. TakesLines told refuses now ended k s t) (sym (add-one n)) (mid, h, step)
+
+-- it is the time for lines, and they were taken
+pub if-ready : {C A T : Type 0} (told : C → Told) (refuses : T → List ℕ → T → Type 0) (now : ℕ) (ended ready : Bool) (s : Fed C A T) (found : Bool) (t : Fed C A T)
+    → ready ≡ true → TakesInput told refuses now ended s found t → TakesInputIf told refuses now ended ready s found t
+if-ready told refuses now ended ready s found t e h = subst (λ b. TakesInputIf told refuses now ended b s found t) (sym e) h
+
+-- it is not the time for lines, and nothing has changed
+pub not-ready : {C A T : Type 0} (told : C → Told) (refuses : T → List ℕ → T → Type 0) (now : ℕ) (ended ready : Bool) (s : Fed C A T) (found : Bool) (t : Fed C A T)
+    → ready ≡ false → found ≡ false → t ≡ s → TakesInputIf told refuses now ended ready s found t
+not-ready told refuses now ended ready s found t e f h = subst (λ b. TakesInputIf told refuses now ended b s found t) (sym e) (f, h)
