@@ -1,4 +1,4 @@
-pub mod Putting
+pub mod Offers
 pub mod Kept
 pub mod Fields
-pub mod Calendar
+pub mod Dates

@@ -18,7 +18,7 @@ pub struct Date {
 }
 
 /// Returns the date that is some days after the first of January 1970, if its year has four digits.
-#[tactic(auto, using(crate::proofs::Calendar::no_years, crate::proofs::Calendar::more_years, crate::proofs::Calendar::months_of_year))]
+#[tactic(auto, using(crate::proofs::Dates::no_years, crate::proofs::Dates::more_years, crate::proofs::Dates::months_of_year))]
 pub fn date_of(days: u64) -> Option<Date>
     // The date that `date_of` returns is that many days after the first of January 1970.
     ensures some { IfSome result (IsDate days) }
@@ -42,7 +42,7 @@ pub fn date_of(days: u64) -> Option<Date>
 }
 
 /// Returns the whole months before a day of a year, counted from 0, and the days after them.
-#[tactic(auto, using(crate::proofs::Calendar::no_months, crate::proofs::Calendar::more_months, crate::proofs::Calendar::last_month))]
+#[tactic(auto, using(crate::proofs::Dates::no_months, crate::proofs::Dates::more_months, crate::proofs::Dates::last_month))]
 fn month_of(leap: bool, day: u64) -> (u64, u64)
     requires { day < days_of_months leap 12 }
     // The months that `month_of` returns have as many days as there are before that day, less those after them.
