@@ -43,9 +43,9 @@ pub line-more : {C A T : Type 0} (told : C → Told) (refuses : T → List ℕ �
 line-more told refuses now ended n s mid t h step = subst (λ k. TakesLines told refuses now ended k s t) (sym (add-one n)) (mid, h, step)
 
 -- it is the time for lines, and they were taken
-pub if-ready : {C A T : Type 0} (told : C → Told) (refuses : T → List ℕ → T → Type 0) (now : ℕ) (ended ready : Bool) (s : Fed C A T) (found : Bool) (t : Fed C A T)
+pub when-ready : {C A T : Type 0} (told : C → Told) (refuses : T → List ℕ → T → Type 0) (now : ℕ) (ended ready : Bool) (s : Fed C A T) (found : Bool) (t : Fed C A T)
     → ready ≡ true → TakesInput told refuses now ended s found t → TakesInputIf told refuses now ended ready s found t
-if-ready told refuses now ended ready s found t e h = subst (λ b. TakesInputIf told refuses now ended b s found t) (sym e) h
+when-ready told refuses now ended ready s found t e h = subst (λ b. TakesInputIf told refuses now ended b s found t) (sym e) h
 
 -- it is not the time for lines, and nothing has changed
 pub not-ready : {C A T : Type 0} (told : C → Told) (refuses : T → List ℕ → T → Type 0) (now : ℕ) (ended ready : Bool) (s : Fed C A T) (found : Bool) (t : Fed C A T)

@@ -1,5 +1,5 @@
 -- One or two ends that run: what they leave undone, how they are at the end, and when they are over.
-use Rattle.std.specs.Prelude.{ℕ, ◌+◌, ◌^◌, ◌==◌, ◌&&◌, min, max, length, Bool, true, Option, Some, None}
+use Rattle.std.specs.Prelude.{ℕ, ◌+◌, ◌-◌, ◌^◌, ◌==◌, min, max, length, Bool, true, Option, Some, None}
 use Rattle.rasta_run.specs.Progress as progress
 use Rattle.rasta_run.specs.Standing.{meets}
 use Rattle.rasta_run.specs.Undone as undone

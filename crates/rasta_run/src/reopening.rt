@@ -1,6 +1,6 @@
 //! An end that is opened again after its connection is lost.
 
-ghost use Rattle.std.specs.Prelude.{◌≡◌, ℕ, ◌+◌, ◌≤◌, ◌^◌, ◌%◌, min, None, true, false, IfErr, IfOk, OnOk};
+ghost use Rattle.std.specs.Prelude.{◌≡◌, ℕ, ◌+◌, ◌-◌, ◌≤◌, ◌^◌, ◌%◌, min, None, true, false, IfOk, OnOk};
 ghost use Rattle.channels.specs.Told.{SendsOne};
 ghost use Rattle.rasta_run.specs.Keeping as keeping;
 ghost use Rattle.rasta_run.specs.Standing.{is_up};
