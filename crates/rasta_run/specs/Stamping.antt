@@ -34,11 +34,15 @@ unfoldable pub date_text : Date → List ℕ
 date_text d =
     joined (four_digits (1970 + d.years) ∷ codes "-" ∷ two_digits (d.months + 1) ∷ codes "-" ∷ two_digits (d.days + 1) ∷ [])
 
+-- two digits, and a text after them
+unfoldable pub pair_text : ℕ → List ℕ → List ℕ
+pair_text n text = joined (two_digits n ∷ text ∷ [])
+
 -- HOUR:MINUTE:SECOND.MILLISECOND, of milliseconds of a day
 unfoldable pub clock_text : ℕ → List ℕ
 clock_text ms =
     joined
-    (two_digits (ms / 3_600_000) ∷ codes ":" ∷ two_digits (ms / 60_000 % 60) ∷ codes ":" ∷ two_digits (ms / 1_000 % 60) ∷ codes "."
+    (pair_text (ms / 3_600_000) (codes ":") ∷ pair_text (ms / 60_000 % 60) (codes ":") ∷ pair_text (ms / 1_000 % 60) (codes ".")
     ∷ three_digits (ms % 1_000) ∷ [])
 
 -- the date and the time of day, in UTC

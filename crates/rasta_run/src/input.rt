@@ -144,23 +144,30 @@ impl<I: Read + Drop> Feed<I> {
         // `prepare` fails only with `Memory`, and changes nothing then.
         ensures refused { IfErr result (λ why. (why ≡ Fault.Memory) × (self.new ≡ self.old)) }
     {
+        let ended = self.ended.is_some();
         match &self.next {
             Some(_) => Ok(true),
-            None => self.read_line(alloc, err),
+            None => self.read_line(ended, alloc, err),
         }
     }
 
-    /// Cuts off the next line and reads it, and returns whether there was one.
-    fn read_line<E: Write>(&mut self, alloc: Global, err: &mut E) -> Result<bool, Fault>
+    /// Cuts off the next line and reads it, and returns whether there was one. The last line needs no line feed if the
+    /// input has `ended`.
+    fn read_line<E: Write>(
+        &mut self,
+        ended: bool,
+        alloc: Global,
+        err: &mut E,
+    ) -> Result<bool, Fault>
         // The telegram that the line spells is next after `read_line`; a line that is not one is counted.
-        ensures read { IfOk result (λ has. ReadsLine (line_read (is_some self.old.ended) self.old.lines.octets.items)
-            (is_some self.old.ended) (input_of self.old) has (input_of self.new)) }
+        ensures read { IfOk result (λ has. ReadsLine (line_read ended self.old.lines.octets.items)
+            ended (input_of self.old) has (input_of self.new)) }
         // `read_line` takes its line from what was read before.
         ensures kept { (self.new.reader ≡ self.old.reader) × (self.new.ended ≡ self.old.ended) }
         // `read_line` fails only with `Memory`; then it has cut off no line.
         ensures refused { IfErr result (λ why. (why ≡ Fault.Memory) × (self.new ≡ self.old)) }
     {
-        match self.lines.next(alloc, self.ended.is_some()) {
+        match self.lines.next(alloc, ended) {
             Ok(Line::Missing) => Ok(false),
             Ok(Line::Telegram(put)) => {
                 self.next = Some(put);

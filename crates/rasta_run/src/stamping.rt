@@ -1,10 +1,11 @@
 //! The time at the start of a line of the log: that of the run, or UTC.
 
-ghost use Rattle.std.specs.Prelude.{◌≡◌, ◌<◌, List, ℕ, OnOk};
+ghost use Rattle.std.specs.Prelude.{◌≡◌, ◌<◌, ◌++◌, ◌==◌, List, ℕ, length, IfSome, OnOk};
+ghost use Rattle.std.specs.List.{position};
 ghost use Rattle.std.specs.Io.KnownBytes.{Appends};
 ghost use Rattle.pdu_text.specs.Pieces.{three_digits};
 ghost use Rattle.rasta_run.specs.Calendar.{years_most};
-ghost use Rattle.rasta_run.specs.Stamping.{Stamps, StampsUtc, after_time, clock_text, date_text, four_digits, two_digits, utc_text};
+ghost use Rattle.rasta_run.specs.Stamping.{Stamps, StampsUtc, after_time, clock_text, date_text, four_digits, from_place, pair_text, two_digits, utc_text};
 
 use crate::calendar::{Date, date_of};
 use octets::Milliseconds;
@@ -52,10 +53,26 @@ fn write_in_utc<W: Write>(writer: &mut W, at: Milliseconds, line: &[u8]) -> io::
     match date_of(at / DAY) {
         None => writer.write_all(line),
         Some(date) => {
-            write_utc(writer, date, at % DAY)?;
-            writer.write_all(after_time(line))
+            write_dated(writer, date, at % DAY, line)?;
+            Ok(())
         }
     }
+}
+
+/// Writes a line with a date and a time of day in UTC in place of its own time.
+fn write_dated<W: Write>(
+    writer: &mut W,
+    date: Date,
+    ms: Milliseconds,
+    line: &[u8],
+) -> io::Result<()>
+    requires { (date.years < years_most) × (date.months < 12) × (date.days < 31) }
+    // If `write_dated` succeeds, it has appended date and time of day, and the line from its first blank on.
+    ensures { OnOk result (Appends (W.contents writer.old) (W.contents writer.new)
+        (utc_text date ms ++ after_time line.now)) }
+{
+    write_utc(writer, date, ms)?;
+    writer.write_all(after_time(line))
 }
 
 /// Writes a date and a time of day in UTC.
@@ -91,13 +108,20 @@ fn write_clock<W: Write>(writer: &mut W, ms: Milliseconds) -> io::Result<()>
     // If `write_clock` succeeds, it has appended the hour, the minute, the second and the milliseconds.
     ensures { OnOk result (Appends (W.contents writer.old) (W.contents writer.new) (clock_text ms)) }
 {
-    writer.write_all(&two_digits(ms / 3_600_000))?;
-    write_text(writer, ":")?;
-    writer.write_all(&two_digits(ms / 60_000 % 60))?;
-    write_text(writer, ":")?;
-    writer.write_all(&two_digits(ms / 1_000 % 60))?;
-    write_text(writer, ".")?;
+    write_pair(writer, ms / 3_600_000, ":")?;
+    write_pair(writer, ms / 60_000 % 60, ":")?;
+    write_pair(writer, ms / 1_000 % 60, ".")?;
     writer.write_all(&spell(ms % 1_000))
+}
+
+/// Writes the last two digits of a number, and a text after them.
+#[tactic(auto, unfolding(crate::specs::Stamping::pair_text))]
+fn write_pair<W: Write>(writer: &mut W, number: u64, text: &str) -> io::Result<()>
+    // If `write_pair` succeeds, it has appended two digits and the text.
+    ensures { OnOk result (Appends (W.contents writer.old) (W.contents writer.new) (pair_text number text.now)) }
+{
+    writer.write_all(&two_digits(number))?;
+    write_text(writer, text)
 }
 
 /// Returns the last two digits of a number.
@@ -138,7 +162,26 @@ fn after_time(line: &[u8]) -> &[u8]
     // `after_time` returns the line from its first blank on, and all of it if it has none.
     ensures { result.now ≡ after_time line.now }
 {
-    match line.iter().position(|octet| *octet == BLANK) {
+    from_place(line, blank_in(line))
+}
+
+/// Returns the place of the first blank.
+fn blank_in(line: &[u8]) -> Option<usize>
+    // `blank_in` returns the first place with the byte 32, and `None` if there is none.
+    ensures value { result ≡ position (λ octet. octet == 32) line.now }
+    // The place that `blank_in` returns is below the number of bytes.
+    ensures bound { IfSome result (λ place. place < length line.now) }
+{
+    line.iter().position(|octet| *octet == BLANK)
+}
+
+/// Returns a line from a place on, or all of it.
+fn from_place(line: &[u8], place: Option<usize>) -> &[u8]
+    requires { IfSome place (λ place. place < length line.now) }
+    // `from_place` returns the bytes from the place on, and all of them without a place.
+    ensures { result.now ≡ from_place place line.now }
+{
+    match place {
         Some(place) => &line[place..],
         None => line,
     }

@@ -1,0 +1,5 @@
+use Rattle.rasta_run.proofs.Kept.{rest-all}
+use Rattle.rasta_run.proofs.stamping.from_place.Goals as goal
+
+pub returns-in-Some : goal.returns-in-Some
+returns-in-Some c = rest-all c.in-Some.place c.args.line.now
