@@ -1,12 +1,18 @@
 -- The telegrams that a turn puts, one by one.
-use Rattle.std.proofs.Common.{◌≡◌, ◌+◌, ℕ, Bool, true, false, List, [], ◌∷◌, ◌++◌, Option, Some, length, length-append, ap, sym, subst, ◌∙◌, refl, add-one}
+use Rattle.std.proofs.Common.{◌≡◌, ◌+◌, ℕ, Bool, true, false, List, [], ◌∷◌, ◌++◌, Option, Some, length, length-append, ap, sym, subst, ◌∙◌, refl, add-one, is_some, ◌==◌}
 use Rattle.std.specs.List.{FoldsTo}
 use Rattle.channels.specs.Told.{Told}
 use Rattle.octets.proofs.Steps.{FoldsTo-append}
 use Rattle.pdi_session.specs.declared.PutFault.TheVariants.{Full}
 use Rattle.settings_file.specs.declared.values.Put.{Put as Telegram}
 use Rattle.stack_end.specs.EndValue.{EndValue}
-use Rattle.rasta_run.specs.Putting.{Answers, Fed, IsFullFor, Passes, Putting, PutsBeginning, TakesInput, TakesInputIf, TakesLine, TakesLines}
+use Rattle.end_settings.specs.declared.Side.{Side}
+use Rattle.stack_end.specs.EndValue.{inside}
+use Rattle.rasta_run.specs.Putting.{Answers, CompletesIf, Fed, IsFullFor, Offering, Offers, Passes, Putting, PutsBeginning, TakesInput, TakesInputIf, TakesLine, TakesLines, is_full}
+use Rattle.rasta_run.specs.Standing.{ends_in, puts_in}
+use Rattle.rasta_run.specs.Turning.{Course, PutsIf, PutsNow}
+use Rattle.rasta_run.specs.declared.putting.Offered.{Offered}
+use Rattle.rasta_run.specs.declared.putting.Offered.TheVariants as offered
 
 -- one more telegram is done with
 moved : {A : Type 0} (done rest : List A) (x : A) → done ++ (x ∷ rest) ≡ (done ++ x ∷ []) ++ rest
@@ -51,3 +57,34 @@ when-ready told refuses now ended ready s found t e h = subst (λ b. TakesInputI
 pub not-ready : {C A T : Type 0} (told : C → Told) (refuses : T → List ℕ → T → Type 0) (now : ℕ) (ended ready : Bool) (s : Fed C A T) (found : Bool) (t : Fed C A T)
     → ready ≡ false → found ≡ false → t ≡ s → TakesInputIf told refuses now ended ready s found t
 not-ready told refuses now ended ready s found t e f h = subst (λ b. TakesInputIf told refuses now ended b s found t) (sym e) (f, h)
+
+-- the end is full for the telegram that was offered
+pub full-offer : {C A T : Type 0} (told : C → Told) (refuses : T → List ℕ → T → Type 0) (now : ℕ) (s : Offering C A T) (p : Telegram) (o : Offered) (t : Offering C A T)
+    → Offers told refuses now s p o t → is_full o ≡ true → Offers told refuses now s p offered.Full t
+full-offer told refuses now s p offered.Full t h e = h
+full-offer told refuses now s p offered.Put t h e = cc
+full-offer told refuses now s p offered.Refused t h e = cc
+
+-- a line was taken or not, of an input that is at its end or not
+pub line-as : {C A T : Type 0} (told : C → Told) (refuses : T → List ℕ → T → Type 0) (now : ℕ) (e f : Option ℕ) (s : Fed C A T) (d b : Bool) (t : Fed C A T)
+    → e ≡ f → d ≡ b → TakesLine told refuses now (is_some e) s d t → TakesLine told refuses now (is_some f) s b t
+line-as told refuses now e f s d b t same is h =
+    subst (λ x. TakesLine told refuses now (is_some f) s x t) is (subst (λ o. TakesLine told refuses now (is_some o) s d t) same h)
+
+-- an end put what it may, and ended its initialisation if it may
+pub puts-now : {C A T : Type 0} (told : C → Told) (refuses : T → List ℕ → T → Type 0) (now : ℕ) (side other : Side) (s mid t : Course C A T) (puts ends : Bool)
+    → puts ≡ puts_in side (inside s.end).upper.session.phase → PutsIf told refuses now puts s mid → other ≡ side
+    → ends ≡ ends_in other (inside mid.end).upper.session.phase (length mid.left == 0)
+    → CompletesIf told refuses now ends (mid.end, mid.app) (t.end, t.app) → t.left ≡ mid.left → t.put ≡ mid.put → t.refused ≡ mid.refused → t.deaf ≡ mid.deaf
+    → t.closed ≡ mid.closed → PutsNow told refuses now side s t
+puts-now told refuses now side other s mid t puts ends first puts_mid same second completes left put refused deaf closed = (
+  mid,
+  subst (λ b. PutsIf told refuses now b s mid) first puts_mid,
+  subst (λ b. CompletesIf told refuses now b (mid.end, mid.app) (t.end, t.app))
+      (second ∙ ap (λ x. ends_in x (inside mid.end).upper.session.phase (length mid.left == 0)) same) completes,
+  left,
+  put,
+  refused,
+  deaf,
+  closed,
+)

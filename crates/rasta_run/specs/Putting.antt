@@ -35,6 +35,12 @@ Offers told refuses now s p offered.Refused t =
     (fault : PutFault) × (fault ≢ Full) × Answers s.0 p (Some fault) × (t.0 ≡ s.0) × (t.1 ≡ s.1) × refuses s.2 (put_fault_name fault) t.2
 Offers told refuses now s p offered.Full t = Answers s.0 p (Some Full) × (t.0 ≡ s.0) × (t.1 ≡ s.1) × (t.2 ≡ s.2)
 
+-- the end has no room for the telegram that was offered
+abbrev pub is_full : Offered → Bool
+is_full offered.Full = true
+is_full offered.Put = false
+is_full offered.Refused = false
+
 -- the number of telegrams refused after one more was offered
 abbrev pub refusals_after : Offered → ℕ → ℕ
 refusals_after offered.Refused count = min (count + 1) (2 ^ 64 - 1)
@@ -44,7 +50,7 @@ refusals_after offered.Full count = count
 -- a telegram was put, or it was refused and counted
 abbrev pub Passes : {C A T : Type 0} → (C → Told) → (T → List ℕ → T → Type 0) → ℕ → Putting C A T → Telegram → Putting C A T → Type 0
 Passes told refuses now s p t =
-    (result : Offered) × (result ≢ offered.Full) × Offers told refuses now (s.0, s.1, s.2) p result (t.0, t.1, t.2) × (t.3 ≡ refusals_after result s.3)
+    (result : Offered) × (is_full result ≡ false) × Offers told refuses now (s.0, s.1, s.2) p result (t.0, t.1, t.2) × (t.3 ≡ refusals_after result s.3)
 
 -- the end is full for the first telegram that is left, if one is
 abbrev pub IsFullFor : {C A : Type 0} → EndValue C A → List Telegram → Type 0

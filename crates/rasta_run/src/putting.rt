@@ -3,7 +3,7 @@
 ghost use Rattle.std.specs.Prelude.{◌≡◌, ◌≢◌, ◌+◌, ◌≤◌, ◌^◌, false, is_some, length, ◌==◌, true, IfOk, OnOk};
 ghost use Rattle.pdi_session.specs.FaultNames.{init_fault_name, put_fault_name};
 ghost use Rattle.rasta_run.specs.Feeding.{Input, input_of};
-ghost use Rattle.rasta_run.specs.Putting.{CompletesIf, Offers, PutsBeginning, TakesInputIf, TakesLine, TakesFound, TakesNext, refusals_after};
+ghost use Rattle.rasta_run.specs.Putting.{CompletesIf, Offers, PutsBeginning, TakesInputIf, TakesLine, TakesFound, TakesNext, is_full, refusals_after};
 ghost use Rattle.rasta_run.specs.Standing.{ends_in, puts_in, takes_lines};
 ghost use Rattle.rasta_run.specs.Turning.{PutsIf, PutsNow};
 ghost use Rattle.stack_end.specs.EndValue.{inside};
@@ -83,10 +83,43 @@ impl<C: Channels, A: Allocator + Copy> Actor<'_, C, A> {
         // After `put_now` the end's time is at most `now`.
         ensures time { self.new.end.time ≤ now }
     {
-        let puts = puts_in(self.side, self.end.phase());
+        let puts = self.may_put_list();
         self.put_left_if(puts, now, app, err)?;
-        let ends = ends_in(self.side, self.end.phase(), self.left.is_empty());
-        self.end_initialising_if(ends, now, app, err)
+        let ends = self.may_complete();
+        self.end_initialising_if(ends, now, app, err)?;
+        Ok(())
+    }
+
+    /// Returns whether the end puts telegrams of its list now.
+    fn may_put_list(&self) -> bool
+        // `may_put_list` is true for an interlocking with an established session, and for a field element that
+        // initialises.
+        ensures { result ≡ puts_in self.now.side (inside self.now.end).upper.session.phase }
+    {
+        puts_in(self.side, self.end.phase())
+    }
+
+    /// Returns whether the end ends its initialisation now.
+    fn may_complete(&self) -> bool
+        // `may_complete` is true for a field element that initialises, if nothing of its list is left.
+        ensures { result ≡ ends_in self.now.side (inside self.now.end).upper.session.phase (length self.now.left.now == 0) }
+    {
+        ends_in(self.side, self.end.phase(), self.left.is_empty())
+    }
+
+    /// Returns whether the end takes lines of input now.
+    fn may_put_lines(&self) -> bool
+        // `may_put_lines` is true if the session is established and nothing of the list is left, and if the connection
+        // is closed for good.
+        ensures { result ≡ takes_lines self.now.is_kept (inside self.now.end).upper.machine.connection
+            (inside self.now.end).upper.session.phase (length self.now.left.now == 0) }
+    {
+        may_put_lines(
+            self.is_kept,
+            self.end.state(),
+            self.end.phase(),
+            self.left.is_empty(),
+        )
     }
 
     /// Puts the telegrams that are left, if it is the time for them.
@@ -169,7 +202,8 @@ impl<C: Channels, A: Allocator + Copy> Actor<'_, C, A> {
             };
             let place = self.entries.saturating_sub(rest.len());
             let offered = self.put_one(put, Origin::Entry(place as u64), now, app, err)?;
-            if offered == Offered::Full {
+            let is_full = is_full(offered);
+            if is_full {
                 return Ok(());
             }
             self.refused_entries = refusals_after(offered, self.refused_entries);
@@ -266,12 +300,7 @@ impl<C: Channels, A: Allocator + Copy> Actor<'_, C, A> {
         // `put_lines` reads nothing.
         ensures feed { (feed.new.reader ≡ feed.old.reader) × (feed.new.ended ≡ feed.old.ended) }
     {
-        let is_ready = may_put_lines(
-            self.is_kept,
-            self.end.state(),
-            self.end.phase(),
-            self.left.is_empty(),
-        );
+        let is_ready = self.may_put_lines();
         if !is_ready {
             return Ok(false);
         }
@@ -349,7 +378,8 @@ impl<C: Channels, A: Allocator + Copy> Actor<'_, C, A> {
             return Ok(true);
         };
         let offered = self.put_one(put, Origin::Line(number), now, app, err)?;
-        if offered == Offered::Full {
+        let is_full = is_full(offered);
+        if is_full {
             return Ok(false);
         }
         self.refused_lines = refusals_after(offered, self.refused_lines);
@@ -387,6 +417,17 @@ impl<C: Channels, A: Allocator + Copy> Actor<'_, C, A> {
                 app.refuse(fault.name())
             }
         }
+    }
+}
+
+/// Returns whether the end has no room for a telegram that was offered.
+fn is_full(offered: Offered) -> bool
+    // `is_full` is true for `Full`, and false for any other result.
+    ensures { result ≡ is_full offered }
+{
+    match offered {
+        Offered::Full => true,
+        Offered::Put | Offered::Refused => false,
     }
 }
 

@@ -192,6 +192,7 @@ impl Actor<'_, UdpChannels> {
         // After `keep` the end's time is at most `now`.
         ensures time { self.new.end.time ≤ now }
     {
+        let config = self.keeper.config;
         if !self.is_due(now, err) {
             return Ok(false);
         }
@@ -201,7 +202,6 @@ impl Actor<'_, UdpChannels> {
             return Err(Fault::Memory);
         };
         self.note_opening(now);
-        let config = self.keeper.config;
         self.open_anew(alloc, spare, config, first_sn, now)?;
         self.log_opening(first_sn, now, err);
         Ok(true)
