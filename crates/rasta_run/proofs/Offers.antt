@@ -10,7 +10,9 @@ use Rattle.end_settings.specs.declared.Side.{Side}
 use Rattle.stack_end.specs.EndValue.{inside}
 use Rattle.rasta_run.specs.Putting.{Answers, CompletesIf, Fed, IsFullFor, Offering, Offers, Passes, Putting, PutsBeginning, TakesInput, TakesInputIf, TakesLine, TakesLines, is_full}
 use Rattle.rasta_run.specs.Standing.{ends_in, puts_in}
-use Rattle.rasta_run.specs.Turning.{Course, PutsIf, PutsNow}
+use Rattle.rasta_run.specs.Turning.{Course, Hears, PutsIf, PutsNow, TakesTurn, deaf_after}
+use Rattle.pdi_session.specs.SessionStep.{Item}
+use Rattle.stack_end.specs.Turns.{is_over}
 use Rattle.rasta_run.specs.declared.putting.Offered.{Offered}
 use Rattle.rasta_run.specs.declared.putting.Offered.TheVariants as offered
 
@@ -88,3 +90,20 @@ puts-now told refuses now side other s mid t puts ends first puts_mid same secon
   deaf,
   closed,
 )
+
+-- an end received, and then put what it may
+pub takes-turn : {C A T : Type 0} (told : C → Told) (takes : T → Item → T → Type 0) (lost : T → Bool) (refuses : T → List ℕ → T → Type 0) (now : ℕ) (side other : Side)
+    (s t : Course C A T) (works : Bool) (end near : EndValue C A) (app : T) (left : List Telegram) (put refused deaf : ℕ) (closed : Bool)
+    → Hears told takes works now (s.end, s.app) (end, app) → lost app ≡ false → other ≡ side → near ≡ end → left ≡ s.left → put ≡ s.put → refused ≡ s.refused
+    → deaf ≡ deaf_after works s.deaf → closed ≡ is_over (inside end)
+    → PutsNow told refuses now other (record { end = near; left = left; put = put; refused = refused; app = app; deaf = deaf; closed = closed }) t
+    → TakesTurn told takes lost refuses now side s t
+takes-turn told takes lost refuses now side other s t works end near app left put refused deaf closed heard kept sides ends lefts puts refusals deafs closes h =
+    let with_side = subst (λ x. PutsNow told refuses now x (record { end = near; left = left; put = put; refused = refused; app = app; deaf = deaf; closed = closed }) t) sides h in
+    let with_end = subst (λ x. PutsNow told refuses now side (record { end = x; left = left; put = put; refused = refused; app = app; deaf = deaf; closed = closed }) t) ends with_side in
+    let with_left = subst (λ x. PutsNow told refuses now side (record { end = end; left = x; put = put; refused = refused; app = app; deaf = deaf; closed = closed }) t) lefts with_end in
+    let with_put = subst (λ x. PutsNow told refuses now side (record { end = end; left = s.left; put = x; refused = refused; app = app; deaf = deaf; closed = closed }) t) puts with_left in
+    let with_refused = subst (λ x. PutsNow told refuses now side (record { end = end; left = s.left; put = s.put; refused = x; app = app; deaf = deaf; closed = closed }) t) refusals with_put in
+    let with_deaf = subst (λ x. PutsNow told refuses now side (record { end = end; left = s.left; put = s.put; refused = s.refused; app = app; deaf = x; closed = closed }) t) deafs with_refused in
+    let with_closed = subst (λ x. PutsNow told refuses now side (record { end = end; left = s.left; put = s.put; refused = s.refused; app = app; deaf = deaf_after works s.deaf; closed = x }) t) closes with_deaf in
+    (works, end, app, heard, kept, with_closed)

@@ -263,7 +263,8 @@ impl<'a, C: Channels, A: Allocator + Copy> Actor<'a, C, A> {
         self.log_events(now, err);
         let _ = self.note_reception(works, now, err);
         let _ = self.note_loss(now, err);
-        self.put_now(now, app, err)
+        self.put_now(now, app, err)?;
+        Ok(())
     }
 
     /// Receives what has come. Returns whether all receptions succeeded. If one fails, time passes all the same, so

@@ -2,8 +2,8 @@ use Rattle.std.proofs.Common.{ap}
 use Rattle.rasta_run.proofs.Offers.{puts-now}
 use Rattle.rasta_run.proofs.turns.Actor.put_now.Goals as goal
 
-pub returns-in_ok-end_initialising_if-clause-puts : goal.returns-in_ok-end_initialising_if-clause-puts
-returns-in_ok-end_initialising_if-clause-puts g c =
+pub returns-clause-puts : goal.returns-clause-puts
+returns-clause-puts g c =
     puts-now (λ o. g.C.Channels.told o.inner) g.T.Application.refuses _ _ _ _ (record {
       end = c.put_left_if.new.self.end;
       left = c.put_left_if.new.self.left.now;
