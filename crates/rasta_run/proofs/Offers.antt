@@ -93,12 +93,12 @@ puts-now told refuses now side other s mid t puts ends first puts_mid same secon
 
 -- an end received, and then put what it may
 pub takes-turn : {C A T : Type 0} (told : C → Told) (takes : T → Item → T → Type 0) (lost : T → Bool) (refuses : T → List ℕ → T → Type 0) (now : ℕ) (side other : Side)
-    (s t : Course C A T) (works : Bool) (end near : EndValue C A) (app : T) (left : List Telegram) (put refused deaf : ℕ) (closed : Bool)
-    → Hears told takes works now (s.end, s.app) (end, app) → lost app ≡ false → other ≡ side → near ≡ end → left ≡ s.left → put ≡ s.put → refused ≡ s.refused
+    (s t : Course C A T) (works : Bool) (from end near : EndValue C A) (app : T) (left : List Telegram) (put refused deaf : ℕ) (closed : Bool)
+    → from ≡ s.end → Hears told takes works now (from, s.app) (end, app) → lost app ≡ false → other ≡ side → near ≡ end → left ≡ s.left → put ≡ s.put → refused ≡ s.refused
     → deaf ≡ deaf_after works s.deaf → closed ≡ is_over (inside end)
     → PutsNow told refuses now other (record { end = near; left = left; put = put; refused = refused; app = app; deaf = deaf; closed = closed }) t
     → TakesTurn told takes lost refuses now side s t
-takes-turn told takes lost refuses now side other s t works end near app left put refused deaf closed heard kept sides ends lefts puts refusals deafs closes h =
+takes-turn told takes lost refuses now side other s t works from end near app left put refused deaf closed start heard kept sides ends lefts puts refusals deafs closes h =
     let with_side = subst (λ x. PutsNow told refuses now x (record { end = near; left = left; put = put; refused = refused; app = app; deaf = deaf; closed = closed }) t) sides h in
     let with_end = subst (λ x. PutsNow told refuses now side (record { end = x; left = left; put = put; refused = refused; app = app; deaf = deaf; closed = closed }) t) ends with_side in
     let with_left = subst (λ x. PutsNow told refuses now side (record { end = end; left = x; put = put; refused = refused; app = app; deaf = deaf; closed = closed }) t) lefts with_end in
@@ -106,4 +106,4 @@ takes-turn told takes lost refuses now side other s t works end near app left pu
     let with_refused = subst (λ x. PutsNow told refuses now side (record { end = end; left = s.left; put = s.put; refused = x; app = app; deaf = deaf; closed = closed }) t) refusals with_put in
     let with_deaf = subst (λ x. PutsNow told refuses now side (record { end = end; left = s.left; put = s.put; refused = s.refused; app = app; deaf = x; closed = closed }) t) deafs with_refused in
     let with_closed = subst (λ x. PutsNow told refuses now side (record { end = end; left = s.left; put = s.put; refused = s.refused; app = app; deaf = deaf_after works s.deaf; closed = x }) t) closes with_deaf in
-    (works, end, app, heard, kept, with_closed)
+    (works, end, app, subst (λ v. Hears told takes works now (v, s.app) (end, app)) start heard, kept, with_closed)
