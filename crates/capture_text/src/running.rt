@@ -576,7 +576,7 @@ fn take_shown<W: Write, E: Write>(
     ensures read { OnOk result (read_by course.new
         ≡ with_sums asked.now (with_frame asked.now (read_by course.old) framed.now.link framed.now.time
         (payload_at framed.now.start framed.now.end block.now))) }
-    // On success the text of the frame's datagram and the sums, if they are due, are appended to `writer`.
+    // On success `take_shown` has appended the text of the datagram and the sums, if they are due, to `writer`.
     ensures printed { OnOk result (Appends (W.contents writer.old) (W.contents writer.new)
         (shown_printed asked.now (read_by course.old) framed.now.link framed.now.time
         (payload_at framed.now.start framed.now.end block.now))) }

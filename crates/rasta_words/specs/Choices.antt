@@ -92,24 +92,24 @@ abbrev pub period_rule : Rule
 period_rule = record (new_rule (codes "every")) { long = Some (codes "every") }
 
 -- `follow` with `--time`, too
-abbrev pub timed_app : App
-timed_app = with_rule summing_app times_rule
+abbrev pub clocked_app : App
+clocked_app = with_rule summing_app times_rule
 
 -- with `--from`, too
 abbrev pub beginning_app : App
-beginning_app = with_rule timed_app from_rule
+beginning_app = with_rule clocked_app from_rule
 
 -- with `--to`, too
-abbrev pub ending_app : App
-ending_app = with_rule beginning_app to_rule
+abbrev pub bounded_app : App
+bounded_app = with_rule beginning_app to_rule
 
 -- with `--every`, too
-abbrev pub repeating_app : App
-repeating_app = with_rule ending_app period_rule
+abbrev pub periodic_app : App
+periodic_app = with_rule bounded_app period_rule
 
 -- the whole command `follow`
 abbrev pub follow_app : App
-follow_app = with_rule repeating_app file_rule
+follow_app = with_rule periodic_app file_rule
 
 -- the word for a length of the safety code, in bytes
 abbrev pub code_word : CodeLength → Text

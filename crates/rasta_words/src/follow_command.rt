@@ -3,7 +3,7 @@
 ghost use Rattle.std.specs.Prelude.{◌≡◌, IfOk, false};
 ghost use Rattle.clap.specs.declared.Command.TheViews.{out-Command};
 ghost use Rattle.clap.specs.Words.{app_of};
-ghost use Rattle.rasta_words.specs.Choices.{beginning_app, chosen_app, ending_app, follow_app, length_app, limited_app, only_app, ported_app, repeating_app, summing_app, telling_app, timed_app};
+ghost use Rattle.rasta_words.specs.Choices.{beginning_app, chosen_app, bounded_app, follow_app, length_app, limited_app, only_app, ported_app, periodic_app, summing_app, telling_app, clocked_app};
 
 use clap::{Arg, ArgAction, Command};
 use std::alloc::{AllocError, Global};
@@ -11,13 +11,13 @@ use std::alloc::{AllocError, Global};
 /// Declares `follow`.
 #[inline(never)]
 pub fn follow_command<'a>(alloc: Global) -> Result<Command<'a>, AllocError>
-    // `follow_command` declares the subcommand `follow` with the options of `repeating_app` and the required
+    // `follow_command` declares the subcommand `follow` with the options of `periodic_app` and the required
     // argument `file`.
     ensures app { IfOk result (λ command. app_of command ≡ follow_app) }
     // No argument that `follow_command` declares is global.
     ensures local { IfOk result (λ command. (out-Command command).has_globals ≡ false) }
 {
-    let command = repeating_command(alloc)?;
+    let command = periodic_command(alloc)?;
     let file = Arg::new(alloc, "file").required(true).help(
         "Capture file, or - for standard input: pcap, pcapng, or the output of `tshark -T fields -e frame.time_epoch -e ip.src -e udp.srcport -e ip.dst -e udp.dstport -e udp.payload`",
     );
@@ -26,13 +26,13 @@ pub fn follow_command<'a>(alloc: Global) -> Result<Command<'a>, AllocError>
 
 /// Declares `follow` without its file.
 #[inline(never)]
-fn repeating_command<'a>(alloc: Global) -> Result<Command<'a>, AllocError>
-    // `repeating_command` declares the subcommand `follow` with the options of `ending_app` and `--every`.
-    ensures app { IfOk result (λ command. app_of command ≡ repeating_app) }
-    // No argument that `repeating_command` declares is global.
+fn periodic_command<'a>(alloc: Global) -> Result<Command<'a>, AllocError>
+    // `periodic_command` declares the subcommand `follow` with the options of `bounded_app` and `--every`.
+    ensures app { IfOk result (λ command. app_of command ≡ periodic_app) }
+    // No argument that `periodic_command` declares is global.
     ensures local { IfOk result (λ command. (out-Command command).has_globals ≡ false) }
 {
-    let command = ending_command(alloc)?;
+    let command = bounded_command(alloc)?;
     let every = Arg::new(alloc, "every").long("every").help(
         "Also print the summary so far each time that so many seconds have passed in the recording: 1 to 86400",
     );
@@ -41,10 +41,10 @@ fn repeating_command<'a>(alloc: Global) -> Result<Command<'a>, AllocError>
 
 /// Declares `follow` without `--every` and its file.
 #[inline(never)]
-fn ending_command<'a>(alloc: Global) -> Result<Command<'a>, AllocError>
-    // `ending_command` declares the subcommand `follow` with the options of `beginning_app` and `--to`.
-    ensures app { IfOk result (λ command. app_of command ≡ ending_app) }
-    // No argument that `ending_command` declares is global.
+fn bounded_command<'a>(alloc: Global) -> Result<Command<'a>, AllocError>
+    // `bounded_command` declares the subcommand `follow` with the options of `beginning_app` and `--to`.
+    ensures app { IfOk result (λ command. app_of command ≡ bounded_app) }
+    // No argument that `bounded_command` declares is global.
     ensures local { IfOk result (λ command. (out-Command command).has_globals ≡ false) }
 {
     let command = beginning_command(alloc)?;
@@ -57,12 +57,12 @@ fn ending_command<'a>(alloc: Global) -> Result<Command<'a>, AllocError>
 /// Declares `follow` without `--every`, `--to` and its file.
 #[inline(never)]
 fn beginning_command<'a>(alloc: Global) -> Result<Command<'a>, AllocError>
-    // `beginning_command` declares the subcommand `follow` with the options of `timed_app` and `--from`.
+    // `beginning_command` declares the subcommand `follow` with the options of `clocked_app` and `--from`.
     ensures app { IfOk result (λ command. app_of command ≡ beginning_app) }
     // No argument that `beginning_command` declares is global.
     ensures local { IfOk result (λ command. (out-Command command).has_globals ≡ false) }
 {
-    let command = timed_command(alloc)?;
+    let command = clocked_command(alloc)?;
     let from = Arg::new(alloc, "from").long("from").help(
         "Read only datagrams from this instant on: seconds since the first datagram, @ and seconds since 1970, or a date and time in UTC such as 2026-11-27T03:12:00 [default: the first datagram]",
     );
@@ -71,10 +71,10 @@ fn beginning_command<'a>(alloc: Global) -> Result<Command<'a>, AllocError>
 
 /// Declares `follow` without instants, `--every` and its file.
 #[inline(never)]
-fn timed_command<'a>(alloc: Global) -> Result<Command<'a>, AllocError>
-    // `timed_command` declares the subcommand `follow` with the options of `summing_app` and `--time`.
-    ensures app { IfOk result (λ command. app_of command ≡ timed_app) }
-    // No argument that `timed_command` declares is global.
+fn clocked_command<'a>(alloc: Global) -> Result<Command<'a>, AllocError>
+    // `clocked_command` declares the subcommand `follow` with the options of `summing_app` and `--time`.
+    ensures app { IfOk result (λ command. app_of command ≡ clocked_app) }
+    // No argument that `clocked_command` declares is global.
     ensures local { IfOk result (λ command. (out-Command command).has_globals ≡ false) }
 {
     let command = summing_command(alloc)?;
