@@ -125,6 +125,64 @@ end_cause end.Taken = []
 end_cause end.Oldest = []
 end_cause end.Margin = []
 
+-- what the metric of a channel counts
+abbrev pub channel_help : ChannelMetric → List ℕ
+channel_help channel.Sent = codes "Datagrams that the system took."
+channel_help channel.Failed = codes "Datagrams that the system refused."
+channel_help channel.Received = codes "Datagrams received, from anyone."
+channel_help channel.Passed = codes "Datagrams passed on in turn."
+channel_help channel.Deferred = codes "Datagrams that came early and were deferred."
+channel_help channel.Old = codes "Datagrams dropped, by cause."
+channel_help channel.Repeated = codes "Datagrams dropped, by cause."
+channel_help channel.Far = codes "Datagrams dropped, by cause."
+channel_help channel.Full = codes "Datagrams dropped, by cause."
+channel_help channel.Damaged = codes "Datagrams dropped, by cause."
+channel_help channel.Stranger = codes "Datagrams dropped, by cause."
+
+-- what the metric of an end counts
+abbrev pub end_help : EndMetric → List ℕ
+end_help end.Time = codes "The time since the run began."
+end_help end.Units = codes "Units sent."
+end_help end.Resent = codes "Units sent again."
+end_help end.Heartbeats = codes "Heartbeats sent."
+end_help end.Requested = codes "Retransmissions requested."
+end_help end.Answered = codes "Retransmissions carried out."
+end_help end.Accepted = codes "PDUs that the safety layer accepted."
+end_help end.Damaged = codes "PDUs that the safety layer dropped, by cause."
+end_help end.Stranger = codes "PDUs that the safety layer dropped, by cause."
+end_help end.Unopened = codes "PDUs that the safety layer dropped, by cause."
+end_help end.Far = codes "PDUs that the safety layer dropped, by cause."
+end_help end.Unrequested = codes "PDUs that the safety layer dropped, by cause."
+end_help end.Repeated = codes "PDUs that the safety layer dropped, by cause."
+end_help end.Below = codes "PDUs that the safety layer dropped, by cause."
+end_help end.Confirmed = codes "Units that the peer confirmed."
+end_help end.Put = codes "Telegrams put."
+end_help end.Taken = codes "Telegrams taken."
+end_help end.Oldest = codes "The greatest age of a confirmed timestamp."
+end_help end.Margin = codes "The least time that was left to T_max."
+
+-- the type of the metric of an end: only times may fall
+abbrev pub end_kind : EndMetric → List ℕ
+end_kind end.Time = codes "gauge"
+end_kind end.Units = codes "counter"
+end_kind end.Resent = codes "counter"
+end_kind end.Heartbeats = codes "counter"
+end_kind end.Requested = codes "counter"
+end_kind end.Answered = codes "counter"
+end_kind end.Accepted = codes "counter"
+end_kind end.Damaged = codes "counter"
+end_kind end.Stranger = codes "counter"
+end_kind end.Unopened = codes "counter"
+end_kind end.Far = codes "counter"
+end_kind end.Unrequested = codes "counter"
+end_kind end.Repeated = codes "counter"
+end_kind end.Below = codes "counter"
+end_kind end.Confirmed = codes "counter"
+end_kind end.Put = codes "counter"
+end_kind end.Taken = codes "counter"
+end_kind end.Oldest = codes "gauge"
+end_kind end.Margin = codes "gauge"
+
 -- the help and the type of a metric
 unfoldable pub head_text : List ℕ → List ℕ → List ℕ → List ℕ
 head_text name type help =
@@ -182,56 +240,56 @@ unfoldable pub end_text : EndMetric → Samples → List ℕ
 end_text m s = joined (sample_text m s.first ∷ second_sample m s.second ∷ [])
 
 -- a metric of channels that only grows
-unfoldable pub channel_counter : ChannelMetric → List ℕ → Samples → List ℕ
-channel_counter m help s = joined (head_text (channel_name m) (codes "counter") help ∷ channel_text m s ∷ [])
+unfoldable pub channel_counter : ChannelMetric → Samples → List ℕ
+channel_counter m s = joined (head_text (channel_name m) (codes "counter") (channel_help m) ∷ channel_text m s ∷ [])
 
 -- a metric of ends
-unfoldable pub end_metric : EndMetric → (type help : List ℕ) → Samples → List ℕ
-end_metric m type help s = joined (head_text (end_name m) type help ∷ end_text m s ∷ [])
+unfoldable pub end_metric : EndMetric → Samples → List ℕ
+end_metric m s = joined (head_text (end_name m) (end_kind m) (end_help m) ∷ end_text m s ∷ [])
 
 -- what became of datagrams on channels
 unfoldable pub traffic_text : Samples → List ℕ
 traffic_text s =
     joined
-    (channel_counter channel.Sent (codes "Datagrams that the system took.") s
-    ∷ channel_counter channel.Failed (codes "Datagrams that the system refused.") s
-    ∷ channel_counter channel.Received (codes "Datagrams received, from anyone.") s
-    ∷ channel_counter channel.Passed (codes "Datagrams passed on in turn.") s
-    ∷ channel_counter channel.Deferred (codes "Datagrams that came early and were deferred.") s ∷ [])
+    (channel_counter channel.Sent s
+    ∷ channel_counter channel.Failed s
+    ∷ channel_counter channel.Received s
+    ∷ channel_counter channel.Passed s
+    ∷ channel_counter channel.Deferred s ∷ [])
 
 -- why datagrams were dropped
 unfoldable pub drops_text : Samples → List ℕ
 drops_text s =
     joined
-    (channel_counter channel.Old (codes "Datagrams dropped, by cause.") s ∷ channel_text channel.Repeated s ∷ channel_text channel.Far s
+    (channel_counter channel.Old s ∷ channel_text channel.Repeated s ∷ channel_text channel.Far s
     ∷ channel_text channel.Full s ∷ channel_text channel.Damaged s ∷ channel_text channel.Stranger s ∷ [])
 
 -- the PDUs that ends made
 unfoldable pub made_text : Samples → List ℕ
 made_text s =
     joined
-    (end_metric end.Units (codes "counter") (codes "Units sent.") s ∷ end_metric end.Resent (codes "counter") (codes "Units sent again.") s
-    ∷ end_metric end.Heartbeats (codes "counter") (codes "Heartbeats sent.") s
-    ∷ end_metric end.Requested (codes "counter") (codes "Retransmissions requested.") s
-    ∷ end_metric end.Answered (codes "counter") (codes "Retransmissions carried out.") s
-    ∷ end_metric end.Confirmed (codes "counter") (codes "Units that the peer confirmed.") s ∷ [])
+    (end_metric end.Units s ∷ end_metric end.Resent s
+    ∷ end_metric end.Heartbeats s
+    ∷ end_metric end.Requested s
+    ∷ end_metric end.Answered s
+    ∷ end_metric end.Confirmed s ∷ [])
 
 -- the PDUs that ends received
 unfoldable pub parts_text : Samples → List ℕ
 parts_text s =
     joined
-    (end_metric end.Accepted (codes "counter") (codes "PDUs that the safety layer accepted.") s
-    ∷ end_metric end.Damaged (codes "counter") (codes "PDUs that the safety layer dropped, by cause.") s ∷ end_text end.Stranger s ∷ end_text end.Unopened s
+    (end_metric end.Accepted s
+    ∷ end_metric end.Damaged s ∷ end_text end.Stranger s ∷ end_text end.Unopened s
     ∷ end_text end.Far s ∷ end_text end.Unrequested s ∷ end_text end.Repeated s ∷ end_text end.Below s ∷ [])
 
 -- telegrams and times
 unfoldable pub telegrams_text : Samples → List ℕ
 telegrams_text s =
     joined
-    (end_metric end.Put (codes "counter") (codes "Telegrams put.") s ∷ end_metric end.Taken (codes "counter") (codes "Telegrams taken.") s
-    ∷ end_metric end.Oldest (codes "gauge") (codes "The greatest age of a confirmed timestamp.") s
-    ∷ end_metric end.Margin (codes "gauge") (codes "The least time that was left to T_max.") s
-    ∷ end_metric end.Time (codes "gauge") (codes "The time since the run began.") s ∷ [])
+    (end_metric end.Put s ∷ end_metric end.Taken s
+    ∷ end_metric end.Oldest s
+    ∷ end_metric end.Margin s
+    ∷ end_metric end.Time s ∷ [])
 
 -- all metrics; the last line is a comment that ends them
 unfoldable pub block_text : Samples → List ℕ

@@ -129,6 +129,21 @@ impl ChannelMetric {
             ChannelMetric::Stranger => ",cause=\"stranger\"",
         }
     }
+
+    /// Returns the help of the metric.
+    fn help(self) -> &'static str
+        // `help` returns what this metric counts of a channel.
+        ensures { result.now ≡ metrics.channel_help self }
+    {
+        match self {
+            ChannelMetric::Sent => "Datagrams that the system took.",
+            ChannelMetric::Failed => "Datagrams that the system refused.",
+            ChannelMetric::Received => "Datagrams received, from anyone.",
+            ChannelMetric::Passed => "Datagrams passed on in turn.",
+            ChannelMetric::Deferred => "Datagrams that came early and were deferred.",
+            _ => "Datagrams dropped, by cause.",
+        }
+    }
 }
 
 /// A count of an end.
@@ -250,6 +265,39 @@ impl EndMetric {
             _ => "",
         }
     }
+
+    /// Returns the help of the metric.
+    fn help(self) -> &'static str
+        // `help` returns what this metric counts of an end.
+        ensures { result.now ≡ metrics.end_help self }
+    {
+        match self {
+            EndMetric::Time => "The time since the run began.",
+            EndMetric::Units => "Units sent.",
+            EndMetric::Resent => "Units sent again.",
+            EndMetric::Heartbeats => "Heartbeats sent.",
+            EndMetric::Requested => "Retransmissions requested.",
+            EndMetric::Answered => "Retransmissions carried out.",
+            EndMetric::Accepted => "PDUs that the safety layer accepted.",
+            EndMetric::Confirmed => "Units that the peer confirmed.",
+            EndMetric::Put => "Telegrams put.",
+            EndMetric::Taken => "Telegrams taken.",
+            EndMetric::Oldest => "The greatest age of a confirmed timestamp.",
+            EndMetric::Margin => "The least time that was left to T_max.",
+            _ => "PDUs that the safety layer dropped, by cause.",
+        }
+    }
+
+    /// Returns the type of the metric.
+    fn kind(self) -> &'static str
+        // `kind` returns "gauge" for times, and "counter" for what only grows.
+        ensures { result.now ≡ metrics.end_kind self }
+    {
+        match self {
+            EndMetric::Time | EndMetric::Oldest | EndMetric::Margin => "gauge",
+            _ => "counter",
+        }
+    }
 }
 
 /// Writes all metrics of one or two ends.
@@ -276,36 +324,11 @@ fn write_traffic<W: Write>(writer: &mut W, samples: &Samples) -> io::Result<()>
     // If `write_traffic` succeeds, it has appended the metrics of datagrams sent and received.
     ensures { OnOk result (Appends (W.contents writer.old) (W.contents writer.new) (metrics.traffic_text samples.now)) }
 {
-    write_channel_counter(
-        writer,
-        ChannelMetric::Sent,
-        "Datagrams that the system took.",
-        samples,
-    )?;
-    write_channel_counter(
-        writer,
-        ChannelMetric::Failed,
-        "Datagrams that the system refused.",
-        samples,
-    )?;
-    write_channel_counter(
-        writer,
-        ChannelMetric::Received,
-        "Datagrams received, from anyone.",
-        samples,
-    )?;
-    write_channel_counter(
-        writer,
-        ChannelMetric::Passed,
-        "Datagrams passed on in turn.",
-        samples,
-    )?;
-    write_channel_counter(
-        writer,
-        ChannelMetric::Deferred,
-        "Datagrams that came early and were deferred.",
-        samples,
-    )
+    write_channel_counter(writer, ChannelMetric::Sent, samples)?;
+    write_channel_counter(writer, ChannelMetric::Failed, samples)?;
+    write_channel_counter(writer, ChannelMetric::Received, samples)?;
+    write_channel_counter(writer, ChannelMetric::Passed, samples)?;
+    write_channel_counter(writer, ChannelMetric::Deferred, samples)
 }
 
 /// Writes why datagrams were dropped.
@@ -314,12 +337,7 @@ fn write_drops<W: Write>(writer: &mut W, samples: &Samples) -> io::Result<()>
     // If `write_drops` succeeds, it has appended the metric of datagrams dropped, with its six causes.
     ensures { OnOk result (Appends (W.contents writer.old) (W.contents writer.new) (metrics.drops_text samples.now)) }
 {
-    write_channel_counter(
-        writer,
-        ChannelMetric::Old,
-        "Datagrams dropped, by cause.",
-        samples,
-    )?;
+    write_channel_counter(writer, ChannelMetric::Old, samples)?;
     write_channel_metric(writer, ChannelMetric::Repeated, samples)?;
     write_channel_metric(writer, ChannelMetric::Far, samples)?;
     write_channel_metric(writer, ChannelMetric::Full, samples)?;
@@ -333,42 +351,12 @@ fn write_made<W: Write>(writer: &mut W, samples: &Samples) -> io::Result<()>
     // If `write_made` succeeds, it has appended the metrics of PDUs made and units confirmed.
     ensures { OnOk result (Appends (W.contents writer.old) (W.contents writer.new) (metrics.made_text samples.now)) }
 {
-    write_end_metric(writer, EndMetric::Units, "counter", "Units sent.", samples)?;
-    write_end_metric(
-        writer,
-        EndMetric::Resent,
-        "counter",
-        "Units sent again.",
-        samples,
-    )?;
-    write_end_metric(
-        writer,
-        EndMetric::Heartbeats,
-        "counter",
-        "Heartbeats sent.",
-        samples,
-    )?;
-    write_end_metric(
-        writer,
-        EndMetric::Requested,
-        "counter",
-        "Retransmissions requested.",
-        samples,
-    )?;
-    write_end_metric(
-        writer,
-        EndMetric::Answered,
-        "counter",
-        "Retransmissions carried out.",
-        samples,
-    )?;
-    write_end_metric(
-        writer,
-        EndMetric::Confirmed,
-        "counter",
-        "Units that the peer confirmed.",
-        samples,
-    )
+    write_end_metric(writer, EndMetric::Units, samples)?;
+    write_end_metric(writer, EndMetric::Resent, samples)?;
+    write_end_metric(writer, EndMetric::Heartbeats, samples)?;
+    write_end_metric(writer, EndMetric::Requested, samples)?;
+    write_end_metric(writer, EndMetric::Answered, samples)?;
+    write_end_metric(writer, EndMetric::Confirmed, samples)
 }
 
 /// Writes the PDUs that ends received.
@@ -377,20 +365,8 @@ fn write_parts<W: Write>(writer: &mut W, samples: &Samples) -> io::Result<()>
     // If `write_parts` succeeds, it has appended the metrics of PDUs accepted and dropped.
     ensures { OnOk result (Appends (W.contents writer.old) (W.contents writer.new) (metrics.parts_text samples.now)) }
 {
-    write_end_metric(
-        writer,
-        EndMetric::Accepted,
-        "counter",
-        "PDUs that the safety layer accepted.",
-        samples,
-    )?;
-    write_end_metric(
-        writer,
-        EndMetric::Damaged,
-        "counter",
-        "PDUs that the safety layer dropped, by cause.",
-        samples,
-    )?;
+    write_end_metric(writer, EndMetric::Accepted, samples)?;
+    write_end_metric(writer, EndMetric::Damaged, samples)?;
     write_ends(writer, EndMetric::Stranger, samples)?;
     write_ends(writer, EndMetric::Unopened, samples)?;
     write_ends(writer, EndMetric::Far, samples)?;
@@ -405,35 +381,11 @@ fn write_telegrams<W: Write>(writer: &mut W, samples: &Samples) -> io::Result<()
     // If `write_telegrams` succeeds, it has appended the metrics of telegrams and times.
     ensures { OnOk result (Appends (W.contents writer.old) (W.contents writer.new) (metrics.telegrams_text samples.now)) }
 {
-    write_end_metric(writer, EndMetric::Put, "counter", "Telegrams put.", samples)?;
-    write_end_metric(
-        writer,
-        EndMetric::Taken,
-        "counter",
-        "Telegrams taken.",
-        samples,
-    )?;
-    write_end_metric(
-        writer,
-        EndMetric::Oldest,
-        "gauge",
-        "The greatest age of a confirmed timestamp.",
-        samples,
-    )?;
-    write_end_metric(
-        writer,
-        EndMetric::Margin,
-        "gauge",
-        "The least time that was left to T_max.",
-        samples,
-    )?;
-    write_end_metric(
-        writer,
-        EndMetric::Time,
-        "gauge",
-        "The time since the run began.",
-        samples,
-    )
+    write_end_metric(writer, EndMetric::Put, samples)?;
+    write_end_metric(writer, EndMetric::Taken, samples)?;
+    write_end_metric(writer, EndMetric::Oldest, samples)?;
+    write_end_metric(writer, EndMetric::Margin, samples)?;
+    write_end_metric(writer, EndMetric::Time, samples)
 }
 
 /// Writes a metric of channels that only grows.
@@ -441,13 +393,12 @@ fn write_telegrams<W: Write>(writer: &mut W, samples: &Samples) -> io::Result<()
 fn write_channel_counter<W: Write>(
     writer: &mut W,
     metric: ChannelMetric,
-    help: &str,
     samples: &Samples,
 ) -> io::Result<()>
     // If `write_channel_counter` succeeds, it has appended help, type and numbers of the metric.
-    ensures { OnOk result (Appends (W.contents writer.old) (W.contents writer.new) (metrics.channel_counter metric help.now samples.now)) }
+    ensures { OnOk result (Appends (W.contents writer.old) (W.contents writer.new) (metrics.channel_counter metric samples.now)) }
 {
-    write_head(writer, metric.name(), "counter", help)?;
+    write_head(writer, metric.name(), "counter", metric.help())?;
     write_channel_metric(writer, metric, samples)
 }
 
@@ -456,14 +407,12 @@ fn write_channel_counter<W: Write>(
 fn write_end_metric<W: Write>(
     writer: &mut W,
     metric: EndMetric,
-    kind: &str,
-    help: &str,
     samples: &Samples,
 ) -> io::Result<()>
-    // If `write_end_metric` succeeds, it has appended help, type and numbers of the metric.
-    ensures { OnOk result (Appends (W.contents writer.old) (W.contents writer.new) (metrics.end_metric metric kind.now help.now samples.now)) }
+    // If `write_end_metric` succeeds, it has appended the type, the help and the numbers of the metric.
+    ensures { OnOk result (Appends (W.contents writer.old) (W.contents writer.new) (metrics.end_metric metric samples.now)) }
 {
-    write_head(writer, metric.name(), kind, help)?;
+    write_head(writer, metric.name(), metric.kind(), metric.help())?;
     write_ends(writer, metric, samples)
 }
 
