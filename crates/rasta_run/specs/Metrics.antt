@@ -274,13 +274,17 @@ made_text s =
     ∷ end_metric end.Answered s
     ∷ end_metric end.Confirmed s ∷ [])
 
+-- the PDUs that ends dropped for their code, their identifiers or their state
+unfoldable pub rejected_text : Samples → List ℕ
+rejected_text s = joined (end_metric end.Damaged s ∷ end_text end.Stranger s ∷ end_text end.Unopened s ∷ [])
+
+-- the PDUs that ends dropped for their numbers
+unfoldable pub misplaced_text : Samples → List ℕ
+misplaced_text s = joined (end_text end.Far s ∷ end_text end.Unrequested s ∷ end_text end.Repeated s ∷ end_text end.Below s ∷ [])
+
 -- the PDUs that ends received
 unfoldable pub parts_text : Samples → List ℕ
-parts_text s =
-    joined
-    (end_metric end.Accepted s
-    ∷ end_metric end.Damaged s ∷ end_text end.Stranger s ∷ end_text end.Unopened s
-    ∷ end_text end.Far s ∷ end_text end.Unrequested s ∷ end_text end.Repeated s ∷ end_text end.Below s ∷ [])
+parts_text s = joined (end_metric end.Accepted s ∷ rejected_text s ∷ misplaced_text s ∷ [])
 
 -- telegrams and times
 unfoldable pub telegrams_text : Samples → List ℕ

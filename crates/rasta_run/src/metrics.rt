@@ -366,9 +366,27 @@ fn write_parts<W: Write>(writer: &mut W, samples: &Samples) -> io::Result<()>
     ensures { OnOk result (Appends (W.contents writer.old) (W.contents writer.new) (metrics.parts_text samples.now)) }
 {
     write_end_metric(writer, EndMetric::Accepted, samples)?;
+    write_rejected(writer, samples)?;
+    write_misplaced(writer, samples)
+}
+
+/// Writes the PDUs that ends dropped for their code, their identifiers or their state.
+#[tactic(auto, unfolding(crate::specs::Metrics::rejected_text))]
+fn write_rejected<W: Write>(writer: &mut W, samples: &Samples) -> io::Result<()>
+    // If `write_rejected` succeeds, it has appended the metrics of these PDUs.
+    ensures { OnOk result (Appends (W.contents writer.old) (W.contents writer.new) (metrics.rejected_text samples.now)) }
+{
     write_end_metric(writer, EndMetric::Damaged, samples)?;
     write_ends(writer, EndMetric::Stranger, samples)?;
-    write_ends(writer, EndMetric::Unopened, samples)?;
+    write_ends(writer, EndMetric::Unopened, samples)
+}
+
+/// Writes the PDUs that ends dropped for their numbers.
+#[tactic(auto, unfolding(crate::specs::Metrics::misplaced_text))]
+fn write_misplaced<W: Write>(writer: &mut W, samples: &Samples) -> io::Result<()>
+    // If `write_misplaced` succeeds, it has appended the metrics of these PDUs.
+    ensures { OnOk result (Appends (W.contents writer.old) (W.contents writer.new) (metrics.misplaced_text samples.now)) }
+{
     write_ends(writer, EndMetric::Far, samples)?;
     write_ends(writer, EndMetric::Unrequested, samples)?;
     write_ends(writer, EndMetric::Repeated, samples)?;
